@@ -1,0 +1,5 @@
+pub mod Ascending
+pub mod Cut
+pub mod Numbered
+pub mod Reading
+mod Rows

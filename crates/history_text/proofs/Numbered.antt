@@ -1,0 +1,90 @@
+-- The spans of lines, found by one walk from the left, are those of the definitions, and what they hold is what the definitions read.
+use Rattle.std.proofs.Common.{◌≡◌, ℕ, ◌+◌, ◌-◌, List, [], ◌∷◌, ◌++◌, length, map, take, drop, Bool, true, false, cond, refl, sym, ap, ◌∙◌, arith, append_assoc}
+use Rattle.std.specs.Prelude.{if◌then◌else◌, slice_range, filter, sum_by, not}
+use Rattle.std.specs.List.{enumerate_from, join_with_byte}
+use Rattle.std.proofs.Math.Seq.{take-append_seam, drop-append-add}
+use Rattle.std.proofs.lemmas.List.{length-append, drop-drop, append-nil}
+use Rattle.std.proofs.lemmas.List.Sums.{sum_by-append}
+use Rattle.std.proofs.lemmas.List.Splits.{join_with_byte-slice_split}
+use Rattle.history_text.specs.declared.lines.Span.{Span}
+use Rattle.history_text.specs.Lines.{lines, is_blank, width, line_start, span_of, line_spans}
+use Rattle.history_text.specs.Reading.{line_reading, history_lines}
+
+-- the spans of the lines that are not blank, where the first line is `n` and begins at byte `from`
+abbrev pub numbered : ℕ → ℕ → List (List ℕ) → List Span
+numbered n from [] = []
+numbered n from (l ∷ ls) =
+    (if is_blank l then [] else record { line = n; from = from; to = from + length l } ∷ []) ++ numbered (n + 1) (from + length l + 1) ls
+
+-- the lines that are not blank, numbered from `n`
+abbrev pub kept : ℕ → List (List ℕ) → List (ℕ × List ℕ)
+kept n ls = filter (λ l. not (is_blank l.1)) (enumerate_from n ls)
+
+-- one more line, blank or not
+one_more : {X Y : Type 0} (f : X → Y) (b : Bool) (x : X) (y : Y) (xs : List X) (ys : List Y) → y ≡ f x → ys ≡ map f xs
+    → (if b then [] else y ∷ []) ++ ys ≡ map f (cond (not b) (x ∷ xs) xs)
+one_more f true x y xs ys here later = later
+one_more f false x y xs ys here later = rw (here, later) refl
+
+-- the same, of two lists that give the same
+one_more-same : {X Y Z : Type 0} (g : Y → Z) (f : X → Z) (b : Bool) (x : X) (y : Y) (xs : List X) (ys : List Y) → g y ≡ f x → map g ys ≡ map f xs
+    → map g ((if b then [] else y ∷ []) ++ ys) ≡ map f (cond (not b) (x ∷ xs) xs)
+one_more-same g f true x y xs ys here later = later
+one_more-same g f false x y xs ys here later = rw (here, later) refl
+
+module _ (input : List ℕ) where
+  -- a line begins behind the lines before it
+  start : (before : List (List ℕ)) (l : List ℕ) (after : List (List ℕ)) (n : ℕ) → lines input ≡ before ++ l ∷ after → n ≡ length before + 1
+      → line_start input n ≡ sum_by width before
+  start before l after n cut e =
+      let place : n - 1 ≡ length before = omega arith in
+      ap (λ k. sum_by width (take k (lines input))) place
+      ∙ ap (λ ls. sum_by width (take (length before) ls)) cut
+      ∙ ap (sum_by width) (take-append_seam before (l ∷ after))
+
+  span-at : (n from : ℕ) (l : List ℕ) → line_start input n ≡ from → record { line = n; from = from; to = from + length l } ≡ span_of input (n, l)
+  span-at n from l e = rw e refl
+
+  spans-from : (before after : List (List ℕ)) (n from : ℕ) → lines input ≡ before ++ after → n ≡ length before + 1 → from ≡ sum_by width before
+      → numbered n from after ≡ map (span_of input) (kept n after)
+  spans-from before [] n from cut e f = refl
+  spans-from before (l ∷ ls) n from cut e f =
+      let here = span-at n from l (start before l ls n cut e ∙ sym f) in
+      let longer : length (before ++ l ∷ []) ≡ length before + 1 = length-append before (l ∷ []) in
+      let wider : sum_by width (before ++ l ∷ []) ≡ sum_by width before + sum_by width (l ∷ []) = sum_by-append width before (l ∷ []) in
+      let one : sum_by width (l ∷ []) ≡ length l + 1 = omega arith in
+      let later = spans-from (before ++ l ∷ []) ls (n + 1) (from + length l + 1) (cut ∙ sym (append_assoc before (l ∷ []) ls)) (omega arith) (omega arith) in
+      one_more (span_of input) (is_blank l) (n, l) _ (kept (n + 1) ls) _ here later
+
+  pub numbered-spans : numbered 1 0 (lines input) ≡ line_spans input
+  numbered-spans = spans-from [] (lines input) 1 0 refl refl refl
+
+module _ {Y : Type 0} (f : ℕ → List ℕ → Y) (input : List ℕ) where
+  -- what is read at a span
+  abbrev read_at : Span → Y
+  read_at s = f s.line (slice_range input s.from s.to)
+
+  slice-line : (from : ℕ) (l more : List ℕ) → drop from input ≡ l ++ more → slice_range input from (from + length l) ≡ l
+  slice-line from l more e =
+      let long : from + length l - from ≡ length l = omega arith in
+      ap (λ k. take k (drop from input)) long ∙ ap (take (length l)) e ∙ take-append_seam l more
+
+  next-line : (from : ℕ) (l more : List ℕ) → drop from input ≡ l ++ 10 ∷ more → drop (from + length l + 1) input ≡ more
+  next-line from l more e =
+      let place : from + length l + 1 ≡ from + (length l + 1) = omega arith in
+      ap (λ k. drop k input) place ∙ sym (drop-drop (length l + 1) from input) ∙ ap (drop (length l + 1)) e ∙ drop-append-add l (10 ∷ more) 1
+
+  reads-from : (n from : ℕ) (ls : List (List ℕ)) → drop from input ≡ join_with_byte 10 ls
+      → map read_at (numbered n from ls) ≡ map (λ l. f l.0 l.1) (kept n ls)
+  reads-from n from [] e = refl
+  reads-from n from (l ∷ []) e =
+      one_more-same read_at (λ l. f l.0 l.1) (is_blank l) (n, l) _ [] [] (ap (f n) (slice-line from l [] (e ∙ sym (append-nil l)))) refl
+  reads-from n from (l ∷ k ∷ ls) e =
+      let later = reads-from (n + 1) (from + length l + 1) (k ∷ ls) (next-line from l (join_with_byte 10 (k ∷ ls)) e) in
+      one_more-same read_at (λ l. f l.0 l.1) (is_blank l) (n, l) _ (kept (n + 1) (k ∷ ls)) _ (ap (f n) (slice-line from l _ e)) later
+
+-- what is read at each span is the meaning of the input
+pub read-spans : (input : List ℕ) → map (λ s. line_reading s.line (slice_range input s.from s.to)) (line_spans input) ≡ history_lines input
+read-spans input =
+    ap (map (λ s. line_reading s.line (slice_range input s.from s.to))) (sym (numbered-spans input))
+    ∙ reads-from line_reading input 1 0 (lines input) (sym (join_with_byte-slice_split 10 input))

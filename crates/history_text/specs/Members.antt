@@ -1,0 +1,60 @@
+-- The members of a line's object, each by itself. The JSON is that of RFC 8259 as `serde_json`
+-- reads it, of equal names the last; the forms of the members are this project's profile.
+-- The outer `None` of a form stands for a member of another form.
+use Rattle.std.specs.Prelude.{ℕ, ◌&&◌, ℤ, List, length, codes, Bool, true, false, nat_lt, nat_le, bytes_eq, if◌then◌else◌, Option, Some, None, option_map, option_and_then}
+use Rattle.serde_json.specs.Data.{Data, null, boolean, number, string, array, object}
+use Rattle.serde_json.specs.Find.{as_number, as_u64, as_i64, as_str}
+use Rattle.history_text.specs.Limits.{MAX_NAME, MAX_PROCESS}
+use Rattle.history_text.specs.declared.event.Val.{Val}
+use Rattle.history_text.specs.declared.event.Val.TheVariants.{Null, Int}
+use Rattle.history_text.specs.declared.event.OpKind.{OpKind}
+use Rattle.history_text.specs.declared.event.OpKind.TheVariants.{ReadOp, WriteOp}
+
+-- what stands under a name of the object, if anything
+abbrev pub Member : Type 0
+Member = Option Data
+
+-- a process: a whole number within the limit
+abbrev pub process_form : Member → Option ℕ
+process_form m = option_and_then (λ p. if nat_le p MAX_PROCESS then Some p else None) (option_and_then as_u64 (option_and_then as_number m))
+
+-- an event: the word for a call, as true, or the word for a reply, as false
+abbrev pub event_form : Member → Option Bool
+event_form m = option_and_then (λ s. if bytes_eq s (codes "call") then Some true else (if bytes_eq s (codes "reply") then Some false else None)) (option_and_then as_str m)
+
+-- the word for a read or the word for a write
+abbrev pub op_form : Member → Option OpKind
+op_form m = option_and_then (λ s. if bytes_eq s (codes "read") then Some ReadOp else (if bytes_eq s (codes "write") then Some WriteOp else None)) (option_and_then as_str m)
+
+-- a register's name: a text of at least one byte and at most the limit
+abbrev pub name_form : Member → Option (List ℕ)
+name_form m = option_and_then (λ s. if nat_lt 0 (length s) && nat_le (length s) MAX_NAME then Some s else None) (option_and_then as_str m)
+
+-- a written value: a whole number of 64 bits with a sign
+abbrev pub written_form : Member → Option ℤ
+written_form m = option_and_then as_i64 (option_and_then as_number m)
+
+-- a value that was read: null, or a whole number of 64 bits with a sign
+abbrev pub value_form : Member → Option Val
+value_form None = None
+value_form (Some null) = Some Null
+value_form (Some (boolean b)) = None
+value_form (Some (number n)) = option_map Int (as_i64 n)
+value_form (Some (string s)) = None
+value_form (Some (array ds)) = None
+value_form (Some (object ms)) = None
+
+-- no value: absent or null
+abbrev pub has_no_value : Member → Bool
+has_no_value None = true
+has_no_value (Some null) = true
+has_no_value (Some (boolean b)) = false
+has_no_value (Some (number n)) = false
+has_no_value (Some (string s)) = false
+has_no_value (Some (array ds)) = false
+has_no_value (Some (object ms)) = false
+
+-- a member that may be absent, and else has the form
+abbrev pub optional : {A : Type 0} → (Member → Option A) → Member → Option (Option A)
+optional form None = Some None
+optional form (Some d) = option_map (λ x. Some x) (form (Some d))

@@ -1,0 +1,30 @@
+//! Lines of a recorded history: bytes go in, and for each line that is not blank its event, or its
+//! least fault, comes out.
+//!
+//! What the floor above may rely on: [`read_lines`] gives exactly the lines that are not blank, in
+//! order and with their numbers, each as its one event or as the least fault that applies to it.
+//! Nothing here knows how events follow one another; that is the floor above.
+//!
+//! Read it in this order: `limits`; `name`, `event` and `fault`, which say what a line can mean;
+//! `members`, `refused` and `line`, which read one line; `lines` and `read`, which read them all.
+#![tactic(auto)]
+
+mod event;
+mod fault;
+mod limits;
+mod line;
+mod lines;
+mod members;
+mod name;
+mod read;
+mod refused;
+#[cfg(test)]
+mod tests;
+
+pub use event::{Kind, LineEvent, OpKind, ReplyParts, Val};
+pub use fault::{LineFault, LineKind};
+pub use limits::{MAX_EVENTS, MAX_INPUT, MAX_LINE, MAX_NAME};
+pub use line::{LineError, read_line};
+pub use lines::{Span, lines_of};
+pub use name::Name;
+pub use read::read_lines;

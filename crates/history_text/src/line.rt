@@ -1,0 +1,119 @@
+//! One line: its event, or the least fault that applies to it.
+//!
+//! Faults are looked for by ascending number, so the first that is found is the least.
+ghost use Rattle.std.specs.Prelude.{◌≡◌};
+ghost use Rattle.serde_json.specs.View.{view};
+ghost use Rattle.history_text.specs.Reading.{call_kind, reply_kind, kind_of, event_of, line_form, line_reading};
+ghost use Rattle.history_text.specs.Memory.{Gives, GivesLine};
+
+use crate::event::{Kind, LineEvent, OpKind, ReplyParts};
+use crate::fault::{LineFault, LineKind};
+use crate::limits::MAX_LINE;
+use crate::members;
+use crate::name::Name;
+use crate::refused::Refused;
+use serde_json::Value;
+use std::alloc::Global;
+
+/// Why a line gave no event. Nothing of the line is kept.
+#[derive(Clone, Copy, Debug, PartialEq, Eq)]
+pub enum LineError {
+    /// The line has this fault, and no lesser one.
+    Fault(LineFault),
+    /// Memory was refused; nothing is known of the line.
+    Memory,
+}
+
+/// The event of line `line`, which is not blank and given without its line feed, or its least fault.
+///
+/// JSON is read as `serde_json`'s `Value::from_slice` reads it; of equal names in one object the
+/// last counts, and names that the format doesn't know are ignored.
+pub fn read_line(alloc: Global, bytes: &[u8], line: u32) -> Result<LineEvent, LineError>
+    ensures { GivesLine (line_reading line bytes.now) result }
+{
+    match event_in(alloc, bytes, line) {
+        Ok(event) => Ok(event),
+        Err(Refused::Fault(kind)) => Err(LineError::Fault(LineFault { line, kind })),
+        Err(Refused::Memory) => Err(LineError::Memory),
+    }
+}
+
+fn event_in(alloc: Global, bytes: &[u8], line: u32) -> Result<LineEvent, Refused>
+    ensures { Gives (line_form line bytes.now) result }
+{
+    if bytes.len() > MAX_LINE {
+        return Err(Refused::Fault(LineKind::TooLong));
+    }
+    match Value::from_slice(alloc, bytes) {
+        Ok(value) => event(alloc, &value, line),
+        Err(error) => {
+            if error.is_memory() {
+                Err(Refused::Memory)
+            } else {
+                Err(Refused::Fault(LineKind::NotJson))
+            }
+        }
+    }
+}
+
+fn event(alloc: Global, value: &Value, line: u32) -> Result<LineEvent, Refused>
+    ensures { Gives (event_of line (view value.now)) result }
+{
+    if !value.is_object() {
+        return Err(Refused::Fault(LineKind::NotObject));
+    }
+    let process = members::process(value).ok_or(LineKind::BadProcess)?;
+    let is_call = members::is_call(value).ok_or(LineKind::BadEvent)?;
+    let kind = kind(alloc, value, is_call)?;
+    Ok(LineEvent {
+        line,
+        process,
+        kind,
+    })
+}
+
+fn kind(alloc: Global, value: &Value, is_call: bool) -> Result<Kind, Refused>
+    ensures { Gives (kind_of (view value.now) is_call) result }
+{
+    if is_call {
+        call(alloc, value)
+    } else {
+        reply(alloc, value)
+    }
+}
+
+fn call(alloc: Global, value: &Value) -> Result<Kind, Refused>
+    ensures { Gives (call_kind (view value.now)) result }
+{
+    let op = members::call_op(value).ok_or(LineKind::BadOp)?;
+    let register = members::call_register(value).ok_or(LineKind::BadRegister)?;
+    match op {
+        OpKind::ReadOp => {
+            if !members::reads_nothing(value) {
+                return Err(Refused::Fault(LineKind::BadValue));
+            }
+            Ok(Kind::CallRead(Name::new(alloc, register)?))
+        }
+        OpKind::WriteOp => {
+            let written = members::written(value).ok_or(LineKind::BadValue)?;
+            Ok(Kind::CallWrite(Name::new(alloc, register)?, written))
+        }
+    }
+}
+
+fn reply(alloc: Global, value: &Value) -> Result<Kind, Refused>
+    ensures { Gives (reply_kind (view value.now)) result }
+{
+    let op = members::reply_op(value).ok_or(LineKind::BadOp)?;
+    let text = members::reply_register(value).ok_or(LineKind::BadRegister)?;
+    let replied = members::reply_value(value).ok_or(LineKind::BadValue)?;
+    let register = match text {
+        None => None,
+        Some(text) => Some(Name::new(alloc, text)?),
+    };
+    Ok(Kind::Reply(ReplyParts {
+        op,
+        register,
+        value: replied,
+    }))
+}

@@ -1,0 +1,117 @@
+//! The members of the JSON object of a line, each by itself. The outer `None` stands for a member of another form.
+ghost use Rattle.std.specs.Prelude.{◌≡◌, option_map, codes, Some};
+ghost use Rattle.serde_json.specs.View.{view};
+ghost use Rattle.serde_json.specs.Find.{get};
+ghost use Rattle.history_text.specs.Members.{process_form, event_form, op_form, name_form, written_form, value_form, has_no_value, optional};
+
+use crate::event::{OpKind, Val};
+use crate::limits::MAX_NAME;
+use serde_json::Value;
+
+pub(crate) fn process(object: &Value) -> Option<u32>
+    ensures { result ≡ process_form (get (codes "process") (view object.now)) }
+{
+    let number = object.get("process").and_then(Value::as_u64)?;
+    u32::try_from(number).ok()
+}
+
+/// Whether the event is a call, or else a reply.
+pub(crate) fn is_call(object: &Value) -> Option<bool>
+    ensures { result ≡ event_form (get (codes "event") (view object.now)) }
+{
+    let word = object.get("event").and_then(Value::as_str)?;
+    if word == "call" {
+        Some(true)
+    } else if word == "reply" {
+        Some(false)
+    } else {
+        None
+    }
+}
+
+fn op(member: &Value) -> Option<OpKind>
+    ensures { result ≡ op_form (Some (view member.now)) }
+{
+    let word = member.as_str()?;
+    if word == "read" {
+        Some(OpKind::ReadOp)
+    } else if word == "write" {
+        Some(OpKind::WriteOp)
+    } else {
+        None
+    }
+}
+
+pub(crate) fn call_op(object: &Value) -> Option<OpKind>
+    ensures { result ≡ op_form (get (codes "op") (view object.now)) }
+{
+    op(object.get("op")?)
+}
+
+pub(crate) fn reply_op(object: &Value) -> Option<Option<OpKind>>
+    ensures { result ≡ optional op_form (get (codes "op") (view object.now)) }
+{
+    match object.get("op") {
+        None => Some(None),
+        Some(member) => Some(Some(op(member)?)),
+    }
+}
+
+fn name(member: &Value) -> Option<&str>
+    ensures { option_map (λ s. s.now) result ≡ name_form (Some (view member.now)) }
+{
+    let text = member.as_str()?;
+    if text.is_empty() || text.len() > MAX_NAME {
+        return None;
+    }
+    Some(text)
+}
+
+pub(crate) fn call_register(object: &Value) -> Option<&str>
+    ensures { option_map (λ s. s.now) result ≡ name_form (get (codes "register") (view object.now)) }
+{
+    name(object.get("register")?)
+}
+
+pub(crate) fn reply_register(object: &Value) -> Option<Option<&str>>
+    ensures { option_map (option_map (λ s. s.now)) result ≡ optional name_form (get (codes "register") (view object.now)) }
+{
+    match object.get("register") {
+        None => Some(None),
+        Some(member) => Some(Some(name(member)?)),
+    }
+}
+
+pub(crate) fn written(object: &Value) -> Option<i64>
+    ensures { result ≡ written_form (get (codes "value") (view object.now)) }
+{
+    object.get("value")?.as_i64()
+}
+
+/// Whether the value is absent or null.
+pub(crate) fn reads_nothing(object: &Value) -> bool
+    ensures { result ≡ has_no_value (get (codes "value") (view object.now)) }
+{
+    match object.get("value") {
+        None => true,
+        Some(member) => member.is_null(),
+    }
+}
+
+fn value(member: &Value) -> Option<Val>
+    ensures { result ≡ value_form (Some (view member.now)) }
+{
+    match member {
+        Value::Null => Some(Val::Null),
+        _ => Some(Val::Int(member.as_i64()?)),
+    }
+}
+
+pub(crate) fn reply_value(object: &Value) -> Option<Option<Val>>
+    ensures { result ≡ optional value_form (get (codes "value") (view object.now)) }
+{
+    match object.get("value") {
+        None => Some(None),
+        Some(member) => Some(Some(value(member)?)),
+    }
+}

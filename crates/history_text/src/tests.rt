@@ -1,0 +1,288 @@
+use super::*;
+use std::alloc::{AllocError, Global};
+use std::process::Abort;
+use std::test::Fail;
+
+const WRITE: &str = r#"{"process":1,"event":"call","op":"write","register":"x","value":5}"#;
+
+const REPLY: &str = r#"{"process":1,"event":"reply"}"#;
+
+const READ: &str = r#"{"process":2,"event":"call","op":"read","register":"x"}"#;
+
+const GOT: &str = r#"{"process":2,"event":"reply","value":5}"#;
+
+// A line's event or its fault, with the want of memory apart.
+fn read(
+    alloc: Global,
+    bytes: &[u8],
+    line: u32,
+) -> Result<Result<LineEvent, LineFault>, AllocError> {
+    match read_line(alloc, bytes, line) {
+        Ok(event) => Ok(Ok(event)),
+        Err(LineError::Fault(fault)) => Ok(Err(fault)),
+        Err(LineError::Memory) => Err(AllocError),
+    }
+}
+
+// The number of a line's fault, or 0 where it has an event.
+fn number(alloc: Global, bytes: &[u8]) -> Result<u8, AllocError> {
+    match read(alloc, bytes, 1)? {
+        Ok(_) => Ok(0),
+        Err(fault) => Ok(fault.number()),
+    }
+}
+
+#[test]
+fn events_of_lines(rt: HostRuntime) -> Result<(), Fail> {
+    let alloc = rt.alloc();
+    for (name, text, want) in [
+        (
+            "call of a write",
+            WRITE,
+            "Ok(LineEvent { line: 7, process: 1, kind: CallWrite(Name { text: \"x\" }, 5) })",
+        ),
+        (
+            "reply without parts",
+            REPLY,
+            "Ok(LineEvent { line: 7, process: 1, kind: Reply(ReplyParts { op: None, register: None, value: None }) })",
+        ),
+        (
+            "call of a read",
+            READ,
+            "Ok(LineEvent { line: 7, process: 2, kind: CallRead(Name { text: \"x\" }) })",
+        ),
+        (
+            "call of a read with null",
+            r#"{"process":2,"event":"call","op":"read","register":"x","value":null}"#,
+            "Ok(LineEvent { line: 7, process: 2, kind: CallRead(Name { text: \"x\" }) })",
+        ),
+        (
+            "reply with a value",
+            GOT,
+            "Ok(LineEvent { line: 7, process: 2, kind: Reply(ReplyParts { op: None, register: None, value: Some(Int(5)) }) })",
+        ),
+        (
+            "reply with all parts, null and members that nobody knows",
+            r#"{"process":1,"event":"reply","op":"read","register":"y","value":null,"clock":[1.5]}"#,
+            "Ok(LineEvent { line: 7, process: 1, kind: Reply(ReplyParts { op: Some(ReadOp), register: Some(Name { text: \"y\" }), value: Some(Null) }) })",
+        ),
+        (
+            "greatest process and greatest value",
+            r#"{"process":4294967295,"event":"call","op":"write","register":"x","value":9223372036854775807}"#,
+            "Ok(LineEvent { line: 7, process: 4294967295, kind: CallWrite(Name { text: \"x\" }, 9223372036854775807) })",
+        ),
+        (
+            "least process and least value",
+            r#"{"process":0,"event":"call","op":"write","register":"x","value":-9223372036854775808}"#,
+            "Ok(LineEvent { line: 7, process: 0, kind: CallWrite(Name { text: \"x\" }, -9223372036854775808) })",
+        ),
+        (
+            "fault with its line",
+            r#"{"process":1,"event":"call","op":"write","register":"x","value":9223372036854775808}"#,
+            "Err(LineFault { line: 7, kind: BadValue })",
+        ),
+    ] {
+        let line = read(alloc, text.as_bytes(), 7)?;
+        let got = format!(in alloc; "{line:?}")?;
+        assert_eq!(rt; got.as_str(), want, "{name}");
+    }
+    Ok(())
+}
+
+#[test]
+fn faults_of_lines(rt: HostRuntime) -> Result<(), Fail> {
+    let alloc = rt.alloc();
+    for (text, want) in [
+        (r#"{"process":2,"ev"#, 2),
+        ("\0", 2),
+        ("[]", 3),
+        ("null", 3),
+        (r#"{"event":"reply"}"#, 4),
+        (r#"{"process":-1,"event":"reply"}"#, 4),
+        (r#"{"process":1.0,"event":"reply"}"#, 4),
+        (r#"{"process":1e0,"event":"reply"}"#, 4),
+        (r#"{"process":"1","event":"reply"}"#, 4),
+        (r#"{"process":4294967296,"event":"reply"}"#, 4),
+        (r#"{"process":1}"#, 5),
+        (r#"{"process":1,"event":"fail"}"#, 5),
+        (r#"{"process":1,"event":"call"}"#, 6),
+        (r#"{"process":1,"event":"call","op":"cas"}"#, 6),
+        (r#"{"process":1,"event":"reply","op":null}"#, 6),
+        (r#"{"process":1,"event":"call","op":"read"}"#, 7),
+        (r#"{"process":1,"event":"reply","register":""}"#, 7),
+        (r#"{"process":1,"event":"reply","register":null}"#, 7),
+        (
+            r#"{"process":1,"event":"call","op":"read","register":"x","value":1}"#,
+            8,
+        ),
+        (
+            r#"{"process":1,"event":"call","op":"write","register":"x"}"#,
+            8,
+        ),
+        (
+            r#"{"process":1,"event":"call","op":"write","register":"x","value":null}"#,
+            8,
+        ),
+        (
+            r#"{"process":1,"event":"call","op":"write","register":"x","value":5.0}"#,
+            8,
+        ),
+        (r#"{"process":1,"event":"reply","value":"5"}"#, 8),
+        (
+            r#"{"process":1,"event":"reply","value":-9223372036854775809}"#,
+            8,
+        ),
+        // Of several faults the least number, wherever its member stands.
+        (
+            r#"{"value":true,"register":0,"op":0,"event":0,"process":1.5}"#,
+            4,
+        ),
+        (
+            r#"{"value":true,"register":0,"op":0,"event":"reply","process":1}"#,
+            6,
+        ),
+        // Of equal names the last counts.
+        (r#"{"process":"1","event":"reply","process":1}"#, 0),
+        // Space around the JSON, a carriage return among it.
+        (" \t{\"process\":1,\"event\":\"reply\"} \r", 0),
+    ] {
+        assert_eq!(rt; number(alloc, text.as_bytes())?, want, "{text}");
+    }
+    assert_eq!(rt;
+        number(alloc, b"\xff".as_slice())?,
+        2,
+        "a byte that is no UTF-8"
+    );
+    Ok(())
+}
+
+// The text, followed by bytes up to the length.
+fn padded(alloc: Global, text: &str, byte: u8, length: usize) -> Result<Vec<u8>, AllocError> {
+    let mut bytes = Vec::from_slice(alloc, text.as_bytes())?;
+    for _ in text.len()..length {
+        bytes.push(byte)?;
+    }
+    Ok(bytes)
+}
+
+// A reply with an unknown member of lists in lists.
+fn nested(alloc: Global, depth: usize) -> Result<Vec<u8>, AllocError> {
+    let text = r#"{"process":1,"event":"reply","z":"#;
+    let mut bytes = padded(alloc, text, b'[', text.len().saturating_add(depth))?;
+    for _ in 0..depth {
+        bytes.push(b']')?;
+    }
+    bytes.push(b'}')?;
+    Ok(bytes)
+}
+
+// A reply that names a register of so many bytes.
+fn named(alloc: Global, length: usize) -> Result<Vec<u8>, AllocError> {
+    let text = r#"{"process":1,"event":"reply","register":""#;
+    let mut bytes = padded(alloc, text, b'x', text.len().saturating_add(length))?;
+    bytes.extend_from_slice(b"\"}".as_slice())?;
+    Ok(bytes)
+}
+
+#[test]
+fn limits_of_a_line(rt: HostRuntime) -> Result<(), Fail> {
+    let alloc = rt.alloc();
+    for (name, bytes, want) in [
+        (
+            "a line of the limit",
+            padded(alloc, WRITE, b' ', 65_536)?,
+            0,
+        ),
+        ("a longer line", padded(alloc, WRITE, b' ', 65_537)?, 1),
+        (
+            "a longer line that is no JSON",
+            padded(alloc, "", b'a', 65_537)?,
+            1,
+        ),
+        ("nested 20 deep", nested(alloc, 20)?, 0),
+        ("nested 2,000 deep", nested(alloc, 2_000)?, 2),
+        ("a name of 255 bytes", named(alloc, 255)?, 0),
+        ("a name of 256 bytes", named(alloc, 256)?, 7),
+    ] {
+        assert_eq!(rt; number(alloc, bytes.as_slice())?, want, "{name}");
+    }
+    Ok(())
+}
+
+// The lines and the spans of an input: `line:from-to` and the number of the fault, or 0.
+fn shown(rt: &impl Abort, alloc: Global, bytes: &[u8]) -> Result<String, Fail> {
+    assert!(rt; bytes.len() <= MAX_INPUT);
+    let mut shown = String::new(alloc);
+    for span in &lines_of(alloc, bytes)? {
+        let Span { line, from, to } = *span;
+        write!(shown, "{line}:{from}-{to} ")?;
+    }
+    for read in &read_lines(alloc, bytes)? {
+        match read {
+            Ok(event) => {
+                let line = event.line;
+                write!(shown, "{line}=0 ")?;
+            }
+            Err(fault) => {
+                let line = fault.line;
+                let number = fault.number();
+                write!(shown, "{line}={number} ")?;
+            }
+        }
+    }
+    Ok(shown)
+}
+
+#[test]
+fn lines_of_inputs(rt: HostRuntime) -> Result<(), Fail> {
+    let alloc = rt.alloc();
+    for (name, text, want) in [
+        ("nothing", format!(in alloc; "")?, ""),
+        ("a line feed", format!(in alloc; "\n")?, ""),
+        ("blank lines", format!(in alloc; " \n\t\r\n\n\r")?, ""),
+        ("one line", format!(in alloc; "{REPLY}\n")?, "1:0-29 1=0 "),
+        (
+            "no line feed at the end",
+            format!(in alloc; "{REPLY}")?,
+            "1:0-29 1=0 ",
+        ),
+        (
+            "four lines",
+            format!(in alloc; "{WRITE}\n{REPLY}\n{READ}\n{GOT}\n")?,
+            "1:0-66 2:67-96 3:97-152 4:153-192 1=0 2=0 3=0 4=0 ",
+        ),
+        (
+            "carriage returns, empty lines between, no line end after the last",
+            format!(in alloc; "{WRITE}\r\n\n{REPLY}\r\n\n{READ}\r\n\n{GOT}")?,
+            "1:0-67 3:69-99 5:101-157 7:159-198 1=0 3=0 5=0 7=0 ",
+        ),
+        (
+            "a torn line does not stop the rest",
+            format!(in alloc; "{{\"process\":2,\"ev\n\n{REPLY}")?,
+            "1:0-16 3:18-47 1=2 3=0 ",
+        ),
+    ] {
+        let got = shown(&rt, alloc, text.as_bytes())?;
+        assert_eq!(rt; got.as_str(), want, "{name}");
+    }
+    let mut spaces = padded(alloc, "", b' ', 65_537)?;
+    spaces.extend_from_slice(b"\n{}".as_slice())?;
+    let got = shown(&rt, alloc, spaces.as_slice())?;
+    assert_eq!(rt;
+        got.as_str(),
+        "2:65538-65540 2=4 ",
+        "a blank line has no limit"
+    );
+    Ok(())
+}
+
+#[test]
+fn names_give_their_text(rt: HostRuntime) -> Result<(), Fail> {
+    let alloc = rt.alloc();
+    let name = Name::new(alloc, "x")?;
+    assert_eq!(rt; name.as_str(), "x");
+    assert!(rt; name == Name::new(alloc, "x")?);
+    assert!(rt; name != Name::new(alloc, "X")?);
+    assert_eq!(rt; name.into_string().as_str(), "x");
+    Ok(())
+}
