@@ -1,0 +1,267 @@
+-- The arena's events against the lines' events: the call that a process has open, and the call that wrote a value before.
+use Rattle.std.proofs.Common.{◌≡◌, ℕ, ℤ, zero, suc, ◌<◌, ◌&&◌, cond, Bool, true, false, List, [], ◌∷◌, length, take, slice_get, Option, Some, None, inl, inr, refl, sym, ap, subst, ◌∙◌, arith, is_some, option_map, option_and_then}
+use Rattle.std.specs.Prelude.{bytes_eq}
+use Rattle.std.specs.Option.{option_or}
+use Rattle.std.proofs.lemmas.Bool.{cases_order, eq-eqb, eqb-true, false≢true}
+use Rattle.std.proofs.lemmas.Bool.Decides.{Decides-int_eq}
+use Rattle.std.proofs.lemmas.Slice.Eq.{bytes_eq-Decides}
+use Rattle.std.proofs.lemmas.Option.{slice_get_within}
+use Rattle.history_text.specs.Values.{value_eq}
+use Rattle.history_text.specs.declared.event.Val.{Val}
+use Rattle.history_text.specs.declared.event.Val.TheVariants.{Null, Int}
+use Rattle.history_text.specs.declared.event.OpKind.{OpKind}
+use Rattle.history_text.specs.declared.event.OpKind.TheVariants.{ReadOp, WriteOp}
+use Rattle.history_text.specs.declared.event.LineEvent.{LineEvent}
+use Rattle.history_text.specs.declared.event.Kind.{Kind}
+use Rattle.history_text.specs.declared.event.Kind.TheVariants.{CallRead, CallWrite, Reply}
+use Rattle.reg_arena.specs.Lists.{In, last_with, first_with}
+use Rattle.reg_arena.specs.Events.{Asked, asked_by, is_call, is_of_process, open_call, open_asked}
+use Rattle.reg_arena.specs.Refusals.{AreAccepted, writes_to}
+use Rattle.reg_arena.specs.History.{history_of, event_after, register_names, register_number}
+use Rattle.reg_arena.specs.Shown.{key_at, by_process, by_value}
+use Rattle.reg_arena.specs.Threads.{by_write}
+use Rattle.reg_arena.specs.Step.{IsOpen, IsNumber, IsWritten}
+use Rattle.reg_arena.specs.declared.ids.EvId.{EvId}
+use Rattle.reg_arena.specs.declared.event.Event.{Event}
+use Rattle.reg_arena.proofs.Numbers.{is-In, place-in, place-out}
+use Rattle.reg_arena.proofs.Accepted.{last-some, IsLineAt, line-at, at-after, asked-value, call-asks}
+use Rattle.reg_arena.proofs.Turns.{IsCallEvent, call-event, number-later}
+use Rattle.reg_arena.proofs.Append.{write-value}
+
+-- ---- the last and the first of a list
+
+all-none : {X : Type 0} (test : X → Bool) (xs : List X) → ((u : ℕ) (y : X) → slice_get xs u ≡ Some y → test y ≡ true → ⊥) → last_with test xs ≡ None
+all-none test [] h = refl
+all-none {X} test (x ∷ xs) h = go (test x) refl (all-none test xs (λ u y q. h (suc u) y q))
+  where
+    go : (b : Bool) → test x ≡ b → last_with test xs ≡ None → option_or (last_with test xs) (cond b (Some x) None) ≡ None
+    go true d e = absurd (h 0 x refl d)
+    go false d e = ap (λ o. option_or o None) e
+
+last-is : {X : Type 0} (test : X → Bool) (xs : List X) (i : ℕ) (x : X) → slice_get xs i ≡ Some x → test x ≡ true → ((u : ℕ) (y : X) → i < u → slice_get xs u ≡ Some y → test y ≡ true → ⊥) → last_with test xs ≡ Some x
+last-is test [] i x at t h = absurd (cc (at))
+last-is test (z ∷ zs) zero x at t h =
+    let s : z ≡ x = cc (at) in
+    ap (λ o. option_or o (cond (test z) (Some z) None)) (all-none test zs (λ u y q d. h (suc u) y (omega arith) q d)) ∙ (ap (λ b. cond b (Some z) None) (ap test s ∙ t) ∙ ap Some s)
+last-is test (z ∷ zs) (suc i) x at t h = ap (λ o. option_or o (cond (test z) (Some z) None)) (last-is test zs i x at t (λ u y l q d. h (suc u) y (omega arith) q d))
+
+none-first : {X : Type 0} (test : X → Bool) (xs : List X) → ((u : ℕ) (y : X) → slice_get xs u ≡ Some y → test y ≡ true → ⊥) → first_with test xs ≡ None
+none-first test [] h = refl
+none-first {X} test (x ∷ xs) h = go (test x) refl (none-first test xs (λ u y q. h (suc u) y q))
+  where
+    go : (b : Bool) → test x ≡ b → first_with test xs ≡ None → cond b (Some x) (first_with test xs) ≡ None
+    go true d e = absurd (h 0 x refl d)
+    go false d e = e
+
+first-is : {X : Type 0} (test : X → Bool) (xs : List X) (i : ℕ) (x : X) → slice_get xs i ≡ Some x → test x ≡ true → ((u : ℕ) (y : X) → u < i → slice_get xs u ≡ Some y → test y ≡ true → ⊥) → first_with test xs ≡ Some x
+first-is test [] i x at t h = absurd (cc (at))
+first-is test (z ∷ zs) zero x at t h = let s : z ≡ x = cc (at) in ap (λ b. cond b (Some z) (first_with test zs)) (ap test s ∙ t) ∙ ap Some s
+first-is {X} test (z ∷ zs) (suc i) x at t h = go (test z) refl (first-is test zs i x at t (λ u y l q d. h (suc u) y (omega arith) q d))
+  where
+    go : (b : Bool) → test z ≡ b → first_with test zs ≡ Some x → cond b (Some z) (first_with test zs) ≡ Some x
+    go true d e = absurd (h 0 z (omega arith) refl d)
+    go false d e = e
+
+-- ---- one place of both lists
+
+module _ (es : List LineEvent) (acc : AreAccepted es) where
+  -- the event of a line's event
+  event-of : (i : ℕ) (le : LineEvent) → slice_get es i ≡ Some le → slice_get (history_of es).events i ≡ Some (event_after (take i es) le)
+  event-of i le at = at-after [] es i le at
+
+  line-process : (p : ℕ) (i : ℕ) (le : LineEvent) → slice_get es i ≡ Some le → le.process ≡ p → key_at by_process (history_of es).events i ≡ Some p
+  line-process p i le at q = ap (option_and_then by_process) (event-of i le at) ∙ ap Some q
+
+  process-line : (p : ℕ) (i : ℕ) → key_at by_process (history_of es).events i ≡ Some p → (ev : Event) × (le : LineEvent) × IsLineAt es i ev le × (le.process ≡ p) × (slice_get (history_of es).events i ≡ Some ev)
+  process-line p i h = go (slice_get (history_of es).events i) refl h
+    where
+      go : (o : Option Event) → slice_get (history_of es).events i ≡ o → option_and_then by_process o ≡ Some p → (ev : Event) × (le : LineEvent) × IsLineAt es i ev le × (le.process ≡ p) × (slice_get (history_of es).events i ≡ Some ev)
+      go None at q = absurd (cc (q))
+      go (Some ev) at q =
+          let l = line-at es acc i ev at in
+          let w : ev.process ≡ p = cc (q) in
+          (ev, l.0, l.1, sym (ap (λ (x : Event). x.process) l.1.is) ∙ w, at)
+
+  -- ---- the open call
+
+  -- the open call and its event
+  pub record IsOpenEvent (p : ℕ) (j : EvId) (ev : Event) (c : LineEvent) (a : Asked) : Type 0 where
+    pub there : slice_get (history_of es).events j.0 ≡ Some ev
+    pub before : slice_get es j.0 ≡ Some c
+    pub line : ev.line ≡ c.line
+    pub asks : asked_by c.kind ≡ Some a
+    pub says : IsCallEvent es j.0 c a ev
+    pub opened : open_call es p ≡ Some c
+    pub asked : open_asked es p ≡ Some a
+    pub process : c.process ≡ p
+
+  pub open-some : (p : ℕ) (j : EvId) → IsOpen (history_of es).events p (Some j) → (ev : Event) × (c : LineEvent) × (a : Asked) × IsOpenEvent p j ev c a
+  open-some p j h =
+      let x = process-line p j.0 h.0.0 in
+      let ev = x.0 in
+      let c = x.1 in
+      let l = x.2 in
+      let there = x.4 in
+      let call = h.1.1 in
+      let same : h.1.0 ≡ ev = cc (call, there) in
+      let ends : is_call c ≡ true = sym (ap (λ (z : Event). z.is_call) l.is) ∙ (sym (ap (λ (z : Event). z.is_call) same) ∙ h.1.2) in
+      let a = call-asks c.kind ends in
+      let last = last-is (is_of_process p) es j.0 c l.there (eq-eqb _ _ x.3) (λ u y lt at q. let w = h.0.1 u (line-process p u y at (eqb-true _ _ q)) in omega arith) in
+      let is : open_call es p ≡ Some c = ap (option_and_then (λ (e : LineEvent). cond (is_call e) (Some e) None)) last ∙ ap (λ b. cond b (Some c) None) ends in (
+        ev,
+        c,
+        a.0,
+        record {
+          there = there;
+          before = l.there;
+          line = ap (λ (z : Event). z.line) l.is;
+          asks = a.1;
+          says = call-event es j.0 c a.0 ev l.is a.1;
+          opened = is;
+          asked = ap (option_and_then (λ (e : LineEvent). asked_by e.kind)) is ∙ a.1;
+          process = x.3;
+        },
+      )
+
+  pub open-none : (p : ℕ) → IsOpen (history_of es).events p None → open_call es p ≡ None
+  open-none p h = go (last_with (is_of_process p) es) refl
+    where
+      by_kind : (l : LineEvent) → last_with (is_of_process p) es ≡ Some l → (b : Bool) → is_call l ≡ b → cond b (Some l) None ≡ None
+      by_kind l e false q = refl
+      by_kind l e true q =
+          let r = last-some (is_of_process p) es l e in
+          let ev = event_after (take r.place es) l in
+          let at = event-of r.place l r.there in
+          absurd (h (record { 0 = r.place }) (
+            line-process p r.place l r.there (eqb-true _ _ r.passes),
+            λ i k.
+                let x = process-line p i k in
+                elim (cases_order i r.place) [
+                  | inl w ↦ omega arith
+                  | inr w ↦ elim w [ inl less ↦ omega arith | inr more ↦ absurd (r.none_later i x.1 more x.2.there (eq-eqb _ _ x.3)) ]
+                ],
+          ) (ev, at, q))
+
+      go : (o : Option LineEvent) → last_with (is_of_process p) es ≡ o → open_call es p ≡ None
+      go None e = ap (option_and_then (λ (e : LineEvent). cond (is_call e) (Some e) None)) e
+      go (Some l) e = ap (option_and_then (λ (e : LineEvent). cond (is_call e) (Some e) None)) e ∙ by_kind l e (is_call l) refl
+
+  -- ---- the names
+
+  -- a name that is called among the events has a number from then on
+  pub number-stays : (i : ℕ) (c : LineEvent) (a : Asked) → slice_get es i ≡ Some c → asked_by c.kind ≡ Some a → In a.register (register_names es) × (register_number es a.register ≡ register_number (take i es) a.register)
+  number-stays i c a at asks =
+      let l = slice_get_within es i c at in
+      subst (λ (xs : List LineEvent). In a.register (register_names xs) × (register_number xs a.register ≡ register_number (take i es) a.register)) (take-whole es) (number-later es i (length es) c a l at asks)
+    where
+      take-whole : {X : Type 0} (xs : List X) → take (length xs) xs ≡ xs
+      take-whole [] = refl
+      take-whole (x ∷ xs) = ap (λ ys. x ∷ ys) (take-whole xs)
+
+  -- the name at the number of a call's register
+  pub name-at : (i : ℕ) (c : LineEvent) (a : Asked) (ev : Event) → slice_get es i ≡ Some c → asked_by c.kind ≡ Some a → IsCallEvent es i c a ev → slice_get (register_names es) ev.register.0 ≡ Some a.register
+  name-at i c a ev at asks says =
+      let n = number-stays i c a at asks in
+      ap (slice_get (register_names es)) (says.says.register ∙ sym n.1) ∙ (place-in a.register (register_names es) n.0).1
+
+  -- ---- the call that wrote a value before
+
+  -- a call that writes the value to the name has the key
+  written-key : (name : List ℕ) (v : Val) (i : ℕ) (c : LineEvent) → slice_get es i ≡ Some c → writes_to name v c.kind ≡ true → In name (register_names es) × (key_at by_write (history_of es).events i ≡ Some (register_number es name, v))
+  written-key name v i c at w = go c.kind refl w
+    where
+      both : (a b : Bool) → (a && b) ≡ true → (a ≡ true) × (b ≡ true)
+      both true b h = (refl, h)
+      both false b h = absurd (false≢true h)
+
+      value-is : (n : ℤ) (v : Val) → value_eq (Int n) v ≡ true → v ≡ Int n
+      value-is n Null h = absurd (false≢true h)
+      value-is n (Int m) h = ap Int (sym ((Decides-int_eq n m).0 h))
+
+      go : (k : Kind) → c.kind ≡ k → writes_to name v k ≡ true → In name (register_names es) × (key_at by_write (history_of es).events i ≡ Some (register_number es name, v))
+      go (CallRead m) q h = absurd (false≢true h)
+      go (Reply parts) q h = absurd (false≢true h)
+      go (CallWrite m n) q h =
+          let t = both (bytes_eq m name) (value_eq (Int n) v) h in
+          let e : m ≡ name = (bytes_eq-Decides m name).0 t.0 in
+          let x : v ≡ Int n = value-is n v t.1 in
+          let a : Asked = record { register = m; kind = WriteOp; value = Some (Int n) } in
+          let asks : asked_by c.kind ≡ Some a = ap asked_by q in
+          let s = number-stays i c a at asks in
+          let f = call-event es i c a (event_after (take i es) c) refl asks in
+          let call : (event_after (take i es) c).is_call ≡ true = ap is_some asks in
+          let value : by_value (event_after (take i es) c) ≡ Some (register_number es name, v) =
+          ap (option_map (λ w. ((event_after (take i es) c).register.0, w))) f.value ∙ (ap (λ r. Some (r, Int n)) (f.says.register ∙ sym s.1) ∙ (ap (λ z. Some (register_number es z, Int n)) e ∙ ap (λ z. Some (register_number es name, z)) (sym x))) in (
+            subst (λ z. In z (register_names es)) e s.0,
+            ap (option_and_then by_write) (event-of i c at) ∙ (ap (λ b. cond b (by_value (event_after (take i es) c)) None) call ∙ value),
+          )
+
+  key-written : (name : List ℕ) (v : Val) (i : ℕ) → In name (register_names es) → key_at by_write (history_of es).events i ≡ Some (register_number es name, v) → (c : LineEvent) × (slice_get es i ≡ Some c) × (writes_to name v c.kind ≡ true) × ((ev : Event) → slice_get (history_of es).events i ≡ Some ev → ev.line ≡ c.line)
+  key-written name v i there h = go (slice_get (history_of es).events i) refl h
+    where
+      call-of : (e : Event) → by_write e ≡ Some (register_number es name, v) → e.is_call ≡ true
+      call-of e q = by_kind e.is_call refl q
+        where
+          by_kind : (b : Bool) → e.is_call ≡ b → cond b (by_value e) None ≡ Some (register_number es name, v) → e.is_call ≡ true
+          by_kind true d k = d
+          by_kind false d k = absurd (cc (k))
+
+      value-of : (e : Event) → by_value e ≡ Some (register_number es name, v) → (e.register.0 ≡ register_number es name) × (e.value ≡ Some v)
+      value-of e q = by_opt e.value refl q
+        where
+          by_opt : (o : Option Val) → e.value ≡ o → option_map {U = ℕ × Val} (λ w. (e.register.0, w)) o ≡ Some (register_number es name, v) → (e.register.0 ≡ register_number es name) × (e.value ≡ Some v)
+          by_opt None d k = absurd (cc (k))
+          by_opt (Some w) d k =
+              let p : (e.register.0, w) ≡ (register_number es name, v) = cc (k) in
+              (ap (λ (z : ℕ × Val). z.0) p, d ∙ ap (λ (z : ℕ × Val). Some z.1) p)
+
+      same-name : (m : List ℕ) → In m (register_names es) → register_number es m ≡ register_number es name → m ≡ name
+      same-name m i q =
+          let a = (place-in m (register_names es) i).1 in
+          let b = (place-in name (register_names es) there).1 in
+          let c = ap (slice_get (register_names es)) q in
+          cc (a, b, c)
+
+      writes-same : (n : ℤ) (k : Kind) → k ≡ CallWrite name n → writes_to name (Int n) k ≡ true
+      writes-same n k q = ap (writes_to name (Int n)) q ∙ (ap (λ b. b && value_eq (Int n) (Int n)) ((bytes_eq-Decides name name).1 refl) ∙ (Decides-int_eq n n).1 refl)
+
+      by_asked : (ev : Event) (c : LineEvent) (a : Asked) → IsLineAt es i ev c → asked_by c.kind ≡ Some a → IsCallEvent es i c a ev → (ev.register.0 ≡ register_number es name) × (ev.value ≡ Some v) → (k : OpKind) → a.kind ≡ k → writes_to name v c.kind ≡ true
+      by_asked ev c a l asks says w ReadOp q = absurd (let none = (asked-value c.kind a asks).0 q in let x = says.value in let y = w.1 in cc (none, x, y))
+      by_asked ev c a l asks says w WriteOp q =
+          let t = (asked-value c.kind a asks).1 q in
+          let s = number-stays i c a l.there asks in
+          let e : a.register ≡ name = same-name a.register s.0 (s.1 ∙ (sym says.says.register ∙ w.0)) in
+          let x = says.value in
+          let y = w.1 in
+          let z = t.2 in
+          let n : v ≡ Int t.0 = cc (x, y, z) in
+          ap (λ u. writes_to name u c.kind) n ∙ writes-same t.0 c.kind (t.1 ∙ ap (λ m. CallWrite m t.0) e)
+
+      go : (o : Option Event) → slice_get (history_of es).events i ≡ o → option_and_then by_write o ≡ Some (register_number es name, v) → (c : LineEvent) × (slice_get es i ≡ Some c) × (writes_to name v c.kind ≡ true) × ((ev : Event) → slice_get (history_of es).events i ≡ Some ev → ev.line ≡ c.line)
+      go None at q = absurd (cc (q))
+      go (Some ev) at q =
+          let l = line-at es acc i ev at in
+          let c = l.0 in
+          let call : is_call c ≡ true = sym (ap (λ (z : Event). z.is_call) l.1.is) ∙ call-of ev q in
+          let a = call-asks c.kind call in
+          let says = call-event es i c a.0 ev l.1.is a.1 in (
+            c,
+            l.1.there,
+            by_asked ev c a.0 l.1 a.1 says (value-of ev (write-value ev _ q)) a.0.kind refl,
+            λ z k. let s : ev ≡ z = cc (at, k) in sym (ap (λ (z : Event). z.line) s) ∙ ap (λ (z : Event). z.line) l.1.is,
+          )
+
+  -- no call wrote the value before
+  pub written-none : (name : List ℕ) (number : Option ℕ) (v : Val) → IsNumber (register_names es) name number → IsWritten (history_of es).events number (Some v) None → first_with (λ (w : LineEvent). writes_to name v w.kind) es ≡ None
+  written-none name None v n h = none-first (λ (w : LineEvent). writes_to name v w.kind) es (λ u y at q. let k = written-key name v u y at q in let p = (place-in name (register_names es) k.0).0 in omega (arith, p, n))
+  written-none name (Some r) v n h =
+      none-first (λ (w : LineEvent). writes_to name v w.kind) es (λ u y at q. h u (omega arith) ((written-key name v u y at q).1 ∙ ap (λ m. Some (m, v)) n.0))
+
+  -- the call at place j did
+  pub written-some : (name : List ℕ) (number : Option ℕ) (v : Val) (j : EvId) → IsNumber (register_names es) name number → IsWritten (history_of es).events number (Some v) (Some j)
+      → (c : LineEvent) × (first_with (λ (w : LineEvent). writes_to name v w.kind) es ≡ Some c) × ((ev : Event) → slice_get (history_of es).events j.0 ≡ Some ev → ev.line ≡ c.line)
+  written-some name None v j n h = absurd (cc (h))
+  written-some name (Some r) v j n h =
+      let there : In name (register_names es) = elim (is-In name (register_names es)) [ inl i ↦ i | inr f ↦ absurd (omega (arith, n.0, n.1, place-out name (register_names es) f)) ] in
+      let k = key-written name v j.0 there (h.1 ∙ ap (λ m. Some (m, v)) (sym n.0)) in
+      (k.0, first-is (λ (w : LineEvent). writes_to name v w.kind) es j.0 k.0 k.1 k.2 (λ u y lt at q. h.2 u (omega arith) lt ((written-key name v u y at q).1 ∙ ap (λ m. Some (m, v)) n.0)), k.3)

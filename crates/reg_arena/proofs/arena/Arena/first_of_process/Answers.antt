@@ -1,0 +1,9 @@
+use Rattle.std.proofs.Common.{Some, sym, subst, ◌∙◌}
+use Rattle.reg_arena.specs.History.{History}
+use Rattle.reg_arena.specs.Shown.{IsFirstOf, by_process}
+use Rattle.reg_arena.proofs.arena.Arena.first_of_process.Goals as goal
+
+pub returns-in-Some : goal.returns-in-Some
+returns-in-Some c =
+    subst (λ (h : History). IsFirstOf by_process h.events c.args.process (Some c.in-Some.ends.first)) c.self.view_is
+    (c.self.invariant.0.processes.first c.args.process c.in-Some.ends (sym c.get.ensures.value ∙ sym c.in-Some.ensures))

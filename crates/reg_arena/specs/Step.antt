@@ -1,0 +1,48 @@
+-- What the building of an arena does with one event; `events` and `h` are what the events before it gave.
+use Rattle.std.specs.Prelude.{◌≡◌, ℕ, ◌<◌, ◌++◌, ◌∷◌, [], List, length, bytes_eq, Option, Some, None, Result, Ok, Err}
+use Rattle.std.specs.declared.alloc.AllocError.{AllocError}
+use Rattle.std.specs.List.{position_or_len}
+use Rattle.history_text.specs.declared.event.Val.{Val}
+use Rattle.history_text.specs.declared.event.LineEvent.{LineEvent}
+use Rattle.reg_arena.specs.declared.ids.EvId.{EvId}
+use Rattle.reg_arena.specs.declared.event.Event.{Event}
+use Rattle.reg_arena.specs.declared.refusal.BuildError.{BuildError}
+use Rattle.reg_arena.specs.declared.refusal.BuildError.TheVariants.{Refused, Memory}
+use Rattle.reg_arena.specs.Shown.{IsCall, IsFirstOf, by_process}
+use Rattle.reg_arena.specs.Threads.{IsLastOf, by_write}
+use Rattle.reg_arena.specs.History.{History, history_of}
+use Rattle.reg_arena.specs.Refusals.{AreAccepted, event_refusal}
+
+-- the number of a name, where it has one
+abbrev pub IsNumber : List (List ℕ) → List ℕ → Option ℕ → Type 0
+IsNumber names name None = position_or_len (bytes_eq name) names ≡ length names
+IsNumber names name (Some r) = (position_or_len (bytes_eq name) names ≡ r) × (r < length names)
+
+-- the call that a process has open: its last event, where that is a call
+abbrev pub IsOpen : List Event → ℕ → Option EvId → Type 0
+IsOpen events p None = (j : EvId) → IsLastOf by_process events p (Some j) → IsCall events j.0 → ⊥
+IsOpen events p (Some j) = IsLastOf by_process events p (Some j) × IsCall events j.0
+
+-- the call that wrote the value to the register before; a new register has none
+abbrev pub IsWritten : List Event → Option ℕ → Option Val → Option EvId → Type 0
+IsWritten events None v o = o ≡ None
+IsWritten events (Some r) None o = o ≡ None
+IsWritten events (Some r) (Some v) o = IsFirstOf by_write events (r, v) o
+
+-- the event e isn't refused after the events of h
+pub record IsTaken (h : History) (e : LineEvent) : Type 0 where
+  pub before : List LineEvent
+  pub accepted : AreAccepted before
+  pub is : h ≡ history_of before
+  pub free : event_refusal before e ≡ None
+
+-- where memory is there, the next history is that of the events with e
+abbrev pub OnOkAfter : History → LineEvent → Result History AllocError → Type 0
+OnOkAfter h e (Ok g) = (before : List LineEvent) → AreAccepted before → h ≡ history_of before → g ≡ history_of (before ++ e ∷ [])
+OnOkAfter h e (Err x) = Unit {0}
+
+-- the refusal of the event after those before it, or the history with it
+abbrev pub IsStep : List LineEvent → LineEvent → Result History BuildError → Type 0
+IsStep before e (Ok h) = (event_refusal before e ≡ None) × (h ≡ history_of (before ++ e ∷ []))
+IsStep before e (Err (Refused r)) = event_refusal before e ≡ Some r
+IsStep before e (Err Memory) = Unit {0}

@@ -1,0 +1,181 @@
+//! An accepted history, and what is asked of it. No call takes memory, and each always answers.
+ghost use Rattle.std.specs.Prelude.{◌≡◌, ◌<◌, ◌≤◌, ◌^◌, ◌↔◌, ℕ, length, slice_get, None, Some, IsTrue};
+ghost use Rattle.history_text.specs.declared.event.Val.{Val as AVal};
+ghost use Rattle.history_text.specs.Limits.{IsName};
+ghost use Rattle.reg_arena.specs.History.{IsRecorded};
+ghost use Rattle.reg_arena.specs.Operations.{Operation, Precedes};
+ghost use Rattle.reg_arena.specs.Shown.{IsEventOf, IsFirstOf, IsFirstReply, IsLastCall, IsNamed, IsNextOf, IsOper, IsWriteOf, by_process, by_register, by_value, key_at, op_shown};
+
+use crate::event::Event;
+use crate::ids::{EvId, Oper, RegId};
+use crate::names::Names;
+use crate::op::Op;
+use crate::threads::Threads;
+use history_text::{OpKind, Val};
+use std::marker::Model;
+
+/// A history that is well formed, which contracts see as its registers' names and its events.
+#[derive(Drop)]
+pub struct Arena {
+    pub(crate) names: Names,
+    pub(crate) threads: Threads,
+}
+
+impl Model for Arena {
+    ghost use Rattle.std.specs.Prelude.{◌≡◌, length};
+    ghost use Rattle.reg_arena.specs.History.{History, IsRecorded};
+    ghost use Rattle.reg_arena.specs.Threads.{AreThreads};
+
+    ghost Value = { History };
+
+    ghost view = { λ a. record { names = a.names; events = a.threads.events.items } };
+
+    ghost invariant = { λ a. AreThreads a.threads × (length a.names ≡ length a.threads.registers.items) × IsRecorded (record { names = a.names; events = a.threads.events.items }) };
+}
+
+impl Arena {
+    /// How many events there are, at most [`MAX_EVENTS`](history_text::MAX_EVENTS).
+    pub fn event_count(&self) -> u32
+        ensures count { result ≡ length self.now.events }
+        ensures bound { result ≤ 2 ^ 20 }
+        ensures recorded { IsRecorded self.now }
+    {
+        self.threads.events.len() as u32
+    }
+
+    /// How many registers there are: no more than events.
+    pub fn register_count(&self) -> u32
+        ensures count { result ≡ length self.now.names }
+        ensures bound { result ≤ 2 ^ 20 }
+    {
+        self.names.len() as u32
+    }
+
+    /// The name of a register.
+    pub fn name(&self, register: RegId) -> &str
+        requires { register.0 < length self.now.names }
+        ensures at { slice_get self.now.names register.0 ≡ Some result.now }
+        ensures bound { IsName result.now }
+    {
+        self.names.get(register.0)
+    }
+
+    /// The event at `id`.
+    pub fn event(&self, id: EvId) -> Event
+        requires { id.0 < length self.now.events }
+        ensures at { slice_get self.now.events id.0 ≡ Some result }
+        ensures bound { length self.now.events ≤ 2 ^ 20 }
+    {
+        self.threads.events[id.0 as usize]
+    }
+
+    /// The operation of this name, with its times.
+    pub fn op(&self, oper: Oper) -> Op
+        requires { IsOper self.now oper }
+        ensures { (o : Operation) × IsNamed self.now oper o × (result ≡ op_shown o) }
+    {
+        match oper {
+            Oper::Initial(register) => Op {
+                line: 0,
+                call: 0,
+                reply: Some(1),
+                process: None,
+                register,
+                kind: OpKind::WriteOp,
+                value: Some(Val::Null),
+            },
+            Oper::Called(id) => self.called(id),
+        }
+    }
+
+    /// The operation that the event belongs to, as its call or as its reply.
+    pub fn op_of(&self, id: EvId) -> Oper
+        requires { id.0 < length self.now.events }
+        ensures { (o : Operation) × IsNamed self.now result o × IsEventOf id.0 o }
+    {
+        Oper::Called(self.threads.calls[id.0 as usize])
+    }
+
+    /// Whether the reply of the one comes before the call of the other.
+    pub fn precedes(&self, one: Oper, other: Oper) -> bool
+        requires one { IsOper self.now one }
+        requires other { IsOper self.now other }
+        ensures { (a b : Operation) → IsNamed self.now one a → IsNamed self.now other b → (IsTrue result ↔ Precedes a b) }
+    {
+        match self.op(one).reply {
+            None => false,
+            Some(reply) => reply < self.op(other).call,
+        }
+    }
+
+    /// The first event of a register.
+    pub fn first_of_register(&self, register: RegId) -> Option<EvId>
+        ensures { IsFirstOf by_register self.now.events register.0 result }
+    {
+        let number = register.0 as usize;
+        if number < self.threads.registers.len() {
+            Some(self.threads.registers[number].first)
+        } else {
+            None
+        }
+    }
+
+    /// The next event of the same register.
+    pub fn next_in_register(&self, id: EvId) -> Option<EvId>
+        requires { id.0 < length self.now.events }
+        ensures { IsNextOf by_register self.now.events id.0 result }
+    {
+        self.threads.in_register[id.0 as usize]
+    }
+
+    /// The first event of a process.
+    pub fn first_of_process(&self, process: u32) -> Option<EvId>
+        ensures { IsFirstOf by_process self.now.events process result }
+    {
+        match self.threads.processes.get(&process).copied() {
+            Some(ends) => Some(ends.first),
+            None => None,
+        }
+    }
+
+    /// The next event of the same process.
+    pub fn next_in_process(&self, id: EvId) -> Option<EvId>
+        requires { id.0 < length self.now.events }
+        ensures { IsNextOf by_process self.now.events id.0 result }
+    {
+        self.threads.in_process[id.0 as usize]
+    }
+
+    /// The first event of a register with a value; a read's call has none.
+    pub fn first_with_value(&self, register: RegId, value: Val) -> Option<EvId>
+        ensures { IsFirstOf by_value self.now.events (register.0, value) result }
+    {
+        match self.threads.entry(register, value) {
+            Some(entry) => Some(entry.ends.first),
+            None => None,
+        }
+    }
+
+    /// The next event of the same register and value; of a read's call, which has no value, `None`.
+    pub fn next_with_value(&self, id: EvId) -> Option<EvId>
+        requires { id.0 < length self.now.events }
+        ensures next { IsNextOf by_value self.now.events id.0 result }
+        ensures none { key_at by_value self.now.events id.0 ≡ None → result ≡ None }
+    {
+        self.threads.in_value[id.0 as usize]
+    }
+
+    /// The write of a value to a register: of `Null` the initial write.
+    pub fn write_of(&self, register: RegId, value: Val) -> Option<Oper>
+        requires { register.0 < length self.now.names }
+        ensures { IsWriteOf self.now register.0 value result }
+    {
+        match value {
+            Val::Null => Some(Oper::Initial(register)),
+            Val::Int(_) => match self.threads.write(register, value) {
+                Some(id) => Some(Oper::Called(id)),
+                None => None,
+            },
+        }
+    }
+}

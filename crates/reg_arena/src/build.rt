@@ -1,0 +1,247 @@
+//! From lines to an arena: each event is refused, or taken into the history so far.
+ghost use Rattle.std.specs.Prelude.{◌≡◌, [], List, length, cond, nat_le, IfOk, IfErr, Some, None};
+ghost use Rattle.history_text.specs.declared.event.LineEvent.{LineEvent as ALineEvent};
+ghost use Rattle.reg_arena.specs.Events.{Asked, asked_by, replied_by};
+ghost use Rattle.reg_arena.specs.History.{history_of};
+ghost use Rattle.reg_arena.specs.Refusals.{AreAccepted, IsBuildError, IsWellFormed, event_refusal, events_of};
+ghost use Rattle.reg_arena.specs.Step.{IsNumber, IsOpen, IsStep, IsTaken, IsWritten, OnOkAfter};
+
+use crate::agrees::reply_agrees;
+use crate::arena::Arena;
+use crate::event::Event;
+use crate::ids::{EvId, RegId};
+use crate::names::Names;
+use crate::refusal::{BuildError, LineRefusal};
+use crate::seeded::Seeded;
+use crate::threads::Threads;
+use history_text::{Kind, LineEvent, LineFault, MAX_EVENTS, Name, OpKind, ReplyParts, Val};
+use std::alloc::{AllocError, Global};
+
+/// The refusal of a line.
+fn refused(line: u32, number: u8, other: Option<u32>) -> LineRefusal
+    ensures { result ≡ record { line = line; number = number; other = other } }
+{
+    LineRefusal {
+        line,
+        number,
+        other,
+    }
+}
+
+impl Arena {
+    /// The arena of all events of the lines, or the refusal of the least faulty line, with the least number that applies there.
+    ///
+    /// # Errors
+    /// `Refused` where the history isn't well formed, and `Memory` where a growth was refused; what was built and the lines are then dropped.
+    pub fn build(
+        alloc: Global,
+        events: Vec<Result<LineEvent, LineFault>>,
+    ) -> Result<Self, BuildError>
+        ensures ok { IfOk result (λ a. IsWellFormed events.items × (a ≡ history_of (events_of events.items))) }
+        ensures err { IfErr result (λ e. IsBuildError events.items e) }
+    {
+        let mut arena = Arena::new(alloc, Seeded::over(&events));
+        for line in &events {
+            match line {
+                Err(fault) => {
+                    return Err(BuildError::Refused(refused(fault.line, fault.number(), None)));
+                }
+                Ok(event) => arena = arena.step(alloc, event)?,
+            }
+        }
+        Ok(arena)
+    }
+
+    /// The arena of no events.
+    fn new(alloc: Global, hasher: Seeded) -> Self
+        ensures { result ≡ history_of [] }
+    {
+        Arena {
+            names: Names::new(alloc, hasher),
+            threads: Threads::new(alloc),
+        }
+    }
+
+    /// The arena with the event of a line behind the others, or the event's refusal.
+    fn step(self, alloc: Global, event: &LineEvent) -> Result<Self, BuildError>
+        ensures { (es : List ALineEvent) → AreAccepted es → self ≡ history_of es → IsStep es event.now result }
+    {
+        match &event.kind {
+            Kind::CallRead(name) => self.call(alloc, event, name, OpKind::ReadOp, None),
+            Kind::CallWrite(name, n) => {
+                self.call(alloc, event, name, OpKind::WriteOp, Some(Val::Int(*n)))
+            }
+            Kind::Reply(parts) => self.reply(event, parts),
+        }
+    }
+
+    /// A step by a call.
+    fn call(
+        self,
+        alloc: Global,
+        event: &LineEvent,
+        name: &Name,
+        kind: OpKind,
+        value: Option<Val>,
+    ) -> Result<Self, BuildError>
+        requires { asked_by event.now.kind ≡ Some (record { register = name.now; kind = kind; value = value }) }
+        ensures { (es : List ALineEvent) → AreAccepted es → self ≡ history_of es → IsStep es event.now result }
+    {
+        let number = self.names.number(name);
+        match self.call_refusal(event, number, value) {
+            Some(refusal) => Err(BuildError::Refused(refusal)),
+            None => Ok(self.with_call(alloc, event, name, number, kind, value)?),
+        }
+    }
+
+    /// A step by a reply.
+    fn reply(self, event: &LineEvent, parts: &ReplyParts) -> Result<Self, BuildError>
+        requires { replied_by event.now.kind ≡ Some parts.now }
+        ensures { (es : List ALineEvent) → AreAccepted es → self ≡ history_of es → IsStep es event.now result }
+    {
+        let Some(call) = self.open_call(event.process) else {
+            return Err(BuildError::Refused(refused(event.line, 10, None)));
+        };
+        match self.reply_refusal(event, parts, call) {
+            Some(refusal) => Err(BuildError::Refused(refusal)),
+            None => Ok(self.with_reply(event, parts, call)?),
+        }
+    }
+
+    /// The refusal of a call, where there is one. `number` is that of the call's register, where it has one.
+    fn call_refusal(
+        &self,
+        event: &LineEvent,
+        number: Option<u32>,
+        value: Option<Val>,
+    ) -> Option<LineRefusal>
+        requires { (asked : Asked) × (asked_by event.now.kind ≡ Some asked) × (asked.value ≡ value) × IsNumber self.now.names asked.register number }
+        ensures { (es : List ALineEvent) → AreAccepted es → self.now ≡ history_of es → result ≡ event_refusal es event.now }
+    {
+        if let Some(call) = self.open_call(event.process) {
+            return Some(refused(event.line, 9, Some(self.event(call).line)));
+        }
+        if let Some(write) = self.written(number, value) {
+            return Some(refused(event.line, 13, Some(self.event(write).line)));
+        }
+        self.too_many(event)
+    }
+
+    /// The refusal of a reply to an open call, where there is one.
+    fn reply_refusal(
+        &self,
+        event: &LineEvent,
+        parts: &ReplyParts,
+        call: EvId,
+    ) -> Option<LineRefusal>
+        requires reply { replied_by event.now.kind ≡ Some parts.now }
+        requires open { IsOpen self.now.events event.now.process (Some call) }
+        ensures { (es : List ALineEvent) → AreAccepted es → self.now ≡ history_of es → result ≡ event_refusal es event.now }
+    {
+        let open = self.threads.events[call.0 as usize];
+        let name = self.name(open.register);
+        if !reply_agrees(parts, name, open.kind, open.value) {
+            return Some(refused(event.line, 11, None));
+        }
+        if open.value.is_none() && parts.value.is_none() {
+            return Some(refused(event.line, 12, None));
+        }
+        self.too_many(event)
+    }
+
+    /// The refusal of an event past the limit.
+    fn too_many(&self, event: &LineEvent) -> Option<LineRefusal>
+        ensures { result ≡ cond (nat_le MAX_EVENTS (length self.now.events)) (Some (record { line = event.now.line; number = 14; other = None })) None }
+    {
+        if self.threads.events.len() >= MAX_EVENTS {
+            Some(refused(event.line, 14, None))
+        } else {
+            None
+        }
+    }
+
+    /// The call that a process has open.
+    fn open_call(&self, process: u32) -> Option<EvId>
+        ensures { IsOpen self.now.events process result }
+    {
+        let last = self.threads.last_of_process(process)?;
+        if self.event(last).is_call {
+            Some(last)
+        } else {
+            None
+        }
+    }
+
+    /// The call that wrote a value to a register before, which may be new.
+    fn written(&self, number: Option<u32>, value: Option<Val>) -> Option<EvId>
+        ensures { IsWritten self.now.events number value result }
+    {
+        match (number, value) {
+            (Some(number), Some(value)) => self.threads.write(RegId(number), value),
+            _ => None,
+        }
+    }
+
+    /// Appends a call that isn't refused.
+    fn with_call(
+        self,
+        alloc: Global,
+        event: &LineEvent,
+        name: &Name,
+        number: Option<u32>,
+        kind: OpKind,
+        value: Option<Val>,
+    ) -> Result<Self, AllocError>
+        requires asked { asked_by event.now.kind ≡ Some (record { register = name.now; kind = kind; value = value }) }
+        requires number { IsNumber self.names name.now number }
+        requires taken { IsTaken self event.now }
+        ensures { OnOkAfter self event.now result }
+    {
+        let Arena { names, mut threads } = self;
+        let count = names.len() as u32;
+        let names = match number {
+            Some(_) => names,
+            None => names.push(alloc, name)?,
+        };
+        let id = EvId(threads.events.len() as u32);
+        let event = Event {
+            line: event.line,
+            process: event.process,
+            register: RegId(number.unwrap_or(count)),
+            is_call: true,
+            kind,
+            value,
+        };
+        threads.append(event, id)?;
+        Ok(Arena { names, threads })
+    }
+
+    /// Appends a reply that isn't refused.
+    fn with_reply(
+        self,
+        event: &LineEvent,
+        parts: &ReplyParts,
+        call: EvId,
+    ) -> Result<Self, AllocError>
+        requires reply { replied_by event.now.kind ≡ Some parts.now }
+        requires open { IsOpen self.events event.now.process (Some call) }
+        requires taken { IsTaken self event.now }
+        ensures { OnOkAfter self event.now result }
+    {
+        let Arena { names, mut threads } = self;
+        let open = threads.events[call.0 as usize];
+        let event = Event {
+            line: event.line,
+            process: event.process,
+            register: open.register,
+            is_call: false,
+            kind: open.kind,
+            value: match open.kind {
+                OpKind::ReadOp => parts.value,
+                OpKind::WriteOp => open.value,
+            },
+        };
+        threads.append(event, call)?;
+        Ok(Arena { names, threads })
+    }
+}

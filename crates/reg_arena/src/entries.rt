@@ -1,0 +1,71 @@
+//! What is looked up in the threaded lists.
+ghost use Rattle.std.specs.Prelude.{◌≡◌, ◌<◌, ℕ, length, option_and_then, Some};
+ghost use Rattle.history_text.specs.declared.event.Val.{Val as AVal};
+ghost use Rattle.reg_arena.specs.Shown.{IsFirstOf, by_process, by_value, key_at};
+ghost use Rattle.reg_arena.specs.Threads.{AreThreads, IsLastOf, by_write, value_entry};
+
+use crate::ends::Entry;
+use crate::ids::{EvId, RegId};
+use crate::joins::whole;
+use crate::threads::Threads;
+use history_text::Val;
+
+impl Threads {
+    /// The entry of a register and value.
+    pub(crate) fn entry(&self, register: RegId, value: Val) -> Option<Entry>
+        requires { AreThreads self.now }
+        ensures { result ≡ value_entry self.now.values self.now.entries.items (register.0, value) }
+    {
+        let key = (register.0, whole(value));
+        match self.values.get(&key).copied() {
+            Some(number) => Some(self.entries[number as usize]),
+            None => None,
+        }
+    }
+
+    /// The entry of an event's register and value.
+    pub(crate) fn entry_of(&self, id: EvId) -> Option<Entry>
+        requires threads { AreThreads self.now }
+        requires within { id.0 < length self.now.events.items }
+        ensures { result ≡ option_and_then (value_entry self.now.values self.now.entries.items) (key_at by_value self.now.events.items id.0) }
+    {
+        match self.numbers[id.0 as usize] {
+            Some(number) => Some(self.entries[number as usize]),
+            None => None,
+        }
+    }
+
+    /// The call of the write of a value to a register.
+    pub(crate) fn write(&self, register: RegId, value: Val) -> Option<EvId>
+        requires { AreThreads self.now }
+        ensures { IsFirstOf by_write self.now.events.items (register.0, value) result }
+    {
+        match self.entry(register, value) {
+            Some(entry) => entry.write,
+            None => None,
+        }
+    }
+
+    /// The call of the write of an event's value to its register.
+    pub(crate) fn write_of_event(&self, id: EvId) -> Option<EvId>
+        requires threads { AreThreads self.now }
+        requires within { id.0 < length self.now.events.items }
+        ensures { (k : ℕ × AVal) → key_at by_value self.now.events.items id.0 ≡ Some k → IsFirstOf by_write self.now.events.items k result }
+    {
+        match self.entry_of(id) {
+            Some(entry) => entry.write,
+            None => None,
+        }
+    }
+
+    /// The last event of a process.
+    pub(crate) fn last_of_process(&self, process: u32) -> Option<EvId>
+        requires { AreThreads self.now }
+        ensures { IsLastOf by_process self.now.events.items process result }
+    {
+        match self.processes.get(&process).copied() {
+            Some(ends) => Some(ends.last),
+            None => None,
+        }
+    }
+}

@@ -1,0 +1,164 @@
+//! How an event joins one list of each family: the last event of the list gets its link, and the new one has none.
+ghost use Rattle.std.specs.BTreeMap.{get};
+ghost use Rattle.std.specs.Ordering.{nat_cmp};
+ghost use Rattle.std.specs.Prelude.{◌≡◌, ◌<◌, ◌≤◌, ◌^◌, ◌+◌, ℕ, length, slice_get, max, Some, None, OnOk, IfOk, option_and_then};
+ghost use Rattle.history_text.specs.declared.event.Val.{Val as AVal};
+ghost use Rattle.reg_arena.specs.Threads.{AreNumbered, IsJoined, IsJoinedBy, IsEntered, IsEnteredBy, link_at, value_ends, value_entry, value_number, whole};
+ghost use Rattle.reg_arena.specs.Shown.{by_value};
+ghost use Rattle.reg_arena.specs.declared.ends.Ends.{Ends};
+
+use crate::ends::{Ends, Entry};
+use crate::event::Event;
+use crate::ids::{EvId, RegId};
+use history_text::Val;
+use std::alloc::AllocError;
+use std::collections::BTreeMap;
+
+/// Joins event `id` to the list of its process.
+pub(crate) fn join_process(
+    links: &mut Vec<Option<EvId>>,
+    processes: &mut BTreeMap<u32, Ends>,
+    process: u32,
+    id: EvId,
+) -> Result<(), AllocError>
+    requires { (e : Ends) → get nat_cmp processes.old process ≡ Some e → e.last.0 < length links.old.items }
+    ensures joined { OnOk result (IsJoined process id (link_at links.old.items) (link_at links.new.items) (get nat_cmp processes.old) (get nat_cmp processes.new)) }
+    ensures count { OnOk result (length links.new.items ≡ length links.old.items + 1) }
+{
+    match processes.get(&process).copied() {
+        Some(ends) => {
+            links[ends.last.0 as usize] = Some(id);
+            processes.insert(
+                process,
+                Ends {
+                    first: ends.first,
+                    last: id,
+                },
+            )?;
+        }
+        None => {
+            processes.insert(
+                process,
+                Ends {
+                    first: id,
+                    last: id,
+                },
+            )?;
+        }
+    }
+    links.push(None)?;
+    Ok(())
+}
+
+/// Joins event `id` to the list of its register, which is known or the next.
+pub(crate) fn join_register(
+    links: &mut Vec<Option<EvId>>,
+    registers: &mut Vec<Ends>,
+    register: RegId,
+    id: EvId,
+) -> Result<(), AllocError>
+    requires within { (e : Ends) → slice_get registers.old.items register.0 ≡ Some e → e.last.0 < length links.old.items }
+    requires next { register.0 ≤ length registers.old.items }
+    ensures joined { OnOk result (IsJoined register.0 id (link_at links.old.items) (link_at links.new.items) (slice_get registers.old.items) (slice_get registers.new.items)) }
+    ensures registers { OnOk result (length registers.new.items ≡ max (length registers.old.items) (register.0 + 1)) }
+    ensures count { OnOk result (length links.new.items ≡ length links.old.items + 1) }
+{
+    let number = register.0 as usize;
+    if number < registers.len() {
+        let ends = registers[number];
+        links[ends.last.0 as usize] = Some(id);
+        registers[number] = Ends {
+            first: ends.first,
+            last: id,
+        };
+    } else {
+        registers.push(Ends {
+            first: id,
+            last: id,
+        })?;
+    }
+    links.push(None)?;
+    Ok(())
+}
+
+/// The number of a value, where it is one.
+pub(crate) fn whole(value: Val) -> Option<i64>
+    ensures { result ≡ whole value }
+{
+    match value {
+        Val::Null => None,
+        Val::Int(n) => Some(n),
+    }
+}
+
+/// Joins event `id`, whose call is the event `call`, to the list of its register and value, and gives the number of the entry.
+pub(crate) fn join_value(
+    links: &mut Vec<Option<EvId>>,
+    values: &mut BTreeMap<(u32, Option<i64>), u32>,
+    entries: &mut Vec<Entry>,
+    event: Event,
+    value: Val,
+    id: EvId,
+    call: EvId,
+) -> Result<u32, AllocError>
+    requires within { (e : Ends) → value_ends values.old entries.old.items (event.register.0, value) ≡ Some e → e.last.0 < length links.old.items }
+    requires numbered { AreNumbered values.old entries.old.items }
+    requires room { length entries.old.items < 2 ^ 32 }
+    ensures joined { OnOk result (IsJoined (event.register.0, value) id (link_at links.old.items) (link_at links.new.items) (value_ends values.old entries.old.items) (value_ends values.new entries.new.items)) }
+    ensures entered { OnOk result (IsEntered (event.register.0, value) event id call (value_entry values.old entries.old.items) (value_entry values.new entries.new.items)) }
+    ensures numbered { OnOk result (AreNumbered values.new entries.new.items) }
+    ensures few { length entries.new.items ≤ length entries.old.items + 1 }
+    ensures number { IfOk result (λ n. value_number values.new (event.register.0, value) ≡ Some n) }
+    ensures kept { OnOk result ((q : ℕ × AVal) (n : ℕ) → value_number values.old q ≡ Some n → value_number values.new q ≡ Some n) }
+    ensures count { OnOk result (length links.new.items ≡ length links.old.items + 1) }
+{
+    let key = (event.register.0, whole(value));
+    let number = match values.get(&key).copied() {
+        Some(number) => {
+            let entry = entries[number as usize];
+            links[entry.ends.last.0 as usize] = Some(id);
+            entries[number as usize] = entry.with(event, id, call);
+            number
+        }
+        None => {
+            let number = entries.len() as u32;
+            entries.push(Entry::new(event, id, call))?;
+            values.insert(key, number)?;
+            number
+        }
+    };
+    links.push(None)?;
+    Ok(number)
+}
+
+/// The same of an event that may have no value.
+pub(crate) fn join_value_of(
+    links: &mut Vec<Option<EvId>>,
+    values: &mut BTreeMap<(u32, Option<i64>), u32>,
+    entries: &mut Vec<Entry>,
+    event: Event,
+    id: EvId,
+    call: EvId,
+) -> Result<Option<u32>, AllocError>
+    requires within { (k : ℕ × AVal) (e : Ends) → value_ends values.old entries.old.items k ≡ Some e → e.last.0 < length links.old.items }
+    requires numbered { AreNumbered values.old entries.old.items }
+    requires room { length entries.old.items < 2 ^ 32 }
+    ensures joined { OnOk result (IsJoinedBy (by_value event) id (link_at links.old.items) (link_at links.new.items) (value_ends values.old entries.old.items) (value_ends values.new entries.new.items)) }
+    ensures entered { OnOk result (IsEnteredBy (by_value event) event id call (value_entry values.old entries.old.items) (value_entry values.new entries.new.items)) }
+    ensures numbered { OnOk result (AreNumbered values.new entries.new.items) }
+    ensures few { length entries.new.items ≤ length entries.old.items + 1 }
+    ensures number { IfOk result (λ n. n ≡ option_and_then (value_number values.new) (by_value event)) }
+    ensures kept { OnOk result ((q : ℕ × AVal) (n : ℕ) → value_number values.old q ≡ Some n → value_number values.new q ≡ Some n) }
+    ensures count { OnOk result (length links.new.items ≡ length links.old.items + 1) }
+{
+    match event.value {
+        None => {
+            links.push(None)?;
+            Ok(None)
+        }
+        Some(value) => {
+            let number = join_value(links, values, entries, event, value, id, call)?;
+            Ok(Some(number))
+        }
+    }
+}

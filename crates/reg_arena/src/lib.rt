@@ -1,0 +1,39 @@
+//! Well-formed histories: the lines of a history go in, and one arena of all its events comes out, or the refusal of the least faulty line.
+//!
+//! What the floor above may rely on: [`Arena::build`] accepts and refuses exactly as the definitions say, and the arena's model is the history of the
+//! accepted events. Each walk of the arena is the filter of the one list of events, ascending: by register, by process, and by register and value.
+//! Operations, their times and their order are those of the definitions, and the laws of this crate say what holds of them in every accepted history.
+//! All calls but `build` take no memory and always answer.
+//!
+//! Read it in this order: `ids`, `event`, `op` and `refusal`, which are what is asked and answered; `ends`, `joins`, `threads` and `entries`, the lists
+//! that run through the events; `seeded` and `names`; `arena`, `called` and `members`, which answer; `agrees` and `build`; `laws`.
+#![tactic(auto)]
+
+mod agrees;
+mod arena;
+mod build;
+mod called;
+mod ends;
+mod entries;
+mod event;
+mod ids;
+mod joins;
+mod laws;
+mod members;
+mod names;
+mod op;
+mod refusal;
+mod seeded;
+#[cfg(test)]
+mod tests;
+mod threads;
+
+pub use arena::Arena;
+pub use event::Event;
+pub use ids::{EvId, Oper, RegId};
+pub use laws::{
+    accepted_is_history, events_have_operations, initial_is_there, names_are_unique,
+    operations_have_events, registers_are_numbered, single_writer_takes_turns, values_are_there,
+};
+pub use op::Op;
+pub use refusal::{BuildError, LineRefusal};

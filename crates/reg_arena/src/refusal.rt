@@ -1,0 +1,33 @@
+//! Why a history is refused.
+ghost use Rattle.std.specs.Prelude.{◌≡◌};
+ghost use Rattle.reg_arena.specs.declared.refusal.BuildError.TheVariants.{Memory};
+
+use std::alloc::AllocError;
+
+/// The refusal of the least faulty line.
+#[derive(Clone, Copy, Debug, PartialEq, Eq)]
+pub struct LineRefusal {
+    /// The line, from 1.
+    pub line: u32,
+    /// The least number of a refusal that applies there, 1 to 14.
+    pub number: u8,
+    /// The line of the open call (9), or of the earlier write (13).
+    pub other: Option<u32>,
+}
+
+/// Why no arena was built.
+#[derive(Clone, Copy, Debug, PartialEq, Eq)]
+pub enum BuildError {
+    /// The history isn't well formed.
+    Refused(LineRefusal),
+    /// Memory was refused.
+    Memory,
+}
+
+impl From<AllocError> for BuildError {
+    ghost from_gives = { λ _ e. e ≡ Memory };
+
+    fn from(_error: AllocError) -> BuildError {
+        BuildError::Memory
+    }
+}

@@ -1,0 +1,367 @@
+ghost use Rattle.std.specs.Prelude.{◌<◌, length};
+
+use super::*;
+use history_text::{LineEvent, LineFault, MAX_INPUT, Val, read_lines};
+use std::alloc::{AllocError, Global};
+use std::process::Abort;
+use std::test::Fail;
+
+// The line of an event in short: `p1 W x 5` and `p2 R x` are calls, `p1 ok` and `p2 = 5` replies, and any other text stands for itself.
+fn line_of(alloc: Global, event: &str) -> Result<String, AllocError> {
+    let mut words = event.split_whitespace();
+    let process = words.next().unwrap_or("").trim_start_matches('p');
+    let what = words.next().unwrap_or("");
+    let third = words.next().unwrap_or("");
+    let value = words.next().unwrap_or("");
+    match what {
+        "W" => format!(in alloc;
+            "{{\"process\":{process},\"event\":\"call\",\"op\":\"write\",\"register\":\"{third}\",\"value\":{value}}}\n"
+        ),
+        "R" => format!(in alloc;
+            "{{\"process\":{process},\"event\":\"call\",\"op\":\"read\",\"register\":\"{third}\"}}\n"
+        ),
+        "ok" => format!(in alloc; "{{\"process\":{process},\"event\":\"reply\"}}\n"),
+        "=" => format!(in alloc;
+            "{{\"process\":{process},\"event\":\"reply\",\"value\":{third}}}\n"
+        ),
+        _ => format!(in alloc; "{event}\n"),
+    }
+}
+
+// The lines of a history in short, with a semicolon between two events.
+fn lines(alloc: Global, history: &str) -> Result<Vec<Result<LineEvent, LineFault>>, AllocError> {
+    let mut text = String::new(alloc);
+    for event in history.split(';') {
+        text.push_str(line_of(alloc, event.trim())?.as_str())?;
+    }
+    let bytes = text.as_bytes();
+    if bytes.len() > MAX_INPUT {
+        return Err(AllocError);
+    }
+    read_lines(alloc, bytes)
+}
+
+// The lines of a register's events, as its walk meets them.
+fn add_register(
+    text: &mut String,
+    alloc: Global,
+    arena: &Arena,
+    register: RegId,
+) -> Result<(), AllocError> {
+    let mut at = arena.first_of_register(register);
+    for _ in 0..arena.event_count() {
+        let Some(id) = at else { break };
+        if id.0 >= arena.event_count() {
+            break;
+        }
+        text.push_str(format!(in alloc; " {}", arena.event(id).line)?.as_str())?;
+        at = arena.next_in_register(id);
+    }
+    Ok(())
+}
+
+// The lines of a process's events, as its walk meets them.
+fn add_process(
+    text: &mut String,
+    alloc: Global,
+    arena: &Arena,
+    process: u32,
+) -> Result<(), AllocError> {
+    let mut at = arena.first_of_process(process);
+    for _ in 0..arena.event_count() {
+        let Some(id) = at else { break };
+        if id.0 >= arena.event_count() {
+            break;
+        }
+        text.push_str(format!(in alloc; " {}", arena.event(id).line)?.as_str())?;
+        at = arena.next_in_process(id);
+    }
+    Ok(())
+}
+
+// The lines of a value's events in a register, as its walk meets them.
+fn add_value(
+    text: &mut String,
+    alloc: Global,
+    arena: &Arena,
+    register: RegId,
+    value: Val,
+) -> Result<(), AllocError> {
+    let mut at = arena.first_with_value(register, value);
+    for _ in 0..arena.event_count() {
+        let Some(id) = at else { break };
+        if id.0 >= arena.event_count() {
+            break;
+        }
+        text.push_str(format!(in alloc; " {}", arena.event(id).line)?.as_str())?;
+        at = arena.next_with_value(id);
+    }
+    Ok(())
+}
+
+// All walks of an arena of one or two registers, x and y, whose processes are 1 to 4 and whose values are null, 1, 2, 5 and 9.
+fn walks(alloc: Global, arena: &Arena) -> Result<String, AllocError> {
+    let mut text = String::new(alloc);
+    for register in 0..2 {
+        text.push_str(format!(in alloc; "register {register}:")?.as_str())?;
+        add_register(&mut text, alloc, arena, RegId(register))?;
+        for value in [
+            Val::Null,
+            Val::Int(1),
+            Val::Int(2),
+            Val::Int(5),
+            Val::Int(9),
+        ] {
+            text.push_str(" |")?;
+            add_value(&mut text, alloc, arena, RegId(register), value)?;
+        }
+        text.push_str("; ")?;
+    }
+    for process in 1..5 {
+        text.push_str(format!(in alloc; "p{process}:")?.as_str())?;
+        add_process(&mut text, alloc, arena, process)?;
+        text.push_str("; ")?;
+    }
+    Ok(text)
+}
+
+#[test]
+fn walks_meet_every_event(rt: HostRuntime) -> Result<(), Fail> {
+    let alloc = rt.alloc();
+    for (name, history, want) in [
+        (
+            "a read before its write",
+            "p2 R x; p2 = 5; p1 W x 5; p1 ok",
+            "register 0: 1 2 3 4 | | | | 2 3 4 |; register 1: | | | | |; p1: 3 4; p2: 1 2; p3:; p4:; ",
+        ),
+        (
+            "two registers",
+            "p1 R x; p2 R y; p3 W x 1; p4 W y 2; p1 = 1; p2 = 2; p3 ok; p4 ok",
+            "register 0: 1 3 5 7 | | 3 5 7 | | |; register 1: 2 4 6 8 | | | 4 6 8 | |; p1: 1 5; p2: 2 6; p3: 3 7; p4: 4 8; ",
+        ),
+        (
+            "one value in two registers",
+            "p1 W x 5; p1 ok; p1 W y 5; p1 ok",
+            "register 0: 1 2 | | | | 1 2 |; register 1: 3 4 | | | | 3 4 |; p1: 1 2 3 4; p2:; p3:; p4:; ",
+        ),
+        (
+            "a read around its write",
+            "p2 R x; p1 W x 5; p1 ok; p2 = 5",
+            "register 0: 1 2 3 4 | | | | 2 3 4 |; register 1: | | | | |; p1: 2 3; p2: 1 4; p3:; p4:; ",
+        ),
+        (
+            "a value that nobody wrote, null, and pending calls",
+            "p2 R x; p2 = 9; p2 R x; p2 = null; p1 W x 5; p2 R x",
+            "register 0: 1 2 3 4 5 6 | 4 | | | 5 | 2; register 1: | | | | |; p1: 5; p2: 1 2 3 4 6; p3:; p4:; ",
+        ),
+    ] {
+        let arena = Arena::build(alloc, lines(alloc, history)?);
+        match &arena {
+            Ok(arena) => assert_eq!(rt; walks(alloc, arena)?.as_str(), want, "{name}"),
+            Err(error) => assert!(rt; false, "{name}: {error:?}"),
+        }
+    }
+    Ok(())
+}
+
+#[test]
+fn refusals_name_the_least_line(rt: HostRuntime) -> Result<(), Fail> {
+    let alloc = rt.alloc();
+    for (history, line, number, other) in [
+        ("p1 W x 5; p1 ok; p1 W x 5", 3, 13, Some(1)),
+        ("p1 ok", 1, 10, None),
+        ("p1 W x 1; p1 W x 2; {\"process\":2,\"ev", 2, 9, Some(1)),
+        // The line's own fault comes first where it stands first, and of two reasons the least number.
+        ("{; p1 ok", 1, 2, None),
+        ("p1 W x 5; p1 W x 5", 2, 9, Some(1)),
+        ("p1 R x; p1 ok; p2 ok", 2, 12, None),
+        (
+            "p1 R x; {\"process\":1,\"event\":\"reply\",\"op\":\"write\"}",
+            2,
+            11,
+            None,
+        ),
+        // A reply disagrees by its operation, its register or a write's value; null agrees.
+        (
+            "p1 W x 5; {\"process\":1,\"event\":\"reply\",\"op\":\"read\"}",
+            2,
+            11,
+            None,
+        ),
+        (
+            "p1 W x 5; {\"process\":1,\"event\":\"reply\",\"register\":\"y\"}",
+            2,
+            11,
+            None,
+        ),
+        ("p1 W x 5; p1 = 6", 2, 11, None),
+        ("p1 W x 5; p1 = null; p1 ok", 3, 10, None),
+        // The other lines are the open call's and the earlier write's, blank lines counted.
+        ("p3 R y;; p3 = 1;; p3 R y; p3 R x", 6, 9, Some(5)),
+        ("p1 W x 7; p2 W y 5; p3 W x 5; p4 W x 5", 4, 13, Some(3)),
+    ] {
+        let want = LineRefusal {
+            line,
+            number,
+            other,
+        };
+        match Arena::build(alloc, lines(alloc, history)?) {
+            Err(BuildError::Refused(refusal)) => assert_eq!(rt; refusal, want, "{history}"),
+            Err(BuildError::Memory) => return Err(Fail::from(AllocError)),
+            Ok(_) => assert!(rt; false, "{history} is accepted"),
+        }
+    }
+    Ok(())
+}
+
+// The operation of an event.
+fn op_at(arena: &Arena, id: EvId) -> Op
+    requires { id.0 < length arena.now.events }
+{
+    arena.op(arena.op_of(id))
+}
+
+#[test]
+fn operations_have_their_times(rt: HostRuntime) -> Result<(), Fail> {
+    let alloc = rt.alloc();
+    // Events 0 to 5 have the times 2 to 7; the call of line 5 has no reply.
+    let arena = match Arena::build(
+        alloc,
+        lines(
+            alloc,
+            "p1 W x 5; p2 R x; p2 = null; p1 ok; p1 W x 7; p2 R y",
+        )?,
+    ) {
+        Ok(arena) => arena,
+        Err(_) => return Err(Fail::from(AllocError)),
+    };
+    for (event, want) in [
+        (
+            0,
+            "Op { line: 1, call: 2, reply: Some(5), process: Some(1), register: RegId(0), kind: WriteOp, value: Some(Int(5)) }",
+        ),
+        (
+            1,
+            "Op { line: 2, call: 3, reply: Some(4), process: Some(2), register: RegId(0), kind: ReadOp, value: Some(Null) }",
+        ),
+        (
+            2,
+            "Op { line: 2, call: 3, reply: Some(4), process: Some(2), register: RegId(0), kind: ReadOp, value: Some(Null) }",
+        ),
+        (
+            3,
+            "Op { line: 1, call: 2, reply: Some(5), process: Some(1), register: RegId(0), kind: WriteOp, value: Some(Int(5)) }",
+        ),
+        (
+            4,
+            "Op { line: 5, call: 6, reply: None, process: Some(1), register: RegId(0), kind: WriteOp, value: Some(Int(7)) }",
+        ),
+        (
+            5,
+            "Op { line: 6, call: 7, reply: None, process: Some(2), register: RegId(1), kind: ReadOp, value: None }",
+        ),
+    ] {
+        if event < arena.event_count() {
+            let got = format!(in alloc; "{:?}", op_at(&arena, EvId(event)))?;
+            assert_eq!(rt; got.as_str(), want, "event {event}");
+        }
+    }
+    assert_eq!(rt; arena.event_count(), 6);
+    assert_eq!(rt; arena.register_count(), 2);
+    Ok(())
+}
+
+#[test]
+fn values_have_their_writes_and_times(rt: HostRuntime) -> Result<(), Fail> {
+    let alloc = rt.alloc();
+    let arena = match Arena::build(
+        alloc,
+        lines(
+            alloc,
+            "p1 W x 5; p2 R x; p2 = null; p1 ok; p1 W x 7; p2 R x; p2 = 9",
+        )?,
+    ) {
+        Ok(arena) => arena,
+        Err(_) => return Err(Fail::from(AllocError)),
+    };
+    if arena.register_count() == 0 {
+        return Err(Fail::from(AllocError));
+    }
+    let x = RegId(0);
+    assert_eq!(rt; arena.name(x), "x");
+    for (value, write, last_call, first_reply) in [
+        (Val::Null, Some(Oper::Initial(x)), Some(3), Some(1)),
+        (Val::Int(5), Some(Oper::Called(EvId(0))), Some(2), Some(5)),
+        (Val::Int(7), Some(Oper::Called(EvId(4))), Some(6), None),
+        (Val::Int(9), None, Some(7), Some(8)),
+        (Val::Int(8), None, None, None),
+    ] {
+        assert_eq!(rt; arena.write_of(x, value), write, "write of {value:?}");
+        assert_eq!(rt;
+            arena.last_call(x, value),
+            last_call,
+            "last call of {value:?}"
+        );
+        assert_eq!(rt;
+            arena.first_reply(x, value),
+            first_reply,
+            "first reply of {value:?}"
+        );
+    }
+    for (event, write, last_call, first_reply) in [
+        (0, Some(Oper::Called(EvId(0))), Some(2), Some(5)),
+        (1, None, None, None),
+        (2, Some(Oper::Initial(x)), Some(3), Some(1)),
+        (4, Some(Oper::Called(EvId(4))), Some(6), None),
+        (6, None, Some(7), Some(8)),
+    ] {
+        if event < arena.event_count() {
+            let id = EvId(event);
+            assert_eq!(rt; arena.write_of_event(id), write, "write of event {event}");
+            assert_eq!(rt;
+                arena.last_call_of(id),
+                last_call,
+                "last call of event {event}"
+            );
+            assert_eq!(rt;
+                arena.first_reply_of(id),
+                first_reply,
+                "first reply of event {event}"
+            );
+        }
+    }
+    Ok(())
+}
+
+// Whether the operation of one event precedes that of another.
+fn precedes(arena: &Arena, one: u32, other: u32) -> bool
+    requires one { one < length arena.now.events }
+    requires other { other < length arena.now.events }
+{
+    arena.precedes(arena.op_of(EvId(one)), arena.op_of(EvId(other)))
+}
+
+#[test]
+fn operations_precede_by_reply_and_call(rt: HostRuntime) -> Result<(), Fail> {
+    let alloc = rt.alloc();
+    let arena = match Arena::build(
+        alloc,
+        lines(alloc, "p1 W x 5; p2 R x; p1 ok; p1 W x 6; p2 = 5; p2 R x")?,
+    ) {
+        Ok(arena) => arena,
+        Err(_) => return Err(Fail::from(AllocError)),
+    };
+    for (one, other, want) in [
+        (0, 1, false),
+        (0, 3, true),
+        (1, 3, false),
+        (1, 5, true),
+        (3, 5, false),
+        (5, 0, false),
+    ] {
+        if one < arena.event_count() && other < arena.event_count() {
+            assert_eq!(rt; precedes(&arena, one, other), want, "{one} and {other}");
+        }
+    }
+    Ok(())
+}

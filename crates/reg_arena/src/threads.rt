@@ -1,0 +1,82 @@
+//! Events in one list, and beside it the links of three families of lists: of each register, of each process, and of each register and value.
+ghost use Rattle.std.specs.Prelude.{◌≡◌, ◌<◌, ◌≤◌, ◌^◌, ◌+◌, ◌++◌, ◌∷◌, [], length, max, OnOk};
+ghost use Rattle.reg_arena.specs.Threads.{AreThreads, IsCallAt};
+
+use crate::ends::{Ends, Entry};
+use crate::event::Event;
+use crate::ids::EvId;
+use crate::joins::{join_process, join_register, join_value_of};
+use std::alloc::{AllocError, Global};
+use std::collections::BTreeMap;
+
+/// The events of a history in their order; each column beside them has one item an event.
+#[derive(Drop)]
+pub(crate) struct Threads {
+    pub(crate) events: Vec<Event>,
+    /// The event of each event's call.
+    pub(crate) calls: Vec<EvId>,
+    /// The next event of the same register, of the same process, and of the same register and value.
+    pub(crate) in_register: Vec<Option<EvId>>,
+    pub(crate) in_process: Vec<Option<EvId>>,
+    pub(crate) in_value: Vec<Option<EvId>>,
+    /// The number of the entry of the event's register and value.
+    pub(crate) numbers: Vec<Option<u32>>,
+    pub(crate) registers: Vec<Ends>,
+    pub(crate) processes: BTreeMap<u32, Ends>,
+    pub(crate) values: BTreeMap<(u32, Option<i64>), u32>,
+    pub(crate) entries: Vec<Entry>,
+}
+
+impl Threads {
+    /// No events.
+    pub(crate) fn new(alloc: Global) -> Self
+        ensures threads { AreThreads result }
+        ensures none { result.events.items ≡ [] }
+        ensures registers { result.registers.items ≡ [] }
+    {
+        Threads {
+            events: Vec::new(alloc),
+            calls: Vec::new(alloc),
+            in_register: Vec::new(alloc),
+            in_process: Vec::new(alloc),
+            in_value: Vec::new(alloc),
+            numbers: Vec::new(alloc),
+            registers: Vec::new(alloc),
+            processes: BTreeMap::new(alloc),
+            values: BTreeMap::new(alloc),
+            entries: Vec::new(alloc),
+        }
+    }
+
+    /// Appends an event with the event of its call, and joins it to its lists.
+    pub(crate) fn append(&mut self, event: Event, call: EvId) -> Result<(), AllocError>
+        requires threads { AreThreads self.old }
+        requires register { event.register.0 ≤ length self.old.registers.items }
+        requires room { length self.old.events.items < 2 ^ 20 }
+        requires call { IsCallAt (self.old.events.items ++ event ∷ []) (length self.old.events.items) call.0 }
+        ensures threads { OnOk result (AreThreads self.new) }
+        ensures registers { OnOk result (length self.new.registers.items ≡ max (length self.old.registers.items) (event.register.0 + 1)) }
+        ensures events { OnOk result (self.new.events.items ≡ self.old.events.items ++ event ∷ []) }
+    {
+        let id = EvId(self.events.len() as u32);
+        join_register(
+            &mut self.in_register,
+            &mut self.registers,
+            event.register,
+            id,
+        )?;
+        join_process(&mut self.in_process, &mut self.processes, event.process, id)?;
+        let number = join_value_of(
+            &mut self.in_value,
+            &mut self.values,
+            &mut self.entries,
+            event,
+            id,
+            call,
+        )?;
+        self.events.push(event)?;
+        self.calls.push(call)?;
+        self.numbers.push(number)?;
+        Ok(())
+    }
+}
