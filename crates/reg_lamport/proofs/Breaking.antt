@@ -1,0 +1,85 @@
+-- Whether a read keeps a level, by its old write and the one write of its value.
+use Rattle.std.proofs.Common.{◌≡◌, ℕ, ◌<◌, Bool, true, false, Some, None, length, inl, inr, refl, sym, ap, subst, ◌∙◌, arith, ◌↔◌, IsTrue}
+use Rattle.std.proofs.lemmas.Bool.{false≢true}
+use Rattle.history_text.specs.declared.event.Val.{Val}
+use Rattle.reg_arena.specs.Lists.{In}
+use Rattle.reg_arena.specs.History.{History, IsRecorded}
+use Rattle.reg_arena.specs.Lamport.{HasSingleWriter, HasOldValue, HasOverlappedValue, IsOldWrite}
+use Rattle.reg_arena.specs.Operations.{Operation, IsCompletedRead, Overlaps, of_register, operations}
+use Rattle.reg_arena.specs.Shown.{IsNamed, IsOper, IsWriteOf}
+use Rattle.reg_arena.specs.declared.ids.Oper.{Oper}
+use Rattle.reg_arena.proofs.Recorded.{of_register-In, In-of_register, accepted-history}
+use Rattle.reg_arena.proofs.Named.{has-oper, one-named, operation-has-register, operation-has-value}
+use Rattle.reg_lamport.specs.declared.level.Level.{Level}
+use Rattle.reg_lamport.specs.declared.level.Level.TheVariants.{Safe, Regular}
+use Rattle.reg_lamport.specs.Levels.{Keeps}
+use Rattle.reg_lamport.specs.Reads.{IsEntryOf}
+use Rattle.reg_lamport.specs.declared.gathering.ReadEntry.{ReadEntry}
+
+-- what is named is an operation's name
+pub named-oper : (h : History) (name : Oper) (o : Operation) → IsNamed h name o → IsOper h name
+named-oper h name o n = subst (IsOper h) n.named (has-oper h o n.one)
+
+module _ (h : History) (rec : IsRecorded h) (r : ℕ) (o : Operation) (i : In o (of_register r (operations h))) (read : IsCompletedRead o) where
+  pub register-known : r < length h.names
+  register-known = let x = of_register-In r (operations h) o i in subst (λ k. k < length h.names) x.1 (operation-has-register h rec o x.0)
+
+  pub value-there : (v : Val) × (o.value ≡ Some v)
+  value-there = operation-has-value h rec o (of_register-In r (operations h) o i).0 (inr read.completed)
+
+  -- ---- the write of its value
+
+  pub none-written : (v : Val) → o.value ≡ Some v → IsWriteOf h r v None → HasOverlappedValue (of_register r (operations h)) o → ⊥
+  none-written v q none x =
+      let w = x.0 in
+      let y = of_register-In r (operations h) w x.1.within in
+      none w (record { there = y.0; register = y.1; value = x.2 ∙ q; full = inl x.1.write }) x.1.write
+
+  pub one-written : (v : Val) → o.value ≡ Some v → (name : Oper) → IsWriteOf h r v (Some name) → (w : Operation) × IsNamed h name w × (Overlaps w o ↔ HasOverlappedValue (of_register r (operations h)) o)
+  one-written v q name x =
+      let w = x.0 in
+      let m = x.2 in
+      let there = In-of_register r (operations h) w m.there m.register in (
+        w,
+        x.1,
+        (
+          λ over. (w, record { within = there; write = x.3; overlaps = over }, m.value ∙ sym q),
+          λ y. subst (λ z. Overlaps z o) ((accepted-history h rec r).values y.0 w y.1.within there y.1.write x.3 (y.2 ∙ (q ∙ sym m.value))) y.1.overlaps,
+        ),
+      )
+
+  -- ---- its old write
+
+  module _ (e : ReadEntry) (single : HasSingleWriter (of_register r (operations h))) (entry : IsEntryOf h r e o) (w : Operation) (named : IsNamed h e.old_write w) where
+    is-old : IsOldWrite (of_register r (operations h)) o w
+    is-old = let x = entry.old_write single in subst (IsOldWrite (of_register r (operations h)) o) (one-named h e.old_write x.0 w x.1 named) x.2
+
+    has-old : w.value ≡ o.value → HasOldValue (of_register r (operations h)) o
+    has-old q = (w, is-old, q)
+
+    old-value : HasOldValue (of_register r (operations h)) o → w.value ≡ o.value
+    old-value x =
+        let a = is-old in
+        let b = x.1 in
+        let u = b.last w a.within a.write a.before in
+        let v = a.last x.0 b.within b.write b.before in
+        let same : x.0 ≡ w = (accepted-history h rec r).calls x.0 w b.within a.within (omega (arith, u, v)) in
+        sym (ap (λ (z : Operation). z.value) same) ∙ x.2
+
+    pub old-keeps : (level : Level) → w.value ≡ o.value → Keeps level (of_register r (operations h)) o
+    old-keeps Safe q = λ none. has-old q
+    old-keeps Regular q = inl (has-old q)
+
+    -- a safe register gives a read of another value only where a write overlaps it
+    pub safe-keeps : (w.value ≡ o.value → ⊥) → IsTrue e.is_overlapped ↔ Keeps Safe (of_register r (operations h)) o
+    safe-keeps differs = (
+      λ t none. absurd (let x = (entry.overlapped single).0 t in none x.0 x.1),
+      λ keeps. go keeps e.is_overlapped refl,
+    )
+      where
+        go : Keeps Safe (of_register r (operations h)) o → (b : Bool) → e.is_overlapped ≡ b → e.is_overlapped ≡ true
+        go keeps true q = q
+        go keeps false q = absurd (differs (old-value (keeps (λ v over. false≢true (sym q ∙ (entry.overlapped single).1 (v, over))))))
+
+    pub regular-keeps : (w.value ≡ o.value → ⊥) → HasOverlappedValue (of_register r (operations h)) o ↔ Keeps Regular (of_register r (operations h)) o
+    regular-keeps differs = (λ x. inr x, λ keeps. elim keeps [ inl old ↦ absurd (differs (old-value old)) | inr x ↦ x ])

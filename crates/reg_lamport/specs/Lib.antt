@@ -1,0 +1,4 @@
+pub mod Levels
+pub mod Writers
+pub mod Gathering
+pub mod Reads

@@ -1,0 +1,24 @@
+//! Safe and regular, by Lamport's definitions, for registers with a single writer.
+//!
+//! What the floor above may rely on: [`single_writer`] tells whether the levels apply to a register, [`reads`] lists its completed reads by call, and
+//! [`first_bad`] gives, of any part of that list, the first read that breaks a level. The laws put the parts together: the first bad read of the whole
+//! is that of the first part that has one, and it is the breaking read of least call. Only `reads` takes memory; the other calls always answer.
+//!
+//! Read it in this order: `level` and `writer`; `gathering`, one pass over a register's calls, and `read_list`, which makes it; `breaks`, which judges
+//! each read; `laws`.
+#![tactic(auto)]
+
+mod breaks;
+mod gathering;
+mod laws;
+mod level;
+mod read_list;
+#[cfg(test)]
+mod tests;
+mod writer;
+
+pub use breaks::first_bad;
+pub use laws::{cuts_give_the_first_bad, whole_list_decides};
+pub use level::Level;
+pub use read_list::{ReadList, reads};
+pub use writer::single_writer;

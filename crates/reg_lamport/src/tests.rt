@@ -1,0 +1,182 @@
+use super::*;
+use history_text::{MAX_INPUT, read_lines};
+use reg_arena::{Arena, RegId};
+use std::alloc::Global;
+use std::process::Abort;
+use std::test::Fail;
+
+const WRITE_1: &str = r#"{"process":1,"event":"call","op":"write","register":"x","value":1}"#;
+
+const WRITE_2: &str = r#"{"process":1,"event":"call","op":"write","register":"x","value":2}"#;
+
+const WRITE_3: &str = r#"{"process":1,"event":"call","op":"write","register":"x","value":3}"#;
+
+// The call of a write by another process.
+const OTHER_W2: &str = r#"{"process":2,"event":"call","op":"write","register":"x","value":2}"#;
+
+const OK: &str = r#"{"process":1,"event":"reply"}"#;
+
+const OTHER_OK: &str = r#"{"process":2,"event":"reply"}"#;
+
+const READ: &str = r#"{"process":3,"event":"call","op":"read","register":"x"}"#;
+
+const NULL: &str = r#"{"process":3,"event":"reply","value":null}"#;
+
+const GOT1: &str = r#"{"process":3,"event":"reply","value":1}"#;
+
+const GOT2: &str = r#"{"process":3,"event":"reply","value":2}"#;
+
+const GOT9: &str = r#"{"process":3,"event":"reply","value":9}"#;
+
+// The arena of a history of these lines.
+fn arena_of(rt: &impl Abort, alloc: Global, lines: &[&str]) -> Result<Arena, Fail> {
+    let mut text = String::new(alloc);
+    for line in lines {
+        text.push_str(line)?;
+        text.push('\n')?;
+    }
+    assert!(rt; text.len() <= MAX_INPUT);
+    Ok(Arena::build(alloc, read_lines(alloc, text.as_bytes())?)?)
+}
+
+// The line of the first read among these numbers that breaks the level, or 0 where each keeps it.
+fn bad_line(
+    rt: &impl Abort,
+    alloc: Global,
+    arena: &Arena,
+    part: (usize, usize),
+    level: Level,
+) -> Result<u32, Fail> {
+    assert!(rt; single_writer(arena, RegId(0)));
+    let list = reads(alloc, arena, RegId(0))?;
+    let (from, to) = part;
+    assert!(rt; from <= to && to <= list.len());
+    match first_bad(arena, &list, from, to, level) {
+        Some(read) => {
+            assert!(rt; read.0 < arena.event_count());
+            Ok(arena.event(read).line)
+        }
+        None => Ok(0),
+    }
+}
+
+// The reads of the register, and the least line that breaks safe and regular; `several writers` for those.
+fn verdict(rt: &impl Abort, alloc: Global, lines: &[&str]) -> Result<String, Fail> {
+    let arena = arena_of(rt, alloc, lines)?;
+    let count = reads(alloc, &arena, RegId(0))?.len();
+    if !single_writer(&arena, RegId(0)) {
+        return Ok(format!(in alloc; "{count} several writers")?);
+    }
+    let safe = bad_line(rt, alloc, &arena, (0, count), Level::Safe)?;
+    let regular = bad_line(rt, alloc, &arena, (0, count), Level::Regular)?;
+    Ok(format!(in alloc; "{count} safe {safe} regular {regular}")?)
+}
+
+#[test]
+fn verdicts_of_histories(rt: HostRuntime) -> Result<(), Fail> {
+    let alloc = rt.alloc();
+    for (name, lines, want) in [
+        ("no event", [].as_slice(), "0 safe 0 regular 0"),
+        (
+            "a new value, then the old one, while the write is open",
+            [WRITE_1, OK, WRITE_2, READ, GOT2, READ, GOT1, OK].as_slice(),
+            "2 safe 0 regular 0",
+        ),
+        (
+            "a value never written, without a write",
+            [READ, GOT9].as_slice(),
+            "1 safe 1 regular 1",
+        ),
+        (
+            "a value written only later",
+            [READ, GOT1, WRITE_1, OK].as_slice(),
+            "1 safe 1 regular 1",
+        ),
+        (
+            "the value of a pending write",
+            [WRITE_1, READ, GOT1].as_slice(),
+            "1 safe 0 regular 0",
+        ),
+        (
+            "the value before a pending write",
+            [WRITE_1, READ, NULL].as_slice(),
+            "1 safe 0 regular 0",
+        ),
+        (
+            "the value before a write that has replied",
+            [WRITE_1, OK, READ, NULL].as_slice(),
+            "1 safe 3 regular 3",
+        ),
+        (
+            "a value never written, in the time of a write",
+            [WRITE_1, READ, GOT9, OK].as_slice(),
+            "1 safe 0 regular 2",
+        ),
+        (
+            "two processes write",
+            [WRITE_1, OK, OTHER_W2, OTHER_OK, READ, GOT2, READ, GOT1].as_slice(),
+            "2 several writers",
+        ),
+        (
+            "a write called in the time of the read",
+            [READ, WRITE_1, OK, GOT1].as_slice(),
+            "1 safe 0 regular 0",
+        ),
+        (
+            "the first of two writes in the time of the read",
+            [READ, WRITE_1, OK, WRITE_2, OK, GOT1].as_slice(),
+            "1 safe 0 regular 0",
+        ),
+        (
+            "the value before a write that is open at the call and one called later",
+            [WRITE_1, OK, WRITE_2, READ, OK, WRITE_3, GOT1].as_slice(),
+            "1 safe 0 regular 0",
+        ),
+        (
+            "the value before that",
+            [WRITE_1, OK, WRITE_2, READ, OK, WRITE_3, NULL].as_slice(),
+            "1 safe 0 regular 4",
+        ),
+        (
+            "the last value but one, when its successor has replied",
+            [WRITE_1, OK, WRITE_2, OK, READ, GOT1, WRITE_3].as_slice(),
+            "1 safe 5 regular 5",
+        ),
+        (
+            "a pending read",
+            [WRITE_1, OK, READ].as_slice(),
+            "0 safe 0 regular 0",
+        ),
+    ] {
+        let got = verdict(&rt, alloc, lines)?;
+        assert_eq!(rt; got.as_str(), want, "{name}");
+    }
+    Ok(())
+}
+
+#[test]
+fn first_bad_reads_of_parts(rt: HostRuntime) -> Result<(), Fail> {
+    let alloc = rt.alloc();
+    // The reads numbered 1 and 2, called at lines 5 and 7, give what nobody wrote.
+    let lines = [WRITE_1, OK, READ, GOT1, READ, GOT9, READ, GOT2];
+    let arena = arena_of(&rt, alloc, &lines)?;
+    assert_eq!(rt; reads(alloc, &arena, RegId(0))?.len(), 3);
+    assert!(rt; !reads(alloc, &arena, RegId(0))?.is_empty());
+    assert!(rt; reads(alloc, &arena, RegId(1))?.is_empty());
+    for (from, to, want) in [
+        (0, 0, 0),
+        (0, 1, 0),
+        (0, 2, 5),
+        (0, 3, 5),
+        (1, 1, 0),
+        (1, 2, 5),
+        (2, 3, 7),
+        (3, 3, 0),
+    ] {
+        for level in [Level::Safe, Level::Regular] {
+            let got = bad_line(&rt, alloc, &arena, (from, to), level)?;
+            assert_eq!(rt; got, want, "{level:?} from {from} to {to}");
+        }
+    }
+    Ok(())
+}
