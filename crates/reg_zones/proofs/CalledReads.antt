@@ -1,0 +1,54 @@
+-- Which completed read an event calls, and its write, by what the arena answers.
+use Rattle.std.proofs.Common.{◌≡◌, ℕ, ◌+◌, Some, None, inl, inr, sym, ap, ◌∙◌}
+use Rattle.std.proofs.lemmas.Bool.{false≢true}
+use Rattle.history_text.specs.declared.event.Val.{Val}
+use Rattle.history_text.specs.declared.event.OpKind.TheVariants.{WriteOp}
+use Rattle.reg_arena.specs.declared.op.Op.{Op}
+use Rattle.reg_arena.specs.Lists.{In}
+use Rattle.reg_arena.specs.History.{History}
+use Rattle.reg_arena.specs.Operations.{Operation, IsWrite, IsCompletedRead, IsReadOf, of_register, operations, writes, is_write}
+use Rattle.reg_arena.specs.declared.ids.Oper.{Oper}
+use Rattle.reg_arena.specs.Shown.{IsNamed, IsWriteOf}
+use Rattle.reg_zones.specs.Register.{IsRegister}
+use Rattle.reg_zones.specs.Sweep.{IsBelonging}
+use Rattle.reg_zones.proofs.Registers.{of_register-In, member-cluster, cluster-member}
+use Rattle.reg_zones.proofs.ValuedEvents.{same, pending}
+
+module _ (h : History) (r : ℕ) (y : IsRegister h r) (i : ℕ) (o : Operation) (op : Op) (b : IsBelonging h r i o op)
+    (a : Operation) (k : In a (of_register r (operations h))) (d : IsCompletedRead a) (e : a.call ≡ i + 2) where
+  is : o ≡ a
+  is = same h r y i o op b a k (inl e)
+
+  -- its time is the event's
+  pub called_then : op.call ≡ i + 2
+  called_then = ap (λ (x : Op). x.call) b.shown ∙ (ap (λ (x : Operation). x.call) is ∙ e)
+
+  pub not_write : op.kind ≡ WriteOp → ⊥
+  not_write q = false≢true (sym d.read ∙ (ap (λ (x : Operation). is_write x) (sym is) ∙ ap writes (ap (λ (x : Op). x.kind) (sym b.shown) ∙ q)))
+
+  pub not_pending : op.reply ≡ None → ⊥
+  not_pending q = false≢true (sym (pending h r y i o op b q) ∙ (ap (λ (x : Operation). x.completed) is ∙ d.completed))
+
+  pub not_empty : op.value ≡ None → ⊥
+  not_empty q =
+      let v = y.value a (of_register-In r (operations h) a k).0 (inr d.completed) in
+      let n : o.value ≡ None = ap (λ (x : Op). x.value) (sym b.shown) ∙ q in
+      cc (n, ap (λ (x : Operation). x.value) is, v.1)
+
+-- ---- the write of a read
+
+module _ (h : History) (r : ℕ) (y : IsRegister h r) (v : Val) where
+  -- the write that the arena names
+  pub the_write : (name : Oper) → IsWriteOf h r v (Some name) → (w : Operation) × IsNamed h name w × In w (of_register r (operations h)) × IsWrite w × (w.value ≡ Some v)
+  the_write name f = let m = member-cluster h r y v f.0 f.2 in (f.0, f.1, m.within, f.3, f.2.value)
+
+  -- or that there is none
+  pub no_write : IsWriteOf h r v None → (w : Operation) → In w (of_register r (operations h)) → IsWrite w → w.value ≡ Some v → ⊥
+  no_write f w i u e = f w (cluster-member h r y v w (record { within = i; value = e; counts = inl u })) u
+
+  pub read_of : (w a : Operation) → w.value ≡ Some v → IsCompletedRead a → a.value ≡ Some v → IsReadOf w a
+  read_of w a e d f = record { read = d.read; completed = d.completed; value = f ∙ sym e }
+
+  -- two writes of the value are one
+  pub one_write : (w x : Operation) → In w (of_register r (operations h)) → IsWrite w → w.value ≡ Some v → In x (of_register r (operations h)) → IsWrite x → x.value ≡ Some v → w ≡ x
+  one_write w x i u e j t f = y.history.values w x i j u t (e ∙ sym f)

@@ -1,0 +1,79 @@
+-- A walk by calls that meets a read without a write, or an early read, has met the first.
+use Rattle.std.proofs.Common.{◌≡◌, ℕ, ◌+◌, ◌-◌, ◌≤◌, Some, None, Option, inl, inr, sym, ap, ◌∙◌, arith}
+use Rattle.std.proofs.lemmas.Bool.{cases_lt, false≢true}
+use Rattle.reg_arena.specs.declared.ids.EvId.{EvId}
+use Rattle.reg_arena.specs.declared.ids.Oper.{Oper}
+use Rattle.reg_arena.specs.Lists.{In}
+use Rattle.reg_arena.specs.History.{History}
+use Rattle.reg_arena.specs.Operations.{Operation, IsCompletedRead, of_register, operations, is_write}
+use Rattle.reg_arena.specs.Shown.{by_register, key_at}
+use Rattle.reg_zones.specs.declared.fault.Fault.TheVariants.{Unwritten, Early}
+use Rattle.reg_zones.specs.Faults.{IsEarly, IsFault}
+use Rattle.reg_zones.specs.Register.{IsRegister}
+use Rattle.reg_zones.specs.Sweep.{AreWritten, AreInTime, IsUnwrittenAt, IsEarlyAt}
+use Rattle.reg_zones.proofs.Registers.{cases_process, event-key}
+use Rattle.reg_zones.proofs.Walks.{IsWalk, IsPassed}
+
+module _ (h : History) (r : ℕ) (y : IsRegister h r) where
+  -- the call of a completed read is an event
+  read-call : (a : Operation) → In a (of_register r (operations h)) → IsCompletedRead a → 2 ≤ a.call
+  read-call a k d = elim (cases_process a.process) [
+    | inl n ↦ absurd (false≢true (sym d.read ∙ ap (λ (x : Operation). is_write x) (y.history.initial a k n)))
+    | inr p ↦ y.history.called a p.0 k p.1
+  ]
+
+  read-key : (a : Operation) → In a (of_register r (operations h)) → IsCompletedRead a → key_at by_register h.events (a.call - 2) ≡ Some r
+  read-key a k d = let l = read-call a k d in event-key h r y (a.call - 2) a k (inl (omega arith))
+
+  -- what a walk has shown of each read that is called behind it
+  behind : (Q : ℕ → Type 0) (next : Option EvId) (a : Operation) → IsWalk h.events r Q next → In a (of_register r (operations h)) → IsCompletedRead a → IsPassed (a.call - 2) next → Q (a.call - 2)
+  behind Q next a w k d p = w.behind (a.call - 2) (read-key a k d) p
+
+  pub all_written : IsWalk h.events r (λ i. IsUnwrittenAt (of_register r (operations h)) (i + 2) None) None → AreWritten (of_register r (operations h))
+  all_written w a k d =
+      let l = read-call a k d in
+      behind (λ i. IsUnwrittenAt (of_register r (operations h)) (i + 2) None) None a w k d tt a k d (omega arith)
+
+  pub first_unwritten : (id : EvId) (read : Oper) → IsWalk h.events r (λ i. IsUnwrittenAt (of_register r (operations h)) (i + 2) None) (Some id) → IsUnwrittenAt (of_register r (operations h)) (id.0 + 2) (Some read) → IsFault (of_register r (operations h)) (Unwritten read)
+  first_unwritten id read w f = (
+    f.0,
+    record {
+      fault = f.1;
+      first = λ b u. elim (cases_lt b.call f.0.call) [
+        | inr l ↦ l
+        | inl l ↦
+            let m = read-call b u.within u.read in
+            let q = behind (λ i. IsUnwrittenAt (of_register r (operations h)) (i + 2) None) (Some id) b w u.within u.read (omega (arith, f.2)) b u.within u.read (omega arith) in
+            absurd (u.unwritten q.0 q.1 q.2 q.3)
+      ];
+    },
+    f.3,
+  )
+
+  early-read : (a w : Operation) → IsEarly (of_register r (operations h)) a w → IsCompletedRead a
+  early-read a w e = record { read = e.read.read; completed = e.read.completed }
+
+  pub all_in_time : IsWalk h.events r (λ i. IsEarlyAt (of_register r (operations h)) (i + 2) None) None → AreInTime (of_register r (operations h))
+  all_in_time w a u e =
+      let d = early-read a u e in
+      let l = read-call a e.within d in
+      behind (λ i. IsEarlyAt (of_register r (operations h)) (i + 2) None) None a w e.within d tt a u e (omega arith)
+
+  pub first_early : (id : EvId) (pair : Oper × Oper) → AreWritten (of_register r (operations h)) → IsWalk h.events r (λ i. IsEarlyAt (of_register r (operations h)) (i + 2) None) (Some id) → IsEarlyAt (of_register r (operations h)) (id.0 + 2) (Some pair) → IsFault (of_register r (operations h)) (Early pair.0 pair.1)
+  first_early id pair written w f = (
+    f.0,
+    f.1,
+    record {
+      written = λ q u. let x = written q u.within u.read in u.unwritten x.0 x.1 x.2 x.3;
+      fault = f.2;
+      first = λ b u e. elim (cases_lt b.call f.0.call) [
+        | inr l ↦ l
+        | inl l ↦
+            let d = early-read b u e in
+            let m = read-call b e.within d in
+            absurd (behind (λ i. IsEarlyAt (of_register r (operations h)) (i + 2) None) (Some id) b w e.within d (omega (arith, f.3)) b u e (omega arith))
+      ];
+    },
+    f.4,
+    f.5,
+  )

@@ -1,0 +1,191 @@
+-- The events of a register and its operations belong together.
+use Rattle.std.proofs.Common.{◌≡◌, ℕ, ◌+◌, ◌-◌, ◌<◌, ◌≤◌, ◌==◌, List, Option, Some, None, length, ◌⊎◌, inl, inr, refl, sym, ap, subst, ◌∙◌, arith, option_and_then}
+use Rattle.std.proofs.lemmas.Bool.{eqb-true, eq-eqb, cases_Bool, cases_lt}
+use Rattle.std.proofs.lemmas.Option.{slice_get_within}
+use Rattle.std.specs.List.{slice_get}
+use Rattle.history_text.specs.declared.event.Val.{Val}
+use Rattle.reg_arena.specs.declared.event.Event.{Event}
+use Rattle.reg_arena.specs.declared.ids.Oper.TheVariants.{Initial, Called}
+use Rattle.reg_arena.specs.Lists.{In}
+use Rattle.reg_arena.specs.History.{History}
+use Rattle.reg_arena.specs.Operations.{Operation, IsWrite, IsCompleted, is_write, of_register, operations, initial_write}
+use Rattle.reg_arena.specs.Shown.{IsEventIn, IsEventOf, IsMember, IsFirstReply, IsLastCall, by_register, key_at, name_by, name_of}
+use Rattle.reg_zones.specs.Clusters.{IsKept, IsInCluster, first_reply, last_call, low_end, HasFirstReply, HasLastCall}
+use Rattle.reg_zones.specs.Register.{IsRegister}
+use Rattle.reg_zones.proofs.Places.{In-filter, filter-In}
+use Rattle.reg_zones.proofs.Ends.{kept-member, first_reply-at, first_reply-is, last_call-at, last_call-is}
+use Rattle.reg_zones.proofs.ClearBelow.{first_completed}
+
+pub In-of_register : (r : ℕ) (ops : List Operation) (o : Operation) → In o ops → o.register ≡ r → In o (of_register r ops)
+In-of_register r ops o i e = In-filter (λ (a : Operation). a.register == r) o ops i (eq-eqb o.register r e)
+
+pub of_register-In : (r : ℕ) (ops : List Operation) (o : Operation) → In o (of_register r ops) → In o ops × (o.register ≡ r)
+of_register-In r ops o i = let k = filter-In (λ (a : Operation). a.register == r) o ops i in (k.0, eqb-true o.register r k.1)
+
+-- nobody called it, or some process did
+pub cases_process : (p : Option ℕ) → (p ≡ None) ⊎ ((q : ℕ) × (p ≡ Some q))
+cases_process None = inl refl
+cases_process (Some q) = inr (q, refl)
+
+module _ (h : History) (r : ℕ) (y : IsRegister h r) where
+  -- an operation of the register that has an event was called by a process
+  pub event-process : (i : ℕ) (o : Operation) → In o (of_register r (operations h)) → IsEventOf i o → (p : ℕ) × (o.process ≡ Some p)
+  event-process i o k t = elim (cases_process o.process) [
+    | inr p ↦ p
+    | inl n ↦
+        let e = y.history.initial o k n in
+        absurd (elim t [
+          | inl c ↦ omega (arith, c, ap (λ (a : Operation). a.call) e)
+          | inr c ↦ omega (arith, c.1, ap (λ (a : Operation). a.reply) e)
+        ])
+  ]
+
+  -- the event of an operation of the register is of the register
+  pub event-key : (i : ℕ) (o : Operation) → In o (of_register r (operations h)) → IsEventOf i o → key_at by_register h.events i ≡ Some r
+  event-key i o k t =
+      let p = event-process i o k t in
+      let j = of_register-In r (operations h) o k in
+      let at : (n : ℕ) (e : Event) → IsEventIn h n e o → n ≡ i → key_at by_register h.events i ≡ Some r =
+      λ n e s q. subst (λ m. key_at by_register h.events m ≡ Some r) q (ap (option_and_then by_register) s.at ∙ ap (λ m. Some m) (sym s.register ∙ j.1)) in
+      elim t [
+        | inl c ↦ let e = y.call o p.0 j.0 p.1 in at (o.call - 2) e.0 e.1 (omega (arith, c))
+        | inr c ↦ let e = y.reply o p.0 j.0 p.1 c.0 in at (o.reply - 2) e.0 e.1 (omega (arith, c.1))
+      ]
+
+  -- an event of the register is of an operation of the register
+  pub event-of : (i : ℕ) (e : Event) (o : Operation) → IsEventIn h i e o → IsEventOf i o
+  event-of i e o s = elim (cases_Bool e.is_call) [ inl c ↦ inl (s.call c).1 | inr c ↦ let q = s.reply c in inr (q.0, q.1) ]
+
+  pub key-operation : (i : ℕ) (o : Operation) → key_at by_register h.events i ≡ Some r → In o (operations h) → IsEventOf i o → In o (of_register r (operations h))
+  key-operation i o k j t = go (slice_get h.events i) refl k
+    where
+      go : (s : Option Event) → slice_get h.events i ≡ s → option_and_then by_register s ≡ Some r → In o (of_register r (operations h))
+      go None q n = absurd (cc n)
+      go (Some e) q n =
+          let x = y.event i e q in
+          let same = y.one i x.0 o x.1.one j (event-of i e x.0 x.1) t in
+          let reg : e.register.0 ≡ r = cc n in
+          In-of_register r (operations h) o j (ap (λ (a : Operation). a.register) (sym same) ∙ (x.1.register ∙ reg))
+
+  -- ---- names
+
+  -- an operation's name by the time of its call
+  pub call-name : (a : Operation) → In a (of_register r (operations h)) → (a.call < 2 → name_of a ≡ Initial (record { 0 = r })) × (2 ≤ a.call → name_of a ≡ Called (record { 0 = a.call - 2 }))
+  call-name a k = elim (cases_process a.process) [
+    | inl n ↦
+        let e = y.history.initial a k n in
+        let j = of_register-In r (operations h) a k in
+        (λ l. ap (λ q. name_by q a) n ∙ ap (λ m. Initial (record { 0 = m })) j.1, λ l. absurd (omega (arith, l, ap (λ (o : Operation). o.call) e)))
+    | inr p ↦ (λ l. absurd (omega (arith, l, y.history.called a p.0 k p.1)), λ l. ap (λ q. name_by q a) p.1)
+  ]
+
+  -- the initial write alone replies before all events
+  pub early-reply : (a : Operation) → In a (of_register r (operations h)) → a.reply < 2 → name_of a ≡ Initial (record { 0 = r })
+  early-reply a k l = let lives = y.history.life a k in (call-name a k).0 (omega arith)
+
+  pub reply-event : (a : Operation) → In a (of_register r (operations h)) → IsCompleted a → 2 ≤ a.reply → a.reply - 2 < length h.events
+  reply-event a k d l = elim (cases_process a.process) [
+    | inl n ↦ absurd (omega (arith, l, ap (λ (o : Operation). o.reply) (y.history.initial a k n)))
+    | inr p ↦ let e = y.reply a p.0 (of_register-In r (operations h) a k).0 p.1 d in slice_get_within h.events (a.reply - 2) e.0 e.1.at
+  ]
+
+  -- ---- clusters
+
+  pub member-cluster : (v : Val) (o : Operation) → IsMember h r v o → IsInCluster (of_register r (operations h)) (Some v) o
+  member-cluster v o m = record { within = In-of_register r (operations h) o m.there m.register; value = m.value; counts = m.full }
+
+  pub cluster-member : (v : Val) (o : Operation) → IsInCluster (of_register r (operations h)) (Some v) o → IsMember h r v o
+  cluster-member v o m = let j = of_register-In r (operations h) o m.within in record { there = j.0; register = j.1; value = m.value; full = m.counts }
+
+  pub first_reply-found : (v : Val) (t : ℕ) → IsFirstReply h r v (Some t) → t ≡ first_reply (of_register r (operations h)) (Some v)
+  first_reply-found v t f =
+      let ops = of_register r (operations h) in
+      let a = f.0 in
+      let m = member-cluster v a.0 a.1 in
+      sym (first_reply-is ops (Some v) a.0 m (λ b n. elim (cases_Bool b.completed) [
+        | inl d ↦ omega (arith, f.1 b (cluster-member v b n) d, a.3)
+        | inr d ↦ omega (arith, y.history.horizon b a.0 n.within m.within d a.2)
+      ]) ∙ a.3)
+
+  pub last_call-found : (v : Val) (t : ℕ) → IsLastCall h r v (Some t) → t ≡ last_call (of_register r (operations h)) (Some v)
+  last_call-found v t f =
+      let a = f.0 in
+      sym (last_call-is (of_register r (operations h)) (Some v) a.0 (member-cluster v a.0 a.1) (λ b n. omega (arith, f.1 b (cluster-member v b n), a.2)) ∙ a.2)
+
+  -- a kept write's cluster has a completed operation
+  pub kept-completed : (v : Val) (w : Operation) → IsKept (of_register r (operations h)) w → w.value ≡ Some v → (o : Operation) × IsMember h r v o × IsCompleted o
+  kept-completed v w k e = elim k.kept [
+    | inl d ↦ (w, cluster-member v w (record { within = k.within; value = e; counts = inl k.write }), d)
+    | inr q ↦ (q.0, cluster-member v q.0 (record { within = q.1; value = q.2.value ∙ e; counts = inr q.2.completed }), q.2.completed)
+  ]
+
+  -- and a write whose cluster has one is kept
+  pub completed-kept : (v : Val) (w o : Operation) → In w (of_register r (operations h)) → IsWrite w → w.value ≡ Some v → IsMember h r v o → IsCompleted o → IsKept (of_register r (operations h)) w
+  completed-kept v w o i u e m d =
+      let n = member-cluster v o m in
+      record {
+        within = i;
+        write = u;
+        kept = elim (cases_Bool (is_write o)) [
+          | inl t ↦ inl (subst IsCompleted (y.history.values o w n.within i t u (n.value ∙ sym e)) d)
+          | inr t ↦ inr (o, n.within, record { read = t; completed = d; value = n.value ∙ sym e })
+        ];
+      }
+
+  -- ---- low ends
+
+  -- the low end of a kept write's cluster is the call or the reply of one of its operations
+  pub low_end-at : (w : Operation) → IsKept (of_register r (operations h)) w → (a : Operation) × IsInCluster (of_register r (operations h)) w.value a × ((a.call ≡ low_end (of_register r (operations h)) w.value) ⊎ (IsCompleted a × (a.reply ≡ low_end (of_register r (operations h)) w.value)))
+  low_end-at w k =
+      let ops = of_register r (operations h) in
+      let f = first_reply-at ops w.value w (kept-member ops w k) in
+      let s = last_call-at ops w.value w (kept-member ops w k) in
+      elim (cases_lt (first_reply ops w.value) (last_call ops w.value)) [
+        | inl p ↦ (f.0, f.1, inr (first_completed ops w f.0 y.history k (record { member = f.1; least = f.2 }), omega (arith, f.2)))
+        | inr p ↦ (s.0, s.1, inl (omega (arith, s.2)))
+      ]
+
+  -- at an event of the register it is of the event's operation
+  pub low_end-event : (i : ℕ) (o w : Operation) → In o (operations h) → IsEventOf i o → IsKept (of_register r (operations h)) w → low_end (of_register r (operations h)) w.value ≡ i + 2 → IsInCluster (of_register r (operations h)) w.value o
+  low_end-event i o w j t k e =
+      let a = low_end-at w k in
+      let at : IsEventOf i a.0 = elim a.2 [ inl c ↦ inl (c ∙ e) | inr c ↦ inr (c.0, c.1 ∙ e) ] in
+      let same = y.one i a.0 o (of_register-In r (operations h) a.0 a.1.within).0 j at t in
+      subst (IsInCluster (of_register r (operations h)) w.value) same a.1
+
+  -- where no event of the register is, no low end is
+  pub no_low_end : (i : ℕ) (w : Operation) → (key_at by_register h.events i ≡ Some r → ⊥) → IsKept (of_register r (operations h)) w → low_end (of_register r (operations h)) w.value ≡ i + 2 → ⊥
+  no_low_end i w none k e =
+      let a = low_end-at w k in
+      none (event-key i a.0 a.1.within (elim a.2 [ inl c ↦ inl (c ∙ e) | inr c ↦ inr (c.0, c.1 ∙ e) ]))
+
+  -- before all events there is the initial cluster's low end alone
+  pub initial_low : (w : Operation) → IsKept (of_register r (operations h)) w → low_end (of_register r (operations h)) w.value < 2 → w ≡ initial_write r
+  initial_low w k lt =
+      let a = low_end-at w k in
+      let ops = of_register r (operations h) in
+      elim (cases_process a.0.process) [
+        | inl n ↦
+            let e = y.history.initial a.0 a.1.within n in
+            let v : w.value ≡ (initial_write r).value = sym a.1.value ∙ ap (λ (o : Operation). o.value) e in
+            y.history.values w (initial_write r) k.within y.initial k.write refl v
+        | inr p ↦
+            let c = y.history.called a.0 p.0 a.1.within p.1 in
+            let lives = y.history.life a.0 a.1.within in
+            absurd (elim a.2 [ inl q ↦ omega (arith, q) | inr q ↦ omega (arith, q.1) ])
+      ]
+
+  -- the operation of the least reply in a kept write's cluster
+  pub first_replied : (w : Operation) → IsKept (of_register r (operations h)) w → (a : Operation) × HasFirstReply (of_register r (operations h)) w.value a × IsCompleted a
+  first_replied w k =
+      let ops = of_register r (operations h) in
+      let f = first_reply-at ops w.value w (kept-member ops w k) in
+      let x : HasFirstReply ops w.value f.0 = record { member = f.1; least = f.2 } in
+      (f.0, x, first_completed ops w f.0 y.history k x)
+
+  -- and that of the greatest call
+  pub last_called : (w : Operation) → IsKept (of_register r (operations h)) w → (a : Operation) × HasLastCall (of_register r (operations h)) w.value a
+  last_called w k =
+      let ops = of_register r (operations h) in
+      let s = last_call-at ops w.value w (kept-member ops w k) in
+      (s.0, record { member = s.1; greatest = s.2 })

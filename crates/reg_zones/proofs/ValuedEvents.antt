@@ -1,0 +1,77 @@
+-- Which event has the value of an operation.
+use Rattle.std.proofs.Common.{◌≡◌, ℕ, ◌-◌, ◌≤◌, Bool, true, false, cond, Some, None, inl, inr, refl, sym, ap, subst, ◌∙◌, arith, option_and_then, option_map}
+use Rattle.std.proofs.lemmas.Bool.{false≢true}
+use Rattle.history_text.specs.declared.event.Val.{Val}
+use Rattle.reg_arena.specs.declared.event.Event.{Event}
+use Rattle.reg_arena.specs.declared.op.Op.{Op}
+use Rattle.reg_arena.specs.Lists.{In}
+use Rattle.reg_arena.specs.History.{History}
+use Rattle.reg_arena.specs.Operations.{Operation, IsWrite, IsCompleted, of_register, operations}
+use Rattle.reg_arena.specs.Shown.{IsEventIn, IsEventOf, by_value, key_at, op_shown}
+use Rattle.reg_zones.specs.Register.{IsRegister}
+use Rattle.reg_zones.specs.Sweep.{IsBelonging}
+use Rattle.reg_zones.proofs.Registers.{of_register-In, event-process}
+
+-- an operation that shows a reply is completed, with this reply
+pub shown-reply : (o : Operation) (t : ℕ) → (op_shown o).reply ≡ Some t → IsCompleted o × (o.reply ≡ t)
+shown-reply o t e = go o.completed refl e
+  where
+    go : (b : Bool) → o.completed ≡ b → cond b (Some o.reply) None ≡ Some t → IsCompleted o × (o.reply ≡ t)
+    go true d q = (d, cc q)
+    go false d q = absurd (cc q)
+
+pub shown-pending : (o : Operation) → (op_shown o).reply ≡ None → o.completed ≡ false
+shown-pending o e = go o.completed refl e
+  where
+    go : (b : Bool) → o.completed ≡ b → cond b (Some o.reply) None ≡ None → o.completed ≡ false
+    go true d q = absurd (cc q)
+    go false d q = d
+
+-- the key of an event with the register and the value of an operation
+pub value-key : (h : History) (i : ℕ) (e : Event) (o : Operation) (v : Val) → IsEventIn h i e o → e.value ≡ Some v → key_at by_value h.events i ≡ Some (o.register, v)
+value-key h i e o v s q = ap (option_and_then by_value) s.at ∙ (ap (option_map (λ (v : Val). (e.register.0, v))) q ∙ ap (λ n. Some (n, v)) (sym s.register))
+
+module _ (h : History) (r : ℕ) (y : IsRegister h r) (i : ℕ) (o : Operation) (op : Op) (b : IsBelonging h r i o op) where
+  -- an operation with an event was called by a process
+  called : (p : ℕ) × (o.process ≡ Some p)
+  called = event-process h r y i o b.one b.event
+
+  there : In o (operations h)
+  there = (of_register-In r (operations h) o b.one).0
+
+  numbered : o.register ≡ r
+  numbered = (of_register-In r (operations h) o b.one).1
+
+  pub replied : (t : ℕ) → op.reply ≡ Some t → IsCompleted o × (o.reply ≡ t)
+  replied t e = shown-reply o t (ap (λ (x : Op). x.reply) (sym b.shown) ∙ e)
+
+  pub pending : op.reply ≡ None → o.completed ≡ false
+  pending e = shown-pending o (ap (λ (x : Op). x.reply) (sym b.shown) ∙ e)
+
+  pub late-reply : 2 ≤ o.reply
+  late-reply =
+      let p = called in
+      let c = y.history.called o p.0 b.one p.1 in
+      let lives = y.history.life o b.one in
+      omega arith
+
+  -- the reply of a completed one has its value
+  pub reply-key : IsCompleted o → (v : Val) × (o.value ≡ Some v) × (key_at by_value h.events (o.reply - 2) ≡ Some (r, v))
+  reply-key d =
+      let p = called in
+      let v = y.value o there (inr d) in
+      let e = y.reply o p.0 there p.1 d in
+      (v.0, v.1, value-key h (o.reply - 2) e.0 o v.0 e.1 (sym (e.1.reply e.2).2 ∙ v.1) ∙ ap (λ n. Some (n, v.0)) numbered)
+
+  -- the call of a pending write has its value
+  pub call-key : o.completed ≡ false → IsWrite o → (v : Val) × (o.value ≡ Some v) × (key_at by_value h.events i ≡ Some (r, v))
+  call-key d w =
+      let p = called in
+      let v = y.value o there (inl w) in
+      let e = y.call o p.0 there p.1 in
+      let q : o.call - 2 ≡ i = elim b.event [ inl c ↦ omega (arith, c) | inr c ↦ absurd (false≢true (sym d ∙ c.0)) ] in
+      (v.0, v.1, subst (λ n. key_at by_value h.events n ≡ Some (r, v.0)) q (value-key h (o.call - 2) e.0 o v.0 e.1 (sym ((e.1.call e.2).2 w) ∙ v.1) ∙ ap (λ n. Some (n, v.0)) numbered))
+
+  -- an event has one operation
+  pub same : (a : Operation) → In a (of_register r (operations h)) → IsEventOf i a → o ≡ a
+  same a k t = y.one i o a there (of_register-In r (operations h) a k).0 b.event t

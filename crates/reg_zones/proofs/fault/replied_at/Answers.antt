@@ -1,0 +1,20 @@
+use Rattle.std.proofs.Common.{◌-◌, inr, ap, ◌∙◌, arith}
+use Rattle.reg_arena.specs.Operations.{operations}
+use Rattle.reg_arena.specs.Shown.{name_of}
+use Rattle.reg_zones.proofs.Registers.{early-reply, reply-event, of_register-In}
+use Rattle.reg_zones.proofs.fault.replied_at.Goals as goal
+
+pub op_of-requires : goal.op_of-requires
+op_of-requires c =
+    let a = c.requires.there in
+    let l = reply-event c.args.arena.now c.args.register.0 c.told.ensures a.0 a.1 a.2 (omega (arith, a.3, c.if-time-lt2.false)) in
+    omega (arith, l, a.3)
+
+pub returns-then-time-lt2 : goal.returns-then-time-lt2
+returns-then-time-lt2 c a k d e = early-reply c.args.arena.now c.args.register.0 c.told.ensures a k (omega (arith, e, c.if-time-lt2.true))
+
+pub returns-else-time-lt2 : goal.returns-else-time-lt2
+returns-else-time-lt2 c a k d e =
+    let o = c.op_of.ensures in
+    let j = (of_register-In c.args.register.0 (operations c.args.arena.now) a k).0 in
+    ap name_of (c.told.ensures.one (c.args.time - 2) a o.0 j o.1.one (inr (d, omega (arith, e, c.if-time-lt2.false))) o.2) ∙ o.1.named

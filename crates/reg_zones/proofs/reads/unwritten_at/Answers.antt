@@ -1,0 +1,26 @@
+use Rattle.std.proofs.Common.{sym, ap, ◌∙◌}
+use Rattle.reg_arena.specs.Operations.{Operation}
+use Rattle.reg_zones.proofs.CalledReads.{the_write, no_write, read_of}
+use Rattle.reg_zones.proofs.reads.unwritten_at.Goals as goal
+
+pub returns-in-Some : goal.returns-in-Some
+returns-in-Some c a k d e =
+    let h = c.args.arena.now in
+    let y = c.told.ensures in
+    let q = c.in_ok-read.ensures in
+    let w = the_write h c.args.register.0 y _ _ c.in-Some.ensures in
+    let same = y.history.calls a q.0 k q.1 (e ∙ sym q.3) in
+    (w.0, w.2, w.3, read_of h c.args.register.0 y _ w.0 a w.4 d (ap (λ (x : Operation). x.value) same ∙ q.5))
+
+pub returns-in-None : goal.returns-in-None
+returns-in-None c =
+    let q = c.in_ok-read.ensures in (
+      q.0,
+      record {
+        within = q.1;
+        read = q.2;
+        unwritten = λ w i u s. no_write c.args.arena.now c.args.register.0 c.told.ensures _ c.in-None.ensures w i u (sym s.value ∙ q.5);
+      },
+      q.3,
+      q.4,
+    )

@@ -1,0 +1,6 @@
+pub mod Clusters
+pub mod Faults
+pub mod Order
+pub mod Register
+pub mod Sweep
+pub mod Entries

@@ -1,0 +1,107 @@
+-- Zones as the code has them, and what is found at each event of a register.
+use Rattle.std.specs.Prelude.{◌≡◌, ℕ, ◌<◌, ◌⊎◌, List, length, Option, Some, None}
+use Rattle.history_text.specs.declared.event.Val.{Val}
+use Rattle.reg_arena.specs.declared.ids.EvId.{EvId}
+use Rattle.reg_arena.specs.declared.ids.Oper.{Oper}
+use Rattle.reg_arena.specs.declared.op.Op.{Op}
+use Rattle.reg_arena.specs.Lists.{In}
+use Rattle.reg_arena.specs.History.{History}
+use Rattle.reg_arena.specs.Operations.{Operation, IsWrite, IsCompleted, IsCompletedRead, IsReadOf, of_register, operations}
+use Rattle.reg_arena.specs.Shown.{IsNamed, IsEventOf, IsMember, IsFirstReply, IsLastCall, by_value, key_at, name_of, op_shown}
+use Rattle.reg_zones.specs.Clusters.{IsKept, IsClearBelow, IsForward, IsLastForward, first_reply, last_call, low_end}
+use Rattle.reg_zones.specs.Faults.{IsUnwritten, IsEarly}
+use Rattle.reg_zones.specs.Register.{IsRegister}
+use Rattle.reg_zones.specs.declared.zone.Zone.{Zone}
+use Rattle.reg_zones.specs.declared.pass.Cluster.{Cluster}
+use Rattle.reg_zones.specs.declared.reads.Read.{Read}
+
+-- the operation o of this name, with its register
+pub record IsOperation (h : History) (name : Oper) (o : Operation) (op : Op) : Type 0 where
+  pub named : IsNamed h name o
+  pub shown : op ≡ op_shown o
+  pub number : o.register < length h.names
+  pub register : IsRegister h o.register
+
+-- the event at place i belongs to the operation o of register r
+pub record IsBelonging (h : History) (r i : ℕ) (o : Operation) (op : Op) : Type 0 where
+  pub one : In o (of_register r (operations h))
+  pub event : IsEventOf i o
+  pub shown : op ≡ op_shown o
+
+-- ---- zones
+
+-- the zone of the cluster of a value
+pub record IsZone (ops : List Operation) (v : Option Val) (zone : Zone) : Type 0 where
+  pub reply : zone.f ≡ first_reply ops v
+  pub call : zone.s ≡ last_call ops v
+
+-- the zone of the cluster of a value, if it has a completed operation
+abbrev pub IsZoneFound : History → ℕ → Val → Option Zone → Type 0
+IsZoneFound h r v None = (o : Operation) → IsMember h r v o → IsCompleted o → ⊥
+IsZoneFound h r v (Some zone) = IsFirstReply h r v (Some zone.f) × IsLastCall h r v (Some zone.s)
+
+-- the name is of a kept write
+abbrev pub IsKeptWrite : History → Oper → Type 0
+IsKeptWrite h name = (w : Operation) × IsNamed h name w × IsKept (of_register w.register (operations h)) w
+
+-- an event of register r that has the value of the operation o, unless o is a pending read, which has none
+abbrev pub IsValuedEvent : History → ℕ → Operation → Option EvId → Type 0
+IsValuedEvent h r o None = IsWrite o ⊎ IsCompleted o → ⊥
+IsValuedEvent h r o (Some id) = (v : Val) × (o.value ≡ Some v) × (key_at by_value h.events id.0 ≡ Some (r, v)) × (IsWrite o ⊎ IsCompleted o)
+
+-- ---- reads without a write, and early reads
+
+-- each completed read has its write
+abbrev pub AreWritten : List Operation → Type 0
+AreWritten ops = (r : Operation) → In r ops → IsCompletedRead r → (w : Operation) × In w ops × IsWrite w × IsReadOf w r
+
+-- no read is early
+abbrev pub AreInTime : List Operation → Type 0
+AreInTime ops = (r w : Operation) → IsEarly ops r w → ⊥
+
+-- the completed read that is called at time n, if there is one
+abbrev pub IsReadCalledAt : List Operation → ℕ → Option Read → Type 0
+IsReadCalledAt ops n None = (r : Operation) → In r ops → IsCompletedRead r → r.call ≡ n → ⊥
+IsReadCalledAt ops n (Some read) = (r : Operation) × In r ops × IsCompletedRead r × (r.call ≡ n) × (name_of r ≡ read.oper) × (r.value ≡ Some read.value) × (r.reply ≡ read.reply)
+
+-- the completed read that is called at time n, if it has no write
+abbrev pub IsUnwrittenAt : List Operation → ℕ → Option Oper → Type 0
+IsUnwrittenAt ops n None = (r : Operation) → In r ops → IsCompletedRead r → r.call ≡ n → (w : Operation) × In w ops × IsWrite w × IsReadOf w r
+IsUnwrittenAt ops n (Some read) = (r : Operation) × IsUnwritten ops r × (r.call ≡ n) × (name_of r ≡ read)
+
+-- the read that is called at time n, with its write, if it is early
+abbrev pub IsEarlyAt : List Operation → ℕ → Option (Oper × Oper) → Type 0
+IsEarlyAt ops n None = (r w : Operation) → IsEarly ops r w → r.call ≡ n → ⊥
+IsEarlyAt ops n (Some pair) = (r : Operation) × (w : Operation) × IsEarly ops r w × (r.call ≡ n) × (name_of r ≡ pair.0) × (name_of w ≡ pair.1)
+
+-- ---- conflicts
+
+-- the cluster of the kept write w, as the pass has it
+pub record IsClusterOf (ops : List Operation) (w : Operation) (cluster : Cluster) : Type 0 where
+  pub kept : IsKept ops w
+  pub write : cluster.write ≡ name_of w
+  pub zone : IsZone ops w.value cluster.zone
+
+-- the cluster whose low end is at time n, if there is one
+abbrev pub IsLowEndAt : List Operation → ℕ → Option Cluster → Type 0
+IsLowEndAt ops n None = (w : Operation) → IsKept ops w → low_end ops w.value ≡ n → ⊥
+IsLowEndAt ops n (Some cluster) = (w : Operation) × IsClusterOf ops w cluster × (low_end ops w.value ≡ n)
+
+-- the last forward cluster whose low end is before time n, if there is one
+abbrev pub IsLastMet : List Operation → ℕ → Option Cluster → Type 0
+IsLastMet ops n None = (w : Operation) → IsKept ops w → IsForward ops w.value → low_end ops w.value < n → ⊥
+IsLastMet ops n (Some cluster) = (w : Operation) × IsClusterOf ops w cluster × IsLastForward ops w n
+
+-- what a pass that has met each low end before time n knows: no conflict, and the last forward cluster
+pub record IsMet (ops : List Operation) (n : ℕ) (cluster : Option Cluster) : Type 0 where
+  pub clear : IsClearBelow ops n
+  pub last : IsLastMet ops n cluster
+
+-- the zones overlap
+abbrev pub Clash : Zone → Zone → Type 0
+Clash y z = (y.f < z.s) × (z.f < y.s)
+
+-- the cluster met last, if its zone conflicts with this one
+abbrev pub IsClashWith : Option Cluster → Cluster → Option Cluster → Type 0
+IsClashWith last cluster None = (c : Cluster) → last ≡ Some c → Clash c.zone cluster.zone → ⊥
+IsClashWith last cluster (Some c) = (last ≡ Some c) × Clash c.zone cluster.zone

@@ -1,0 +1,28 @@
+//! Whether a register is atomic.
+ghost use Rattle.std.specs.Prelude.{◌<◌, ◌↔◌, length, IsOk, MatchResult};
+ghost use Rattle.reg_arena.specs.Operations.{of_register, operations};
+ghost use Rattle.reg_arena.specs.Legal.{IsAtomic};
+ghost use Rattle.reg_zones.specs.Faults.{HasNoFault, IsFault};
+
+use crate::fault::Fault;
+use crate::pass::compatible;
+use crate::reads::{in_time, written};
+use crate::told::told;
+use reg_arena::{Arena, RegId};
+
+/// The fault of a register, or that it has none: then, and only then, it is atomic.
+///
+/// It takes no memory and always answers, in a time that grows with the register's events, and with the logarithm of
+/// the history's.
+pub fn sweep(arena: &Arena, register: RegId) -> Result<(), Fault>
+    requires { register.0 < length arena.now.names }
+    ensures fault { MatchResult result
+        (λ _. HasNoFault (of_register register.0 (operations arena.now)))
+        (λ fault. IsFault (of_register register.0 (operations arena.now)) fault) }
+    ensures atomic { IsOk result ↔ IsAtomic (of_register register.0 (operations arena.now)) }
+{
+    told(arena, register);
+    written(arena, register)?;
+    in_time(arena, register)?;
+    compatible(arena, register)
+}

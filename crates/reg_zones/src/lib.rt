@@ -1,0 +1,31 @@
+//! Which registers are atomic: the fault of one that is not, and the order of one that is.
+//!
+//! What the floor above may rely on: [`sweep`] answers with the fault that the definitions name, and with `Ok` exactly
+//! where the register is atomic (Herlihy and Wing, 1990). [`order`] lists the canonical order of a register without
+//! fault, which is a legal one, with a point for each operation between its call and its reply. [`is_kept`] and
+//! [`zone_of`] are the definitions of a kept write and of a zone, and [`laws`] says why zones decide.
+//!
+//! The method is that of Gibbons and Korach (Testing Shared Memories, 1997) for distinct written values. To read: `zone`,
+//! then `reads` (the two faults of single reads) and `pass` (one pass over low ends), which `atomic` puts together; then
+//! `entry` and `canonical` for the order. `told` asks the arena for what its laws say, and `valued` for an operation's value.
+#![tactic(auto)]
+
+mod atomic;
+mod canonical;
+mod entry;
+mod fault;
+pub mod laws;
+mod pass;
+mod placed;
+mod reads;
+#[cfg(test)]
+mod tests;
+mod told;
+mod valued;
+mod zone;
+
+pub use atomic::sweep;
+pub use canonical::order;
+pub use fault::Fault;
+pub use placed::Placed;
+pub use zone::{Zone, is_kept, zone_of};

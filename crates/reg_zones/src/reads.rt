@@ -1,0 +1,102 @@
+//! The completed reads of a register, by call: those without a write, and those before their write.
+ghost use Rattle.std.specs.Prelude.{◌≡◌, ◌<◌, ◌+◌, length, Some, IfOk, IfErr};
+ghost use Rattle.reg_arena.specs.Operations.{of_register, operations};
+ghost use Rattle.reg_arena.specs.Shown.{by_register, key_at};
+ghost use Rattle.reg_zones.specs.Faults.{IsFault};
+ghost use Rattle.reg_zones.specs.Sweep.{AreInTime, AreWritten, IsEarlyAt, IsReadCalledAt, IsUnwrittenAt};
+
+use crate::fault::Fault;
+use crate::told::{operation, operation_of, told};
+use history_text::{OpKind, Val};
+use reg_arena::{Arena, EvId, Oper, RegId};
+
+/// A completed read, with what it returned and when.
+#[derive(Clone, Copy, Debug, PartialEq, Eq)]
+pub(crate) struct Read {
+    pub(crate) oper: Oper,
+    pub(crate) value: Val,
+    /// The time of its reply.
+    pub(crate) reply: u32,
+}
+
+/// Each completed read has its write, or the first that has none.
+pub(crate) fn written(arena: &Arena, register: RegId) -> Result<(), Fault>
+    requires { register.0 < length arena.now.names }
+    ensures ok { IfOk result (λ _. AreWritten (of_register register.0 (operations arena.now))) }
+    ensures err { IfErr result (λ fault. IsFault (of_register register.0 (operations arena.now)) fault) }
+{
+    told(arena, register);
+    let mut next = arena.first_of_register(register);
+    while let Some(id) = next {
+        if let Some(read) = unwritten_at(arena, register, id) {
+            return Err(Fault::Unwritten { read });
+        }
+        next = arena.next_in_register(id);
+    }
+    Ok(())
+}
+
+/// No read precedes its write, or the first that does.
+pub(crate) fn in_time(arena: &Arena, register: RegId) -> Result<(), Fault>
+    requires register { register.0 < length arena.now.names }
+    requires written { AreWritten (of_register register.0 (operations arena.now)) }
+    ensures ok { IfOk result (λ _. AreInTime (of_register register.0 (operations arena.now))) }
+    ensures err { IfErr result (λ fault. IsFault (of_register register.0 (operations arena.now)) fault) }
+{
+    told(arena, register);
+    let mut next = arena.first_of_register(register);
+    while let Some(id) = next {
+        if let Some((read, write)) = early_at(arena, register, id) {
+            return Err(Fault::Early { read, write });
+        }
+        next = arena.next_in_register(id);
+    }
+    Ok(())
+}
+
+/// The completed read that the event calls, if it has no write.
+fn unwritten_at(arena: &Arena, register: RegId, id: EvId) -> Option<Oper>
+    requires register { register.0 < length arena.now.names }
+    requires here { key_at by_register arena.now.events id.0 ≡ Some register.0 }
+    ensures { IsUnwrittenAt (of_register register.0 (operations arena.now)) (id.0 + 2) result }
+{
+    told(arena, register);
+    let read = read_called_at(arena, register, id)?;
+    match arena.write_of(register, read.value) {
+        Some(_) => None,
+        None => Some(read.oper),
+    }
+}
+
+/// The completed read that the event calls and its write, if the read precedes the write.
+fn early_at(arena: &Arena, register: RegId, id: EvId) -> Option<(Oper, Oper)>
+    requires register { register.0 < length arena.now.names }
+    requires here { key_at by_register arena.now.events id.0 ≡ Some register.0 }
+    ensures { IsEarlyAt (of_register register.0 (operations arena.now)) (id.0 + 2) result }
+{
+    told(arena, register);
+    let read = read_called_at(arena, register, id)?;
+    let write = arena.write_of(register, read.value)?;
+    if read.reply < operation(arena, write).call {
+        Some((read.oper, write))
+    } else {
+        None
+    }
+}
+
+/// The completed read that the event calls, if it calls one.
+fn read_called_at(arena: &Arena, register: RegId, id: EvId) -> Option<Read>
+    requires register { register.0 < length arena.now.names }
+    requires here { key_at by_register arena.now.events id.0 ≡ Some register.0 }
+    ensures { IsReadCalledAt (of_register register.0 (operations arena.now)) (id.0 + 2) result }
+{
+    told(arena, register);
+    let (oper, op) = operation_of(arena, register, id);
+    if op.call != id.0 + 2 {
+        return None;
+    }
+    match (op.kind, op.reply, op.value) {
+        (OpKind::ReadOp, Some(reply), Some(value)) => Some(Read { oper, value, reply }),
+        _ => None,
+    }
+}

@@ -1,0 +1,85 @@
+//! Kept writes, and the zones of their clusters.
+ghost use Rattle.std.specs.Prelude.{◌≡◌, ◌↔◌, ◌<◌, ℕ, IsTrue, Some, length, min};
+ghost use Rattle.history_text.specs.declared.event.Val.{Val as AVal};
+ghost use Rattle.reg_arena.specs.Operations.{Operation, of_register, operations};
+ghost use Rattle.reg_arena.specs.Shown.{IsNamed, IsOper, by_value, key_at};
+ghost use Rattle.reg_zones.specs.Clusters.{IsKept};
+ghost use Rattle.reg_zones.specs.Sweep.{IsKeptWrite, IsZone, IsZoneFound};
+
+use crate::told::{names_told, operation};
+use history_text::{OpKind, Val};
+use reg_arena::{Arena, EvId, Oper, RegId};
+
+/// The zone of a cluster: of the operations of one value, the least reply and the greatest call.
+///
+/// Both are times, as `Op` gives them.
+#[derive(Clone, Copy, Debug, PartialEq, Eq)]
+pub struct Zone {
+    /// The least reply.
+    pub f: u32,
+    /// The greatest call.
+    pub s: u32,
+}
+
+impl Zone {
+    /// The low end: the lesser of the two.
+    pub fn low(&self) -> u32
+        ensures { result ≡ min self.now.f self.now.s }
+    {
+        self.f.min(self.s)
+    }
+
+    /// Whether it is forward: some reply comes before some call, so the cluster doesn't fit into one moment.
+    pub fn is_forward(&self) -> bool
+        ensures { IsTrue result ↔ (self.now.f < self.now.s) }
+    {
+        self.f < self.s
+    }
+}
+
+/// Whether the operation is a kept write: the initial one, a completed one, or a pending one whose value some
+/// completed read has.
+pub fn is_kept(arena: &Arena, oper: Oper) -> bool
+    requires { IsOper arena.now oper }
+    ensures { (w : Operation) → IsNamed arena.now oper w → (IsTrue result ↔ IsKept (of_register w.register (operations arena.now)) w) }
+{
+    let op = operation(arena, oper);
+    match (op.kind, op.value) {
+        (OpKind::WriteOp, Some(value)) => arena.first_reply(op.register, value).is_some(),
+        (OpKind::WriteOp, None) | (OpKind::ReadOp, _) => false,
+    }
+}
+
+/// The zone of the cluster of a kept write.
+pub fn zone_of(arena: &Arena, write: Oper) -> Zone
+    requires { IsKeptWrite arena.now write }
+    ensures { (w : Operation) → IsNamed arena.now write w → IsZone (of_register w.register (operations arena.now)) w.value result }
+{
+    names_told(arena);
+    let op = operation(arena, write);
+    let found = match op.value {
+        Some(value) => zone_with(arena, op.register, value),
+        None => None,
+    };
+    found.unwrap_or(Zone { f: 0, s: 0 })
+}
+
+/// The zone of the cluster of a value, if it has a completed operation.
+fn zone_with(arena: &Arena, register: RegId, value: Val) -> Option<Zone>
+    requires { register.0 < length arena.now.names }
+    ensures { IsZoneFound arena.now register.0 value result }
+{
+    let f = arena.first_reply(register, value)?;
+    let s = arena.last_call(register, value)?;
+    Some(Zone { f, s })
+}
+
+/// The same of the register and the value of an event; of a read's call, which has no value, `None`.
+pub(crate) fn zone_at(arena: &Arena, id: EvId) -> Option<Zone>
+    requires { id.0 < length arena.now.events }
+    ensures { (k : ℕ × AVal) → key_at by_value arena.now.events id.0 ≡ Some k → IsZoneFound arena.now k.0 k.1 result }
+{
+    let f = arena.first_reply_of(id)?;
+    let s = arena.last_call_of(id)?;
+    Some(Zone { f, s })
+}
