@@ -1,0 +1,80 @@
+-- A count of calls over all events, and the lines of the registers one after another.
+use Rattle.std.proofs.Common.{◌≡◌, ℕ, zero, suc, ◌+◌, ◌≤◌, cond, Bool, true, false, List, [], ◌∷◌, ◌++◌, length, drop, slice_get, Some, ◌⊎◌, inl, inr, refl, sym, ap, subst, ◌∙◌, arith}
+use Rattle.reg_arena.specs.History.{History}
+use Rattle.reg_arena.specs.Operations.{operation, next_of, calls_from, calls}
+use Rattle.reg_arena.specs.declared.event.Event.{Event}
+use Rattle.reg_arena.proofs.Walking.{drop-at}
+use Rattle.reg_report.specs.Meaning.{IsRegisterReport}
+use Rattle.reg_report.specs.declared.report.RegReport.{RegReport}
+
+-- what was counted of the first events, and what is left, are all calls
+pub record IsCount (es : List Event) (count i : ℕ) : Type 0 where
+  pub total : length (calls es) ≡ count + length (calls_from (length es + 2) (i + 2) (drop i es))
+  pub few : count ≤ i
+
+pub count-begins : (es : List Event) → IsCount es 0 0
+count-begins es = record { total = omega arith; few = omega arith }
+
+step : (es : List Event) (i : ℕ) (e : Event) → slice_get es i ≡ Some e → length (calls_from (length es + 2) (i + 2) (drop i es)) ≡ cond {A = ℕ} e.is_call 1 0 + length (calls_from (length es + 2) (i + 1 + 2) (drop (i + 1) es))
+step es i e at =
+    let t : suc (i + 2) ≡ i + 1 + 2 = omega arith in
+    let u : suc i ≡ i + 1 = omega arith in
+    ap (λ xs. length (calls_from (length es + 2) (i + 2) xs)) (drop-at es i e at)
+    ∙ (one e.is_call (calls_from (length es + 2) (suc (i + 2)) (drop (suc i) es))
+    ∙ (ap (λ m. cond e.is_call 1 0 + length (calls_from (length es + 2) m (drop (suc i) es))) t ∙ ap (λ m. cond e.is_call 1 0 + length (calls_from (length es + 2) (i + 1 + 2) (drop m es))) u))
+  where
+    one : (b : Bool) (xs : List _) → length (cond b (operation (length es + 2) (i + 2) e (next_of e.process (suc (i + 2)) (drop (suc i) es)) ∷ xs) xs) ≡ cond b 1 0 + length xs
+    one true xs = omega arith
+    one false xs = omega arith
+
+chosen : (a b : Bool) → a ≡ b → cond {A = ℕ} a 1 0 ≡ cond {A = ℕ} b 1 0
+chosen a b e = ap (λ c. cond {A = ℕ} c 1 0) e
+
+pub count-call : (es : List Event) (count i : ℕ) (e : Event) → IsCount es count i → slice_get es i ≡ Some e → e.is_call ≡ true → IsCount es (count + 1) (i + 1)
+count-call es count i e c at call =
+    let s = step es i e at in
+    let one = chosen e.is_call true call in
+    record { total = omega (arith, c.total, s, one); few = omega (arith, c.few) }
+
+pub count-reply : (es : List Event) (count i : ℕ) (e : Event) → IsCount es count i → slice_get es i ≡ Some e → e.is_call ≡ false → IsCount es count (i + 1)
+count-reply es count i e c at call =
+    let s = step es i e at in
+    let none = chosen e.is_call false call in
+    record { total = omega (arith, c.total, s, none); few = omega (arith, c.few) }
+
+pub count-ends : (es : List Event) (count i : ℕ) → IsCount es count i → length es ≤ i → count ≡ length (calls es)
+count-ends es count i c l = let e = ap (λ xs. length (calls_from (length es + 2) (i + 2) xs)) (past es i l) in omega (arith, c.total, e)
+  where
+    past : {X : Type 0} (xs : List X) (m : ℕ) → length xs ≤ m → drop m xs ≡ []
+    past [] zero l = refl
+    past [] (suc m) l = refl
+    past (x ∷ xs) zero l = absurd (omega arith)
+    past (x ∷ xs) (suc m) l = past xs m (omega arith)
+
+-- ---- the lines of the first registers
+
+pub record AreFirstLines (h : History) (regs : List RegReport) (n : ℕ) : Type 0 where
+  pub lines : length regs ≡ n
+  pub each : (r : ℕ) (reg : RegReport) → slice_get regs r ≡ Some reg → IsRegisterReport h r reg
+
+length-push : {X : Type 0} (xs : List X) (y : X) → length (xs ++ y ∷ []) ≡ length xs + 1
+length-push [] y = refl
+length-push (x ∷ xs) y = let r = length-push xs y in omega arith
+
+push-cases : {X : Type 0} (xs : List X) (y z : X) (i : ℕ) → slice_get (xs ++ y ∷ []) i ≡ Some z → (slice_get xs i ≡ Some z) ⊎ ((i ≡ length xs) × (y ≡ z))
+push-cases [] y z zero h = inr (refl, let q : y ≡ z = cc (h) in q)
+push-cases [] y z (suc i) h = absurd (cc (h))
+push-cases (x ∷ xs) y z zero h = inl h
+push-cases (x ∷ xs) y z (suc i) h = elim (push-cases xs y z i h) [ inl k ↦ inl k | inr k ↦ inr (ap suc k.0, k.1) ]
+
+pub no-lines : (h : History) (regs : List RegReport) → regs ≡ [] → AreFirstLines h regs 0
+no-lines h regs e = subst (λ xs. AreFirstLines h xs 0) (sym e) (record { lines = refl; each = λ r reg q. absurd (cc (q)) })
+
+pub one-line-more : (h : History) (regs new : List RegReport) (n : ℕ) (reg : RegReport) → AreFirstLines h regs n → IsRegisterReport h n reg → new ≡ regs ++ reg ∷ [] → AreFirstLines h new (n + 1)
+one-line-more h regs new n reg a is e = subst (λ xs. AreFirstLines h xs (n + 1)) (sym e) (record {
+  lines = length-push regs reg ∙ ap (λ k. k + 1) a.lines;
+  each = λ r line q. elim (push-cases regs reg line r q) [
+    | inl k ↦ a.each r line k
+    | inr k ↦ subst (λ (x : RegReport). IsRegisterReport h r x) k.1 (subst (λ m. IsRegisterReport h m reg) (sym (k.0 ∙ a.lines)) is)
+  ];
+})

@@ -1,0 +1,6 @@
+mod Fields
+mod Joined
+mod Tallying
+mod Naming
+mod Atomic
+mod Counting

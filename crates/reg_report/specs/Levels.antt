@@ -1,0 +1,15 @@
+-- What is said of the two levels of a register's operations.
+use Rattle.std.specs.Prelude.{List}
+use Rattle.reg_arena.specs.Operations.{Operation}
+use Rattle.reg_lamport.specs.declared.level.Level.{Level}
+use Rattle.reg_lamport.specs.declared.level.Level.TheVariants.{Safe, Regular}
+use Rattle.reg_report.specs.Meaning.{IsVerdict}
+use Rattle.reg_report.specs.declared.levels.LevelAnswer.{LevelAnswer}
+use Rattle.reg_report.specs.declared.levels.Levels.{Levels}
+
+abbrev pub IsLevelAnswer : Level → List Operation → LevelAnswer → Type 0
+IsLevelAnswer level ops a = IsVerdict level ops a.verdict a.read
+
+pub record AreLevels (ops : List Operation) (answers : Levels) : Type 0 where
+  pub at_safe : IsLevelAnswer Safe ops answers.safe
+  pub at_regular : IsLevelAnswer Regular ops answers.regular

@@ -1,0 +1,10 @@
+pub mod Refusals
+pub mod Text
+pub mod Sends
+pub mod Meaning
+pub mod Tally
+pub mod Named
+pub mod Levels
+pub mod Atomicity
+pub mod Registers
+pub mod Answer

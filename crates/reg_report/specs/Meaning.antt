@@ -1,0 +1,95 @@
+-- What a report of a history says.
+use Rattle.std.specs.Prelude.{◌≡◌, ◌<◌, ℕ, List, length, count_by, slice_get, Bool, true, false, not, Option, Some, None, MatchBool}
+use Rattle.reg_arena.specs.History.{History}
+use Rattle.reg_arena.specs.Legal.{IsAtomic}
+use Rattle.reg_arena.specs.Operations.{Operation, operations, calls, of_register, is_write}
+use Rattle.reg_arena.specs.Lamport.{HasSingleWriter}
+use Rattle.reg_arena.specs.Shown.{IsNamed}
+use Rattle.reg_arena.specs.declared.ids.Oper.{Oper}
+use Rattle.reg_lamport.specs.Levels.{IsAtLevel, IsFirstBreak}
+use Rattle.reg_lamport.specs.declared.level.Level.{Level}
+use Rattle.reg_lamport.specs.declared.level.Level.TheVariants.{Safe, Regular}
+use Rattle.reg_zones.specs.Faults.{IsFault}
+use Rattle.reg_zones.specs.declared.fault.Fault.{Fault}
+use Rattle.reg_zones.specs.declared.fault.Fault.TheVariants as fault
+use Rattle.reg_report.specs.declared.report.Verdict.{Verdict}
+use Rattle.reg_report.specs.declared.report.Verdict.TheVariants.{Yes, No, SeveralWriters}
+use Rattle.reg_report.specs.declared.report.FaultLines.{FaultLines}
+use Rattle.reg_report.specs.declared.report.FaultLines.TheVariants.{Unwritten, Early, Zones}
+use Rattle.reg_report.specs.declared.report.RegReport.{RegReport}
+use Rattle.reg_report.specs.declared.report.Report.{Report}
+
+-- ---- a register's operations
+
+-- the called operations of register r, without its initial write
+abbrev pub calls_of : History → ℕ → List Operation
+calls_of h r = of_register r (calls h.events)
+
+-- all operations of register r, its initial write among them
+abbrev pub register_of : History → ℕ → List Operation
+register_of h r = of_register r (operations h)
+
+abbrev pub is_pending : Operation → Bool
+is_pending o = not o.completed
+
+-- ---- a level
+
+-- Whether a register keeps a level, and of the reads that break it the line of the one of least call. The level is defined for a single writer (Lamport, On Interprocess Communication, Part II, 1986).
+abbrev pub IsVerdict : Level → List Operation → Verdict → Option ℕ → Type 0
+IsVerdict level ops Yes line = HasSingleWriter ops × IsAtLevel level ops × (line ≡ None)
+IsVerdict level ops No line = HasSingleWriter ops × ((r : Operation) × IsFirstBreak level ops r × (line ≡ Some r.line))
+IsVerdict level ops SeveralWriters line = (HasSingleWriter ops → ⊥) × (line ≡ None)
+
+-- ---- a fault
+
+-- the line of the operation with this name; the initial write has line 0
+abbrev pub HasLine : History → Oper → ℕ → Type 0
+HasLine h name line = (o : Operation) × IsNamed h name o × (line ≡ o.line)
+
+abbrev pub HaveLines : History → (Oper × Oper) → (ℕ × ℕ) → Type 0
+HaveLines h names lines = HasLine h names.0 lines.0 × HasLine h names.1 lines.1
+
+-- the lines of a fault are those of its operations
+abbrev pub ShowsFault : History → Fault → FaultLines → Type 0
+ShowsFault h (fault.Unwritten read) (Unwritten r) = HasLine h read r
+ShowsFault h (fault.Unwritten read) (Early r w) = ⊥
+ShowsFault h (fault.Unwritten read) (Zones ws f s) = ⊥
+ShowsFault h (fault.Early read write) (Unwritten r) = ⊥
+ShowsFault h (fault.Early read write) (Early r w) = HasLine h read r × HasLine h write w
+ShowsFault h (fault.Early read write) (Zones ws f s) = ⊥
+ShowsFault h (fault.Zones writes first second) (Unwritten r) = ⊥
+ShowsFault h (fault.Zones writes first second) (Early r w) = ⊥
+ShowsFault h (fault.Zones writes first second) (Zones ws f s) = HaveLines h writes ws × HaveLines h first f × HaveLines h second s
+
+-- the lines of the fault of a register's operations
+abbrev pub IsFaultShown : History → List Operation → FaultLines → Type 0
+IsFaultShown h ops lines = (f : Fault) × IsFault ops f × ShowsFault h f lines
+
+-- a register's operations are atomic (Herlihy and Wing, Linearizability: A Correctness Condition for Concurrent Objects, 1990), or they aren't, and the fault says why
+abbrev pub IsAtomicity : History → List Operation → Bool → Option FaultLines → Type 0
+IsAtomicity h ops true shown = IsAtomic ops × (shown ≡ None)
+IsAtomicity h ops false shown = (IsAtomic ops → ⊥) × ((lines : FaultLines) × IsFaultShown h ops lines × (shown ≡ Some lines))
+
+-- ---- the report
+
+-- the line of register r
+pub record IsRegisterReport (h : History) (r : ℕ) (reg : RegReport) : Type 0 where
+  pub name : slice_get h.names r ≡ Some reg.register
+  pub pending : reg.pending ≡ count_by is_pending (calls_of h r)
+  pub reads : reg.reads ≡ count_by (λ o. not (is_write o)) (calls_of h r)
+  pub writes : reg.writes ≡ count_by is_write (calls_of h r)
+  pub safe : IsVerdict Safe (register_of h r) reg.safe reg.safe_read
+  pub regular : IsVerdict Regular (register_of h r) reg.regular reg.regular_read
+  pub atomic : IsAtomicity h (register_of h r) reg.atomic reg.fault
+
+-- each register is atomic
+abbrev pub IsEachAtomic : History → Type 0
+IsEachAtomic h = (r : ℕ) → r < length h.names → IsAtomic (register_of h r)
+
+-- the report of a history: the line of each register in the order of the first calls, and the summary
+pub record IsReport (h : History) (report : Report) : Type 0 where
+  pub lines : length report.regs ≡ length h.names
+  pub each : (r : ℕ) (reg : RegReport) → slice_get report.regs r ≡ Some reg → IsRegisterReport h r reg
+  pub called : report.operations ≡ length (calls h.events)
+  pub named : report.registers ≡ length h.names
+  pub atomic : MatchBool report.atomic (IsEachAtomic h) (IsEachAtomic h → ⊥)

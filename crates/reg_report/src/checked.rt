@@ -1,0 +1,27 @@
+//! From the bytes of a history to its report.
+ghost use Rattle.std.specs.Prelude.{Ok, IfOk, IfErr};
+ghost use Rattle.reg_report.specs.Answer.{IsAnswer, IsRefused};
+
+use crate::history::history_report;
+use crate::refusal::Refusal;
+use crate::report::Report;
+use history_text::{MAX_INPUT, read_lines};
+use reg_arena::Arena;
+use std::alloc::Global;
+
+/// The report of the history in the input.
+///
+/// # Errors
+/// `TooLong` where the input has more than [`MAX_INPUT`] bytes; `At` for the least faulty line where the history isn't
+/// well formed; `NoRoom` where memory was refused. What was made is dropped then.
+pub fn check(alloc: Global, input: &[u8]) -> Result<Report, Refusal>
+    ensures ok { IfOk result (λ report. IsAnswer input.now (Ok report)) }
+    ensures err { IfErr result (IsRefused input.now) }
+{
+    if input.len() > MAX_INPUT {
+        return Err(Refusal::TooLong);
+    }
+    let lines = read_lines(alloc, input)?;
+    let arena = Arena::build(alloc, lines)?;
+    Ok(history_report(alloc, &arena)?)
+}

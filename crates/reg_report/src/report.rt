@@ -1,0 +1,69 @@
+//! The report of a history, as values.
+use crate::lists::Registers;
+use history_text::Name;
+
+/// Whether a register keeps a level (Lamport, On Interprocess Communication, Part II, 1986).
+#[derive(Clone, Copy, Debug, PartialEq, Eq)]
+pub enum Verdict {
+    /// It has a single writer, and each completed read keeps the level.
+    Yes,
+    /// It has a single writer, and some completed read breaks the level.
+    No,
+    /// More than one process calls its writes, and the level isn't defined.
+    SeveralWriters,
+}
+
+/// Why a register isn't atomic: the operations of its fault, each by the line of its call, the initial write as 0.
+#[derive(Clone, Copy, Debug, PartialEq, Eq)]
+pub enum FaultLines {
+    /// A read whose value nobody wrote.
+    Unwritten {
+        read: u32,
+    },
+    /// A read that ended before the write of its value began.
+    Early {
+        read: u32,
+        write: u32,
+    },
+    /// Two writes whose zones conflict. In `first` an operation of the first write's cluster precedes one of the
+    /// second's, and in `second` the other way round, so neither write can come before the other.
+    Zones {
+        writes: (u32, u32),
+        first: (u32, u32),
+        second: (u32, u32),
+    },
+}
+
+/// The line of a register. Lines are numbered from 1; an operation goes by the line of its call.
+#[derive(Drop)]
+pub struct RegReport {
+    pub register: Name,
+    /// The number of write calls, pending ones too; the initial write isn't one.
+    pub writes: u32,
+    /// The number of read calls, pending ones too.
+    pub reads: u32,
+    /// The number of calls without a reply.
+    pub pending: u32,
+    pub safe: Verdict,
+    pub regular: Verdict,
+    /// Where it isn't safe, of the reads that break it the one of least call.
+    pub safe_read: Option<u32>,
+    /// Where it isn't regular, of the reads that break it the one of least call.
+    pub regular_read: Option<u32>,
+    /// Whether some order of its operations keeps precedence and gives each read the latest write.
+    pub atomic: bool,
+    /// Where it isn't atomic, why.
+    pub fault: Option<FaultLines>,
+}
+
+/// The lines of the registers, and the summary.
+#[derive(Drop)]
+pub struct Report {
+    pub regs: Registers,
+    /// The number of calls.
+    pub operations: u32,
+    /// The number of registers.
+    pub registers: u32,
+    /// Whether each register is atomic.
+    pub atomic: bool,
+}

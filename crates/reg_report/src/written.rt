@@ -1,0 +1,46 @@
+//! From a report to its bytes.
+ghost use Rattle.std.specs.Prelude.{◌≡◌, [], ◌∷◌, ◌++◌, IfOk, OnOk};
+ghost use Rattle.serde_json.specs.Written.{compact_text};
+ghost use Rattle.reg_report.specs.Text.{register_json, summary_json, report_text};
+
+use crate::report::{RegReport, Report};
+use crate::send::Summary;
+use std::alloc::{AllocError, Global};
+
+fn register_line(alloc: Global, reg: &RegReport) -> Result<Vec<u8>, AllocError>
+    ensures { IfOk result (λ line. line.items ≡ compact_text (register_json reg.now)) }
+{
+    match serde_json::to_vec(alloc, reg) {
+        Ok(line) => Ok(line),
+        Err(_) => Err(AllocError),
+    }
+}
+
+fn summary_line(alloc: Global, report: &Report) -> Result<Vec<u8>, AllocError>
+    ensures { IfOk result (λ line. line.items ≡ compact_text (summary_json report.now)) }
+{
+    match serde_json::to_vec(alloc, &Summary { report }) {
+        Ok(line) => Ok(line),
+        Err(_) => Err(AllocError),
+    }
+}
+
+fn put_line(out: &mut Vec<u8>, line: &[u8]) -> Result<(), AllocError>
+    ensures { OnOk result (out.new.items ≡ out.old.items ++ (line.now ++ 10 ∷ [])) }
+{
+    out.extend_from_slice(line)?;
+    out.push(b'\n')?;
+    Ok(())
+}
+
+/// The bytes of a report: a line of compact JSON for each register, then the summary, or want of memory.
+pub fn text(alloc: Global, report: &Report) -> Result<Vec<u8>, AllocError>
+    ensures { IfOk result (λ bytes. bytes.items ≡ report_text report.now) }
+{
+    let mut out = Vec::new(alloc);
+    for reg in report.regs.as_slice() {
+        put_line(&mut out, register_line(alloc, reg)?.as_slice())?;
+    }
+    put_line(&mut out, summary_line(alloc, report)?.as_slice())?;
+    Ok(out)
+}
