@@ -1,0 +1,26 @@
+# make: prove and build bin/regcheck. make run: run it on a shipped example, or on FILE=... make test: the merge gate.
+FILE ?= examples/new_old_inversion.jsonl
+PREFIX ?= /usr/local
+SOURCES := $(shell find crates -name out -prune -o -type f \( -name '*.rt' -o -name '*.antt' \) -print)
+
+.PHONY: all run test install clean
+
+all: bin/regcheck
+
+# `rt run` proves every crate, builds the program and leaves it in out/; its stored input keeps it from waiting for ours.
+bin/regcheck: $(SOURCES) crates.txt
+	cd crates/regcheck && rt run < stdin > /dev/null
+	mkdir -p bin
+	cp crates/regcheck/out/regcheck bin/regcheck
+
+run: bin/regcheck
+	bin/regcheck < $(FILE); status=$$?; test $$status -le 1
+
+test:
+	rt ci
+
+install: bin/regcheck
+	install -D -m 755 bin/regcheck $(DESTDIR)$(PREFIX)/bin/regcheck
+
+clean:
+	rm -rf bin crates/*/out

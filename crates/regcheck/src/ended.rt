@@ -1,0 +1,26 @@
+//! The exit status.
+ghost use Rattle.std.specs.Prelude.{◌≡◌};
+ghost use Rattle.regcheck.specs.Status.{status_of};
+
+/// How the program ended.
+#[derive(Clone, Copy, Debug, PartialEq, Eq)]
+pub enum Ended {
+    /// Each register is atomic.
+    Atomic,
+    /// Some register isn't.
+    NotAtomic,
+    /// There is no report; with the number of the refusal, 1 to 18.
+    Refused(u8),
+}
+
+/// The exit status: 0 and 1 with a report, 2 for an input that is refused, 4 where input, memory or output failed.
+pub fn status(ended: Ended) -> u8
+    ensures { result ≡ status_of ended }
+{
+    match ended {
+        Ended::Atomic => 0,
+        Ended::NotAtomic => 1,
+        Ended::Refused(number) if number <= 15 => 2,
+        Ended::Refused(_) => 4,
+    }
+}
