@@ -2,6 +2,8 @@
 #![tactic(auto)]
 
 mod ended;
+#[cfg(test)]
+mod tests;
 
 use ended::{Ended, status};
 use history_text::MAX_INPUT;
