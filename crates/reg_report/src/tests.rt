@@ -354,3 +354,35 @@ fn longest_input(rt: HostRuntime) -> Result<(), Fail> {
     assert_eq!(rt; refused(alloc, 67_108_865)?, Some(Refusal::TooLong));
     Ok(())
 }
+
+const CALL: &str = r#"{"process":1,"event":"call","op":"read","register":"x"}
+"#;
+
+const REPLY: &str = r#"{"process":1,"event":"reply","value":null}
+"#;
+
+// As many events as there may be.
+fn most_events(alloc: Global) -> Result<Vec<u8>, AllocError> {
+    let mut input = Vec::new(alloc);
+    for _ in 0..524_288u32 {
+        input.extend_from_slice(CALL.as_bytes())?;
+        input.extend_from_slice(REPLY.as_bytes())?;
+    }
+    Ok(input)
+}
+
+// As many events as there may be are answered; with one call more, its line is refused.
+#[test]
+fn longest_history(rt: HostRuntime) -> Result<(), Fail> {
+    let alloc = rt.alloc();
+    let mut input = most_events(alloc)?;
+    assert!(rt; answer(alloc, input.as_slice()).is_ok());
+    input.extend_from_slice(CALL.as_bytes())?;
+    let one_too_many = Refusal::At {
+        line: 1_048_577,
+        number: 14,
+        other: None,
+    };
+    assert_eq!(rt; answer(alloc, input.as_slice()).err(), Some(one_too_many));
+    Ok(())
+}
