@@ -1,5 +1,6 @@
 //! From the bytes of a history to the bytes of its report.
-ghost use Rattle.std.specs.Prelude.{◌≡◌, IfOk, IfErr};
+ghost use Rattle.std.specs.Prelude.{◌≡◌, ◌<◌, length, Err, IfOk, IfErr};
+ghost use Rattle.history_text.specs.declared.limits.TheConstants.{MAX_INPUT};
 ghost use Rattle.reg_report.specs.Answer.{IsAnswerText, IsRefused, outcome_of};
 
 use crate::checked::check;
@@ -34,6 +35,7 @@ fn told(report: &Report) -> Outcome
 pub fn answer(alloc: Global, input: &[u8]) -> Result<(Vec<u8>, Outcome), Refusal>
     ensures ok { IfOk result (λ told. IsAnswerText input.now told.0.items told.1) }
     ensures err { IfErr result (IsRefused input.now) }
+    ensures long { MAX_INPUT < length input.now → result ≡ Err Refusal.TooLong }
 {
     let report = check(alloc, input)?;
     let bytes = text(alloc, &report)?;

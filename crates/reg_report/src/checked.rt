@@ -1,5 +1,5 @@
 //! From the bytes of a history to its report.
-ghost use Rattle.std.specs.Prelude.{Ok, IfOk, IfErr};
+ghost use Rattle.std.specs.Prelude.{◌≡◌, ◌<◌, length, Ok, Err, IfOk, IfErr};
 ghost use Rattle.reg_report.specs.Answer.{IsAnswer, IsRefused};
 
 use crate::history::history_report;
@@ -12,11 +12,12 @@ use std::alloc::Global;
 /// The report of the history in the input.
 ///
 /// # Errors
-/// `TooLong` where the input has more than [`MAX_INPUT`] bytes; `At` for the least faulty line where the history isn't
-/// well formed; `NoRoom` where memory was refused. What was made is dropped then.
+/// `TooLong` where the input has more than [`MAX_INPUT`] bytes, whatever memory there is; `At` for the least faulty
+/// line where the history isn't well formed; `NoRoom` where memory was refused. What was made is dropped then.
 pub fn check(alloc: Global, input: &[u8]) -> Result<Report, Refusal>
     ensures ok { IfOk result (λ report. IsAnswer input.now (Ok report)) }
     ensures err { IfErr result (IsRefused input.now) }
+    ensures long { MAX_INPUT < length input.now → result ≡ Err Refusal.TooLong }
 {
     if input.len() > MAX_INPUT {
         return Err(Refusal::TooLong);
