@@ -1,66 +1,90 @@
--- From what a sweep shows to what the report says of it.
-use Rattle.std.proofs.Common.{◌≡◌, ℕ, zero, suc, ◌<◌, ◌&&◌, List, [], ◌∷◌, length, slice_get, Bool, true, false, not, Option, Some, None, is_some, refl, sym, ap, subst, ◌∙◌, arith}
-use Rattle.std.specs.Prelude.{MatchBool}
-use Rattle.std.specs.List.{list_all}
-use Rattle.std.proofs.lemmas.Bool.{false≢true}
-use Rattle.std.proofs.lemmas.Option.{slice_get_within}
-use Rattle.reg_arena.specs.Legal.{IsAtomic}
+-- From the orders and faults of the registers to what the report says of them.
+use Rattle.std.proofs.Common.{◌≡◌, ℕ, ◌+◌, List, [], ◌∷◌, ◌++◌, true, false, Option, Some, None, inl, inr, refl, sym, ap, subst, ◌∙◌, arith}
+use Rattle.reg_arena.specs.Lists.{In}
 use Rattle.reg_arena.specs.History.{History}
-use Rattle.reg_arena.specs.Operations.{Operation}
-use Rattle.reg_report.specs.Atomicity.{IsSwept}
-use Rattle.reg_report.specs.Meaning.{IsAtomicity, IsRegisterReport, IsEachAtomic, register_of}
-use Rattle.reg_report.specs.Registers.{AreRegisters, are_atomic}
-use Rattle.reg_report.specs.declared.report.RegReport.{RegReport}
+use Rattle.reg_arena.specs.Operations.{Operation, operations}
+use Rattle.reg_zones.specs.Order.{PlacedOperation, IsOrder, placed, operations_of}
+use Rattle.reg_zones.specs.declared.fault.Fault.{Fault}
+use Rattle.reg_zones.specs.declared.placed.Placed.{Placed}
+use Rattle.reg_zones.proofs.Places.{In-map}
+use Rattle.reg_report.specs.Atomicity.{IsJudged}
+use Rattle.reg_report.specs.Lines.{HaveCalls, HavePoints, call_line, point_line, lines_by}
+use Rattle.reg_report.specs.Meaning.{IsAtomicity, IsWholeAtomicity, ShowsFault}
+use Rattle.reg_report.specs.Merged.{AreFirstOrders, IsMergedAnswer, register_of}
+use Rattle.reg_report.specs.Registers.{AreOrdersSoFar}
+use Rattle.reg_report.specs.Told.{IsTold}
+use Rattle.reg_report.specs.declared.register.Judged.TheVariants.{Order, Faulty}
 use Rattle.reg_report.specs.declared.report.FaultLines.{FaultLines}
+use Rattle.reg_report.proofs.Counting.{length-push, push-cases}
+use Rattle.reg_report.proofs.OrderLines.{calls-lines, points-lines, calls-there, points-there, placed-inside}
+use Rattle.reg_report.proofs.Whole.{each}
 
-pub swept-atomicity : (h : History) (ops : List Operation) (o : Option FaultLines) → IsSwept h ops o → IsAtomicity h ops (not (is_some o)) o
-swept-atomicity h ops None s = (s, refl)
-swept-atomicity h ops (Some lines) s = (s.0, (lines, s.1, refl))
+-- ---- one register
 
-slice_get_inside : {X : Type 0} (xs : List X) (i : ℕ) → i < length xs → (x : X) × (slice_get xs i ≡ Some x)
-slice_get_inside [] i l = absurd (omega arith)
-slice_get_inside (x ∷ xs) zero l = (x, refl)
-slice_get_inside (x ∷ xs) (suc i) l = slice_get_inside xs i (omega arith)
+module _ (h : History) (t : IsTold h) (r : ℕ) (order : List Placed) (x : IsOrder (register_of h r) order) where
+  inside : (y : PlacedOperation) → In y (placed x.order) → In y.operation (operations h)
+  inside = placed-inside h t r x.order x.legal.completion.only
 
-pub turned : (b c : Bool) → b ≡ not c → c ≡ not b
-turned b true e = ap not (sym e)
-turned b false e = ap not (sym e)
+  pub order-calls : HaveCalls h order
+  order-calls = subst (HaveCalls h) (sym x.is) (calls-there h t (placed x.order) inside)
+
+  pub order-points : HavePoints h order
+  order-points = subst (HavePoints h) (sym x.is) (points-there h t r x.order x.legal.completion.only)
+
+  pub order-atomicity : IsJudged (register_of h r) (Order order) → (lines points : List ℕ) → lines ≡ lines_by (call_line h.events) order → points ≡ lines_by (point_line h.events) order
+      → IsAtomicity h (register_of h r) true None (Some lines) (Some points)
+  order-atomicity j lines points l p = (
+    j.0,
+    refl,
+    (
+      lines,
+      points,
+      record {
+        order = x.order;
+        canonical = x.canonical;
+        legal = x.legal;
+        operations = l ∙ (ap (lines_by (call_line h.events)) x.is ∙ calls-lines h t (placed x.order) inside);
+        times = p ∙ (ap (lines_by (point_line h.events)) x.is ∙ points-lines h t (placed x.order));
+      },
+      refl,
+      refl,
+    ),
+  )
+
+pub fault-atomicity : (h : History) (ops : List Operation) (fault : Fault) (lines : FaultLines) → IsJudged ops (Faulty fault) → ShowsFault h fault lines → IsAtomicity h ops false (Some lines) None None
+fault-atomicity h ops fault lines j s = (j.0, refl, refl, (lines, (fault, j.1, s), refl))
 
 -- ---- all registers
 
-both : (a b : Bool) → (a && b) ≡ true → (a ≡ true) × (b ≡ true)
-both true b e = (refl, e)
-both false b e = absurd (false≢true e)
+pub one-order-more : (h : History) (n : ℕ) (orders : List (List Placed)) (order : List Placed) → AreFirstOrders h n orders → IsOrder (register_of h n) order → AreFirstOrders h (n + 1) (orders ++ order ∷ [])
+one-order-more h n orders order a x = record {
+  count = length-push orders order ∙ ap (λ k. k + 1) a.count;
+  each = λ r o q. elim (push-cases orders order o r q) [
+    | inl k ↦ a.each r o k
+    | inr k ↦ subst (λ p. IsOrder (register_of h r) p) k.1 (subst (λ m. IsOrder (register_of h m) order) (sym (k.0 ∙ a.count)) x)
+  ];
+}
 
-all-true : (xs : List RegReport) → list_all (λ reg. reg.atomic) xs ≡ true → (r : ℕ) (reg : RegReport) → slice_get xs r ≡ Some reg → reg.atomic ≡ true
-all-true [] e r reg h = absurd (cc (h))
-all-true (x ∷ xs) e zero reg h = let q : x ≡ reg = cc (h) in ap (λ (y : RegReport). y.atomic) (sym q) ∙ (both x.atomic (list_all (λ reg. reg.atomic) xs) e).0
-all-true (x ∷ xs) e (suc r) reg h = all-true xs (both x.atomic (list_all (λ reg. reg.atomic) xs) e).1 r reg h
+pub no-order-more : (h : History) (n : ℕ) (orders : Option (List (List Placed))) → AreOrdersSoFar h n orders → orders ≡ None → AreOrdersSoFar h (n + 1) None
+no-order-more h n orders a e = let b = subst (AreOrdersSoFar h n) e a in (b.0, omega (arith, b.1), b.2)
 
-some-false : (xs : List RegReport) → list_all (λ reg. reg.atomic) xs ≡ false → (r : ℕ) × (reg : RegReport) × (slice_get xs r ≡ Some reg) × (reg.atomic ≡ false)
-some-false [] e = absurd (false≢true (sym e))
-some-false (x ∷ xs) e = go x.atomic refl e (some-false xs)
-  where
-    go : (b : Bool) → x.atomic ≡ b → (b && list_all (λ reg. reg.atomic) xs) ≡ false → (list_all (λ reg. reg.atomic) xs ≡ false → (r : ℕ) × (reg : RegReport) × (slice_get xs r ≡ Some reg) × (reg.atomic ≡ false))
-        → (r : ℕ) × (reg : RegReport) × (slice_get (x ∷ xs) r ≡ Some reg) × (reg.atomic ≡ false)
-    go true d e rest = let k = rest e in (suc k.0, k.1, k.2, k.3)
-    go false d e rest = (0, x, refl, d)
+module _ (h : History) (t : IsTold h) where
+  pub merged-calls : (answer : List Placed) → IsMergedAnswer h answer → HaveCalls h answer
+  merged-calls answer m = subst (HaveCalls h) (sym m.is) (calls-there h t m.merged (λ x i. m.whole.legal.completion.only x.operation (In-map (λ (y : PlacedOperation). y.operation) x m.merged i)))
 
-atomic-yes : (h : History) (r : ℕ) (reg : RegReport) → IsRegisterReport h r reg → reg.atomic ≡ true → IsAtomic (register_of h r)
-atomic-yes h r reg is e = (subst (λ b. IsAtomicity h (register_of h r) b reg.fault) e is.atomic).0
+  pub whole-atomic : (answer : List Placed) (lines : List ℕ) → IsMergedAnswer h answer → lines ≡ lines_by (call_line h.events) answer → IsWholeAtomicity h true (Some lines)
+  whole-atomic answer lines m e = (
+    (operations_of m.merged, m.whole.legal),
+    (
+      lines,
+      (
+        m.merged,
+        m.whole,
+        e ∙ (ap (lines_by (call_line h.events)) m.is ∙ calls-lines h t m.merged (λ x i. m.whole.legal.completion.only x.operation (In-map (λ (y : PlacedOperation). y.operation) x m.merged i))),
+      ),
+      refl,
+    ),
+  )
 
-atomic-no : (h : History) (r : ℕ) (reg : RegReport) → IsRegisterReport h r reg → reg.atomic ≡ false → IsAtomic (register_of h r) → ⊥
-atomic-no h r reg is e = (subst (λ b. IsAtomicity h (register_of h r) b reg.fault) e is.atomic).0
-
--- each register is atomic exactly where each is called so
-pub each-atomic : (h : History) (regs : List RegReport) → AreRegisters h regs → MatchBool (are_atomic regs) (IsEachAtomic h) (IsEachAtomic h → ⊥)
-each-atomic h regs a = go (are_atomic regs) refl
-  where
-    go : (b : Bool) → are_atomic regs ≡ b → MatchBool b (IsEachAtomic h) (IsEachAtomic h → ⊥)
-    go true e = λ r l.
-        let within : r < length regs = subst (λ n. r < n) (sym a.lines) l in
-        let x = slice_get_inside regs r within in
-        atomic-yes h r x.0 (a.each r x.0 x.1) (all-true regs e r x.0 x.1)
-    go false e = λ each.
-        let x = some-false regs e in
-        atomic-no h x.0 x.1 (a.each x.0 x.1 x.2) x.3 (each x.0 (subst (λ n. x.0 < n) a.lines (slice_get_within regs x.0 x.1 x.2)))
+  pub whole-not-atomic : (n : ℕ) → AreOrdersSoFar h n None → IsWholeAtomicity h false None
+  whole-not-atomic n a = (λ atomic. a.2 ((each (operations h) t.history).0 atomic a.0), refl)

@@ -5,6 +5,7 @@ use Rattle.reg_arena.specs.Operations.{operation, next_of, calls_from, calls}
 use Rattle.reg_arena.specs.declared.event.Event.{Event}
 use Rattle.reg_arena.proofs.Walking.{drop-at}
 use Rattle.reg_report.specs.Meaning.{IsRegisterReport}
+use Rattle.reg_report.specs.Registers.{AreFirstLines}
 use Rattle.reg_report.specs.declared.report.RegReport.{RegReport}
 
 -- what was counted of the first events, and what is left, are all calls
@@ -53,28 +54,21 @@ count-ends es count i c l = let e = ap (λ xs. length (calls_from (length es + 2
 
 -- ---- the lines of the first registers
 
-pub record AreFirstLines (h : History) (regs : List RegReport) (n : ℕ) : Type 0 where
-  pub lines : length regs ≡ n
-  pub each : (r : ℕ) (reg : RegReport) → slice_get regs r ≡ Some reg → IsRegisterReport h r reg
-
-length-push : {X : Type 0} (xs : List X) (y : X) → length (xs ++ y ∷ []) ≡ length xs + 1
+pub length-push : {X : Type 0} (xs : List X) (y : X) → length (xs ++ y ∷ []) ≡ length xs + 1
 length-push [] y = refl
 length-push (x ∷ xs) y = let r = length-push xs y in omega arith
 
-push-cases : {X : Type 0} (xs : List X) (y z : X) (i : ℕ) → slice_get (xs ++ y ∷ []) i ≡ Some z → (slice_get xs i ≡ Some z) ⊎ ((i ≡ length xs) × (y ≡ z))
+pub push-cases : {X : Type 0} (xs : List X) (y z : X) (i : ℕ) → slice_get (xs ++ y ∷ []) i ≡ Some z → (slice_get xs i ≡ Some z) ⊎ ((i ≡ length xs) × (y ≡ z))
 push-cases [] y z zero h = inr (refl, let q : y ≡ z = cc (h) in q)
 push-cases [] y z (suc i) h = absurd (cc (h))
 push-cases (x ∷ xs) y z zero h = inl h
 push-cases (x ∷ xs) y z (suc i) h = elim (push-cases xs y z i h) [ inl k ↦ inl k | inr k ↦ inr (ap suc k.0, k.1) ]
 
-pub no-lines : (h : History) (regs : List RegReport) → regs ≡ [] → AreFirstLines h regs 0
-no-lines h regs e = subst (λ xs. AreFirstLines h xs 0) (sym e) (record { lines = refl; each = λ r reg q. absurd (cc (q)) })
-
-pub one-line-more : (h : History) (regs new : List RegReport) (n : ℕ) (reg : RegReport) → AreFirstLines h regs n → IsRegisterReport h n reg → new ≡ regs ++ reg ∷ [] → AreFirstLines h new (n + 1)
-one-line-more h regs new n reg a is e = subst (λ xs. AreFirstLines h xs (n + 1)) (sym e) (record {
+pub one-line-more : (h : History) (regs : List RegReport) (n : ℕ) (reg : RegReport) → AreFirstLines h n regs → IsRegisterReport h n reg → AreFirstLines h (n + 1) (regs ++ reg ∷ [])
+one-line-more h regs n reg a is = record {
   lines = length-push regs reg ∙ ap (λ k. k + 1) a.lines;
   each = λ r line q. elim (push-cases regs reg line r q) [
     | inl k ↦ a.each r line k
     | inr k ↦ subst (λ (x : RegReport). IsRegisterReport h r x) k.1 (subst (λ m. IsRegisterReport h m reg) (sym (k.0 ∙ a.lines)) is)
   ];
-})
+}

@@ -56,17 +56,26 @@ one_when b = if b then 1 else 0
 pub one_of : {A : Type 0} (o : Option A) (b : Bool) (n : ℕ) → b ≡ is_some o → n ≡ one_when b → n ≡ one_when (is_some o)
 one_of o b n e h = h ∙ ap one_when e
 
-pub register_parts_len : (reg : RegReport) → length (fields_of (register_parts reg)) ≡ 7 + (if is_some reg.fault then 1 else 0) + (if is_some reg.regular_read then 1 else 0) + (if is_some reg.safe_read then 1 else 0)
+pub register_parts_len : (reg : RegReport) → length (fields_of (register_parts reg)) ≡ 7 + (if is_some reg.fault then 1 else 0) + (if is_some reg.order then 1 else 0) + (if is_some reg.points then 1 else 0) + (if is_some reg.regular_read then 1 else 0) + (if is_some reg.safe_read then 1 else 0)
 unfolding parts_len
 register_parts_len reg =
     let whole = length-fields_of (register_parts reg) in
     let a = shown_len (codes "fault") fault_json reg.fault in
+    let b = shown_len (codes "order") numbers_json reg.order in
+    let c = shown_len (codes "points") numbers_json reg.points in
     let d = shown_len (codes "regular_read") number_json reg.regular_read in
     let e = shown_len (codes "safe_read") number_json reg.safe_read in
     omega arith
 
-pub register_count : (reg : RegReport) (a d e : ℕ) → a ≡ one_when (is_some reg.fault) → d ≡ one_when (is_some reg.regular_read) → e ≡ one_when (is_some reg.safe_read) → 7 + a + d + e ≡ length (fields_of (register_parts reg))
-register_count reg a d e ha hd he = let whole = register_parts_len reg in omega arith
+pub register_count : (reg : RegReport) (a b c d e : ℕ) → a ≡ one_when (is_some reg.fault) → b ≡ one_when (is_some reg.order) → c ≡ one_when (is_some reg.points) → d ≡ one_when (is_some reg.regular_read) → e ≡ one_when (is_some reg.safe_read) → 7 + a + b + c + d + e ≡ length (fields_of (register_parts reg))
+register_count reg a b c d e ha hb hc hd he = let whole = register_parts_len reg in omega arith
+
+pub summary_count : (report : Report) (a : ℕ) → a ≡ one_when (is_some report.order) → 3 + a ≡ length (fields_of (summary_parts report))
+unfolding parts_len
+summary_count report a h =
+    let whole = length-fields_of (summary_parts report) in
+    let b = shown_len (codes "order") numbers_json report.order in
+    omega arith
 
 pub items_len-numbers : (ns : List ℕ) → items_len (items_of (map number_json ns)) ≡ length ns
 items_len-numbers [] = refl
@@ -140,22 +149,28 @@ register_has_no_float reg = plain_parts (register_parts reg) (
   (
     plain_shown (codes "fault") fault_json reg.fault plain_fault,
     (
-      plain_always (codes "pending") (number_json reg.pending) refl,
+      plain_shown (codes "order") numbers_json reg.order plain_numbers,
       (
-        plain_always (codes "reads") (number_json reg.reads) refl,
+        plain_always (codes "pending") (number_json reg.pending) refl,
         (
-          plain_always (codes "register") (string reg.register) refl,
+          plain_shown (codes "points") numbers_json reg.points plain_numbers,
           (
-            plain_always (codes "regular") (verdict_json reg.regular) (plain_verdict reg.regular),
+            plain_always (codes "reads") (number_json reg.reads) refl,
             (
-              plain_shown (codes "regular_read") number_json reg.regular_read plain_number,
+              plain_always (codes "register") (string reg.register) refl,
               (
-                plain_always (codes "safe") (verdict_json reg.safe) (plain_verdict reg.safe),
+                plain_always (codes "regular") (verdict_json reg.regular) (plain_verdict reg.regular),
                 (
-                  plain_shown (codes "safe_read") number_json reg.safe_read plain_number,
+                  plain_shown (codes "regular_read") number_json reg.regular_read plain_number,
                   (
-                    plain_always (codes "writes") (number_json reg.writes) refl,
-                    tt,
+                    plain_always (codes "safe") (verdict_json reg.safe) (plain_verdict reg.safe),
+                    (
+                      plain_shown (codes "safe_read") number_json reg.safe_read plain_number,
+                      (
+                        plain_always (codes "writes") (number_json reg.writes) refl,
+                        tt,
+                      ),
+                    ),
                   ),
                 ),
               ),
@@ -174,8 +189,11 @@ summary_has_no_float report = plain_parts (summary_parts report) (
   (
     plain_always (codes "operations") (number_json report.operations) refl,
     (
-      plain_always (codes "registers") (number_json report.registers) refl,
-      tt,
+      plain_shown (codes "order") numbers_json report.order plain_numbers,
+      (
+        plain_always (codes "registers") (number_json report.registers) refl,
+        tt,
+      ),
     ),
   ),
 )

@@ -2,5 +2,11 @@ mod Fields
 mod Joined
 mod Tallying
 mod Naming
+mod MergedOrder
+mod Restrict
+mod Whole
+mod Gathered
+mod OrderLines
 mod Atomic
 mod Counting
+mod OneReport

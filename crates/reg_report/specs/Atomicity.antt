@@ -1,12 +1,19 @@
--- What a sweep over a register shows.
-use Rattle.std.specs.Prelude.{List, Option, Some, None}
+-- Whether a register is atomic, and what its line says of it.
+use Rattle.std.specs.Prelude.{List}
 use Rattle.reg_arena.specs.History.{History}
 use Rattle.reg_arena.specs.Legal.{IsAtomic}
 use Rattle.reg_arena.specs.Operations.{Operation}
-use Rattle.reg_report.specs.Meaning.{IsFaultShown}
-use Rattle.reg_report.specs.declared.report.FaultLines.{FaultLines}
+use Rattle.reg_zones.specs.Faults.{IsFault}
+use Rattle.reg_zones.specs.Order.{IsOrder}
+use Rattle.reg_report.specs.Meaning.{IsAtomicity}
+use Rattle.reg_report.specs.declared.register.Atomicity.{Atomicity}
+use Rattle.reg_report.specs.declared.register.Judged.{Judged}
+use Rattle.reg_report.specs.declared.register.Judged.TheVariants.{Order, Faulty}
 
--- nothing where the operations are atomic, and else the lines of their fault
-abbrev pub IsSwept : History → List Operation → Option FaultLines → Type 0
-IsSwept h ops None = IsAtomic ops
-IsSwept h ops (Some lines) = (IsAtomic ops → ⊥) × IsFaultShown h ops lines
+-- the canonical order of atomic operations, or the fault of others
+abbrev pub IsJudged : List Operation → Judged → Type 0
+IsJudged ops (Order order) = IsAtomic ops × IsOrder ops order
+IsJudged ops (Faulty fault) = (IsAtomic ops → ⊥) × IsFault ops fault
+
+abbrev pub IsAtomicityShown : History → List Operation → Atomicity → Type 0
+IsAtomicityShown h ops a = IsAtomicity h ops a.atomic a.fault a.order a.points

@@ -1,7 +1,11 @@
 pub mod Refusals
 pub mod Text
 pub mod Sends
+pub mod Merged
+pub mod Merging
 pub mod Meaning
+pub mod Told
+pub mod Lines
 pub mod Tally
 pub mod Named
 pub mod Levels

@@ -1,8 +1,10 @@
 -- What a report of a history says.
-use Rattle.std.specs.Prelude.{◌≡◌, ◌<◌, ℕ, List, length, count_by, slice_get, Bool, true, false, not, Option, Some, None, MatchBool}
+use Rattle.std.specs.Prelude.{◌≡◌, ◌<◌, ◌-◌, ℕ, List, length, map, get_or, count_by, slice_get, Bool, true, false, not, Option, Some, None, is_some}
+use Rattle.std.specs.List.{filter}
 use Rattle.reg_arena.specs.History.{History}
-use Rattle.reg_arena.specs.Legal.{IsAtomic}
+use Rattle.reg_arena.specs.Legal.{IsLegal, IsAtomic}
 use Rattle.reg_arena.specs.Operations.{Operation, operations, calls, of_register, is_write}
+use Rattle.reg_arena.specs.declared.event.Event.{Event}
 use Rattle.reg_arena.specs.Lamport.{HasSingleWriter}
 use Rattle.reg_arena.specs.Shown.{IsNamed}
 use Rattle.reg_arena.specs.declared.ids.Oper.{Oper}
@@ -10,8 +12,10 @@ use Rattle.reg_lamport.specs.Levels.{IsAtLevel, IsFirstBreak}
 use Rattle.reg_lamport.specs.declared.level.Level.{Level}
 use Rattle.reg_lamport.specs.declared.level.Level.TheVariants.{Safe, Regular}
 use Rattle.reg_zones.specs.Faults.{IsFault}
+use Rattle.reg_zones.specs.Order.{PlacedOperation, IsCanonical, placed}
 use Rattle.reg_zones.specs.declared.fault.Fault.{Fault}
 use Rattle.reg_zones.specs.declared.fault.Fault.TheVariants as fault
+use Rattle.reg_report.specs.Merged.{IsWholeOrder, register_of}
 use Rattle.reg_report.specs.declared.report.Verdict.{Verdict}
 use Rattle.reg_report.specs.declared.report.Verdict.TheVariants.{Yes, No, SeveralWriters}
 use Rattle.reg_report.specs.declared.report.FaultLines.{FaultLines}
@@ -24,10 +28,6 @@ use Rattle.reg_report.specs.declared.report.Report.{Report}
 -- the called operations of register r, without its initial write
 abbrev pub calls_of : History → ℕ → List Operation
 calls_of h r = of_register r (calls h.events)
-
--- all operations of register r, its initial write among them
-abbrev pub register_of : History → ℕ → List Operation
-register_of h r = of_register r (operations h)
 
 abbrev pub is_pending : Operation → Bool
 is_pending o = not o.completed
@@ -65,10 +65,53 @@ ShowsFault h (fault.Zones writes first second) (Zones ws f s) = HaveLines h writ
 abbrev pub IsFaultShown : History → List Operation → FaultLines → Type 0
 IsFaultShown h ops lines = (f : Fault) × IsFault ops f × ShowsFault h f lines
 
--- a register's operations are atomic (Herlihy and Wing, Linearizability: A Correctness Condition for Concurrent Objects, 1990), or they aren't, and the fault says why
-abbrev pub IsAtomicity : History → List Operation → Bool → Option FaultLines → Type 0
-IsAtomicity h ops true shown = IsAtomic ops × (shown ≡ None)
-IsAtomicity h ops false shown = (IsAtomic ops → ⊥) × ((lines : FaultLines) × IsFaultShown h ops lines × (shown ≡ Some lines))
+-- ---- an order
+
+-- an operation that some process called, as all but the initial writes are
+abbrev pub is_called : PlacedOperation → Bool
+is_called x = is_some x.operation.process
+
+-- an order without the initial writes
+abbrev pub without_initial : List PlacedOperation → List PlacedOperation
+without_initial placed = filter is_called placed
+
+-- the operations by the lines of their calls
+abbrev pub lines_of : List PlacedOperation → List ℕ
+lines_of placed = map (λ x. x.operation.line) (without_initial placed)
+
+-- the line of the event at a time; the event at place i has time i + 2
+abbrev pub line_at : List Event → ℕ → ℕ
+line_at events t = get_or (map (λ e. e.line) events) (t - 2) 0
+
+-- the points, each by the line of the call at that time
+abbrev pub points_of : List Event → List PlacedOperation → List ℕ
+points_of events placed = map (λ x. line_at events x.point) (without_initial placed)
+
+-- the canonical order of a register's operations, which is a legal one, and its points
+pub record IsOrderShown (h : History) (ops : List Operation) (lines points : List ℕ) : Type 0 where
+  pub order : List Operation
+  pub canonical : IsCanonical ops order
+  pub legal : IsLegal ops order
+  pub operations : lines ≡ lines_of (placed order)
+  pub times : points ≡ points_of h.events (placed order)
+
+-- the merged order of the whole history
+abbrev pub IsWholeOrderShown : History → List ℕ → Type 0
+IsWholeOrderShown h lines = (merged : List PlacedOperation) × IsWholeOrder h merged × (lines ≡ lines_of merged)
+
+-- ---- atomic
+
+-- a register's operations are atomic, with a legal order and its points (Herlihy and Wing, Linearizability: A Correctness Condition for Concurrent Objects, 1990), or they aren't, and the fault says why
+abbrev pub IsAtomicity : History → List Operation → Bool → Option FaultLines → Option (List ℕ) → Option (List ℕ) → Type 0
+IsAtomicity h ops true fault order points = IsAtomic ops × (fault ≡ None)
+    × ((lines : List ℕ) × (times : List ℕ) × IsOrderShown h ops lines times × (order ≡ Some lines) × (points ≡ Some times))
+IsAtomicity h ops false fault order points = (IsAtomic ops → ⊥) × (order ≡ None) × (points ≡ None)
+    × ((lines : FaultLines) × IsFaultShown h ops lines × (fault ≡ Some lines))
+
+-- the whole history is atomic, with a legal order, or it isn't
+abbrev pub IsWholeAtomicity : History → Bool → Option (List ℕ) → Type 0
+IsWholeAtomicity h true order = IsAtomic (operations h) × ((lines : List ℕ) × IsWholeOrderShown h lines × (order ≡ Some lines))
+IsWholeAtomicity h false order = (IsAtomic (operations h) → ⊥) × (order ≡ None)
 
 -- ---- the report
 
@@ -80,7 +123,7 @@ pub record IsRegisterReport (h : History) (r : ℕ) (reg : RegReport) : Type 0 w
   pub writes : reg.writes ≡ count_by is_write (calls_of h r)
   pub safe : IsVerdict Safe (register_of h r) reg.safe reg.safe_read
   pub regular : IsVerdict Regular (register_of h r) reg.regular reg.regular_read
-  pub atomic : IsAtomicity h (register_of h r) reg.atomic reg.fault
+  pub atomic : IsAtomicity h (register_of h r) reg.atomic reg.fault reg.order reg.points
 
 -- each register is atomic
 abbrev pub IsEachAtomic : History → Type 0
@@ -92,4 +135,4 @@ pub record IsReport (h : History) (report : Report) : Type 0 where
   pub each : (r : ℕ) (reg : RegReport) → slice_get report.regs r ≡ Some reg → IsRegisterReport h r reg
   pub called : report.operations ≡ length (calls h.events)
   pub named : report.registers ≡ length h.names
-  pub atomic : MatchBool report.atomic (IsEachAtomic h) (IsEachAtomic h → ⊥)
+  pub atomic : IsWholeAtomicity h report.atomic report.order

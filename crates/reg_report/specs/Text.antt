@@ -67,7 +67,9 @@ abbrev pub register_parts : RegReport → List (List Field)
 register_parts reg =
     always (codes "atomic") (yes_or_no reg.atomic)
     ∷ shown (codes "fault") fault_json reg.fault
+    ∷ shown (codes "order") numbers_json reg.order
     ∷ always (codes "pending") (number_json reg.pending)
+    ∷ shown (codes "points") numbers_json reg.points
     ∷ always (codes "reads") (number_json reg.reads)
     ∷ always (codes "register") (string reg.register)
     ∷ always (codes "regular") (verdict_json reg.regular)
@@ -84,6 +86,7 @@ abbrev pub summary_parts : Report → List (List Field)
 summary_parts report =
     always (codes "atomic") (yes_or_no report.atomic)
     ∷ always (codes "operations") (number_json report.operations)
+    ∷ shown (codes "order") numbers_json report.order
     ∷ always (codes "registers") (number_json report.registers)
     ∷ []
 

@@ -3,7 +3,7 @@ ghost use Rattle.std.specs.Prelude.{IfOk};
 ghost use Rattle.reg_arena.specs.Lamport.{HasSingleWriter};
 ghost use Rattle.reg_lamport.specs.Reads.{IsReadList};
 ghost use Rattle.reg_report.specs.Levels.{AreLevels, IsLevelAnswer};
-ghost use Rattle.reg_report.specs.Meaning.{register_of};
+ghost use Rattle.reg_report.specs.Merged.{register_of};
 
 use crate::fault::line;
 use crate::report::Verdict;

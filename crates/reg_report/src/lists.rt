@@ -1,8 +1,105 @@
 //! Lists that contracts see as such.
-ghost use Rattle.std.specs.Prelude.{◌≡◌};
+ghost use Rattle.std.specs.Prelude.{◌≡◌, [], ◌∷◌, ◌++◌, IfOk};
 
 use crate::report::RegReport;
+use reg_zones::Placed;
+use std::alloc::AllocError;
 use std::marker::Model;
+
+/// Operations in an order, by the lines of their calls; contracts see it as their list.
+#[derive(Drop)]
+pub struct Lines {
+    inner: Vec<u32>,
+}
+
+impl Model for Lines {
+    ghost use Rattle.std.specs.Prelude.{List, ℕ};
+
+    ghost Value = { List ℕ };
+
+    ghost view = { λ a. a.inner.items };
+}
+
+impl Lines {
+    pub fn new(inner: Vec<u32>) -> Lines
+        ensures { result ≡ inner.items }
+    {
+        Lines { inner }
+    }
+
+    pub fn as_slice(&self) -> &[u32]
+        ensures { result.now ≡ self.now }
+    {
+        self.inner.as_slice()
+    }
+}
+
+/// The canonical order of a register; contracts see it as its list.
+#[derive(Drop)]
+pub struct Order {
+    inner: Vec<Placed>,
+}
+
+impl Model for Order {
+    ghost use Rattle.std.specs.Prelude.{List};
+    ghost use Rattle.reg_zones.specs.declared.placed.Placed.{Placed};
+
+    ghost Value = { List Placed };
+
+    ghost view = { λ a. a.inner.items };
+}
+
+impl Order {
+    pub fn new(inner: Vec<Placed>) -> Order
+        ensures { result ≡ inner.items }
+    {
+        Order { inner }
+    }
+
+    pub fn as_slice(&self) -> &[Placed]
+        ensures { result.now ≡ self.now }
+    {
+        self.inner.as_slice()
+    }
+}
+
+/// The canonical orders of the registers, by number; contracts see it as their list.
+#[derive(Drop)]
+pub(crate) struct Orders {
+    inner: Vec<Order>,
+}
+
+impl Model for Orders {
+    ghost use Rattle.std.specs.Prelude.{List};
+    ghost use Rattle.reg_zones.specs.declared.placed.Placed.{Placed};
+
+    ghost Value = { List (List Placed) };
+
+    ghost view = { λ a. a.inner.items };
+}
+
+impl Orders {
+    pub(crate) fn new(inner: Vec<Order>) -> Orders
+        ensures { result ≡ inner.items }
+    {
+        Orders { inner }
+    }
+
+    /// The same with one more.
+    pub(crate) fn with(self, order: Order) -> Result<Orders, AllocError>
+        ensures { IfOk result (λ orders. orders ≡ self ++ order ∷ []) }
+    {
+        let mut inner = self.inner;
+        inner.push(order)?;
+        Ok(Orders { inner })
+    }
+
+    pub(crate) fn as_slice(&self) -> &[Order]
+        ensures { result.now ≡ self.now }
+    {
+        self.inner.as_slice()
+    }
+}
 
 /// The lines of the registers, in the order of their first calls; contracts see it as their list.
 #[derive(Drop)]

@@ -1,41 +1,113 @@
 //! The line of one register.
 ghost use Rattle.std.specs.Prelude.{◌<◌, length, IfOk};
-ghost use Rattle.reg_report.specs.Meaning.{IsAtomicity, IsRegisterReport, register_of};
-ghost use Rattle.reg_report.specs.Atomicity.{IsSwept};
+ghost use Rattle.reg_report.specs.Atomicity.{IsAtomicityShown, IsJudged};
+ghost use Rattle.reg_report.specs.Meaning.{IsRegisterReport};
+ghost use Rattle.reg_report.specs.Merged.{register_of};
 
 use crate::fault::fault_lines;
 use crate::levels::levels_of;
+use crate::lists::{Lines, Order};
+use crate::order::{order_lines, point_lines};
 use crate::report::{FaultLines, RegReport};
 use crate::tally::count_calls;
+use crate::told::told;
 use history_text::Name;
 use reg_arena::{Arena, RegId};
-use reg_zones::sweep;
+use reg_zones::{Fault, order, sweep};
 use std::alloc::{AllocError, Global};
 
-/// Why a register isn't atomic, or nothing where it is.
-fn swept(arena: &Arena, register: RegId) -> Option<FaultLines>
+/// Whether a register is atomic: its canonical order, or its fault.
+#[derive(Drop)]
+pub(crate) enum Judged {
+    Order(Order),
+    Faulty(Fault),
+}
+
+/// What a register's line says of that.
+#[derive(Drop)]
+pub(crate) struct Atomicity {
+    pub(crate) atomic: bool,
+    pub(crate) fault: Option<FaultLines>,
+    pub(crate) order: Option<Lines>,
+    pub(crate) points: Option<Lines>,
+}
+
+/// The canonical order of a register that is atomic, and else its fault.
+pub(crate) fn judge(alloc: Global, arena: &Arena, register: RegId) -> Result<Judged, AllocError>
     requires { register.0 < length arena.now.names }
-    ensures { IsSwept arena.now (register_of arena.now register.0) result }
+    ensures { IfOk result (IsJudged (register_of arena.now register.0)) }
 {
     match sweep(arena, register) {
-        Ok(()) => None,
-        Err(fault) => Some(fault_lines(arena, fault)),
+        Ok(()) => Ok(Judged::Order(Order::new(order(alloc, arena, register)?))),
+        Err(fault) => Ok(Judged::Faulty(fault)),
     }
 }
 
-/// The line of a register, or want of memory.
+/// The order and its points by lines.
+fn ordered(
+    alloc: Global,
+    arena: &Arena,
+    register: RegId,
+    order: &Order,
+) -> Result<Atomicity, AllocError>
+    requires { IsJudged (register_of arena.now register.0) (Judged.Order order.now) }
+    ensures { IfOk result (IsAtomicityShown arena.now (register_of arena.now register.0)) }
+{
+    told(arena);
+    let lines = order_lines(alloc, arena, order.as_slice())?;
+    let points = point_lines(alloc, arena, order.as_slice())?;
+    Ok(Atomicity {
+        atomic: true,
+        fault: None,
+        order: Some(lines),
+        points: Some(points),
+    })
+}
+
+/// The fault by lines.
+fn faulty(arena: &Arena, register: RegId, fault: Fault) -> Atomicity
+    requires { IsJudged (register_of arena.now register.0) (Judged.Faulty fault) }
+    ensures { IsAtomicityShown arena.now (register_of arena.now register.0) result }
+{
+    Atomicity {
+        atomic: false,
+        fault: Some(fault_lines(arena, fault)),
+        order: None,
+        points: None,
+    }
+}
+
+/// What the line says of the order or the fault.
+fn atomicity_of(
+    alloc: Global,
+    arena: &Arena,
+    register: RegId,
+    judged: &Judged,
+) -> Result<Atomicity, AllocError>
+    requires { IsJudged (register_of arena.now register.0) judged.now }
+    ensures { IfOk result (IsAtomicityShown arena.now (register_of arena.now register.0)) }
+{
+    match judged {
+        Judged::Order(order) => ordered(alloc, arena, register, order),
+        Judged::Faulty(fault) => Ok(faulty(arena, register, *fault)),
+    }
+}
+
+/// The line of a register that was judged, or want of memory.
 pub(crate) fn register_report(
     alloc: Global,
     arena: &Arena,
     register: RegId,
+    judged: &Judged,
 ) -> Result<RegReport, AllocError>
-    requires { register.0 < length arena.now.names }
+    requires register { register.0 < length arena.now.names }
+    requires judged { IsJudged (register_of arena.now register.0) judged.now }
     ensures { IfOk result (IsRegisterReport arena.now register.0) }
 {
     let name = Name::new(alloc, arena.name(register))?;
     let tally = count_calls(arena, register);
     let levels = levels_of(alloc, arena, register)?;
-    let fault = swept(arena, register);
+    let said = atomicity_of(alloc, arena, register, judged)?;
     Ok(RegReport {
         register: name,
         writes: tally.writes,
@@ -45,7 +117,9 @@ pub(crate) fn register_report(
         regular: levels.regular.verdict,
         safe_read: levels.safe.read,
         regular_read: levels.regular.read,
-        atomic: fault.is_none(),
-        fault,
+        atomic: said.atomic,
+        fault: said.fault,
+        order: said.order,
+        points: said.points,
     })
 }

@@ -1,5 +1,5 @@
 //! The report of a history, as values.
-use crate::lists::Registers;
+use crate::lists::{Lines, Registers};
 use history_text::Name;
 
 /// Whether a register keeps a level (Lamport, On Interprocess Communication, Part II, 1986).
@@ -54,6 +54,10 @@ pub struct RegReport {
     pub atomic: bool,
     /// Where it isn't atomic, why.
     pub fault: Option<FaultLines>,
+    /// Where it is atomic, its canonical order without the initial write.
+    pub order: Option<Lines>,
+    /// Where it is atomic, the points of `order`, place by place: each by the line of the call that has that time.
+    pub points: Option<Lines>,
 }
 
 /// The lines of the registers, and the summary.
@@ -64,6 +68,8 @@ pub struct Report {
     pub operations: u32,
     /// The number of registers.
     pub registers: u32,
-    /// Whether each register is atomic.
+    /// Whether some order of all operations keeps precedence and gives each read the latest write of its register.
     pub atomic: bool,
+    /// Where it is atomic, the merged order without the initial writes.
+    pub order: Option<Lines>,
 }

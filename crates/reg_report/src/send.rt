@@ -5,6 +5,7 @@ ghost use Rattle.serde_json.specs.Events.{SendsValue};
 ghost use Rattle.reg_report.specs.Text.{always, fields_of, shown, number_json, numbers_json, pair_json, yes_or_no, verdict_json, fault_json, register_json, register_parts, summary_json, summary_parts};
 ghost use Rattle.reg_report.specs.Sends.{SendsFields, SendsParts};
 
+use crate::lists::Lines;
 use crate::report::{FaultLines, RegReport, Report, Verdict};
 use serde::{Described, Serialize, Serializer};
 
@@ -70,6 +71,15 @@ fn show_number<S: Serializer>(out: &mut S, key: &str, n: Option<u32>) -> Result<
 {
     match n {
         Some(n) => send_number(out, key, n),
+        None => Ok(()),
+    }
+}
+
+fn show_lines<S: Serializer>(out: &mut S, key: &str, lines: &Option<Lines>) -> Result<(), S::Error>
+    ensures { OnOk result (SendsFields (shown key.now numbers_json lines.now) (S.written out.old) (S.written out.new)) }
+{
+    match lines {
+        Some(lines) => send_numbers(out, key, lines.as_slice()),
         None => Ok(()),
     }
 }
@@ -149,6 +159,8 @@ fn register_len(reg: &RegReport) -> usize
     ensures { result ≡ length (fields_of (register_parts reg.now)) }
 {
     7 + one_if(reg.fault.is_some())
+        + one_if(reg.order.is_some())
+        + one_if(reg.points.is_some())
         + one_if(reg.regular_read.is_some())
         + one_if(reg.safe_read.is_some())
 }
@@ -158,7 +170,9 @@ fn send_register_parts<S: Serializer>(out: &mut S, reg: &RegReport) -> Result<()
 {
     send_yes_or_no(out, "atomic", reg.atomic)?;
     show_fault(out, "fault", reg.fault)?;
+    show_lines(out, "order", &reg.order)?;
     send_number(out, "pending", reg.pending)?;
+    show_lines(out, "points", &reg.points)?;
     send_number(out, "reads", reg.reads)?;
     send_text(out, "register", reg.register.as_str())?;
     send_verdict(out, "regular", reg.regular)?;
@@ -186,11 +200,18 @@ pub(crate) struct Summary<'a> {
     pub(crate) report: &'a Report,
 }
 
+fn summary_len(report: &Report) -> usize
+    ensures { result ≡ length (fields_of (summary_parts report.now)) }
+{
+    3 + one_if(report.order.is_some())
+}
+
 fn send_summary_parts<S: Serializer>(out: &mut S, report: &Report) -> Result<(), S::Error>
     ensures { OnOk result (SendsParts (summary_parts report.now) (S.written out.old) (S.written out.new)) }
 {
     send_yes_or_no(out, "atomic", report.atomic)?;
     send_number(out, "operations", report.operations)?;
+    show_lines(out, "order", &report.order)?;
     send_number(out, "registers", report.registers)
 }
 
@@ -201,7 +222,7 @@ impl Described for Summary<'_> {
 impl Serialize for Summary<'_> {
     fn serialize<S: Serializer>(&self, out: &mut S) -> Result<(), S::Error> {
         let report = self.report;
-        out.begin_map(Some(3))?;
+        out.begin_map(Some(summary_len(report)))?;
         send_summary_parts(out, report)?;
         out.end_map()
     }

@@ -5,11 +5,7 @@ use Rattle.reg_arena.specs.Legal.{IsLegal}
 use Rattle.reg_arena.specs.Lists.{In, Before}
 use Rattle.reg_arena.specs.Operations.{Operation, IsHistory}
 use Rattle.reg_zones.proofs.Places.{In-map, Before-first}
-use Rattle.reg_zones.specs.Order.{PlacedOperation, placed_from, placed, IsWithinLife}
-
--- the operations alone
-abbrev pub operations_of : List PlacedOperation → List Operation
-operations_of xs = map (λ x. x.operation) xs
+use Rattle.reg_zones.specs.Order.{PlacedOperation, placed_from, placed, operations_of, IsWithinLife}
 
 operations_of-placed_from : (n : ℕ) (xs : List Operation) → operations_of (placed_from n xs) ≡ xs
 operations_of-placed_from n [] = refl
@@ -31,13 +27,13 @@ rising_from n (a ∷ xs) x y (inr h) = rising_from (max n a.call) xs x y h
 pub rising : (xs : List Operation) (x y : PlacedOperation) → Before x y (placed xs) → x.point ≤ y.point
 rising xs x y h = rising_from 0 xs x y h
 
-after_call : (n : ℕ) (xs : List Operation) (x : PlacedOperation) → In x (placed_from n xs) → x.operation.call ≤ x.point
+pub after_call : (n : ℕ) (xs : List Operation) (x : PlacedOperation) → In x (placed_from n xs) → x.operation.call ≤ x.point
 after_call n [] x h = elim h [ ]
 after_call n (a ∷ xs) x (inl e) = omega (arith, ap (λ (z : PlacedOperation). z.point) e, ap (λ (z : PlacedOperation). z.operation.call) e)
 after_call n (a ∷ xs) x (inr h) = after_call (max n a.call) xs x h
 
 -- a point is a call of an operation that stands no later
-reached : (n : ℕ) (xs : List Operation) (x : PlacedOperation) → In x (placed_from n xs) → (x.point ≡ n) ⊎ ((b : Operation) × (x.point ≡ b.call) × ((b ≡ x.operation) ⊎ Before b x.operation xs))
+pub reached : (n : ℕ) (xs : List Operation) (x : PlacedOperation) → In x (placed_from n xs) → (x.point ≡ n) ⊎ ((b : Operation) × (x.point ≡ b.call) × ((b ≡ x.operation) ⊎ Before b x.operation xs))
 reached n [] x h = elim h [ ]
 reached n (a ∷ xs) x (inl e) = elim (cases_lt n a.call) [
   | inl l ↦ inr (a, omega (arith, ap (λ (z : PlacedOperation). z.point) e), inl (sym (ap (λ (z : PlacedOperation). z.operation) e)))

@@ -24,7 +24,7 @@ module _ {X : Type 0} (R : X → X → Type 0) (one_way : (a b : X) → R a b �
       (λ a b s. vp a b (inr s)) in
       ap (λ z. z ∷ xs) e ∙ ap (λ zs. y ∷ zs) rest
 
-sooner_one_way : (ops : List Operation) (a b : Operation) → IsSooner ops a b → IsSooner ops b a → ⊥
+pub sooner_one_way : (ops : List Operation) (a b : Operation) → IsSooner ops a b → IsSooner ops b a → ⊥
 sooner_one_way ops a b (inl p) (inl q) = omega arith
 sooner_one_way ops a b (inl p) (inr q) = omega (arith, q.0)
 sooner_one_way ops a b (inr p) (inl q) = omega (arith, p.0)

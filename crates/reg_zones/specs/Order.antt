@@ -38,6 +38,10 @@ placed_from n (a ∷ order) = record { operation = a; point = max n a.call } ∷
 abbrev pub placed : List Operation → List PlacedOperation
 placed order = placed_from 0 order
 
+-- the operations alone
+abbrev pub operations_of : List PlacedOperation → List Operation
+operations_of xs = map (λ x. x.operation) xs
+
 -- the point lies at or after the call, and before the reply
 pub record IsWithinLife (x : PlacedOperation) : Type 0 where
   pub called : x.operation.call ≤ x.point

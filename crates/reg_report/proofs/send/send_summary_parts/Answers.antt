@@ -11,6 +11,10 @@ returns g c =
       (
         at c.send_number.new.out,
         c.in_ok-send_number.ensures,
-        (at c.send_number-2.new.out, e, refl),
+        (
+          at c.show_lines.new.out,
+          c.in_ok-show_lines.ensures,
+          (at c.send_number-2.new.out, e, refl),
+        ),
       ),
     )) c.send_number-2.ensures

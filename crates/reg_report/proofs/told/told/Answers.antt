@@ -1,0 +1,13 @@
+use Rattle.reg_report.proofs.told.told.Goals as goal
+
+pub returns : goal.returns
+returns c =
+    let h = c.args.arena.now in
+    let y = c.event_count-count.ensures.recorded in
+    record {
+      history = c.accepted_is_history.ensures h y;
+      numbered = c.registers_are_numbered.ensures h y;
+      oper = c.names_are_unique.ensures.named h y;
+      named = c.names_are_unique.ensures.one h y;
+      call = c.operations_have_events.ensures.call h y;
+    }

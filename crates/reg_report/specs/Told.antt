@@ -1,0 +1,16 @@
+-- What the laws of histories tell of an accepted history.
+use Rattle.std.specs.Prelude.{◌≡◌, ℕ, ◌<◌, ◌-◌, length, true, Some}
+use Rattle.reg_arena.specs.declared.event.Event.{Event}
+use Rattle.reg_arena.specs.declared.ids.Oper.{Oper}
+use Rattle.reg_arena.specs.Lists.{In}
+use Rattle.reg_arena.specs.History.{History}
+use Rattle.reg_arena.specs.Operations.{Operation, IsHistory, of_register, operations}
+use Rattle.reg_arena.specs.Shown.{IsEventIn, IsNamed, IsOper, name_of}
+
+-- its operations belong to numbered registers and, but for the initial writes, to calls among its events
+pub record IsTold (h : History) : Type 0 where
+  pub history : (r : ℕ) → IsHistory (of_register r (operations h))
+  pub numbered : (o : Operation) → In o (operations h) → o.register < length h.names
+  pub oper : (o : Operation) → In o (operations h) → IsOper h (name_of o)
+  pub named : (name : Oper) (o p : Operation) → IsNamed h name o → IsNamed h name p → o ≡ p
+  pub call : (o : Operation) (p : ℕ) → In o (operations h) → o.process ≡ Some p → (e : Event) × IsEventIn h (o.call - 2) e o × (e.is_call ≡ true)

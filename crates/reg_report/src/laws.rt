@@ -1,0 +1,41 @@
+//! Why a history is as its registers are, and has one report: laws over the definitions alone. Each is the contract of a
+//! function that does nothing.
+ghost use Rattle.std.specs.Prelude.{◌≡◌, ◌↔◌, ℕ, List};
+ghost use Rattle.reg_arena.specs.History.{History, IsRecorded};
+ghost use Rattle.reg_arena.specs.Legal.{IsLegal, IsAtomic};
+ghost use Rattle.reg_arena.specs.Operations.{Operation, IsHistory, of_register, operations};
+ghost use Rattle.reg_zones.specs.Order.{PlacedOperation, operations_of};
+ghost use Rattle.reg_report.specs.Meaning.{IsEachAtomic, IsReport};
+ghost use Rattle.reg_report.specs.Merged.{IsMerged};
+ghost use Rattle.reg_report.specs.declared.report.Report.{Report as AReport};
+
+use reg_arena::{accepted_is_history, names_are_unique, registers_are_numbered};
+
+/// Legal orders of all registers, merged by their points, are a legal order of the whole history.
+pub fn merged_is_legal()
+    ensures { (ops : List Operation) (orders : ℕ → List Operation) (merged : List PlacedOperation)
+        → ((r : ℕ) → IsHistory (of_register r ops)) → ((r : ℕ) → IsLegal (of_register r ops) (orders r))
+        → IsMerged orders merged → IsLegal ops (operations_of merged) }
+{}
+
+/// A legal order of the whole history, kept to one register's operations, is a legal order of the register (Herlihy and
+/// Wing, 1990, section 3.1: locality).
+pub fn restricted_is_legal()
+    ensures { (ops order : List Operation) (r : ℕ) → IsLegal ops order → IsLegal (of_register r ops) (of_register r order) }
+{}
+
+/// A history is atomic exactly where each of its registers is.
+pub fn registers_decide()
+    ensures { (h : History) → IsRecorded h → (IsAtomic (operations h) ↔ IsEachAtomic h) }
+{
+    accepted_is_history();
+    registers_are_numbered();
+}
+
+/// A history has one report.
+pub fn one_report()
+    ensures { (h : History) (a b : AReport) → IsRecorded h → IsReport h a → IsReport h b → a ≡ b }
+{
+    accepted_is_history();
+    names_are_unique();
+}
