@@ -9,7 +9,7 @@ use std::marker::Model;
 /// Operations in an order, by the lines of their calls; contracts see it as their list.
 #[derive(Drop)]
 pub struct Lines {
-    inner: Vec<u32>,
+    lines: Vec<u32>,
 }
 
 impl Model for Lines {
@@ -17,27 +17,27 @@ impl Model for Lines {
 
     ghost Value = { List ℕ };
 
-    ghost view = { λ a. a.inner.items };
+    ghost view = { λ a. a.lines.items };
 }
 
 impl Lines {
-    pub fn new(inner: Vec<u32>) -> Lines
-        ensures { result ≡ inner.items }
+    pub fn new(lines: Vec<u32>) -> Lines
+        ensures { result ≡ lines.items }
     {
-        Lines { inner }
+        Lines { lines }
     }
 
     pub fn as_slice(&self) -> &[u32]
         ensures { result.now ≡ self.now }
     {
-        self.inner.as_slice()
+        self.lines.as_slice()
     }
 }
 
 /// The canonical order of a register; contracts see it as its list.
 #[derive(Drop)]
 pub struct Order {
-    inner: Vec<Placed>,
+    placed: Vec<Placed>,
 }
 
 impl Model for Order {
@@ -46,27 +46,27 @@ impl Model for Order {
 
     ghost Value = { List Placed };
 
-    ghost view = { λ a. a.inner.items };
+    ghost view = { λ a. a.placed.items };
 }
 
 impl Order {
-    pub fn new(inner: Vec<Placed>) -> Order
-        ensures { result ≡ inner.items }
+    pub fn new(placed: Vec<Placed>) -> Order
+        ensures { result ≡ placed.items }
     {
-        Order { inner }
+        Order { placed }
     }
 
     pub fn as_slice(&self) -> &[Placed]
         ensures { result.now ≡ self.now }
     {
-        self.inner.as_slice()
+        self.placed.as_slice()
     }
 }
 
 /// The canonical orders of the registers, by number; contracts see it as their list.
 #[derive(Drop)]
 pub(crate) struct Orders {
-    inner: Vec<Order>,
+    orders: Vec<Order>,
 }
 
 impl Model for Orders {
@@ -75,36 +75,36 @@ impl Model for Orders {
 
     ghost Value = { List (List Placed) };
 
-    ghost view = { λ a. a.inner.items };
+    ghost view = { λ a. a.orders.items };
 }
 
 impl Orders {
-    pub(crate) fn new(inner: Vec<Order>) -> Orders
-        ensures { result ≡ inner.items }
+    pub(crate) fn new(orders: Vec<Order>) -> Orders
+        ensures { result ≡ orders.items }
     {
-        Orders { inner }
+        Orders { orders }
     }
 
     /// The same with one more.
     pub(crate) fn with(self, order: Order) -> Result<Orders, AllocError>
         ensures { IfOk result (λ orders. orders ≡ self ++ order ∷ []) }
     {
-        let mut inner = self.inner;
-        inner.push(order)?;
-        Ok(Orders { inner })
+        let mut orders = self.orders;
+        orders.push(order)?;
+        Ok(Orders { orders })
     }
 
     pub(crate) fn as_slice(&self) -> &[Order]
         ensures { result.now ≡ self.now }
     {
-        self.inner.as_slice()
+        self.orders.as_slice()
     }
 }
 
 /// The lines of the registers, in the order of their first calls; contracts see it as their list.
 #[derive(Drop)]
 pub struct Registers {
-    inner: Vec<RegReport>,
+    regs: Vec<RegReport>,
 }
 
 impl Model for Registers {
@@ -113,19 +113,19 @@ impl Model for Registers {
 
     ghost Value = { List RegReport };
 
-    ghost view = { λ a. a.inner.items };
+    ghost view = { λ a. a.regs.items };
 }
 
 impl Registers {
-    pub fn new(inner: Vec<RegReport>) -> Registers
-        ensures { result ≡ inner.items }
+    pub fn new(regs: Vec<RegReport>) -> Registers
+        ensures { result ≡ regs.items }
     {
-        Registers { inner }
+        Registers { regs }
     }
 
     pub fn as_slice(&self) -> &[RegReport]
         ensures { result.now ≡ self.now }
     {
-        self.inner.as_slice()
+        self.regs.as_slice()
     }
 }
