@@ -4,3 +4,5 @@ mod Tallying
 mod Naming
 mod Atomic
 mod Counting
+pub mod Pulling
+mod Pushing

@@ -2,9 +2,17 @@ use super::*;
 use std::alloc::{AllocError, Global};
 use std::test::Fail;
 
+// A run from memory to so much memory: the bytes that the sink took, and the outcome.
+fn run_on(alloc: Global, input: &[u8], room: usize) -> Result<(Vec<u8>, Outcome), Refusal> {
+    let mut source = MemSource::new(input, 65_536, None);
+    let mut sink = MemSink::new(alloc, room, 65_536, false)?;
+    let outcome = run(alloc, &mut source, &mut sink)?;
+    Ok((sink.taken().to_vec(alloc)?, outcome))
+}
+
 // The bytes of the answer: the report with its outcome, or what the refusal says with its number.
 fn answered(alloc: Global, input: &str) -> Result<(Vec<u8>, Result<Outcome, u8>), AllocError> {
-    match answer(alloc, input.as_bytes()) {
+    match run_on(alloc, input.as_bytes(), 4096) {
         Ok((report, outcome)) => Ok((report, Ok(outcome))),
         Err(refusal) => {
             let said = message(alloc, &refusal)?;
@@ -338,7 +346,7 @@ fn other_refusals(rt: HostRuntime) -> Result<(), Fail> {
 // Why an input of so many equal bytes is refused.
 fn refused(alloc: Global, length: usize) -> Result<Option<Refusal>, AllocError> {
     let input = vec![in alloc; b'a'; length]?;
-    Ok(answer(alloc, input.as_slice()).err())
+    Ok(run_on(alloc, input.as_slice(), 0).err())
 }
 
 // One line up to the limit of the input is too long a line; with one byte more, the input is too long.
@@ -361,6 +369,9 @@ const CALL: &str = r#"{"process":1,"event":"call","op":"read","register":"x"}
 const REPLY: &str = r#"{"process":1,"event":"reply","value":null}
 "#;
 
+// More than the report of as many events as there may be: three numbers of seven digits for each of the operations.
+const LONGEST_REPORT: usize = 16_777_216;
+
 // As many events as there may be.
 fn most_events(alloc: Global) -> Result<Vec<u8>, AllocError> {
     let mut input = Vec::new(alloc);
@@ -376,13 +387,16 @@ fn most_events(alloc: Global) -> Result<Vec<u8>, AllocError> {
 fn longest_history(rt: HostRuntime) -> Result<(), Fail> {
     let alloc = rt.alloc();
     let mut input = most_events(alloc)?;
-    assert!(rt; answer(alloc, input.as_slice()).is_ok());
+    assert!(rt; run_on(alloc, input.as_slice(), LONGEST_REPORT).is_ok());
     input.extend_from_slice(CALL.as_bytes())?;
     let one_too_many = Refusal::At {
         line: 1_048_577,
         number: 14,
         other: None,
     };
-    assert_eq!(rt; answer(alloc, input.as_slice()).err(), Some(one_too_many));
+    assert_eq!(rt;
+        run_on(alloc, input.as_slice(), 0).err(),
+        Some(one_too_many)
+    );
     Ok(())
 }
