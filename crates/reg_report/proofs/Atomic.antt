@@ -17,7 +17,7 @@ use Rattle.reg_report.specs.declared.register.Judged.TheVariants.{Order, Faulty}
 use Rattle.reg_report.specs.declared.report.FaultLines.{FaultLines}
 use Rattle.reg_report.proofs.Counting.{length-push, push-cases}
 use Rattle.reg_report.proofs.OrderLines.{calls-lines, points-lines, calls-there, points-there, placed-inside}
-use Rattle.reg_report.proofs.Whole.{each}
+use Rattle.reg_report.proofs.Locality.{each}
 
 -- ---- one register
 

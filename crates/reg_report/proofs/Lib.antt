@@ -4,9 +4,12 @@ mod Tallying
 mod Naming
 mod MergedOrder
 mod Restrict
-mod Whole
+mod Locality
 mod Gathered
 mod OrderLines
 mod Atomic
 mod Counting
 mod OneReport
+mod Outcomes
+pub mod Pulling
+mod Pushing

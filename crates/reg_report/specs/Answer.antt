@@ -7,8 +7,8 @@ use Rattle.reg_arena.specs.History.{history_of}
 use Rattle.reg_report.specs.Meaning.{IsReport}
 use Rattle.reg_report.specs.Text.{report_text}
 use Rattle.reg_report.specs.declared.report.Report.{Report}
-use Rattle.reg_report.specs.declared.answered.Outcome.{Outcome}
-use Rattle.reg_report.specs.declared.answered.Outcome.TheVariants.{Atomic, NotAtomic}
+use Rattle.reg_report.specs.declared.outcome.Outcome.{Outcome}
+use Rattle.reg_report.specs.declared.outcome.Outcome.TheVariants.{Atomic, NotAtomic}
 use Rattle.reg_report.specs.declared.refusal.Refusal.{Refusal}
 use Rattle.reg_report.specs.declared.refusal.Refusal.TheVariants.{At, TooLong, InputFailed, NoRoom, OutputFailed}
 

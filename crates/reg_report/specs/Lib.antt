@@ -12,3 +12,7 @@ pub mod Levels
 pub mod Atomicity
 pub mod Registers
 pub mod Answer
+pub mod Ends
+pub mod Memory
+pub mod Adapters
+pub mod Run

@@ -1,32 +1,57 @@
 //! From the bytes of a history to the bytes of its report.
+//!
+//! What the floor above may rely on: [`run`] pulls all the bytes of a source, and the bytes that it pushes into a sink are
+//! the report of their history, or it answers the one refusal and pushes nothing. [`check`] gives the report's values and
+//! [`text`] their bytes; [`merge`] lists the operations of all registers in one legal order. [`laws`] says why the whole
+//! history is atomic exactly where each of its registers is, and that a history has one report.
+//!
+//! To read, from the input on: `ends` with `adapters`, `mem_source` and `mem_sink`, then `pulled`; `checked`, which asks
+//! the crates below and `history`; there `register` judges one register, with `tally`, `levels`, `fault` and `order`, and
+//! `merged` all of them; then `report` with `lists`, `send` and `written`; `pushed` and `whole` at last. `refusal` and
+//! `wording` say why there is no report, and `told` asks the arena for what its laws say.
 #![tactic(auto)]
 
-mod answered;
+mod adapters;
 mod checked;
+mod ends;
+#[cfg(test)]
+mod ends_tests;
 mod fault;
 mod history;
-mod laws;
+pub mod laws;
 mod levels;
 mod lists;
+mod mem_sink;
+mod mem_source;
 mod merged;
 mod order;
+mod outcome;
+mod pulled;
+mod pushed;
 mod refusal;
 mod register;
 mod report;
+#[cfg(test)]
+mod rows;
 mod send;
 mod tally;
 #[cfg(test)]
 mod tests;
 mod told;
+mod whole;
 mod wording;
 mod written;
 
-pub use answered::{Outcome, answer};
+pub use adapters::{FromReader, FromWriter};
 pub use checked::check;
-pub use laws::{merged_is_legal, one_report, registers_decide, restricted_is_legal};
+pub use ends::{IoFail, Sink, Source};
 pub use lists::{Lines, Order, Registers};
+pub use mem_sink::MemSink;
+pub use mem_source::MemSource;
 pub use merged::merge;
+pub use outcome::Outcome;
 pub use refusal::Refusal;
 pub use report::{FaultLines, RegReport, Report, Verdict};
+pub use whole::run;
 pub use wording::message;
 pub use written::text;

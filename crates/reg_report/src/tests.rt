@@ -1,10 +1,20 @@
+//! What a run answers to whole histories.
 use super::*;
+use crate::rows::{REFUSALS, REPORTS};
 use std::alloc::{AllocError, Global};
 use std::test::Fail;
 
+// A run from memory to so much memory: the bytes that the sink took, and the outcome.
+fn run_on(alloc: Global, input: &[u8], room: usize) -> Result<(Vec<u8>, Outcome), Refusal> {
+    let mut source = MemSource::new(input, 65_536, None);
+    let mut sink = MemSink::new(alloc, room, 65_536, false)?;
+    let outcome = run(alloc, &mut source, &mut sink)?;
+    Ok((sink.taken().to_vec(alloc)?, outcome))
+}
+
 // The bytes of the answer: the report with its outcome, or what the refusal says with its number.
-fn answered(alloc: Global, input: &str) -> Result<(Vec<u8>, Result<Outcome, u8>), AllocError> {
-    match answer(alloc, input.as_bytes()) {
+fn answered(alloc: Global, input: &[u8]) -> Result<(Vec<u8>, Result<Outcome, u8>), AllocError> {
+    match run_on(alloc, input, 4096) {
         Ok((report, outcome)) => Ok((report, Ok(outcome))),
         Err(refusal) => {
             let said = message(alloc, &refusal)?;
@@ -13,197 +23,11 @@ fn answered(alloc: Global, input: &str) -> Result<(Vec<u8>, Result<Outcome, u8>)
     }
 }
 
-// What each history is answered, worked out by hand from the definitions.
+// The report of each history.
 #[test]
 fn reports(rt: HostRuntime) -> Result<(), Fail> {
-    for (name, input, want, outcome) in [
-        (
-            "no events",
-            "",
-            r#"{"atomic":"yes","operations":0,"registers":0}
-"#,
-            Outcome::Atomic,
-        ),
-        (
-            "a write, then a read of it",
-            r#"{"process":1,"event":"call","op":"write","register":"x","value":5}
-{"process":1,"event":"reply"}
-{"process":2,"event":"call","op":"read","register":"x"}
-{"process":2,"event":"reply","value":5}
-"#,
-            r#"{"atomic":"yes","pending":0,"reads":1,"register":"x","regular":"yes","safe":"yes","writes":1}
-{"atomic":"yes","operations":2,"registers":1}
-"#,
-            Outcome::Atomic,
-        ),
-        (
-            "a new value, then the old one",
-            r#"{"process":1,"event":"call","op":"write","register":"x","value":1}
-{"process":1,"event":"reply"}
-{"process":1,"event":"call","op":"write","register":"x","value":2}
-{"process":2,"event":"call","op":"read","register":"x"}
-{"process":2,"event":"reply","value":2}
-{"process":2,"event":"call","op":"read","register":"x"}
-{"process":2,"event":"reply","value":1}
-{"process":1,"event":"reply"}
-"#,
-            r#"{"atomic":"no","fault":{"first":[1,4],"kind":"zones","second":[4,6],"writes":[1,3]},"pending":0,"reads":2,"register":"x","regular":"yes","safe":"yes","writes":2}
-{"atomic":"no","operations":4,"registers":1}
-"#,
-            Outcome::NotAtomic,
-        ),
-        (
-            "a value that nobody wrote",
-            r#"{"process":2,"event":"call","op":"read","register":"x"}
-{"process":2,"event":"reply","value":9}
-"#,
-            r#"{"atomic":"no","fault":{"kind":"unwritten","read":1},"pending":0,"reads":1,"register":"x","regular":"no","regular_read":1,"safe":"no","safe_read":1,"writes":0}
-{"atomic":"no","operations":1,"registers":1}
-"#,
-            Outcome::NotAtomic,
-        ),
-        (
-            "a value before its write",
-            r#"{"process":2,"event":"call","op":"read","register":"x"}
-{"process":2,"event":"reply","value":5}
-{"process":1,"event":"call","op":"write","register":"x","value":5}
-{"process":1,"event":"reply"}
-"#,
-            r#"{"atomic":"no","fault":{"kind":"early","read":1,"write":3},"pending":0,"reads":1,"register":"x","regular":"no","regular_read":1,"safe":"no","safe_read":1,"writes":1}
-{"atomic":"no","operations":2,"registers":1}
-"#,
-            Outcome::NotAtomic,
-        ),
-        (
-            "a pending write that was read",
-            r#"{"process":1,"event":"call","op":"write","register":"x","value":5}
-{"process":2,"event":"call","op":"read","register":"x"}
-{"process":2,"event":"reply","value":5}
-"#,
-            r#"{"atomic":"yes","pending":1,"reads":1,"register":"x","regular":"yes","safe":"yes","writes":1}
-{"atomic":"yes","operations":2,"registers":1}
-"#,
-            Outcome::Atomic,
-        ),
-        (
-            "a pending write that was not read",
-            r#"{"process":1,"event":"call","op":"write","register":"x","value":5}
-{"process":2,"event":"call","op":"read","register":"x"}
-{"process":2,"event":"reply","value":null}
-"#,
-            r#"{"atomic":"yes","pending":1,"reads":1,"register":"x","regular":"yes","safe":"yes","writes":1}
-{"atomic":"yes","operations":2,"registers":1}
-"#,
-            Outcome::Atomic,
-        ),
-        (
-            "null after a write",
-            r#"{"process":1,"event":"call","op":"write","register":"x","value":5}
-{"process":1,"event":"reply"}
-{"process":2,"event":"call","op":"read","register":"x"}
-{"process":2,"event":"reply","value":null}
-"#,
-            r#"{"atomic":"no","fault":{"first":[0,1],"kind":"zones","second":[1,3],"writes":[0,1]},"pending":0,"reads":1,"register":"x","regular":"no","regular_read":3,"safe":"no","safe_read":3,"writes":1}
-{"atomic":"no","operations":2,"registers":1}
-"#,
-            Outcome::NotAtomic,
-        ),
-        (
-            "any value while a write overlaps",
-            r#"{"process":1,"event":"call","op":"write","register":"x","value":5}
-{"process":2,"event":"call","op":"read","register":"x"}
-{"process":2,"event":"reply","value":9}
-{"process":1,"event":"reply"}
-"#,
-            r#"{"atomic":"no","fault":{"kind":"unwritten","read":2},"pending":0,"reads":1,"register":"x","regular":"no","regular_read":2,"safe":"yes","writes":1}
-{"atomic":"no","operations":2,"registers":1}
-"#,
-            Outcome::NotAtomic,
-        ),
-        (
-            "several writers",
-            r#"{"process":1,"event":"call","op":"write","register":"x","value":1}
-{"process":1,"event":"reply"}
-{"process":2,"event":"call","op":"write","register":"x","value":2}
-{"process":2,"event":"reply"}
-{"process":3,"event":"call","op":"read","register":"x"}
-{"process":3,"event":"reply","value":2}
-{"process":3,"event":"call","op":"read","register":"x"}
-{"process":3,"event":"reply","value":1}
-"#,
-            r#"{"atomic":"no","fault":{"first":[1,5],"kind":"zones","second":[3,7],"writes":[1,3]},"pending":0,"reads":2,"register":"x","regular":"several writers","safe":"several writers","writes":2}
-{"atomic":"no","operations":4,"registers":1}
-"#,
-            Outcome::NotAtomic,
-        ),
-        (
-            "one value in two registers",
-            r#"{"process":1,"event":"call","op":"write","register":"x","value":5}
-{"process":1,"event":"reply"}
-{"process":1,"event":"call","op":"write","register":"y","value":5}
-{"process":1,"event":"reply"}
-"#,
-            r#"{"atomic":"yes","pending":0,"reads":0,"register":"x","regular":"yes","safe":"yes","writes":1}
-{"atomic":"yes","pending":0,"reads":0,"register":"y","regular":"yes","safe":"yes","writes":1}
-{"atomic":"yes","operations":2,"registers":2}
-"#,
-            Outcome::Atomic,
-        ),
-        (
-            "a reply of null to a write",
-            r#"{"process":1,"event":"call","op":"write","register":"x","value":5}
-{"process":1,"event":"reply","value":null}
-"#,
-            r#"{"atomic":"yes","pending":0,"reads":0,"register":"x","regular":"yes","safe":"yes","writes":1}
-{"atomic":"yes","operations":1,"registers":1}
-"#,
-            Outcome::Atomic,
-        ),
-        (
-            "two zones that overlap a third",
-            r#"{"process":1,"event":"call","op":"write","register":"x","value":1}
-{"process":1,"event":"reply"}
-{"process":2,"event":"call","op":"write","register":"x","value":2}
-{"process":2,"event":"reply"}
-{"process":3,"event":"call","op":"read","register":"x"}
-{"process":3,"event":"reply","value":1}
-{"process":3,"event":"call","op":"read","register":"x"}
-{"process":3,"event":"reply","value":2}
-{"process":3,"event":"call","op":"read","register":"x"}
-{"process":3,"event":"reply","value":1}
-"#,
-            r#"{"atomic":"no","fault":{"first":[1,7],"kind":"zones","second":[3,9],"writes":[1,3]},"pending":0,"reads":3,"register":"x","regular":"several writers","safe":"several writers","writes":2}
-{"atomic":"no","operations":5,"registers":1}
-"#,
-            Outcome::NotAtomic,
-        ),
-        (
-            "a backward zone between two that conflict",
-            r#"{"process":1,"event":"call","op":"write","register":"x","value":1}
-{"process":1,"event":"reply"}
-{"process":2,"event":"call","op":"write","register":"x","value":2}
-{"process":3,"event":"call","op":"write","register":"x","value":3}
-{"process":3,"event":"reply"}
-{"process":4,"event":"call","op":"read","register":"x"}
-{"process":4,"event":"reply","value":1}
-{"process":2,"event":"reply"}
-"#,
-            r#"{"atomic":"no","fault":{"first":[1,4],"kind":"zones","second":[4,6],"writes":[1,4]},"pending":0,"reads":1,"register":"x","regular":"several writers","safe":"several writers","writes":3}
-{"atomic":"no","operations":4,"registers":1}
-"#,
-            Outcome::NotAtomic,
-        ),
-        (
-            "the greatest value",
-            r#"{"process":1,"event":"call","op":"write","register":"x","value":9223372036854775807}
-"#,
-            r#"{"atomic":"yes","pending":1,"reads":0,"register":"x","regular":"yes","safe":"yes","writes":1}
-{"atomic":"yes","operations":1,"registers":1}
-"#,
-            Outcome::Atomic,
-        ),
-    ] {
-        let (report, told) = answered(rt.alloc(), input)?;
+    for (name, input, want, outcome) in REPORTS {
+        let (report, told) = answered(rt.alloc(), input.as_bytes())?;
         assert_eq!(rt; report.as_slice(), want.as_bytes(), "{name}");
         assert_eq!(rt; told, Ok(outcome), "{name}");
     }
@@ -213,108 +37,76 @@ fn reports(rt: HostRuntime) -> Result<(), Fail> {
 // For which line each history is refused, and what is said of it.
 #[test]
 fn refusals(rt: HostRuntime) -> Result<(), Fail> {
-    for (name, input, want, number) in [
-        (
-            "a value written twice",
-            r#"{"process":1,"event":"call","op":"write","register":"x","value":5}
-{"process":1,"event":"reply"}
-{"process":1,"event":"call","op":"write","register":"x","value":5}
-"#,
-            "line 3: value already written to this register at line 1",
-            13,
-        ),
-        (
-            "a reply of nobody",
-            r#"{"process":1,"event":"reply"}
-"#,
-            "line 1: reply without an open call",
-            10,
-        ),
-        (
-            "the least faulty line, not the least number",
-            r#"{"process":1,"event":"call","op":"write","register":"x","value":1}
-{"process":1,"event":"call","op":"write","register":"x","value":2}
-{"process":2,"ev
-"#,
-            "line 2: the process has an open call at line 1",
-            9,
-        ),
-        (
-            "a reply of another value",
-            r#"{"process":1,"event":"call","op":"write","register":"x","value":5}
-{"process":1,"event":"reply","value":6}
-"#,
-            "line 2: reply disagrees with its call",
-            11,
-        ),
-        (
-            "a reply of no value",
-            r#"{"process":1,"event":"call","op":"read","register":"x"}
-{"process":1,"event":"reply"}
-"#,
-            "line 2: a read's reply has no value",
-            12,
-        ),
-        (
-            "a value past the greatest",
-            r#"{"process":1,"event":"call","op":"write","register":"x","value":9223372036854775808}
-"#,
-            "line 1: value does not fit the event",
-            8,
-        ),
-        (
-            "blank lines count",
-            "\n  \t\n{\"process\":1,\"event\":\"reply\"}\n",
-            "line 3: reply without an open call",
-            10,
-        ),
-        (
-            "not JSON",
-            r#"{"process":1,
-"#,
-            "line 1: not JSON",
-            2,
-        ),
-        (
-            "not an object",
-            r#"[]
-"#,
-            "line 1: not an object",
-            3,
-        ),
-        (
-            "a process that is no whole number",
-            r#"{"process":1.0,"event":"reply"}
-"#,
-            "line 1: process is not a whole number from 0 to 4294967295",
-            4,
-        ),
-        (
-            "an unknown event",
-            r#"{"process":1,"event":"fail"}
-"#,
-            "line 1: event is neither call nor reply",
-            5,
-        ),
-        (
-            "an unknown operation",
-            r#"{"process":1,"event":"call","op":"swap","register":"x"}
-"#,
-            "line 1: op is neither read nor write",
-            6,
-        ),
-        (
-            "an empty name",
-            r#"{"process":1,"event":"call","op":"read","register":""}
-"#,
-            "line 1: register is not a text of 1 to 255 bytes",
-            7,
-        ),
-    ] {
-        let (said, told) = answered(rt.alloc(), input)?;
+    for (name, input, want, number) in REFUSALS {
+        let (said, told) = answered(rt.alloc(), input.as_bytes())?;
         assert_eq!(rt; said.as_slice(), want.as_bytes(), "{name}");
         assert_eq!(rt; told, Err(number), "{name}");
     }
+    Ok(())
+}
+
+// A byte that no UTF-8 has is no JSON.
+#[test]
+fn bytes_of_no_text(rt: HostRuntime) -> Result<(), Fail> {
+    let (said, told) = answered(rt.alloc(), &[255])?;
+    assert_eq!(rt; said.as_slice(), "line 1: not JSON".as_bytes());
+    assert_eq!(rt; told, Err(2));
+    Ok(())
+}
+
+// A reply of nobody with arrays in arrays, so many deep.
+fn nested(alloc: Global, depth: usize) -> Result<Vec<u8>, AllocError> {
+    let mut line = Vec::new(alloc);
+    line.extend_from_slice(r#"{"process":1,"event":"reply","z":"#.as_bytes())?;
+    line.extend_from_slice(vec![in alloc; b'['; depth]?.as_slice())?;
+    line.extend_from_slice(vec![in alloc; b']'; depth]?.as_slice())?;
+    line.push(b'}')?;
+    Ok(line)
+}
+
+// What is nested deeper than the reader takes is no JSON to it.
+#[test]
+fn depths(rt: HostRuntime) -> Result<(), Fail> {
+    for (depth, number) in [(20, 10), (2000, 2)] {
+        let (_, told) = answered(rt.alloc(), nested(rt.alloc(), depth)?.as_slice())?;
+        assert_eq!(rt; told, Err(number));
+    }
+    Ok(())
+}
+
+// A write and a read of it, with so many spaces after the first line and before all lines.
+fn spaced(alloc: Global, after: usize, before: usize) -> Result<Vec<u8>, AllocError> {
+    let mut input = Vec::new(alloc);
+    if before > 0 {
+        input.extend_from_slice(vec![in alloc; b' '; before]?.as_slice())?;
+        input.push(b'\n')?;
+    }
+    let (_, history, _, _) = REPORTS[1];
+    let (first, rest) = history.as_bytes().split_at(66);
+    input.extend_from_slice(first)?;
+    input.extend_from_slice(vec![in alloc; b' '; after]?.as_slice())?;
+    input.extend_from_slice(rest)?;
+    Ok(input)
+}
+
+// A line may have 65,536 bytes, and a blank line more.
+#[test]
+fn longest_line(rt: HostRuntime) -> Result<(), Fail> {
+    let alloc = rt.alloc();
+    let (_, _, report, _) = REPORTS[1];
+    let (same, _) = answered(alloc, spaced(alloc, 65_470, 0)?.as_slice())?;
+    assert_eq!(rt; same.as_slice(), report.as_bytes());
+    let (said, _) = answered(alloc, spaced(alloc, 65_471, 0)?.as_slice())?;
+    assert_eq!(rt;
+        said.as_slice(),
+        "line 1: line is longer than 65536 bytes".as_bytes()
+    );
+    let (later, _) = answered(alloc, spaced(alloc, 0, 65_537)?.as_slice())?;
+    let want =
+        r#"{"atomic":"yes","order":[2,4],"pending":0,"points":[2,4],"reads":1,"register":"x","regular":"yes","safe":"yes","writes":1}
+{"atomic":"yes","operations":2,"order":[2,4],"registers":1}
+"#;
+    assert_eq!(rt; later.as_slice(), want.as_bytes());
     Ok(())
 }
 
@@ -335,23 +127,28 @@ fn other_refusals(rt: HostRuntime) -> Result<(), Fail> {
     Ok(())
 }
 
-// Why an input of so many equal bytes is refused.
-fn refused(alloc: Global, length: usize) -> Result<Option<Refusal>, AllocError> {
-    let input = vec![in alloc; b'a'; length]?;
-    Ok(answer(alloc, input.as_slice()).err())
+// What is answered to an input of so many equal bytes.
+fn answered_to(alloc: Global, byte: u8, length: usize) -> Result<Result<Outcome, u8>, AllocError> {
+    let input = vec![in alloc; byte; length]?;
+    Ok(answered(alloc, input.as_slice())?.1)
 }
 
-// One line up to the limit of the input is too long a line; with one byte more, the input is too long.
+// An input up to the limit is looked at: as one line it is too long, as line ends it is an empty history. With one byte
+// more, the input is too long.
 #[test]
 fn longest_input(rt: HostRuntime) -> Result<(), Fail> {
-    let alloc = rt.alloc();
-    let long_line = Refusal::At {
-        line: 1,
-        number: 1,
-        other: None,
-    };
-    assert_eq!(rt; refused(alloc, 67_108_864)?, Some(long_line));
-    assert_eq!(rt; refused(alloc, 67_108_865)?, Some(Refusal::TooLong));
+    for (byte, length, want) in [
+        (b'a', 67_108_864, Err(1)),
+        (b'a', 67_108_865, Err(15)),
+        (b'\n', 67_108_864, Ok(Outcome::Atomic)),
+        (b'\n', 67_108_865, Err(15)),
+    ] {
+        assert_eq!(rt;
+            answered_to(rt.alloc(), byte, length)?,
+            want,
+            "{byte} {length}"
+        );
+    }
     Ok(())
 }
 
@@ -360,6 +157,9 @@ const CALL: &str = r#"{"process":1,"event":"call","op":"read","register":"x"}
 
 const REPLY: &str = r#"{"process":1,"event":"reply","value":null}
 "#;
+
+// More than the report of as many events as there may be: three numbers of seven digits for each of the operations.
+const LONGEST_REPORT: usize = 16_777_216;
 
 // As many events as there may be.
 fn most_events(alloc: Global) -> Result<Vec<u8>, AllocError> {
@@ -376,13 +176,16 @@ fn most_events(alloc: Global) -> Result<Vec<u8>, AllocError> {
 fn longest_history(rt: HostRuntime) -> Result<(), Fail> {
     let alloc = rt.alloc();
     let mut input = most_events(alloc)?;
-    assert!(rt; answer(alloc, input.as_slice()).is_ok());
+    assert!(rt; run_on(alloc, input.as_slice(), LONGEST_REPORT).is_ok());
     input.extend_from_slice(CALL.as_bytes())?;
     let one_too_many = Refusal::At {
         line: 1_048_577,
         number: 14,
         other: None,
     };
-    assert_eq!(rt; answer(alloc, input.as_slice()).err(), Some(one_too_many));
+    assert_eq!(rt;
+        run_on(alloc, input.as_slice(), 0).err(),
+        Some(one_too_many)
+    );
     Ok(())
 }

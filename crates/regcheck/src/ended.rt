@@ -11,9 +11,12 @@ pub enum Ended {
     NotAtomic,
     /// There is no report; with the number of the refusal, 1 to 18.
     Refused(u8),
+    /// The words of the command line were refused, or asked for help.
+    BadWords,
 }
 
-/// The exit status: 0 and 1 with a report, 2 for an input that is refused, 4 where input, memory or output failed.
+/// The exit status: 0 and 1 with a report, 2 for an input that is refused, 3 for bad words, 4 where input, memory or
+/// output failed.
 pub fn status(ended: Ended) -> u8
     ensures { result ≡ status_of ended }
 {
@@ -22,5 +25,6 @@ pub fn status(ended: Ended) -> u8
         Ended::NotAtomic => 1,
         Ended::Refused(number) if number <= 15 => 2,
         Ended::Refused(_) => 4,
+        Ended::BadWords => 3,
     }
 }

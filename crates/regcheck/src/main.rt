@@ -1,55 +1,20 @@
-//! Checks a recorded history of read/write registers on standard input, and writes its report to standard output.
+//! Checks a recorded history of read/write registers, and writes its report to standard output.
 #![tactic(auto)]
 
 mod ended;
 #[cfg(test)]
 mod tests;
+mod words;
+
+ghost use Rattle.std.specs.Prelude.{◌-◌, ◌^◌, ◌<◌};
 
 use ended::{Ended, status};
-use history_text::MAX_INPUT;
-use reg_report::{Outcome, Refusal, answer, message};
-use std::alloc::{AllocError, Global};
-use std::io::{self, Read, Write};
+use reg_report::{FromReader, FromWriter, Outcome, Refusal, Source, message, run};
+use std::alloc::AllocError;
+use std::io;
 use std::process::ExitCode;
-
-/// How many bytes are asked for at once.
-const PIECE: usize = 65_536;
-
-/// All bytes of the input, or where there are more than the limit, enough of them to tell.
-fn whole_input<R: Read + Drop>(alloc: Global, mut reader: R) -> Result<Vec<u8>, Refusal> {
-    let mut input = Vec::new(alloc);
-    let mut piece = vec![in alloc; 0u8; PIECE]?;
-    for _ in 0..u64::MAX {
-        match reader.read(piece.as_mut_slice()) {
-            Ok(0) => return Ok(input),
-            Ok(count) => input.extend_from_slice(&piece[..count])?,
-            Err(error) if error.kind() == io::ErrorKind::Interrupted => {}
-            Err(_) => return Err(Refusal::InputFailed),
-        }
-        if input.len() > MAX_INPUT {
-            return Ok(input);
-        }
-    }
-    Err(Refusal::InputFailed)
-}
-
-/// Writes the whole report, and sees it off.
-fn deliver(mut writer: impl Write + Drop, report: &[u8]) -> Result<(), Refusal> {
-    match writer.write_all(report) {
-        Ok(()) => match writer.flush() {
-            Ok(()) => Ok(()),
-            Err(_) => Err(Refusal::OutputFailed),
-        },
-        Err(_) => Err(Refusal::OutputFailed),
-    }
-}
-
-fn checked(rt: &(impl Input + Print + AllocGlobal)) -> Result<Outcome, Refusal> {
-    let input = whole_input(rt.alloc(), rt.reader())?;
-    let (report, outcome) = answer(rt.alloc(), input.as_slice())?;
-    deliver(io::writer(rt), report.as_slice())?;
-    Ok(outcome)
-}
+use std::rt::{Env, Files};
+use words::{Words, WordsFault, read_words};
 
 /// Says on standard error why there is no report.
 fn tell(rt: &(impl Eprint + AllocGlobal), refusal: Refusal) -> Ended {
@@ -65,11 +30,47 @@ fn tell(rt: &(impl Eprint + AllocGlobal), refusal: Refusal) -> Ended {
     }
 }
 
-fn main(rt: HostRuntime) -> ExitCode {
-    let ended = match checked(&rt) {
+/// Reports what the source has to standard output.
+fn report<S: Source>(rt: &(impl Print + Eprint + AllocGlobal), source: &mut S) -> Ended
+    requires { S.failed source.old < 2 ^ 64 - 1 }
+{
+    let mut sink = FromWriter::new(io::writer(rt));
+    match run(rt.alloc(), source, &mut sink) {
         Ok(Outcome::Atomic) => Ended::Atomic,
         Ok(Outcome::NotAtomic) => Ended::NotAtomic,
-        Err(refusal) => tell(&rt, refusal),
+        Err(refusal) => tell(rt, refusal),
+    }
+}
+
+/// Reports the history that the words name.
+fn history(rt: &(impl Files + Input + Print + Eprint + AllocGlobal), words: &Words) -> Ended {
+    match &words.file {
+        Some(path) => match std::fs::open(rt, path.as_str()) {
+            Ok(file) => report(rt, &mut FromReader::new(file)),
+            Err(_) => tell(rt, Refusal::InputFailed),
+        },
+        None => report(rt, &mut FromReader::new(rt.reader())),
+    }
+}
+
+/// The words after the program's name, read.
+fn asked(rt: &(impl Env + AllocGlobal)) -> Result<Words, WordsFault> {
+    let alloc = rt.alloc();
+    let given: Vec<String> = match std::env::args(rt) {
+        Ok(args) => args.skip(1).collect(alloc)?,
+        Err(_) => return Err(WordsFault::Memory),
+    };
+    read_words(alloc, given.as_slice())
+}
+
+fn main(rt: HostRuntime) -> ExitCode {
+    let ended = match asked(&rt) {
+        Ok(words) => history(&rt, &words),
+        Err(WordsFault::Bad(text)) => {
+            let _ = eprint!(&rt; "{text}");
+            Ended::BadWords
+        }
+        Err(WordsFault::Memory) => tell(&rt, Refusal::NoRoom),
     };
     ExitCode::from(status(ended))
 }

@@ -7,8 +7,7 @@ use Rattle.reg_report.proofs.history.register_reports.Goals as goal
 pub loop-number-preserved : goal.loop-number-preserved
 loop-number-preserved c =
     let h = c.args.arena.now in
-    let n = c.loop-number.number in
-    (
+    let n = c.loop-number.number in (
       subst (λ (xs : List RegReport). AreFirstLines h (n + 1) xs) (sym c.in_ok-push.ensures.items) (one-line-more h c.loop-number.regs.items n c.in_ok-register_report.field-0 c.loop-number.invariant.0 c.in_ok-register_report.ensures),
       c.in_ok-orders.ensures,
     )

@@ -1,0 +1,12 @@
+-- The outcome says of the history what the report says, and the report that was made is the one of which a beginning is out.
+use Rattle.std.proofs.Common.{◌≡◌, subst, refl, ◌∙◌, Ok}
+use Rattle.reg_report.specs.Answer.{IsAnswer, outcome_of}
+use Rattle.reg_report.specs.Text.{report_text}
+use Rattle.reg_report.proofs.whole.run.Goals as goal
+
+pub returns-clause-beginning : goal.returns-clause-beginning
+returns-clause-beginning g c = λ _.
+    let report = c.in_ok-report.report in
+    let answer = subst (λ input. IsAnswer input (Ok report)) c.as_slice.ensures.value c.in_ok-report.ensures.ok in
+    let made : c.as_slice-2.result.now ≡ report_text report = c.as_slice-2.ensures.value ∙ c.in_ok-bytes.ensures in
+    (c.in_ok-input.input.items, c.in_ok-input.ensures.all.0, c.as_slice-2.result.now, outcome_of report, (report, answer, made, refl), c.in-Err.ensures.err)

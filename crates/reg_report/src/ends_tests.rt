@@ -1,0 +1,210 @@
+//! Ends that give and take little at a time, and ends that fail.
+ghost use Rattle.std.specs.Prelude.{◌≡◌};
+
+use super::*;
+use std::alloc::{AllocError, Global};
+use std::io::{self, ErrorKind, Read, Write};
+use std::test::Fail;
+
+// A new value, then the old one, while its write goes on.
+const HISTORY: &str = r#"{"process":1,"event":"call","op":"write","register":"x","value":1}
+{"process":1,"event":"reply"}
+{"process":1,"event":"call","op":"write","register":"x","value":2}
+{"process":2,"event":"call","op":"read","register":"x"}
+{"process":2,"event":"reply","value":2}
+{"process":2,"event":"call","op":"read","register":"x"}
+{"process":2,"event":"reply","value":1}
+{"process":1,"event":"reply"}
+"#;
+
+const REPORT: &str =
+    r#"{"atomic":"no","fault":{"first":[1,4],"kind":"zones","second":[4,6],"writes":[1,3]},"pending":0,"reads":2,"register":"x","regular":"yes","safe":"yes","writes":2}
+{"atomic":"no","operations":4,"registers":1}
+"#;
+
+// What a run answered, the bytes that the sink took, and the failures of the source and of the sink.
+#[derive(Drop)]
+struct Ran {
+    answer: Result<Outcome, Refusal>,
+    taken: Vec<u8>,
+    failures: (u64, u64),
+}
+
+// A run over the history between these ends.
+fn run_between(
+    alloc: Global,
+    mut source: MemSource<'_>,
+    mut sink: MemSink,
+) -> Result<Ran, AllocError>
+    requires source { source.failures ≡ 0 }
+    requires sink { sink.failures ≡ 0 }
+{
+    let answer = run(alloc, &mut source, &mut sink);
+    Ok(Ran {
+        answer,
+        taken: sink.taken().to_vec(alloc)?,
+        failures: (source.failures(), sink.failures()),
+    })
+}
+
+// Pieces of any size give the bytes of the whole.
+#[test]
+fn pieces(rt: HostRuntime) -> Result<(), Fail> {
+    let alloc = rt.alloc();
+    for (pulled, pushed) in [(1, 1), (1, 4096), (7, 10), (4096, 1), (4096, 4096)] {
+        let source = MemSource::new(HISTORY.as_bytes(), pulled, None);
+        let sink = MemSink::new(alloc, REPORT.len(), pushed, false)?;
+        let ran = run_between(alloc, source, sink)?;
+        assert_eq!(rt; ran.answer, Ok(Outcome::NotAtomic), "{pulled} {pushed}");
+        assert_eq!(rt;
+            ran.taken.as_slice(),
+            REPORT.as_bytes(),
+            "{pulled} {pushed}"
+        );
+        assert_eq!(rt; ran.failures, (0, 0), "{pulled} {pushed}");
+    }
+    Ok(())
+}
+
+// A source that fails at any of its pulls, the one that would tell the end too.
+#[test]
+fn failing_source(rt: HostRuntime) -> Result<(), Fail> {
+    let alloc = rt.alloc();
+    let last = HISTORY.len() as u64 + 1;
+    for pull in 1..=last {
+        let source = MemSource::new(HISTORY.as_bytes(), 1, Some(pull));
+        let sink = MemSink::new(alloc, 4096, 4096, false)?;
+        let ran = run_between(alloc, source, sink)?;
+        assert_eq!(rt; ran.answer, Err(Refusal::InputFailed), "{pull}");
+        assert_eq!(rt; ran.taken.len(), 0, "{pull}");
+        assert_eq!(rt; ran.failures, (1, 0), "{pull}");
+    }
+    let source = MemSource::new(HISTORY.as_bytes(), 1, Some(last + 1));
+    let sink = MemSink::new(alloc, 4096, 4096, false)?;
+    assert_eq!(rt;
+        run_between(alloc, source, sink)?.answer,
+        Ok(Outcome::NotAtomic)
+    );
+    Ok(())
+}
+
+// A sink that is full before the whole report is out has exactly what it had room for.
+#[test]
+fn full_sink(rt: HostRuntime) -> Result<(), Fail> {
+    let alloc = rt.alloc();
+    for room in 0..REPORT.len() {
+        let source = MemSource::new(HISTORY.as_bytes(), 4096, None);
+        let sink = MemSink::new(alloc, room, 10, false)?;
+        let ran = run_between(alloc, source, sink)?;
+        assert_eq!(rt; ran.answer, Err(Refusal::OutputFailed), "{room}");
+        assert_eq!(rt; ran.taken.as_slice(), &REPORT.as_bytes()[..room], "{room}");
+        assert_eq!(rt; ran.failures, (0, 1), "{room}");
+    }
+    Ok(())
+}
+
+// A sink that fails at its flush has the whole report, and the run says that it failed.
+#[test]
+fn failing_flush(rt: HostRuntime) -> Result<(), Fail> {
+    let alloc = rt.alloc();
+    let source = MemSource::new(HISTORY.as_bytes(), 4096, None);
+    let sink = MemSink::new(alloc, REPORT.len(), 4096, true)?;
+    let ran = run_between(alloc, source, sink)?;
+    assert_eq!(rt; ran.answer, Err(Refusal::OutputFailed));
+    assert_eq!(rt; ran.taken.as_slice(), REPORT.as_bytes());
+    assert_eq!(rt; ran.failures, (0, 1));
+    Ok(())
+}
+
+// A write and a read of it into a sink that takes ten bytes, and from a source that fails at once.
+#[test]
+fn ten_bytes(rt: HostRuntime) -> Result<(), Fail> {
+    let alloc = rt.alloc();
+    let history = r#"{"process":1,"event":"call","op":"write","register":"x","value":5}
+{"process":1,"event":"reply"}
+{"process":2,"event":"call","op":"read","register":"x"}
+{"process":2,"event":"reply","value":5}
+"#;
+    for (fail_at, refusal, taken) in [
+        (None, Refusal::OutputFailed, r#"{"atomic":"#),
+        (Some(1), Refusal::InputFailed, ""),
+    ] {
+        let source = MemSource::new(history.as_bytes(), 4096, fail_at);
+        let sink = MemSink::new(alloc, 10, 4096, false)?;
+        let ran = run_between(alloc, source, sink)?;
+        assert_eq!(rt; ran.answer, Err(refusal));
+        assert_eq!(rt; ran.taken.as_slice(), taken.as_bytes());
+    }
+    Ok(())
+}
+
+// An input that is refused leaves the sink empty.
+#[test]
+fn refused_input(rt: HostRuntime) -> Result<(), Fail> {
+    let alloc = rt.alloc();
+    for (input, line, number) in [("{\n", 1, 2), ("\n[]\n", 2, 3)] {
+        let source = MemSource::new(input.as_bytes(), 1, None);
+        let sink = MemSink::new(alloc, 4096, 1, false)?;
+        let ran = run_between(alloc, source, sink)?;
+        let other = None;
+        assert_eq!(rt;
+            ran.answer,
+            Err(Refusal::At {
+                line,
+                number,
+                other
+            })
+        );
+        assert_eq!(rt; ran.taken.len(), 0);
+        assert_eq!(rt; ran.failures, (0, 0));
+    }
+    Ok(())
+}
+
+// Interrupts every other read and write.
+#[derive(Drop)]
+struct Interrupting<T: Drop> {
+    inner: T,
+    interrupts: bool,
+}
+
+impl<R: Read + Drop> Read for Interrupting<R> {
+    fn read(&mut self, buf: &mut [u8]) -> io::Result<usize> {
+        self.interrupts = !self.interrupts;
+        if self.interrupts {
+            return Err(io::Error::from(ErrorKind::Interrupted));
+        }
+        self.inner.read(buf)
+    }
+}
+
+impl<W: Write + Drop> Write for Interrupting<W> {
+    fn write(&mut self, buf: &[u8]) -> io::Result<usize> {
+        self.interrupts = !self.interrupts;
+        if self.interrupts {
+            return Err(io::Error::from(ErrorKind::Interrupted));
+        }
+        self.inner.write(buf)
+    }
+
+    fn flush(&mut self) -> io::Result<()> {
+        self.inner.flush()
+    }
+}
+
+// A read or a write that is interrupted is tried again, and is no failure.
+#[test]
+fn interrupted(rt: HostRuntime) -> Result<(), Fail> {
+    let alloc = rt.alloc();
+    let mut source = FromReader::new(Interrupting {
+        inner: HISTORY.as_bytes(),
+        interrupts: false,
+    });
+    let mut sink = FromWriter::new(Interrupting {
+        inner: Vec::<u8>::new(alloc),
+        interrupts: false,
+    });
+    assert_eq!(rt; run(alloc, &mut source, &mut sink), Ok(Outcome::NotAtomic));
+    assert_eq!(rt; (source.failures(), sink.failures()), (0, 0));
+    Ok(())
+}

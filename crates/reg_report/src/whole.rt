@@ -1,0 +1,56 @@
+//! From the bytes that a source has left to the report that a sink takes.
+ghost use Rattle.std.specs.Prelude.{◌≡◌, ◌≢◌, ◌⊎◌, ◌-◌, ◌^◌, ◌<◌, ◌↔◌, length, Err, IfOk, OnOk, IfErr, IfSome};
+ghost use Rattle.history_text.specs.declared.limits.TheConstants.{MAX_INPUT};
+ghost use Rattle.reg_report.specs.Run.{IsOfInput, IsRefusedWhole, Reports, ReportsBeginning, TellsAtomic};
+
+use crate::checked::check;
+use crate::ends::{Sink, Source};
+use crate::outcome::Outcome;
+use crate::pulled::pull_all;
+use crate::pushed::deliver;
+use crate::refusal::Refusal;
+use crate::written::text;
+use std::alloc::Global;
+
+/// Checks the history in all the bytes that the source has left, pushes its report, whole, and flushes. Nothing is
+/// pushed before the whole report is made.
+///
+/// # Errors
+/// `InputFailed` where a pull failed, and then nothing else; `TooLong` where there were more bytes than
+/// [`MAX_INPUT`](crate::MAX_INPUT), whatever memory there is; `At` where the history isn't well formed; `NoRoom` where memory was refused;
+/// `OutputFailed` where a push or the flush failed, and then a beginning of the report is out.
+pub fn run<R: Source, W: Sink>(
+    alloc: Global,
+    source: &mut R,
+    sink: &mut W,
+) -> Result<Outcome, Refusal>
+    requires source { R.failed source.old < 2 ^ 64 - 1 }
+    requires sink { W.failed sink.old < 2 ^ 64 - 1 }
+
+    // The bytes that the sink took are the report of all the bytes that the source had left.
+    ensures report { IfOk result (λ outcome. Reports (R.left source.old) (W.taken sink.old) (W.taken sink.new) outcome) }
+
+    // It says whether that history is atomic.
+    ensures atomic { IfOk result (TellsAtomic (R.left source.old)) }
+    ensures flushed { OnOk result (W.is_flushed sink.new) }
+
+    // An input that is refused is refused for all those bytes.
+    ensures refused { IfErr result (λ refusal. IsOfInput refusal → IsRefusedWhole (R.left source.old) refusal) }
+    ensures too_long { IfSome (R.left source.old) (λ input. MAX_INPUT < length input → (result ≡ Err Refusal.TooLong) ⊎ (result ≡ Err Refusal.InputFailed)) }
+
+    // A failure is answered exactly where there was one.
+    ensures input_failed { (result ≡ Err Refusal.InputFailed) ↔ (R.failed source.old < R.failed source.new) }
+    ensures output_failed { (result ≡ Err Refusal.OutputFailed) ↔ (W.failed sink.old < W.failed sink.new) }
+
+    // After a failure of the sink a beginning of the report is out, and after any other refusal nothing was pushed.
+    ensures beginning { result ≡ Err Refusal.OutputFailed → ReportsBeginning (R.left source.old) (W.taken sink.old) (W.taken sink.new) }
+    ensures nothing { IfErr result (λ refusal. refusal ≢ Refusal.OutputFailed → sink.new ≡ sink.old) }
+{
+    let input = pull_all(alloc, source)?;
+    let report = check(alloc, input.as_slice())?;
+    let bytes = text(alloc, &report)?;
+    match deliver(sink, bytes.as_slice()) {
+        Ok(()) => Ok(Outcome::of(&report)),
+        Err(_) => Err(Refusal::OutputFailed),
+    }
+}

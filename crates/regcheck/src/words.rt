@@ -1,0 +1,70 @@
+//! The words of the command line.
+use clap::error::ErrorKind;
+use clap::{Arg, Command, Error};
+use std::alloc::{AllocError, Global};
+
+const ABOUT: &str =
+    "Checks a recorded history of reads and writes of registers: whether each is safe, regular and atomic.";
+
+const FILE: &str = "The history, one JSON event a line; standard input where it is absent";
+
+const STATUSES: &str = "The report goes to standard output. Exit status:
+  0  the history is atomic
+  1  it isn't
+  2  the history is refused: it isn't well formed, or too long
+  3  the command line is refused, or it asked for this help
+  4  the history couldn't be read, the report couldn't be written, or memory was refused";
+
+/// What the words ask for.
+#[derive(Drop)]
+pub struct Words {
+    /// The name of the file with the history; standard input where there is none.
+    pub file: Option<String>,
+}
+
+/// Why there are no words.
+#[derive(Drop)]
+pub enum WordsFault {
+    /// They are refused, or ask for help: the text of the parser, with its line ends.
+    Bad(String),
+    /// Memory was refused.
+    Memory,
+}
+
+impl From<AllocError> for WordsFault {
+    fn from(_error: AllocError) -> WordsFault {
+        WordsFault::Memory
+    }
+}
+
+fn command<'a>(alloc: Global) -> Result<Command<'a>, AllocError> {
+    let file = Arg::new(alloc, "file").value_name("FILE").help(FILE);
+    Command::new(alloc, "regcheck")
+        .no_binary_name(true)
+        .about(ABOUT)
+        .after_help(STATUSES)
+        .arg(file)
+}
+
+fn fault(alloc: Global, error: &Error) -> Result<WordsFault, AllocError> {
+    if error.kind() == ErrorKind::OutOfMemory {
+        return Ok(WordsFault::Memory);
+    }
+    Ok(WordsFault::Bad(format!(in alloc; "{error}")?))
+}
+
+/// Reads the words after the program's name: one file at most.
+///
+/// # Errors
+/// `Bad` where the words are others, or ask for help; `Memory` where memory was refused.
+pub fn read_words(alloc: Global, words: &[String]) -> Result<Words, WordsFault> {
+    let matches = match command(alloc)?.try_get_matches_from(words) {
+        Ok(matches) => matches,
+        Err(error) => return Err(fault(alloc, &error)?),
+    };
+    let file = match matches.get_str("file") {
+        Some(name) => Some(String::from_str(alloc, name)?),
+        None => None,
+    };
+    Ok(Words { file })
+}
