@@ -208,3 +208,40 @@ fn interrupted(rt: HostRuntime) -> Result<(), Fail> {
     assert_eq!(rt; (source.failures(), sink.failures()), (0, 0));
     Ok(())
 }
+
+// Takes up to so many bytes at a write, and says whether a flush succeeds.
+#[derive(Drop)]
+struct Limited {
+    takes: usize,
+    flushes: bool,
+}
+
+impl Write for Limited {
+    fn write(&mut self, buf: &[u8]) -> io::Result<usize> {
+        Ok(self.takes.min(buf.len()))
+    }
+
+    fn flush(&mut self) -> io::Result<()> {
+        if self.flushes {
+            return Ok(());
+        }
+        Err(io::Error::from(ErrorKind::Other))
+    }
+}
+
+// A writer that takes nothing is a sink that fails, and so is one whose flush fails.
+#[test]
+fn failing_writer(rt: HostRuntime) -> Result<(), Fail> {
+    for (takes, flushes, want, failures) in [
+        (1, true, Ok(Outcome::NotAtomic), 0),
+        (0, true, Err(Refusal::OutputFailed), 1),
+        (1, false, Err(Refusal::OutputFailed), 1),
+    ] {
+        let mut source = MemSource::new(HISTORY.as_bytes(), 4096, None);
+        let mut sink = FromWriter::new(Limited { takes, flushes });
+        let answer = run(rt.alloc(), &mut source, &mut sink);
+        assert_eq!(rt; answer, want, "{takes} {flushes}");
+        assert_eq!(rt; sink.failures(), failures, "{takes} {flushes}");
+    }
+    Ok(())
+}
