@@ -10,6 +10,5 @@ mod OrderLines
 mod Atomic
 mod Counting
 mod OneReport
-mod Outcomes
 pub mod Pulling
 mod Pushing

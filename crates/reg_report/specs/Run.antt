@@ -1,5 +1,5 @@
 -- What a run of the whole does.
-use Rattle.std.specs.Prelude.{◌≡◌, ℕ, List, Err, Option}
+use Rattle.std.specs.Prelude.{ℕ, List, Err, Option}
 use Rattle.std.specs.Io.KnownBytes.{Appends}
 use Rattle.history_text.specs.Reading.{history_lines}
 use Rattle.reg_arena.specs.History.{history_of}
