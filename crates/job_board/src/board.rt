@@ -177,7 +177,8 @@ impl<A: Allocator> Board<A> {
         ensures ok { IfOk result (λ n. (seat.view.weight ≡ FULL_WEIGHT) × ClosesWith self.jobs seat.view n) }
         ensures err { IfErr result (λ out. (seat.view.weight ≢ FULL_WEIGHT) × (out.board ≡ self) × (out.seat ≡ seat)) }
     {
-        if seat.weight != FULL_WEIGHT {
+        let is_whole = seat.weight == FULL_WEIGHT;
+        if !is_whole {
             return Err(SeatsOut { board: self, seat });
         }
         let closed = self.table.close_with(seat.token);
