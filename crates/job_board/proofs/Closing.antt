@@ -1,9 +1,9 @@
 -- What the seat with all the weight has when the board is closed.
-use Rattle.job_board.specs.declared.limits.TheConstants.{FULL_WEIGHT}
 use Rattle.std.proofs.Common.{◌≡◌, ℕ, ◌<◌, min, List, [], ◌∷◌, sym, refl, ap, ◌∙◌, inl, inr, subst, ⊎_elim, arith}
 use mathlib.Core.Option.{some, some-injective}
 use lib.ListN.{get_elem?}
 use Rattle.atomic_table.specs.Table.{Final, Seen}
+use Rattle.job_board.specs.declared.limits.TheConstants.{FULL_WEIGHT}
 use Rattle.job_board.specs.Numbers.{times}
 use Rattle.job_board.specs.Seats.{View, spent_view}
 use Rattle.job_board.specs.Facts.{total, flag_count, IsSound, IsConsistent}

@@ -1,8 +1,8 @@
 -- A draw keeps the facts, and its number is a new one.
-use Rattle.job_board.specs.declared.limits.TheConstants.{MAX_JOBS, FULL_WEIGHT}
 use Rattle.std.proofs.Common.{◌≡◌, ℕ, ◌+◌, ◌<◌, ◌≤◌, min, false, eqb, List, [], ◌∷◌, set, sym, refl, ap, ◌∙◌, arith}
 use mathlib.Core.Option.{some}
 use lib.ListN.{get_elem?}
+use Rattle.job_board.specs.declared.limits.TheConstants.{MAX_JOBS, FULL_WEIGHT}
 use Rattle.job_board.specs.Numbers.{one_if, times, times_below, IsDistinct}
 use Rattle.job_board.specs.Seats.{View, with_drawn, with_told}
 use Rattle.job_board.specs.Facts.{weight_of, number_if, told_weight, draw_count, flag_count, IsSound, IsConsistent}

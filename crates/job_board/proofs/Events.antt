@@ -1,12 +1,12 @@
 -- Every list of events keeps the facts.
 use Rattle.std.proofs.Common.{◌≡◌, ℕ, ◌+◌, ◌≤◌, ltb, if◌then◌else◌, true, false, List, [], ◌∷◌, set, sym, ◌∙◌, subst, lt_of_not-le}
+use Rattle.std.proofs.lemmas.Bool.{lt-ltb, le-ltb}
 use native.Mathlib.Decide.{dec_le}
 use Rattle.atomic_table.proofs.Lists.{set_else}
+use Rattle.job_board.specs.declared.limits.TheConstants.{MAX_JOBS}
 use Rattle.job_board.specs.Seats.{View, with_drawn, with_told, joint_view}
 use Rattle.job_board.specs.Facts.{IsConsistent}
 use Rattle.job_board.specs.Events.{State, state_of, opening_state, Event, draw, flag, look, split, join, IsSeatAt, view_after_draw, Leads, LeadTo}
-use Rattle.std.proofs.lemmas.Bool.{lt-ltb, le-ltb}
-use Rattle.job_board.specs.declared.limits.TheConstants.{MAX_JOBS}
 use Rattle.job_board.proofs.Opening.{opening_keeps}
 use Rattle.job_board.proofs.Drawing.{draw_keeps, telling_keeps}
 use Rattle.job_board.proofs.Flagging.{flag_keeps}
@@ -38,7 +38,7 @@ event_keeps jobs (join id other) c d h t = subst (IsGood jobs) (sym t.5)
     (join_keeps jobs c.next c.least c.seats id other t.0 t.1 h t.2.0 t.4 (set_else c.seats id other (joint_view t.0 t.1) t.4 ∙ t.3.0) t.2.1 t.3.1)
 
 -- one after another
-pub each_keeps : (jobs : ℕ) (es : List Event) (c d : State) → IsGood jobs c → LeadTo jobs es c d → IsGood jobs d
+each_keeps : (jobs : ℕ) (es : List Event) (c d : State) → IsGood jobs c → LeadTo jobs es c d → IsGood jobs d
 each_keeps jobs [] c d h e = subst (IsGood jobs) e h
 each_keeps jobs (e ∷ es) c d h r = each_keeps jobs es r.0 d (event_keeps jobs e c r.0 h r.1) r.2
 

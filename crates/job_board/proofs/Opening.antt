@@ -1,7 +1,7 @@
 -- The facts hold of a new board.
-use Rattle.job_board.specs.declared.limits.TheConstants.{MAX_JOBS}
 use Rattle.std.proofs.Common.{ℕ, zero, suc, ◌≤◌, min, [], ◌∷◌, sym, refl, inl, subst, arith}
 use mathlib.Core.Option.{some-injective, some-ne-none}
+use Rattle.job_board.specs.declared.limits.TheConstants.{MAX_JOBS}
 use Rattle.job_board.specs.Seats.{opening_view}
 use Rattle.job_board.specs.Facts.{flag_count, IsSound, EachSeat, IsConsistent}
 use Rattle.job_board.proofs.Times.{once_high}

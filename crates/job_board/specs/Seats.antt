@@ -1,6 +1,6 @@
 -- What a seat has, and what each step changes in the seat that steps (this project's own design).
 use Rattle.std.specs.Prelude.{ℕ, ◌+◌, ◌-◌, min, Bool, true, false, ◌||◌, List, [], ◌∷◌, ◌++◌}
-use Rattle.atomic_table.specs.Seated.{TableId}
+pub use Rattle.atomic_table.specs.Seated.{TableId}
 use Rattle.job_board.specs.declared.limits.TheConstants.{FULL_WEIGHT}
 pub use Rattle.job_board.specs.declared.view.View.{View}
 

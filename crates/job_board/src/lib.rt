@@ -2,8 +2,10 @@
 //!
 //! What the floor above may rely on: [`Board::open`] gives a board and its one seat. Seats are [`split`](Board::split) and [`joined`](Board::join), and who
 //! has one may step: [`draw`](Board::draw) gives a number that no seat drew before, [`flag`](Board::flag) marks a drawn number, and
-//! [`look`](Board::look) gives a flagged one. Where all seats are one again, [`close`](Board::close) gives the least flagged number, and that seat
-//! drew each number once. All this holds in every schedule.
+//! [`look`](Board::look) gives a flagged one, or the number of jobs. Where all seats are one again, [`close`](Board::close) gives the least flagged number,
+//! and what that seat drew is each number below a bound, once: all numbers, where a draw has given `None`.
+//!
+//! All this holds in every schedule, by facts that hold between any two steps. [`laws`] says that every list of the board's events keeps them.
 //!
 //! The board is two atomic words, `next` and `least`. A draw, flag or look is one step on one of them: no lock, no wait, no second try. All calls but
 //! `open` take no memory and always answer.
