@@ -1,3 +1,4 @@
+//! Tests of what no clause says: that looks find flags, and boards under threads of the callers' own.
 ghost use Rattle.std.specs.Prelude.{◌≡◌, ◌≤◌, ◌<◌, All, IfOk, IfSome};
 
 use super::*;
