@@ -1,0 +1,13 @@
+pub mod Times
+pub mod Totals
+pub mod Sound
+pub mod Opening
+pub mod Drawing
+pub mod Flagging
+pub mod Looking
+pub mod Splitting
+pub mod Joining
+pub mod Closing
+pub mod Allowed
+pub mod Events
+pub mod Lacking

@@ -1,0 +1,5 @@
+pub mod Numbers
+pub mod Seats
+pub mod Facts
+pub mod Events
+pub mod Steps
