@@ -8,6 +8,7 @@ use crate::settings::Settings;
 use crate::simulation::Simulation;
 use std::alloc::{AllocError, Global};
 
+/// A history of clients that take turns, after the opening of its kind.
 fn simulated(
     alloc: Global,
     settings: Settings,

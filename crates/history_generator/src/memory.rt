@@ -14,6 +14,7 @@ pub(crate) struct Register {
     pub replied: u32,
 }
 
+/// A register that nobody wrote.
 const INITIAL: Register = Register {
     called: 0,
     held: 0,

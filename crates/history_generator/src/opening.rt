@@ -49,6 +49,7 @@ static OLD_VALUE: [Event; 4] = [
     },
 ];
 
+/// The events that a kind begins with.
 fn opening(kind: Kind) -> &'static [Event] {
     match kind {
         Kind::Inversion => INVERSION.as_slice(),
@@ -57,6 +58,7 @@ fn opening(kind: Kind) -> &'static [Event] {
     }
 }
 
+/// Adds events in their order.
 fn record_all(history: &mut History, events: &[Event]) -> Result<(), AllocError> {
     for event in events {
         history.record(*event)?;

@@ -5,6 +5,7 @@ use crate::kind::Kind;
 use crate::settings::Settings;
 use std::alloc::AllocError;
 
+/// A write with its reply.
 fn write_alone(
     history: &mut History,
     process: u32,
@@ -19,6 +20,7 @@ fn write_alone(
     history.record(Event::WriteReply { process })
 }
 
+/// The calls of reads by the first processes, as many as there are readers.
 fn read_calls(history: &mut History, readers: u32, register: u32) -> Result<(), AllocError> {
     for process in 0..readers {
         history.record(Event::ReadCall { process, register })?;
@@ -26,6 +28,7 @@ fn read_calls(history: &mut History, readers: u32, register: u32) -> Result<(), 
     Ok(())
 }
 
+/// The replies to those reads, in the order of the calls or in reverse.
 fn read_replies(
     history: &mut History,
     kind: Kind,
@@ -63,6 +66,7 @@ pub(crate) fn hot(settings: Settings, history: &mut History) -> Result<(), Alloc
     history.fill(settings.processes)
 }
 
+/// The calls of writes by the processes from 1 on, each of its own number.
 fn write_calls(history: &mut History, writers: u32) -> Result<(), AllocError> {
     for writer in 1..=writers {
         history.record(Event::WriteCall {
@@ -74,6 +78,7 @@ fn write_calls(history: &mut History, writers: u32) -> Result<(), AllocError> {
     Ok(())
 }
 
+/// The replies to those writes, in the order of the calls.
 fn write_replies(history: &mut History, writers: u32) -> Result<(), AllocError> {
     for process in 1..=writers {
         history.record(Event::WriteReply { process })?;
@@ -81,6 +86,7 @@ fn write_replies(history: &mut History, writers: u32) -> Result<(), AllocError> 
     Ok(())
 }
 
+/// Reads of a write by process 0, one after the other.
 fn reads_alone(history: &mut History, reads: u32, write: u32) -> Result<(), AllocError> {
     for _ in 0..reads {
         history.record(Event::ReadCall {

@@ -64,10 +64,12 @@ impl Simulation {
         })
     }
 
+    /// True once in [`SELDOM`] times.
     fn seldom(&mut self) -> bool {
         self.random.random_ratio(1, SELDOM)
     }
 
+    /// True half of the time.
     fn coin(&mut self) -> bool {
         self.random.random_ratio(1, 2)
     }
@@ -84,6 +86,7 @@ impl Simulation {
         }
     }
 
+    /// Calls an operation on any register.
     fn call(&mut self, client: u32, process: u32) -> Result<Stage, AllocError> {
         let register = self.random.random_range(0..self.settings.registers);
         self.open = self.open.saturating_add(1);
@@ -122,12 +125,14 @@ impl Simulation {
         Stage::WriteServed { register, write }
     }
 
+    /// Ends an open operation.
     fn reply(&mut self, event: Event) -> Result<Stage, AllocError> {
         self.open = self.open.saturating_sub(1);
         self.history.record(event)?;
         Ok(Stage::Idle)
     }
 
+    /// Takes the client's turn, and says what it does then.
     fn after(&mut self, number: u32, client: Client) -> Result<Stage, AllocError> {
         let process = client.process;
         match client.stage {
@@ -145,6 +150,7 @@ impl Simulation {
         }
     }
 
+    /// The client with a number, below the number of processes.
     fn client(&self, number: u32) -> Client {
         match self.clients.get(number as usize) {
             Some(client) => *client,
@@ -155,6 +161,7 @@ impl Simulation {
         }
     }
 
+    /// Changes the client with a number.
     fn set_client(&mut self, number: u32, client: Client) {
         if let Some(place) = self.clients.get_mut(number as usize) {
             *place = client;
@@ -223,6 +230,7 @@ impl Simulation {
         self.history.fill(self.next_process)
     }
 
+    /// Lets each client end its open operation.
     fn end_all(&mut self) -> Result<(), AllocError> {
         for number in 0..self.settings.processes {
             self.end(number)?;
