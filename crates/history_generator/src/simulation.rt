@@ -1,6 +1,7 @@
 //! Clients that take turns at random. A turn is a call, an effect or a reply, so that an operation takes effect at one
 //! instant between its call and its reply, on the registers in memory: the order of these instants is a legal order,
-//! and the history is atomic. Of the kinds that aren't, a rule of `served_write` or `served_read` breaks this.
+//! and the history is atomic. Where a client died, its operation took effect before, or is dropped. Of the kinds that
+//! aren't atomic, a rule of `served_write` or `served_read` breaks this.
 use crate::client::{Client, Stage};
 use crate::event::Event;
 use crate::history::History;
