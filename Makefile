@@ -1,9 +1,10 @@
 # make: prove and build bin/regcheck. make run: run it on a shipped example, or on FILE=... make test: the merge gate.
+# make bench: time it on generated histories, in a few minutes.
 FILE ?= examples/new_old_inversion.jsonl
 PREFIX ?= /usr/local
 SOURCES := $(shell find crates -name out -prune -o -type f \( -name '*.rt' -o -name '*.antt' \) -print)
 
-.PHONY: all run test install clean
+.PHONY: all run test bench install clean
 
 all: bin/regcheck
 
@@ -13,11 +14,19 @@ bin/regcheck: $(SOURCES) crates.txt
 	mkdir -p bin
 	cp crates/regcheck/out/regcheck bin/regcheck
 
+bin/history_generator: $(SOURCES) crates.txt
+	cd crates/history_generator && rt run -- sequential > /dev/null
+	mkdir -p bin
+	cp crates/history_generator/out/history_generator bin/history_generator
+
 run: bin/regcheck
 	bin/regcheck < $(FILE); status=$$?; test $$status -le 1
 
 test:
 	rt ci
+
+bench: bin/regcheck bin/history_generator
+	bench/run
 
 install: bin/regcheck
 	install -D -m 755 bin/regcheck $(DESTDIR)$(PREFIX)/bin/regcheck

@@ -1,0 +1,246 @@
+//! Clients that take turns at random. A turn is a call, an effect or a reply, so that an operation takes effect at one
+//! instant between its call and its reply, on the registers in memory: the order of these instants is a legal order,
+//! and the history is atomic. Where a client died, its operation took effect before, or is dropped. Of the kinds that
+//! aren't atomic, a rule of `served_write` or `served_read` breaks this.
+use crate::client::{Client, Stage};
+use crate::event::Event;
+use crate::history::History;
+use crate::kind::Kind;
+use crate::memory::Memory;
+use crate::settings::Settings;
+use rand::rngs::SmallRng;
+use rand::{RngExt, SeedableRng};
+use std::alloc::{AllocError, Global};
+
+/// Of so many chances to break a rule, or to die, one is taken.
+const SELDOM: u32 = 16;
+
+/// The clients, the memory that serves them, and what they did.
+#[derive(Drop)]
+pub(crate) struct Simulation {
+    settings: Settings,
+    random: SmallRng,
+    memory: Memory,
+    clients: Vec<Client>,
+    history: History,
+    /// How many clients have an open call.
+    open: u32,
+    /// The number of the next process that joins.
+    next_process: u32,
+}
+
+/// The number of a write as a reply gives it; the initial write is none.
+fn seen(write: u32) -> Option<u32> {
+    if write == 0 { None } else { Some(write) }
+}
+
+/// Idle clients, as the processes from 0 on.
+fn idle_clients(alloc: Global, processes: u32) -> Result<Vec<Client>, AllocError> {
+    let mut clients = Vec::with_capacity(alloc, processes as usize)?;
+    for process in 0..processes {
+        clients.push(Client {
+            process,
+            stage: Stage::Idle,
+        })?;
+    }
+    Ok(clients)
+}
+
+impl Simulation {
+    /// Idle clients before a memory, with a history that is to go on.
+    pub(crate) fn new(
+        alloc: Global,
+        settings: Settings,
+        memory: Memory,
+        history: History,
+    ) -> Result<Self, AllocError> {
+        Ok(Simulation {
+            settings,
+            random: SmallRng::seed_from_u64(settings.seed),
+            memory,
+            clients: idle_clients(alloc, settings.processes)?,
+            history,
+            open: 0,
+            next_process: settings.processes,
+        })
+    }
+
+    /// True once in [`SELDOM`] times.
+    fn seldom(&mut self) -> bool {
+        self.random.random_ratio(1, SELDOM)
+    }
+
+    /// True half of the time.
+    fn coin(&mut self) -> bool {
+        self.random.random_ratio(1, 2)
+    }
+
+    /// Whether the client's next operation on the register is a write. Where values may be old, each register has one
+    /// client that writes it.
+    fn chooses_write(&mut self, client: u32, register: u32) -> bool {
+        match self.settings.kind {
+            Kind::Writes => true,
+            Kind::Inversion | Kind::Stale | Kind::Lost => {
+                register % self.settings.processes == client && self.coin()
+            }
+            _ => self.coin(),
+        }
+    }
+
+    /// Calls an operation on any register.
+    fn call(&mut self, client: u32, process: u32) -> Result<Stage, AllocError> {
+        let register = self.random.random_range(0..self.settings.registers);
+        self.open = self.open.saturating_add(1);
+        if self.chooses_write(client, register) {
+            let write = self.memory.call_write(register);
+            self.history.record(Event::WriteCall {
+                process,
+                register,
+                write,
+            })?;
+            Ok(Stage::WriteCalled { register, write })
+        } else {
+            let replied = self.memory.register(register).replied;
+            self.history.record(Event::ReadCall { process, register })?;
+            Ok(Stage::ReadCalled { register, replied })
+        }
+    }
+
+    /// What a read sees. Atomic: what the register holds. Regular: the last write that was replied to, or the one
+    /// that is open. Stale: at times the write before the last that was replied to when the read was called.
+    fn served_read(&mut self, register: u32, replied: u32) -> Stage {
+        let now = self.memory.register(register);
+        let write = match self.settings.kind {
+            Kind::Inversion => { if self.coin() { now.called } else { now.replied } }
+            Kind::Stale if replied > 0 => { if self.seldom() { replied - 1 } else { now.held } }
+            _ => now.held,
+        };
+        Stage::ReadServed { write }
+    }
+
+    /// Stores what is written, save that at times it is lost.
+    fn served_write(&mut self, register: u32, write: u32) -> Stage {
+        if self.settings.kind != Kind::Lost || !self.seldom() {
+            self.memory.store(register, write);
+        }
+        Stage::WriteServed { register, write }
+    }
+
+    /// Ends an open operation.
+    fn reply(&mut self, event: Event) -> Result<Stage, AllocError> {
+        self.open = self.open.saturating_sub(1);
+        self.history.record(event)?;
+        Ok(Stage::Idle)
+    }
+
+    /// Takes the client's turn, and says what it does then.
+    fn after(&mut self, number: u32, client: Client) -> Result<Stage, AllocError> {
+        let process = client.process;
+        match client.stage {
+            Stage::Idle => self.call(number, process),
+            Stage::ReadCalled { register, replied } => Ok(self.served_read(register, replied)),
+            Stage::WriteCalled { register, write } => Ok(self.served_write(register, write)),
+            Stage::ReadServed { write } => self.reply(Event::ReadReply {
+                process,
+                write: seen(write),
+            }),
+            Stage::WriteServed { register, write } => {
+                self.memory.reply_write(register, write);
+                self.reply(Event::WriteReply { process })
+            }
+        }
+    }
+
+    /// The client with a number, below the number of processes.
+    fn client(&self, number: u32) -> Client {
+        match self.clients.get(number as usize) {
+            Some(client) => *client,
+            None => Client {
+                process: number,
+                stage: Stage::Idle,
+            },
+        }
+    }
+
+    /// Changes the client with a number.
+    fn set_client(&mut self, number: u32, client: Client) {
+        if let Some(place) = self.clients.get_mut(number as usize) {
+            *place = client;
+        }
+    }
+
+    /// Lets a client take a turn.
+    fn turn(&mut self, number: u32) -> Result<(), AllocError> {
+        let client = self.client(number);
+        let stage = self.after(number, client)?;
+        self.set_client(number, Client { stage, ..client });
+        Ok(())
+    }
+
+    /// Leaves the client's open call pending for good, and puts a new process in its place.
+    fn replace(&mut self, number: u32) {
+        let process = self.next_process;
+        self.next_process = process.saturating_add(1);
+        self.open = self.open.saturating_sub(1);
+        self.set_client(
+            number,
+            Client {
+                process,
+                stage: Stage::Idle,
+            },
+        );
+    }
+
+    /// Picks a client, and lets it take a turn, a whole operation, or its leave.
+    fn step(&mut self) -> Result<(), AllocError> {
+        let number = self.random.random_range(0..self.settings.processes);
+        if self.settings.kind == Kind::Sequential {
+            self.turn(number)?;
+            return self.end(number);
+        }
+        let is_open = self.client(number).stage != Stage::Idle;
+        if self.settings.kind == Kind::Pending && is_open && self.seldom() {
+            self.replace(number);
+            Ok(())
+        } else {
+            self.turn(number)
+        }
+    }
+
+    /// Lets a client end its open operation.
+    fn end(&mut self, number: u32) -> Result<(), AllocError> {
+        for _ in 0..2 {
+            if self.client(number).stage != Stage::Idle {
+                self.turn(number)?;
+            }
+        }
+        Ok(())
+    }
+
+    /// Lets clients call until each event that is left is needed for a reply, and then lets each client end. An event
+    /// that is left over is a call by one more process.
+    pub(crate) fn run(&mut self) -> Result<(), AllocError> {
+        // Each operation takes three turns at most, and has at least one event, its call.
+        for _ in 0..u64::from(self.settings.events) * 3 {
+            if self.history.left() < self.open.saturating_add(2) {
+                break;
+            }
+            self.step()?;
+        }
+        self.end_all()?;
+        self.history.fill(self.next_process)
+    }
+
+    /// Lets each client end its open operation.
+    fn end_all(&mut self) -> Result<(), AllocError> {
+        for number in 0..self.settings.processes {
+            self.end(number)?;
+        }
+        Ok(())
+    }
+
+    /// What the clients did.
+    pub(crate) fn into_history(self) -> History {
+        self.history
+    }
+}
