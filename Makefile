@@ -1,5 +1,7 @@
-# make: prove and build bin/regcheck. make run: run it on a shipped example, or on FILE=... make test: the merge gate.
+# make: prove and build bin/regcheck. make run: run it on a shipped example, or on FILE=...
+# make test: the merge gate, and the examples by the program that the gate built.
 # make bench: time it on generated histories, in a few minutes.
+# make install: bin/regcheck and its man page below PREFIX, within DESTDIR.
 FILE ?= examples/new_old_inversion.jsonl
 PREFIX ?= /usr/local
 SOURCES := $(shell find crates -name out -prune -o -type f \( -name '*.rt' -o -name '*.antt' \) -print)
@@ -22,14 +24,17 @@ bin/history_generator: $(SOURCES) crates.txt
 run: bin/regcheck
 	bin/regcheck < $(FILE); status=$$?; test $$status -le 1
 
+# The gate's own last line comes last where all is well.
 test:
 	rt ci
+	@examples/compare crates/regcheck/out/regcheck
 
 bench: bin/regcheck bin/history_generator
 	bench/run
 
 install: bin/regcheck
 	install -D -m 755 bin/regcheck $(DESTDIR)$(PREFIX)/bin/regcheck
+	install -D -m 644 docs/regcheck.1 $(DESTDIR)$(PREFIX)/share/man/man1/regcheck.1
 
 clean:
 	rm -rf bin crates/*/out
