@@ -1,9 +1,9 @@
 -- Bytes pulled, a piece after another.
-use Rattle.std.proofs.Common.{◌≡◌, ℕ, Bool, true, ◌+◌, ◌-◌, ◌<◌, ◌≤◌, List, [], ◌∷◌, ◌++◌, length, take, Option, Some, None, refl, sym, ◌∙◌, ap, arith, append-nil, length-append}
-use Rattle.std.specs.Io.KnownBytes.{Keeps, Consumes, IsAtEnd}
+use Rattle.std.proofs.Common.{◌≡◌, ℕ, Bool, true, ◌+◌, ◌<◌, ◌≤◌, List, [], ◌++◌, length, Option, Some, None, refl, ◌∙◌, ap, arith, append-nil, length-append}
+use Rattle.std.specs.Io.KnownBytes.{Consumes, IsAtEnd}
 use Rattle.std.proofs.KnownBytes.{Consumes-trans, Consumes-nil}
 use Rattle.history_text.specs.declared.limits.TheConstants.{MAX_INPUT}
-use Rattle.reg_report.specs.Ends.{IsAll, IsTooLong, IsWithinLimit}
+use Rattle.reg_report.specs.Ends.{IsAll, IsTooLong}
 
 -- what the pulls so far did: the source, with its bytes left and its failures, has given so many bytes, kept where `kept`
 pub record Pulled (left now : Option (List ℕ)) (failed failed_now : ℕ) (kept : Bool) (all : List ℕ) (total : ℕ) : Type 0 where

@@ -1,5 +1,5 @@
 -- What a run of the whole does.
-use Rattle.std.specs.Prelude.{◌≡◌, ℕ, List, Err, Option}
+use Rattle.std.specs.Prelude.{ℕ, List, Err, Option}
 use Rattle.std.specs.Io.KnownBytes.{Appends}
 use Rattle.reg_report.specs.Ends.{IsAll, AppendsBeginning}
 use Rattle.reg_report.specs.Answer.{IsAnswer, IsAnswerText}

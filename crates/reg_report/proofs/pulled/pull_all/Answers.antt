@@ -1,5 +1,5 @@
 -- One piece more is counted, and kept where it can be.
-use Rattle.std.proofs.Common.{◌≡◌, ℕ, ◌+◌, ◌-◌, ◌++◌, ◌<◌, ◌≤◌, length, take, length-take, length-append, min, arith}
+use Rattle.std.proofs.Common.{ℕ, ◌++◌, take, length-take, length-append, arith}
 use Rattle.std.proofs.KnownBytes.{Consumes-trans}
 use Rattle.reg_report.proofs.Pulling.{Pulled-more, IsTooLong-pulled}
 use Rattle.reg_report.proofs.pulled.pull_all.Goals as goal

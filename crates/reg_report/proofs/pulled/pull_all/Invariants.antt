@@ -1,5 +1,5 @@
 -- The bytes pulled so far are as many as were counted, and they are kept where memory for them was there.
-use Rattle.std.proofs.Common.{◌-◌, length}
+use Rattle.std.proofs.Common.{◌-◌}
 use Rattle.reg_report.proofs.Pulling.{Pulled}
 use Rattle.reg_report.proofs.pulled.pull_all.Given as goal
 

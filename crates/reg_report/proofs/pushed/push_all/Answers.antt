@@ -1,5 +1,5 @@
 -- Each push takes the next of the bytes.
-use Rattle.std.proofs.Common.{ℕ, ◌≡◌, ◌≤◌, arith, length, length-drop, min, length-take, ◌∙◌}
+use Rattle.std.proofs.Common.{ℕ, arith, length-drop, length-take, ◌∙◌}
 use Rattle.reg_report.proofs.Pushing.{Appends-next}
 use Rattle.reg_report.proofs.pushed.push_all.Goals as goal
 
