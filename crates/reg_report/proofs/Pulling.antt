@@ -1,9 +1,9 @@
 -- Bytes pulled, a piece after another.
-use Rattle.std.proofs.Common.{◌≡◌, ℕ, Bool, true, ◌+◌, ◌<◌, ◌≤◌, List, [], ◌++◌, length, Option, Some, None, refl, ◌∙◌, ap, arith, append-nil, length-append}
-use Rattle.std.specs.Io.KnownBytes.{Consumes, IsAtEnd}
-use Rattle.std.proofs.KnownBytes.{Consumes-trans, Consumes-nil}
+use Rattle.std.proofs.Common.{◌≡◌, ℕ, Bool, true, ◌+◌, ◌<◌, ◌≤◌, List, ◌++◌, length, Option, Some, None, refl, ◌∙◌, ap, arith, length-append}
+use Rattle.std.specs.Io.KnownBytes.{Consumes}
+use Rattle.std.proofs.KnownBytes.{Consumes-trans}
 use Rattle.history_text.specs.declared.limits.TheConstants.{MAX_INPUT}
-use Rattle.reg_report.specs.Ends.{IsAll, IsTooLong}
+use Rattle.reg_report.specs.Ends.{IsTooLong}
 
 -- what the pulls so far did: the source, with its bytes left and its failures, has given so many bytes, kept where `kept`
 pub record Pulled (left now : Option (List ℕ)) (failed failed_now : ℕ) (kept : Bool) (all : List ℕ) (total : ℕ) : Type 0 where
@@ -13,10 +13,6 @@ pub record Pulled (left now : Option (List ℕ)) (failed failed_now : ℕ) (kept
   pub within : total ≤ MAX_INPUT
   pub keeps : kept ≡ true → all ≡ bytes
   pub no_failure : failed_now ≡ failed
-
--- nothing is pulled yet
-pub Pulled-none : (left : Option (List ℕ)) (failed : ℕ) → Pulled left left failed failed true [] 0
-Pulled-none left failed = record { bytes = []; gave = Consumes-nil left; counted = refl; within = omega arith; keeps = λ _. refl; no_failure = refl }
 
 -- one piece more, which is kept where all before it was and memory for it was there
 pub Pulled-more : (left now next : Option (List ℕ)) (failed failed_now failed_next : ℕ) (kept kept_next : Bool) (all all_next piece : List ℕ) (total count : ℕ)
@@ -31,12 +27,6 @@ Pulled-more left now next failed failed_now failed_next kept kept_next all all_n
       keeps = λ e. (keeps e).1 ∙ ap (λ xs. xs ++ piece) (before.keeps (keeps e).0);
       no_failure = no_failure ∙ before.no_failure;
     }
-
--- at the end, the bytes pulled are all that were left
-pub Consumes-end : (left now : Option (List ℕ)) (bytes : List ℕ) → Consumes left now bytes → IsAtEnd now → IsAll left bytes
-Consumes-end None now bytes gave end = tt
-Consumes-end (Some xs) None bytes gave end = absurd gave
-Consumes-end (Some xs) (Some ys) bytes gave end = gave ∙ ap (λ rest. bytes ++ rest) end ∙ append-nil bytes
 
 -- so many bytes pulled are no more than all that were left
 pub IsTooLong-pulled : (left now : Option (List ℕ)) (bytes : List ℕ) → Consumes left now bytes → MAX_INPUT < length bytes → IsTooLong left

@@ -16,9 +16,9 @@ use std::alloc::Global;
 /// pushed before the whole report is made.
 ///
 /// # Errors
-/// `InputFailed` where a pull failed, and then nothing else; `TooLong` where there were more bytes than
-/// [`MAX_INPUT`](crate::MAX_INPUT), whatever memory there is; `At` where the history isn't well formed; `NoRoom` where memory was refused;
-/// `OutputFailed` where a push or the flush failed, and then a beginning of the report is out.
+/// `InputFailed` where a pull failed, and nowhere else; `TooLong` where there were more bytes than an input may have,
+/// whatever memory there is; `At` where the history isn't well formed; `NoRoom` where memory was refused;
+/// `OutputFailed` where a push or the flush failed, and nowhere else; then a beginning of the report is out.
 pub fn run<R: Source, W: Sink>(
     alloc: Global,
     source: &mut R,
