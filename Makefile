@@ -1,5 +1,5 @@
 # make: prove and build bin/regcheck. make run: run it on a shipped example, or on FILE=...
-# make test: the merge gate, and the examples by the program that the gate built.
+# make test: the merge gate; then, by the program that it built, the examples, and runs with ends that fail.
 # make bench: time it on generated histories, in a few minutes.
 # make install: bin/regcheck and its man page below PREFIX, within DESTDIR.
 FILE ?= examples/new_old_inversion.jsonl
@@ -28,6 +28,7 @@ run: bin/regcheck
 test:
 	rt ci
 	@examples/compare crates/regcheck/out/regcheck
+	@examples/wrong_ends crates/regcheck/out/regcheck
 
 bench: bin/regcheck bin/history_generator
 	bench/run
