@@ -133,14 +133,12 @@ fn answered_to(alloc: Global, byte: u8, length: usize) -> Result<Result<Outcome,
     Ok(answered(alloc, input.as_slice())?.1)
 }
 
-// An input up to the limit is looked at: as one line it is too long, as line ends it is an empty history. With one byte
-// more, the input is too long.
+// One line up to the limit of the input is too long a line; with one byte more, the input is too long.
 #[test]
 fn longest_input(rt: HostRuntime) -> Result<(), Fail> {
     for (byte, length, want) in [
         (b'a', 67_108_864, Err(1)),
         (b'a', 67_108_865, Err(15)),
-        (b'\n', 67_108_864, Ok(Outcome::Atomic)),
         (b'\n', 67_108_865, Err(15)),
     ] {
         assert_eq!(rt;
@@ -149,6 +147,17 @@ fn longest_input(rt: HostRuntime) -> Result<(), Fail> {
             "{byte} {length}"
         );
     }
+    Ok(())
+}
+
+// As many line ends as an input may have are an empty history.
+#[test]
+fn most_line_ends(rt: HostRuntime) -> Result<(), Fail> {
+    let (_, _, want, _) = REPORTS[0];
+    let input = vec![in rt.alloc(); b'\n'; 67_108_864]?;
+    let (report, told) = answered(rt.alloc(), input.as_slice())?;
+    assert_eq!(rt; report.as_slice(), want.as_bytes());
+    assert_eq!(rt; told, Ok(Outcome::Atomic));
     Ok(())
 }
 
