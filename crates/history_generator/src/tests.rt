@@ -2,10 +2,11 @@ use crate::event::{Event, push_line};
 use crate::generate::generate;
 use crate::kind::{Kind, NAMES};
 use crate::settings::Settings;
-use reg_report::{Report, Verdict, check};
+use reg_report::{OpenGate, Report, Verdict, check};
 use std::alloc::Global;
 use std::process::Abort;
 use std::test::Fail;
+use std::thread::Threads;
 
 // Events, seed, and processes and registers where they aren't left to the kind.
 const ASKED: [(u32, u64, Option<u32>, Option<u32>); 7] = [
@@ -18,6 +19,12 @@ const ASKED: [(u32, u64, Option<u32>, Option<u32>); 7] = [
     (3000, 6, None, None),
 ];
 
+// The report of a history, by one worker.
+fn checked(rt: &(impl Threads + Sync), alloc: Global, text: &str) -> Result<Report, Fail> {
+    let by_one = reg_report::Settings::new(1, 4096).ok_or("settings beyond their limits")?;
+    Ok(check(rt, alloc, text.as_bytes(), by_one, &OpenGate)?)
+}
+
 fn is_regular(report: &Report) -> bool {
     report
         .regs
@@ -28,7 +35,7 @@ fn is_regular(report: &Report) -> bool {
 
 // What the checker says of a kind's histories, whatever their settings.
 fn expect(
-    rt: &impl Abort,
+    rt: &(impl Threads + Abort + Sync),
     alloc: Global,
     kind: Kind,
     atomic: bool,
@@ -37,7 +44,7 @@ fn expect(
     for (events, seed, processes, registers) in ASKED {
         let settings = Settings::new(kind, events, seed, processes, registers);
         let text = generate(alloc, settings)?;
-        let report = check(alloc, text.as_bytes())?;
+        let report = checked(rt, alloc, text.as_str())?;
         assert_eq!(rt;
             text.as_str().lines().count(),
             events as usize,
@@ -83,7 +90,11 @@ fn few_events(rt: HostRuntime) -> Result<(), Fail> {
     Ok(())
 }
 
-fn expect_counts(rt: &impl Abort, alloc: Global, kind: Kind) -> Result<(), Fail> {
+fn expect_counts(
+    rt: &(impl Threads + Abort + Sync),
+    alloc: Global,
+    kind: Kind,
+) -> Result<(), Fail> {
     for events in 1..12 {
         let settings = Settings::new(kind, events, 7, Some(3), None);
         let text = generate(alloc, settings)?;
@@ -94,7 +105,7 @@ fn expect_counts(rt: &impl Abort, alloc: Global, kind: Kind) -> Result<(), Fail>
             "{settings:?}"
         );
         assert_eq!(rt; text.as_str(), again.as_str(), "{settings:?}");
-        check(alloc, text.as_bytes())?;
+        checked(rt, alloc, text.as_str())?;
     }
     Ok(())
 }
@@ -114,7 +125,7 @@ fn seeds(rt: HostRuntime) -> Result<(), Fail> {
 fn pending_calls(rt: HostRuntime) -> Result<(), Fail> {
     let alloc = rt.alloc();
     let text = generate(alloc, Settings::new(Kind::Pending, 1000, 1, None, None))?;
-    let report = check(alloc, text.as_bytes())?;
+    let report = checked(&rt, alloc, text.as_str())?;
     assert!(rt;
         report
             .regs

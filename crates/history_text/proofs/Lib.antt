@@ -1,5 +1,6 @@
 pub mod Ascending
 pub mod Cut
+pub mod InOrder
 pub mod Numbered
 pub mod Reading
 mod Rows

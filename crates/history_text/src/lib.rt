@@ -2,7 +2,8 @@
 //! least fault, comes out.
 //!
 //! What the floor above may rely on: [`read_lines`] gives exactly the lines that are not blank, in
-//! order and with their numbers, each as its one event or as the least fault that applies to it.
+//! order and with their numbers, each as its one event or as the least fault that applies to it. It
+//! reads them by several threads, and gives what one thread would.
 //! Nothing here knows how events follow one another; that is the floor above.
 //!
 //! Read it in this order: `limits`; `name`, `event` and `fault`, which say what a line can mean;

@@ -1,4 +1,4 @@
-//! All lines of an input, each read by itself.
+//! All lines of an input, each read by itself, by several threads.
 ghost use Rattle.std.specs.Prelude.{◌≡◌, ◌≤◌, length, IfOk, slice_range};
 ghost use Rattle.history_text.specs.Lines.{IsWithin};
 ghost use Rattle.history_text.specs.Reading.{line_reading, history_lines, IsAscending};
@@ -8,12 +8,17 @@ use crate::fault::LineFault;
 use crate::limits::MAX_INPUT;
 use crate::line::{LineError, read_line};
 use crate::lines::{Span, lines_of};
+use rayon::prelude::*;
 use std::alloc::{AllocError, Global};
+use std::sync::atomic::{AtomicBool, Ordering};
+use std::thread::Threads;
 
 /// The event of each line that is not blank, or its least fault, in order. Their line numbers ascend.
 ///
-/// The error is the want of memory; nothing is kept then.
+/// Many lines are read by several threads, as many as serve the processors. The error is the want of
+/// memory; nothing is kept then.
 pub fn read_lines(
+    rt: &(impl Threads + Sync),
     alloc: Global,
     bytes: &[u8],
 ) -> Result<Vec<Result<LineEvent, LineFault>>, AllocError>
@@ -22,24 +27,38 @@ pub fn read_lines(
     ensures ascending { IfOk result (λ v. IsAscending v.items) }
 {
     let spans = lines_of(alloc, bytes)?;
-    let mut events = Vec::with_capacity(alloc, spans.len())?;
-    for span in &spans {
-        events.push(read_span(alloc, bytes, *span)?)?;
-    }
-    Ok(events)
+    let refused = AtomicBool::new(false);
+    spans
+        .par_iter()
+        .map(
+            |span: &Span| -> Result<Result<LineEvent, LineFault>, AllocError>
+                requires { IsWithin bytes.now span.now }
+                ensures { IfOk result (λ r. r
+                    ≡ line_reading span.now.line (slice_range bytes.entry.now span.now.from span.now.to)) }
+            { read_span(alloc, bytes, *span, &refused) },
+        )
+        .collect::<Result<Vec<_>, AllocError>>(rt, alloc)?
 }
 
+// Once memory was refused to one line no thread reads another: each would be refused in its turn, slowly.
 fn read_span(
     alloc: Global,
     bytes: &[u8],
     span: Span,
+    refused: &AtomicBool,
 ) -> Result<Result<LineEvent, LineFault>, AllocError>
     requires { IsWithin bytes.now span }
     ensures { IfOk result (λ r. r ≡ line_reading span.line (slice_range bytes.now span.from span.to)) }
 {
+    if refused.load(Ordering::SeqCst) {
+        return Err(AllocError);
+    }
     match read_line(alloc, &bytes[span.from..span.to], span.line) {
         Ok(event) => Ok(Ok(event)),
         Err(LineError::Fault(fault)) => Ok(Err(fault)),
-        Err(LineError::Memory) => Err(AllocError),
+        Err(LineError::Memory) => {
+            refused.store(true, Ordering::SeqCst);
+            Err(AllocError)
+        }
     }
 }

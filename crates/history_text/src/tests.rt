@@ -2,6 +2,7 @@ use super::*;
 use std::alloc::{AllocError, Global};
 use std::process::Abort;
 use std::test::Fail;
+use std::thread::Threads;
 
 const WRITE: &str = r#"{"process":1,"event":"call","op":"write","register":"x","value":5}"#;
 
@@ -210,14 +211,14 @@ fn limits_of_a_line(rt: HostRuntime) -> Result<(), Fail> {
 }
 
 // The lines and the spans of an input: `line:from-to` and the number of the fault, or 0.
-fn shown(rt: &impl Abort, alloc: Global, bytes: &[u8]) -> Result<String, Fail> {
+fn shown(rt: &(impl Threads + Abort + Sync), alloc: Global, bytes: &[u8]) -> Result<String, Fail> {
     assert!(rt; bytes.len() <= MAX_INPUT);
     let mut shown = String::new(alloc);
     for span in &lines_of(alloc, bytes)? {
         let Span { line, from, to } = *span;
         write!(shown, "{line}:{from}-{to} ")?;
     }
-    for read in &read_lines(alloc, bytes)? {
+    for read in &read_lines(rt, alloc, bytes)? {
         match read {
             Ok(event) => {
                 let line = event.line;
@@ -273,6 +274,45 @@ fn lines_of_inputs(rt: HostRuntime) -> Result<(), Fail> {
         "2:65538-65540 2=4 ",
         "a blank line has no limit"
     );
+    Ok(())
+}
+
+// Lines of replies, every seventh torn, and what is read of them: each line with its process or its fault.
+fn replies(alloc: Global, count: u32) -> Result<(String, String), Fail> {
+    let mut text = String::new(alloc);
+    let mut want = String::new(alloc);
+    for line in 1..=count {
+        if line % 7 == 0 {
+            text.push_str("{\"process\":\n")?;
+            write!(want, "{line}: 2, ")?;
+        } else {
+            let process = 4_294_967_295 - line;
+            write!(text, "{{\"process\":{process},\"event\":\"reply\"}}\n")?;
+            write!(want, "{line}={process}, ")?;
+        }
+    }
+    Ok((text, want))
+}
+
+#[test]
+fn many_lines_stay_in_order(rt: HostRuntime) -> Result<(), Fail> {
+    let alloc = rt.alloc();
+    for (name, count) in [
+        ("lines for one thread", 100),
+        ("lines for two threads", 2_500),
+        ("lines for as many threads as there are", 9_000),
+    ] {
+        let (text, want) = replies(alloc, count)?;
+        assert!(rt; text.len() <= MAX_INPUT);
+        let mut got = String::new(alloc);
+        for read in &read_lines(&rt, alloc, text.as_bytes())? {
+            match read {
+                Ok(LineEvent { line, process, .. }) => write!(got, "{line}={process}, ")?,
+                Err(fault) => write!(got, "{}: {}, ", fault.line, fault.number())?,
+            }
+        }
+        assert!(rt; got == want, "{name}");
+    }
     Ok(())
 }
 

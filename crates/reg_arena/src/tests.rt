@@ -5,6 +5,7 @@ use history_text::{LineEvent, LineFault, MAX_INPUT, Val, read_lines};
 use std::alloc::{AllocError, Global};
 use std::process::Abort;
 use std::test::Fail;
+use std::thread::Threads;
 
 // The line of an event in short: `p1 W x 5` and `p2 R x` are calls, `p1 ok` and `p2 = 5` replies, and any other text stands for itself.
 fn line_of(alloc: Global, event: &str) -> Result<String, AllocError> {
@@ -29,7 +30,11 @@ fn line_of(alloc: Global, event: &str) -> Result<String, AllocError> {
 }
 
 // The lines of a history in short, with a semicolon between two events.
-fn lines(alloc: Global, history: &str) -> Result<Vec<Result<LineEvent, LineFault>>, AllocError> {
+fn lines(
+    rt: &(impl Threads + Sync),
+    alloc: Global,
+    history: &str,
+) -> Result<Vec<Result<LineEvent, LineFault>>, AllocError> {
     let mut text = String::new(alloc);
     for event in history.split(';') {
         text.push_str(line_of(alloc, event.trim())?.as_str())?;
@@ -38,7 +43,7 @@ fn lines(alloc: Global, history: &str) -> Result<Vec<Result<LineEvent, LineFault
     if bytes.len() > MAX_INPUT {
         return Err(AllocError);
     }
-    read_lines(alloc, bytes)
+    read_lines(rt, alloc, bytes)
 }
 
 // The lines of a register's events, as its walk meets them.
@@ -155,7 +160,7 @@ fn walks_meet_every_event(rt: HostRuntime) -> Result<(), Fail> {
             "register 0: 1 2 3 4 5 6 | 4 | | | 5 | 2; register 1: | | | | |; p1: 5; p2: 1 2 3 4 6; p3:; p4:; ",
         ),
     ] {
-        let arena = Arena::build(alloc, lines(alloc, history)?);
+        let arena = Arena::build(alloc, lines(&rt, alloc, history)?);
         match &arena {
             Ok(arena) => assert_eq!(rt; walks(alloc, arena)?.as_str(), want, "{name}"),
             Err(error) => assert!(rt; false, "{name}: {error:?}"),
@@ -205,7 +210,7 @@ fn refusals_name_the_least_line(rt: HostRuntime) -> Result<(), Fail> {
             number,
             other,
         };
-        match Arena::build(alloc, lines(alloc, history)?) {
+        match Arena::build(alloc, lines(&rt, alloc, history)?) {
             Err(BuildError::Refused(refusal)) => assert_eq!(rt; refusal, want, "{history}"),
             Err(BuildError::Memory) => return Err(Fail::from(AllocError)),
             Ok(_) => assert!(rt; false, "{history} is accepted"),
@@ -228,6 +233,7 @@ fn operations_have_their_times(rt: HostRuntime) -> Result<(), Fail> {
     let arena = match Arena::build(
         alloc,
         lines(
+            &rt,
             alloc,
             "p1 W x 5; p2 R x; p2 = null; p1 ok; p1 W x 7; p2 R y",
         )?,
@@ -277,6 +283,7 @@ fn values_have_their_writes_and_times(rt: HostRuntime) -> Result<(), Fail> {
     let arena = match Arena::build(
         alloc,
         lines(
+            &rt,
             alloc,
             "p1 W x 5; p2 R x; p2 = null; p1 ok; p1 W x 7; p2 R x; p2 = 9",
         )?,
@@ -346,7 +353,11 @@ fn operations_precede_by_reply_and_call(rt: HostRuntime) -> Result<(), Fail> {
     let alloc = rt.alloc();
     let arena = match Arena::build(
         alloc,
-        lines(alloc, "p1 W x 5; p2 R x; p1 ok; p1 W x 6; p2 = 5; p2 R x")?,
+        lines(
+            &rt,
+            alloc,
+            "p1 W x 5; p2 R x; p1 ok; p1 W x 6; p2 = 5; p2 R x",
+        )?,
     ) {
         Ok(arena) => arena,
         Err(_) => return Err(Fail::from(AllocError)),

@@ -4,6 +4,7 @@ use reg_arena::{Arena, RegId};
 use std::alloc::Global;
 use std::process::Abort;
 use std::test::Fail;
+use std::thread::Threads;
 
 const WRITE_1: &str = r#"{"process":1,"event":"call","op":"write","register":"x","value":1}"#;
 
@@ -29,14 +30,18 @@ const GOT2: &str = r#"{"process":3,"event":"reply","value":2}"#;
 const GOT9: &str = r#"{"process":3,"event":"reply","value":9}"#;
 
 // The arena of a history of these lines.
-fn arena_of(rt: &impl Abort, alloc: Global, lines: &[&str]) -> Result<Arena, Fail> {
+fn arena_of(
+    rt: &(impl Threads + Abort + Sync),
+    alloc: Global,
+    lines: &[&str],
+) -> Result<Arena, Fail> {
     let mut text = String::new(alloc);
     for line in lines {
         text.push_str(line)?;
         text.push('\n')?;
     }
     assert!(rt; text.len() <= MAX_INPUT);
-    Ok(Arena::build(alloc, read_lines(alloc, text.as_bytes())?)?)
+    Ok(Arena::build(alloc, read_lines(rt, alloc, text.as_bytes())?)?)
 }
 
 // The line of the first read among these numbers that breaks the level, or 0 where each keeps it.
@@ -61,7 +66,11 @@ fn bad_line(
 }
 
 // The reads of the register, and the least line that breaks safe and regular; `several writers` for those.
-fn verdict(rt: &impl Abort, alloc: Global, lines: &[&str]) -> Result<String, Fail> {
+fn verdict(
+    rt: &(impl Threads + Abort + Sync),
+    alloc: Global,
+    lines: &[&str],
+) -> Result<String, Fail> {
     let arena = arena_of(rt, alloc, lines)?;
     let count = reads(alloc, &arena, RegId(0))?.len();
     if !single_writer(&arena, RegId(0)) {

@@ -13,7 +13,7 @@ use Rattle.reg_report.specs.Meaning.{IsAtomicity, IsWholeAtomicity, ShowsFault}
 use Rattle.reg_report.specs.Merged.{AreFirstOrders, IsMergedAnswer, register_of}
 use Rattle.reg_report.specs.Registers.{AreOrdersSoFar}
 use Rattle.reg_report.specs.Told.{IsTold}
-use Rattle.reg_report.specs.declared.register.Judged.TheVariants.{Order, Faulty}
+use Rattle.reg_report.specs.declared.piece.Piece.TheVariants.{Order, Faulty}
 use Rattle.reg_report.specs.declared.report.FaultLines.{FaultLines}
 use Rattle.reg_report.proofs.Counting.{length-push, push-cases}
 use Rattle.reg_report.proofs.OrderLines.{calls-lines, points-lines, calls-there, points-there, placed-inside}

@@ -10,5 +10,12 @@ mod OrderLines
 mod Atomic
 mod Counting
 mod OneReport
+mod Numbering
+mod Cutting
+mod Assembly
+mod ListedLevels
+mod Fitness
+mod Fewness
+mod Putting
 pub mod Pulling
 mod Pushing

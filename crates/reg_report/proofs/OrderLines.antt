@@ -125,7 +125,7 @@ pub initial-more : (line : Placed → ℕ) (xs : List Placed) (i : ℕ) (d : Pla
 initial-more line xs i d r old whole l is was =
     sym (ap (λ ys. old ++ ys) (lines-step line xs i d l ∙ ap (λ o. line_if_called o (line (get_or xs i d)) (lines_by line (drop (i + 1) xs))) is)) ∙ was
 
-get_or-some : {X : Type 0} (xs : List X) (i : ℕ) (d : X) → i < length xs → slice_get xs i ≡ Some (get_or xs i d)
+pub get_or-some : {X : Type 0} (xs : List X) (i : ℕ) (d : X) → i < length xs → slice_get xs i ≡ Some (get_or xs i d)
 get_or-some [] i d l = absurd (omega arith)
 get_or-some (x ∷ xs) zero d l = refl
 get_or-some (x ∷ xs) (suc i) d l = get_or-some xs i d (omega arith)

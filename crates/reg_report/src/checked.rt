@@ -2,19 +2,31 @@
 ghost use Rattle.std.specs.Prelude.{◌≡◌, ◌<◌, length, Ok, Err, IfOk, IfErr};
 ghost use Rattle.reg_report.specs.Answer.{IsAnswer, IsRefused};
 
+use crate::gate::Gate;
 use crate::history::history_report;
+use crate::planning::plan;
 use crate::refusal::Refusal;
 use crate::report::Report;
+use crate::settings::Settings;
+use crate::workers::done;
 use history_text::{MAX_INPUT, read_lines};
 use reg_arena::Arena;
 use std::alloc::Global;
+use std::thread::Threads;
 
-/// The report of the history in the input.
+/// The report of the history in the input. Workers do its pieces, each at a gate of its own number; neither their number,
+/// nor the cut, nor the gate changes the report.
 ///
 /// # Errors
 /// `TooLong` where the input has more than [`MAX_INPUT`] bytes, whatever memory there is; `At` for the least faulty
-/// line where the history isn't well formed; `NoRoom` where memory was refused. What was made is dropped then.
-pub fn check(alloc: Global, input: &[u8]) -> Result<Report, Refusal>
+/// line where the history isn't well formed; `NoRoom` where memory or a thread was refused. What was made is dropped then.
+pub fn check<R: Threads + Sync, G: Gate + Sync>(
+    rt: &R,
+    alloc: Global,
+    input: &[u8],
+    settings: Settings,
+    gate: &G,
+) -> Result<Report, Refusal>
     ensures ok { IfOk result (λ report. IsAnswer input.now (Ok report)) }
     ensures err { IfErr result (IsRefused input.now) }
     ensures long { MAX_INPUT < length input.now → result ≡ Err Refusal.TooLong }
@@ -22,7 +34,9 @@ pub fn check(alloc: Global, input: &[u8]) -> Result<Report, Refusal>
     if input.len() > MAX_INPUT {
         return Err(Refusal::TooLong);
     }
-    let lines = read_lines(alloc, input)?;
+    let lines = read_lines(rt, alloc, input)?;
     let arena = Arena::build(alloc, lines)?;
-    Ok(history_report(alloc, &arena)?)
+    let plan = plan(alloc, &arena, settings)?;
+    let pieces = done(rt, alloc, &arena, &plan, settings, gate)?;
+    Ok(history_report(alloc, &arena, &plan, settings.cut(), pieces)?)
 }

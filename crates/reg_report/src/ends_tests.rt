@@ -2,9 +2,11 @@
 ghost use Rattle.std.specs.Prelude.{◌≡◌};
 
 use super::*;
+use crate::tests::settings;
 use std::alloc::{AllocError, Global};
 use std::io::{self, ErrorKind, Read, Write};
 use std::test::Fail;
+use std::thread::Threads;
 
 // A new value, then the old one, while its write goes on.
 const HISTORY: &str = r#"{"process":1,"event":"call","op":"write","register":"x","value":1}
@@ -32,17 +34,18 @@ struct Ran {
 
 // A run over the history between these ends.
 fn run_between(
-    alloc: Global,
+    rt: &(impl Threads + AllocGlobal + Sync),
     mut source: MemSource<'_>,
     mut sink: MemSink,
-) -> Result<Ran, AllocError>
+) -> Result<Ran, Fail>
     requires source { source.failures ≡ 0 }
     requires sink { sink.failures ≡ 0 }
 {
-    let answer = run(alloc, &mut source, &mut sink);
+    let two = settings(2, 1)?;
+    let answer = run(rt, rt.alloc(), &mut source, &mut sink, two, &OpenGate);
     Ok(Ran {
         answer,
-        taken: sink.taken().to_vec(alloc)?,
+        taken: sink.taken().to_vec(rt.alloc())?,
         failures: (source.failures(), sink.failures()),
     })
 }
@@ -54,7 +57,7 @@ fn pieces(rt: HostRuntime) -> Result<(), Fail> {
     for (pulled, pushed) in [(1, 1), (1, 4096), (7, 10), (4096, 1), (4096, 4096)] {
         let source = MemSource::new(HISTORY.as_bytes(), pulled, None);
         let sink = MemSink::new(alloc, REPORT.len(), pushed, false)?;
-        let ran = run_between(alloc, source, sink)?;
+        let ran = run_between(&rt, source, sink)?;
         assert_eq!(rt; ran.answer, Ok(Outcome::NotAtomic), "{pulled} {pushed}");
         assert_eq!(rt;
             ran.taken.as_slice(),
@@ -74,7 +77,7 @@ fn failing_source(rt: HostRuntime) -> Result<(), Fail> {
     for pull in 1..=last {
         let source = MemSource::new(HISTORY.as_bytes(), 1, Some(pull));
         let sink = MemSink::new(alloc, 4096, 4096, false)?;
-        let ran = run_between(alloc, source, sink)?;
+        let ran = run_between(&rt, source, sink)?;
         assert_eq!(rt; ran.answer, Err(Refusal::InputFailed), "{pull}");
         assert_eq!(rt; ran.taken.len(), 0, "{pull}");
         assert_eq!(rt; ran.failures, (1, 0), "{pull}");
@@ -82,7 +85,7 @@ fn failing_source(rt: HostRuntime) -> Result<(), Fail> {
     let source = MemSource::new(HISTORY.as_bytes(), 1, Some(last + 1));
     let sink = MemSink::new(alloc, 4096, 4096, false)?;
     assert_eq!(rt;
-        run_between(alloc, source, sink)?.answer,
+        run_between(&rt, source, sink)?.answer,
         Ok(Outcome::NotAtomic)
     );
     Ok(())
@@ -95,7 +98,7 @@ fn full_sink(rt: HostRuntime) -> Result<(), Fail> {
     for room in 0..REPORT.len() {
         let source = MemSource::new(HISTORY.as_bytes(), 4096, None);
         let sink = MemSink::new(alloc, room, 10, false)?;
-        let ran = run_between(alloc, source, sink)?;
+        let ran = run_between(&rt, source, sink)?;
         assert_eq!(rt; ran.answer, Err(Refusal::OutputFailed), "{room}");
         assert_eq!(rt; ran.taken.as_slice(), &REPORT.as_bytes()[..room], "{room}");
         assert_eq!(rt; ran.failures, (0, 1), "{room}");
@@ -109,7 +112,7 @@ fn failing_flush(rt: HostRuntime) -> Result<(), Fail> {
     let alloc = rt.alloc();
     let source = MemSource::new(HISTORY.as_bytes(), 4096, None);
     let sink = MemSink::new(alloc, REPORT.len(), 4096, true)?;
-    let ran = run_between(alloc, source, sink)?;
+    let ran = run_between(&rt, source, sink)?;
     assert_eq!(rt; ran.answer, Err(Refusal::OutputFailed));
     assert_eq!(rt; ran.taken.as_slice(), REPORT.as_bytes());
     assert_eq!(rt; ran.failures, (0, 1));
@@ -131,7 +134,7 @@ fn ten_bytes(rt: HostRuntime) -> Result<(), Fail> {
     ] {
         let source = MemSource::new(history.as_bytes(), 4096, fail_at);
         let sink = MemSink::new(alloc, 10, 4096, false)?;
-        let ran = run_between(alloc, source, sink)?;
+        let ran = run_between(&rt, source, sink)?;
         assert_eq!(rt; ran.answer, Err(refusal));
         assert_eq!(rt; ran.taken.as_slice(), taken.as_bytes());
     }
@@ -145,7 +148,7 @@ fn refused_input(rt: HostRuntime) -> Result<(), Fail> {
     for (input, line, number) in [("{\n", 1, 2), ("\n[]\n", 2, 3)] {
         let source = MemSource::new(input.as_bytes(), 1, None);
         let sink = MemSink::new(alloc, 4096, 1, false)?;
-        let ran = run_between(alloc, source, sink)?;
+        let ran = run_between(&rt, source, sink)?;
         let other = None;
         assert_eq!(rt;
             ran.answer,
@@ -204,7 +207,15 @@ fn interrupted(rt: HostRuntime) -> Result<(), Fail> {
         inner: Vec::<u8>::new(alloc),
         interrupts: false,
     });
-    assert_eq!(rt; run(alloc, &mut source, &mut sink), Ok(Outcome::NotAtomic));
+    let answer = run(
+        &rt,
+        alloc,
+        &mut source,
+        &mut sink,
+        settings(2, 1)?,
+        &OpenGate,
+    );
+    assert_eq!(rt; answer, Ok(Outcome::NotAtomic));
     assert_eq!(rt; (source.failures(), sink.failures()), (0, 0));
     Ok(())
 }
@@ -239,7 +250,14 @@ fn failing_writer(rt: HostRuntime) -> Result<(), Fail> {
     ] {
         let mut source = MemSource::new(HISTORY.as_bytes(), 4096, None);
         let mut sink = FromWriter::new(Limited { takes, flushes });
-        let answer = run(rt.alloc(), &mut source, &mut sink);
+        let answer = run(
+            &rt,
+            rt.alloc(),
+            &mut source,
+            &mut sink,
+            settings(2, 1)?,
+            &OpenGate,
+        );
         assert_eq!(rt; answer, want, "{takes} {flushes}");
         assert_eq!(rt; sink.failures(), failures, "{takes} {flushes}");
     }

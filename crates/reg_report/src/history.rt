@@ -1,16 +1,22 @@
 //! The report of an accepted history.
-ghost use Rattle.std.specs.Prelude.{◌≡◌, ◌+◌, ◌<◌, length, is_some, IfOk};
+ghost use Rattle.std.specs.Prelude.{◌≡◌, ◌+◌, ◌<◌, length, drop, is_some, IfOk};
 ghost use Rattle.reg_arena.specs.Operations.{calls};
 ghost use Rattle.reg_report.specs.Atomicity.{IsJudged};
-ghost use Rattle.reg_report.specs.Meaning.{IsReport, IsWholeAtomicity};
+ghost use Rattle.reg_report.specs.Meaning.{IsRegisterReport, IsReport, IsWholeAtomicity};
 ghost use Rattle.reg_report.specs.Merged.{register_of};
+ghost use Rattle.reg_report.specs.Plan.{AreTasks, IsPlan};
 ghost use Rattle.reg_report.specs.Registers.{AreReported, AreOrdersSoFar};
+ghost use Rattle.reg_report.specs.Slots.{AreSlots};
 
+use crate::levels::levels_of;
 use crate::lists::{Lines, Order, Orders, Registers};
 use crate::merged::merge;
 use crate::order::order_lines;
-use crate::register::{Judged, judge, register_report};
+use crate::piece::Piece;
+use crate::register::register_report;
 use crate::report::{RegReport, Report};
+use crate::slots::take;
+use crate::tasks::Plan;
 use crate::told::told;
 use reg_arena::{Arena, EvId, RegId};
 use std::alloc::{AllocError, Global};
@@ -40,32 +46,70 @@ fn with_order(
     arena: &Arena,
     register: RegId,
     orders: Option<Orders>,
-    judged: Judged,
+    judged: Piece,
 ) -> Result<Option<Orders>, AllocError>
     requires orders { AreOrdersSoFar arena.now register.0 orders }
     requires judged { IsJudged (register_of arena.now register.0) judged }
     ensures { IfOk result (AreOrdersSoFar arena.now (register.0 + 1)) }
 {
     match judged {
-        Judged::Faulty(_) => Ok(None),
-        Judged::Order(order) => match orders {
+        Piece::Faulty(_) => Ok(None),
+        Piece::Reads { .. } => unreachable!(),
+        Piece::Order(order) => match orders {
             None => Ok(None),
             Some(orders) => Ok(Some(orders.with(order)?)),
         },
     }
 }
 
-/// The lines of all registers, in the order of their first calls, and their orders.
-fn register_reports(alloc: Global, arena: &Arena) -> Result<Reported, AllocError>
+/// The line of one register, its order or fault, and the number after its pieces, which stand from `start` on.
+fn register_part(
+    alloc: Global,
+    arena: &Arena,
+    plan: &Plan,
+    register: RegId,
+    cut: u32,
+    slots: &mut Vec<Option<Piece>>,
+    start: usize,
+) -> Result<(RegReport, Piece, usize), AllocError>
+    requires register { register.0 < length arena.now.names }
+    requires plan { IsPlan arena.now cut plan.now }
+    requires cut { 0 < cut }
+    requires slots { AreSlots arena.now plan.now.tasks slots.old.items }
+    requires tasks { AreTasks cut register.0 (drop register.0 plan.now.lists) (drop start plan.now.tasks) }
+    ensures ok { IfOk result (λ r. IsRegisterReport arena.now register.0 r.0 × IsJudged (register_of arena.now register.0) r.1 × AreTasks cut (register.0 + 1) (drop (register.0 + 1) plan.now.lists) (drop r.2 plan.now.tasks)) }
+    ensures slots { AreSlots arena.now plan.now.tasks slots.new.items }
+{
+    let judged = take(slots, start)?;
+    let (levels, next) = levels_of(arena, plan, register, cut, slots, start + 1)?;
+    let reg = register_report(alloc, arena, register, &judged, levels)?;
+    Ok((reg, judged, next))
+}
+
+/// The lines of all registers, in the order of their first calls, and their orders, from what is done.
+fn register_reports(
+    alloc: Global,
+    arena: &Arena,
+    plan: &Plan,
+    cut: u32,
+    mut slots: Vec<Option<Piece>>,
+) -> Result<Reported, AllocError>
+    requires plan { IsPlan arena.now cut plan.now }
+    requires cut { 0 < cut }
+    requires slots { AreSlots arena.now plan.now.tasks slots.items }
     ensures { IfOk result (AreReported arena.now) }
 {
     let mut regs = Vec::new(alloc);
     let mut orders = Some(Orders::new(Vec::new(alloc)));
+    let mut next = 0;
     for number in 0..arena.register_count() {
         let register = RegId(number);
-        let judged = judge(alloc, arena, register)?;
-        regs.push(register_report(alloc, arena, register, &judged)?)?;
+        let (reg, judged, after) = register_part(
+            alloc, arena, plan, register, cut, &mut slots, next,
+        )?;
+        regs.push(reg)?;
         orders = with_order(arena, register, orders, judged)?;
+        next = after;
     }
     Ok(Reported {
         regs: Registers::new(regs),
@@ -92,11 +136,20 @@ fn whole_order(
     }
 }
 
-/// The report of a history, or want of memory.
-pub(crate) fn history_report(alloc: Global, arena: &Arena) -> Result<Report, AllocError>
+/// The report of a history, from what is done for each piece of its plan, or want of memory.
+pub(crate) fn history_report(
+    alloc: Global,
+    arena: &Arena,
+    plan: &Plan,
+    cut: u32,
+    slots: Vec<Option<Piece>>,
+) -> Result<Report, AllocError>
+    requires plan { IsPlan arena.now cut plan.now }
+    requires cut { 0 < cut }
+    requires slots { AreSlots arena.now plan.now.tasks slots.items }
     ensures { IfOk result (IsReport arena.now) }
 {
-    let reported = register_reports(alloc, arena)?;
+    let reported = register_reports(alloc, arena, plan, cut, slots)?;
     let order = whole_order(alloc, arena, &reported.orders)?;
     Ok(Report {
         regs: reported.regs,

@@ -1,15 +1,22 @@
 //! Whether a register is safe and regular, with the reads that break it.
-ghost use Rattle.std.specs.Prelude.{IfOk};
+ghost use Rattle.std.specs.Prelude.{◌≡◌, ◌<◌, length, drop, IfOk, Some};
 ghost use Rattle.reg_arena.specs.Lamport.{HasSingleWriter};
+ghost use Rattle.reg_lamport.specs.Levels.{IsFirstBadRead};
 ghost use Rattle.reg_lamport.specs.Reads.{IsReadList};
+ghost use Rattle.reg_report.specs.Cuts.{AreFirstBad, HasCuts, HasCutsOf, IsCut, Leaves, LeavesOf, with_cut};
 ghost use Rattle.reg_report.specs.Levels.{AreLevels, IsLevelAnswer};
 ghost use Rattle.reg_report.specs.Merged.{register_of};
+ghost use Rattle.reg_report.specs.Plan.{IsListOf, IsPlan};
+ghost use Rattle.reg_report.specs.Slots.{AreSlots};
 
 use crate::fault::line;
+use crate::piece::Piece;
 use crate::report::Verdict;
-use reg_arena::{Arena, Oper, RegId};
-use reg_lamport::{Level, ReadList, first_bad, reads, single_writer};
-use std::alloc::{AllocError, Global};
+use crate::slots::take;
+use crate::tasks::Plan;
+use reg_arena::{Arena, EvId, Oper, RegId};
+use reg_lamport::{Level, ReadList};
+use std::alloc::AllocError;
 
 /// What is said of one level: the verdict, and where it is no, the line of the read that breaks the level.
 #[derive(Clone, Copy, Debug, PartialEq, Eq)]
@@ -25,13 +32,37 @@ pub(crate) struct Levels {
     pub(crate) regular: LevelAnswer,
 }
 
-/// One level of a register with a single writer, whose reads are listed.
-fn level_answer(arena: &Arena, list: &ReadList, level: Level) -> LevelAnswer
+/// The first read of some cuts that isn't safe, and the first that isn't regular.
+#[derive(Clone, Copy, Debug, PartialEq, Eq)]
+pub(crate) struct FirstBad {
+    pub(crate) safe: Option<EvId>,
+    pub(crate) regular: Option<EvId>,
+}
+
+impl FirstBad {
+    /// With one cut more.
+    fn and(self, piece: Piece) -> FirstBad
+        requires { IsCut piece }
+        ensures { result ≡ with_cut self piece }
+    {
+        match piece {
+            Piece::Reads { safe, regular } => FirstBad {
+                safe: self.safe.or(safe),
+                regular: self.regular.or(regular),
+            },
+            _ => unreachable!(),
+        }
+    }
+}
+
+/// One level of a register with a single writer, by the first of its listed reads that breaks it.
+fn level_answer(arena: &Arena, list: &ReadList, level: Level, first: Option<EvId>) -> LevelAnswer
     requires list { IsReadList arena.now list.now }
     requires writer { HasSingleWriter (register_of arena.now list.now.register) }
+    requires first { IsFirstBadRead arena.now list.now.register level 0 (length list.now.entries) first }
     ensures { IsLevelAnswer level (register_of arena.now list.now.register) result }
 {
-    match first_bad(arena, list, 0, list.len(), level) {
+    match first {
         Some(read) => LevelAnswer {
             verdict: Verdict::No,
             read: Some(line(arena, Oper::Called(read))),
@@ -43,23 +74,86 @@ fn level_answer(arena: &Arena, list: &ReadList, level: Level) -> LevelAnswer
     }
 }
 
-/// Both levels of a register.
-pub(crate) fn levels_of(alloc: Global, arena: &Arena, register: RegId) -> Result<Levels, AllocError>
-    ensures { IfOk result (AreLevels (register_of arena.now register.0)) }
+/// Both levels of a register with a single writer, by the first of its listed reads that break them.
+fn listed_levels(arena: &Arena, list: &ReadList, first: FirstBad) -> Levels
+    requires list { IsListOf arena.now list.now.register (Some list.now) }
+    requires first { AreFirstBad arena.now list.now.register 0 (length list.now.entries) first }
+    ensures { AreLevels (register_of arena.now list.now.register) result }
 {
-    if !single_writer(arena, register) {
-        let several = LevelAnswer {
-            verdict: Verdict::SeveralWriters,
-            read: None,
-        };
-        return Ok(Levels {
-            safe: several,
-            regular: several,
-        });
+    Levels {
+        safe: level_answer(arena, list, Level::Safe, first.safe),
+        regular: level_answer(arena, list, Level::Regular, first.regular),
     }
-    let list = reads(alloc, arena, register)?;
-    Ok(Levels {
-        safe: level_answer(arena, &list, Level::Safe),
-        regular: level_answer(arena, &list, Level::Regular),
-    })
+}
+
+/// Both levels of a register that several processes write.
+fn several_writers() -> Levels
+    ensures { (r : _) → (HasSingleWriter r → ⊥) → AreLevels r result }
+{
+    let several = LevelAnswer {
+        verdict: Verdict::SeveralWriters,
+        read: None,
+    };
+    Levels {
+        safe: several,
+        regular: several,
+    }
+}
+
+/// The first bad reads of a whole list, from the pieces of its cuts, which stand from `start` on; and the number after
+/// them.
+fn first_bad_of(
+    arena: &Arena,
+    plan: &Plan,
+    list: &ReadList,
+    cut: u32,
+    slots: &mut Vec<Option<Piece>>,
+    start: usize,
+) -> Result<(FirstBad, usize), AllocError>
+    requires cut { 0 < cut }
+    requires slots { AreSlots arena.now plan.now.tasks slots.old.items }
+    requires cuts { HasCuts cut list.now.register (length list.now.entries) (drop start plan.now.tasks) }
+    ensures ok { IfOk result (λ r. AreFirstBad arena.now list.now.register 0 (length list.now.entries) r.0 × Leaves cut list.now.register (length list.now.entries) (drop start plan.now.tasks) (drop r.1 plan.now.tasks)) }
+    ensures slots { AreSlots arena.now plan.now.tasks slots.new.items }
+{
+    let len = list.len();
+    let mut first = FirstBad {
+        safe: None,
+        regular: None,
+    };
+    let mut from = 0;
+    let mut next = start;
+    while from < len {
+        let piece = take(slots, next)?;
+        first = first.and(piece);
+        from += (len - from).min(cut as usize);
+        next += 1;
+    }
+    Ok((first, next))
+}
+
+/// Both levels of a register, from the pieces of its reads, which stand from `start` on; and the number after them.
+pub(crate) fn levels_of(
+    arena: &Arena,
+    plan: &Plan,
+    register: RegId,
+    cut: u32,
+    slots: &mut Vec<Option<Piece>>,
+    start: usize,
+) -> Result<(Levels, usize), AllocError>
+    requires register { register.0 < length arena.now.names }
+    requires plan { IsPlan arena.now cut plan.now }
+    requires cut { 0 < cut }
+    requires slots { AreSlots arena.now plan.now.tasks slots.old.items }
+    requires cuts { HasCutsOf cut register.0 plan.now (drop start plan.now.tasks) }
+    ensures ok { IfOk result (λ r. AreLevels (register_of arena.now register.0) r.0 × LeavesOf cut register.0 plan.now (drop start plan.now.tasks) (drop r.1 plan.now.tasks)) }
+    ensures slots { AreSlots arena.now plan.now.tasks slots.new.items }
+{
+    match plan.list(register) {
+        None => Ok((several_writers(), start)),
+        Some(list) => {
+            let (first, next) = first_bad_of(arena, plan, list, cut, slots, start)?;
+            Ok((listed_levels(arena, list, first), next))
+        }
+    }
 }

@@ -17,6 +17,7 @@ mod ends;
 #[cfg(test)]
 mod ends_tests;
 mod fault;
+mod gate;
 mod history;
 pub mod laws;
 mod levels;
@@ -26,6 +27,8 @@ mod mem_source;
 mod merged;
 mod order;
 mod outcome;
+mod piece;
+mod planning;
 mod pulled;
 mod pushed;
 mod refusal;
@@ -34,24 +37,37 @@ mod report;
 #[cfg(test)]
 mod rows;
 mod send;
+mod settings;
+mod slots;
 mod tally;
+mod tasks;
 #[cfg(test)]
 mod tests;
 mod told;
 mod whole;
 mod wording;
+mod worker;
+mod workers;
+#[cfg(test)]
+mod workers_tests;
 mod written;
 
 pub use adapters::{FromReader, FromWriter};
 pub use checked::check;
 pub use ends::{IoFail, Sink, Source};
+pub use gate::{Gate, OpenGate};
 pub use lists::{Lines, Order, Registers};
 pub use mem_sink::MemSink;
 pub use mem_source::MemSource;
 pub use merged::merge;
 pub use outcome::Outcome;
+pub use piece::Piece;
+pub use planning::plan;
 pub use refusal::Refusal;
 pub use report::{FaultLines, RegReport, Report, Verdict};
+pub use settings::{MAX_CUT, MAX_WORKERS, Settings};
+pub use tasks::Plan;
 pub use whole::run;
 pub use wording::message;
+pub use worker::{Worked, work};
 pub use written::text;

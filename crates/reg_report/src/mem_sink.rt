@@ -77,6 +77,7 @@ impl Sink for MemSink {
         ensures failures { Counts self.old.failures self.new.failures result }
         ensures told { IsErr result ↔ ((0 < length bytes.now) × (self.old.room ≤ length self.old.taken)) }
         ensures much { IfOk result (λ count. count ≡ min self.old.step (min (length bytes.now) (self.old.room - length self.old.taken))) }
+        ensures unflushed { IfOk result (λ _. self.new.flushed ≡ false) }
         ensures stays { (self.new.room ≡ self.old.room) × (self.new.step ≡ self.old.step) × (self.new.flush_fails ≡ self.old.flush_fails) }
     {
         let free = self.buffer.len() - self.used;

@@ -1,46 +1,30 @@
 //! The line of one register.
 ghost use Rattle.std.specs.Prelude.{◌<◌, length, IfOk};
 ghost use Rattle.reg_report.specs.Atomicity.{IsAtomicityShown, IsJudged};
+ghost use Rattle.reg_report.specs.Levels.{AreLevels};
 ghost use Rattle.reg_report.specs.Meaning.{IsRegisterReport};
 ghost use Rattle.reg_report.specs.Merged.{register_of};
 
 use crate::fault::fault_lines;
-use crate::levels::levels_of;
+use crate::levels::Levels;
 use crate::lists::{Lines, Order};
 use crate::order::{order_lines, point_lines};
+use crate::piece::Piece;
 use crate::report::{FaultLines, RegReport};
 use crate::tally::count_calls;
 use crate::told::told;
 use history_text::Name;
 use reg_arena::{Arena, RegId};
-use reg_zones::{Fault, order, sweep};
+use reg_zones::Fault;
 use std::alloc::{AllocError, Global};
 
-/// Whether a register is atomic: its canonical order, or its fault.
-#[derive(Drop)]
-pub(crate) enum Judged {
-    Order(Order),
-    Faulty(Fault),
-}
-
-/// What a register's line says of that.
+/// What a register's line says of whether it is atomic.
 #[derive(Drop)]
 pub(crate) struct Atomicity {
     pub(crate) atomic: bool,
     pub(crate) fault: Option<FaultLines>,
     pub(crate) order: Option<Lines>,
     pub(crate) points: Option<Lines>,
-}
-
-/// The canonical order of a register that is atomic, and else its fault.
-pub(crate) fn judge(alloc: Global, arena: &Arena, register: RegId) -> Result<Judged, AllocError>
-    requires { register.0 < length arena.now.names }
-    ensures { IfOk result (IsJudged (register_of arena.now register.0)) }
-{
-    match sweep(arena, register) {
-        Ok(()) => Ok(Judged::Order(Order::new(order(alloc, arena, register)?))),
-        Err(fault) => Ok(Judged::Faulty(fault)),
-    }
 }
 
 /// The order and its points by lines.
@@ -50,7 +34,7 @@ fn ordered(
     register: RegId,
     order: &Order,
 ) -> Result<Atomicity, AllocError>
-    requires { IsJudged (register_of arena.now register.0) (Judged.Order order.now) }
+    requires { IsJudged (register_of arena.now register.0) (Piece.Order order.now) }
     ensures { IfOk result (IsAtomicityShown arena.now (register_of arena.now register.0)) }
 {
     told(arena);
@@ -66,7 +50,7 @@ fn ordered(
 
 /// The fault by lines.
 fn faulty(arena: &Arena, register: RegId, fault: Fault) -> Atomicity
-    requires { IsJudged (register_of arena.now register.0) (Judged.Faulty fault) }
+    requires { IsJudged (register_of arena.now register.0) (Piece.Faulty fault) }
     ensures { IsAtomicityShown arena.now (register_of arena.now register.0) result }
 {
     Atomicity {
@@ -82,14 +66,15 @@ fn atomicity_of(
     alloc: Global,
     arena: &Arena,
     register: RegId,
-    judged: &Judged,
+    judged: &Piece,
 ) -> Result<Atomicity, AllocError>
     requires { IsJudged (register_of arena.now register.0) judged.now }
     ensures { IfOk result (IsAtomicityShown arena.now (register_of arena.now register.0)) }
 {
     match judged {
-        Judged::Order(order) => ordered(alloc, arena, register, order),
-        Judged::Faulty(fault) => Ok(faulty(arena, register, *fault)),
+        Piece::Order(order) => ordered(alloc, arena, register, order),
+        Piece::Faulty(fault) => Ok(faulty(arena, register, *fault)),
+        Piece::Reads { .. } => unreachable!(),
     }
 }
 
@@ -98,15 +83,16 @@ pub(crate) fn register_report(
     alloc: Global,
     arena: &Arena,
     register: RegId,
-    judged: &Judged,
+    judged: &Piece,
+    levels: Levels,
 ) -> Result<RegReport, AllocError>
     requires register { register.0 < length arena.now.names }
     requires judged { IsJudged (register_of arena.now register.0) judged.now }
+    requires levels { AreLevels (register_of arena.now register.0) levels }
     ensures { IfOk result (IsRegisterReport arena.now register.0) }
 {
     let name = Name::new(alloc, arena.name(register))?;
     let tally = count_calls(arena, register);
-    let levels = levels_of(alloc, arena, register)?;
     let said = atomicity_of(alloc, arena, register, judged)?;
     Ok(RegReport {
         register: name,

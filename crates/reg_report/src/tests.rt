@@ -3,31 +3,57 @@ use super::*;
 use crate::rows::{REFUSALS, REPORTS};
 use std::alloc::{AllocError, Global};
 use std::test::Fail;
+use std::thread::Threads;
+
+// The bytes of an answer: the report with its outcome, or what the refusal says with its number.
+type Answer = (Vec<u8>, Result<Outcome, u8>);
+
+// So many workers, and so many reads to a piece.
+pub(crate) fn settings(workers: u32, cut: u32) -> Result<Settings, Fail> {
+    Ok(Settings::new(workers, cut).ok_or("a number beyond its limit")?)
+}
 
 // A run from memory to so much memory: the bytes that the sink took, and the outcome.
-fn run_on(alloc: Global, input: &[u8], room: usize) -> Result<(Vec<u8>, Outcome), Refusal> {
+fn run_on(
+    rt: &(impl Threads + AllocGlobal + Sync),
+    input: &[u8],
+    room: usize,
+    settings: Settings,
+    gate: &(impl Gate + Sync),
+) -> Result<(Vec<u8>, Outcome), Refusal> {
+    let alloc = rt.alloc();
     let mut source = MemSource::new(input, 65_536, None);
     let mut sink = MemSink::new(alloc, room, 65_536, false)?;
-    let outcome = run(alloc, &mut source, &mut sink)?;
+    let outcome = run(rt, alloc, &mut source, &mut sink, settings, gate)?;
     Ok((sink.taken().to_vec(alloc)?, outcome))
 }
 
-// The bytes of the answer: the report with its outcome, or what the refusal says with its number.
-fn answered(alloc: Global, input: &[u8]) -> Result<(Vec<u8>, Result<Outcome, u8>), AllocError> {
-    match run_on(alloc, input, 4096) {
+// What a run answers by these workers at this gate.
+pub(crate) fn answered_by(
+    rt: &(impl Threads + AllocGlobal + Sync),
+    input: &[u8],
+    settings: Settings,
+    gate: &(impl Gate + Sync),
+) -> Result<Answer, AllocError> {
+    match run_on(rt, input, 4096, settings, gate) {
         Ok((report, outcome)) => Ok((report, Ok(outcome))),
         Err(refusal) => {
-            let said = message(alloc, &refusal)?;
+            let said = message(rt.alloc(), &refusal)?;
             Ok((said.into_bytes(), Err(refusal.number())))
         }
     }
+}
+
+// What a run answers by four workers.
+fn answered(rt: &(impl Threads + AllocGlobal + Sync), input: &[u8]) -> Result<Answer, Fail> {
+    Ok(answered_by(rt, input, settings(4, 4096)?, &OpenGate)?)
 }
 
 // The report of each history.
 #[test]
 fn reports(rt: HostRuntime) -> Result<(), Fail> {
     for (name, input, want, outcome) in REPORTS {
-        let (report, told) = answered(rt.alloc(), input.as_bytes())?;
+        let (report, told) = answered(&rt, input.as_bytes())?;
         assert_eq!(rt; report.as_slice(), want.as_bytes(), "{name}");
         assert_eq!(rt; told, Ok(outcome), "{name}");
     }
@@ -38,7 +64,7 @@ fn reports(rt: HostRuntime) -> Result<(), Fail> {
 #[test]
 fn refusals(rt: HostRuntime) -> Result<(), Fail> {
     for (name, input, want, number) in REFUSALS {
-        let (said, told) = answered(rt.alloc(), input.as_bytes())?;
+        let (said, told) = answered(&rt, input.as_bytes())?;
         assert_eq!(rt; said.as_slice(), want.as_bytes(), "{name}");
         assert_eq!(rt; told, Err(number), "{name}");
     }
@@ -48,7 +74,7 @@ fn refusals(rt: HostRuntime) -> Result<(), Fail> {
 // A byte that no UTF-8 has is no JSON.
 #[test]
 fn bytes_of_no_text(rt: HostRuntime) -> Result<(), Fail> {
-    let (said, told) = answered(rt.alloc(), &[255])?;
+    let (said, told) = answered(&rt, &[255])?;
     assert_eq!(rt; said.as_slice(), "line 1: not JSON".as_bytes());
     assert_eq!(rt; told, Err(2));
     Ok(())
@@ -68,7 +94,7 @@ fn nested(alloc: Global, depth: usize) -> Result<Vec<u8>, AllocError> {
 #[test]
 fn depths(rt: HostRuntime) -> Result<(), Fail> {
     for (depth, number) in [(20, 10), (2000, 2)] {
-        let (_, told) = answered(rt.alloc(), nested(rt.alloc(), depth)?.as_slice())?;
+        let (_, told) = answered(&rt, nested(rt.alloc(), depth)?.as_slice())?;
         assert_eq!(rt; told, Err(number));
     }
     Ok(())
@@ -94,14 +120,14 @@ fn spaced(alloc: Global, after: usize, before: usize) -> Result<Vec<u8>, AllocEr
 fn longest_line(rt: HostRuntime) -> Result<(), Fail> {
     let alloc = rt.alloc();
     let (_, _, report, _) = REPORTS[1];
-    let (same, _) = answered(alloc, spaced(alloc, 65_470, 0)?.as_slice())?;
+    let (same, _) = answered(&rt, spaced(alloc, 65_470, 0)?.as_slice())?;
     assert_eq!(rt; same.as_slice(), report.as_bytes());
-    let (said, _) = answered(alloc, spaced(alloc, 65_471, 0)?.as_slice())?;
+    let (said, _) = answered(&rt, spaced(alloc, 65_471, 0)?.as_slice())?;
     assert_eq!(rt;
         said.as_slice(),
         "line 1: line is longer than 65536 bytes".as_bytes()
     );
-    let (later, _) = answered(alloc, spaced(alloc, 0, 65_537)?.as_slice())?;
+    let (later, _) = answered(&rt, spaced(alloc, 0, 65_537)?.as_slice())?;
     let want =
         r#"{"atomic":"yes","order":[2,4],"pending":0,"points":[2,4],"reads":1,"register":"x","regular":"yes","safe":"yes","writes":1}
 {"atomic":"yes","operations":2,"order":[2,4],"registers":1}
@@ -128,9 +154,13 @@ fn other_refusals(rt: HostRuntime) -> Result<(), Fail> {
 }
 
 // What is answered to an input of so many equal bytes.
-fn answered_to(alloc: Global, byte: u8, length: usize) -> Result<Result<Outcome, u8>, AllocError> {
-    let input = vec![in alloc; byte; length]?;
-    Ok(answered(alloc, input.as_slice())?.1)
+fn answered_to(
+    rt: &(impl Threads + AllocGlobal + Sync),
+    byte: u8,
+    length: usize,
+) -> Result<Result<Outcome, u8>, Fail> {
+    let input = vec![in rt.alloc(); byte; length]?;
+    Ok(answered(rt, input.as_slice())?.1)
 }
 
 // One line up to the limit of the input is too long a line; with one byte more, the input is too long.
@@ -141,11 +171,7 @@ fn longest_input(rt: HostRuntime) -> Result<(), Fail> {
         (b'a', 67_108_865, Err(15)),
         (b'\n', 67_108_865, Err(15)),
     ] {
-        assert_eq!(rt;
-            answered_to(rt.alloc(), byte, length)?,
-            want,
-            "{byte} {length}"
-        );
+        assert_eq!(rt; answered_to(&rt, byte, length)?, want, "{byte} {length}");
     }
     Ok(())
 }
@@ -155,7 +181,7 @@ fn longest_input(rt: HostRuntime) -> Result<(), Fail> {
 fn most_line_ends(rt: HostRuntime) -> Result<(), Fail> {
     let (_, _, want, _) = REPORTS[0];
     let input = vec![in rt.alloc(); b'\n'; 67_108_864]?;
-    let (report, told) = answered(rt.alloc(), input.as_slice())?;
+    let (report, told) = answered(&rt, input.as_slice())?;
     assert_eq!(rt; report.as_slice(), want.as_bytes());
     assert_eq!(rt; told, Ok(Outcome::Atomic));
     Ok(())
@@ -185,7 +211,8 @@ fn most_events(alloc: Global) -> Result<Vec<u8>, AllocError> {
 fn longest_history(rt: HostRuntime) -> Result<(), Fail> {
     let alloc = rt.alloc();
     let mut input = most_events(alloc)?;
-    assert!(rt; run_on(alloc, input.as_slice(), LONGEST_REPORT).is_ok());
+    let four = settings(4, 4096)?;
+    assert!(rt; run_on(&rt, input.as_slice(), LONGEST_REPORT, four, &OpenGate).is_ok());
     input.extend_from_slice(CALL.as_bytes())?;
     let one_too_many = Refusal::At {
         line: 1_048_577,
@@ -193,7 +220,7 @@ fn longest_history(rt: HostRuntime) -> Result<(), Fail> {
         other: None,
     };
     assert_eq!(rt;
-        run_on(alloc, input.as_slice(), 0).err(),
+        run_on(&rt, input.as_slice(), 0, four, &OpenGate).err(),
         Some(one_too_many)
     );
     Ok(())

@@ -5,24 +5,30 @@ ghost use Rattle.reg_report.specs.Run.{IsOfInput, IsRefusedWhole, Reports, Repor
 
 use crate::checked::check;
 use crate::ends::{Sink, Source};
+use crate::gate::Gate;
 use crate::outcome::Outcome;
 use crate::pulled::pull_all;
 use crate::pushed::deliver;
 use crate::refusal::Refusal;
+use crate::settings::Settings;
 use crate::written::text;
 use std::alloc::Global;
+use std::thread::Threads;
 
 /// Checks the history in all the bytes that the source has left, pushes its report, whole, and flushes. Nothing is
 /// pushed before the whole report is made.
 ///
 /// # Errors
 /// `InputFailed` where a pull failed, and nowhere else; `TooLong` where there were more bytes than an input may have,
-/// whatever memory there is; `At` where the history isn't well formed; `NoRoom` where memory was refused;
+/// whatever memory there is; `At` where the history isn't well formed; `NoRoom` where memory or a thread was refused;
 /// `OutputFailed` where a push or the flush failed, and nowhere else; then a beginning of the report is out.
-pub fn run<R: Source, W: Sink>(
+pub fn run<T: Threads + Sync, R: Source, W: Sink, G: Gate + Sync>(
+    rt: &T,
     alloc: Global,
     source: &mut R,
     sink: &mut W,
+    settings: Settings,
+    gate: &G,
 ) -> Result<Outcome, Refusal>
     requires source { R.failed source.old < 2 ^ 64 - 1 }
     requires sink { W.failed sink.old < 2 ^ 64 - 1 }
@@ -47,7 +53,7 @@ pub fn run<R: Source, W: Sink>(
     ensures nothing { IfErr result (λ refusal. refusal ≢ Refusal.OutputFailed → sink.new ≡ sink.old) }
 {
     let input = pull_all(alloc, source)?;
-    let report = check(alloc, input.as_slice())?;
+    let report = check(rt, alloc, input.as_slice(), settings, gate)?;
     let bytes = text(alloc, &report)?;
     match deliver(sink, bytes.as_slice()) {
         Ok(()) => Ok(Outcome::of(&report)),

@@ -1,10 +1,32 @@
 -- What the words of the command line name (the reading of words is `clap`'s).
-use Rattle.std.specs.Prelude.{◌≡◌, [], codes, true, List, Option}
-use Rattle.clap.specs.Words.{App, Rule, Text, fault_of, first_of, matches_of, new_app, new_rule, takes, with_rule}
+use Rattle.std.specs.Prelude.{◌≡◌, [], ◌∷◌, ℕ, codes, option_map, pos, true, List, Option, Some}
+use Rattle.std.specs.Str.Parse.{digits_value, without_leading_plus}
+use Rattle.clap.specs.Words.{App, Rule, Text, fault_of, first_of, matches_of, new_app, new_rule, one_of, takes, with_rule}
+use Rattle.clap.specs.declared.builder.action.ArgAction.TheVariants.{Set}
+use Rattle.clap.specs.declared.builder.value_parser.ValueParser.TheVariants.{Signed}
+use Rattle.reg_report.specs.declared.settings.TheConstants.{MAX_CUT, MAX_WORKERS}
 
 -- the one argument: a word that names the file
 abbrev pub file_rule : Rule
 file_rule = record (new_rule (codes "file")) { value_names = 1 }
+
+-- an option with a number from 1 to `most`, which is `default` where the words have no such option
+abbrev pub number_rule : Text → ℕ → Text → Rule
+number_rule name most default = record (new_rule name) {
+  long = Some name;
+  value_names = 1;
+  action = Some Set;
+  parser = Some (Signed (pos 1) (pos most));
+  defaults = default ∷ [];
+}
+
+-- how many workers there are, 4 by default
+abbrev pub workers_rule : Rule
+workers_rule = number_rule (codes "workers") MAX_WORKERS (codes "4")
+
+-- how many reads a worker's piece has at most, 4096 by default
+abbrev pub cut_rule : Rule
+cut_rule = number_rule (codes "cut") MAX_CUT (codes "4096")
 
 -- the program, whose own name isn't among the words
 abbrev pub program : App
@@ -12,11 +34,23 @@ program = record (new_app (codes "regcheck")) { top = record (new_app (codes "re
 
 -- the command line that the program takes
 abbrev pub command_line : App
-command_line = with_rule program file_rule
+command_line = with_rule (with_rule (with_rule program file_rule) workers_rule) cut_rule
 
 -- the file that the words name
 unfoldable pub file_named : List Text → Option Text
 file_named words = first_of (codes "file") (matches_of command_line words)
+
+-- the number that a text says in decimal digits
+abbrev pub number_in : Text → ℕ
+number_in text = digits_value 10 (without_leading_plus text)
+
+-- the number of workers that the words name, or the default
+unfoldable pub workers_named : List Text → Option ℕ
+workers_named words = option_map number_in (one_of (codes "workers") (matches_of command_line words))
+
+-- the cut that the words name, or the default
+unfoldable pub cut_named : List Text → Option ℕ
+cut_named words = option_map number_in (one_of (codes "cut") (matches_of command_line words))
 
 -- the command line takes the words, and they ask for no help
 unfoldable pub IsTaken : List Text → Type 0

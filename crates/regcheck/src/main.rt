@@ -9,11 +9,14 @@ mod words;
 ghost use Rattle.std.specs.Prelude.{◌-◌, ◌^◌, ◌<◌};
 
 use ended::{Ended, status};
-use reg_report::{FromReader, FromWriter, Outcome, Refusal, Source, message, run};
+use reg_report::{
+    FromReader, FromWriter, OpenGate, Outcome, Refusal, Settings, Source, message, run,
+};
 use std::alloc::AllocError;
 use std::io;
 use std::process::ExitCode;
 use std::rt::{Env, Files};
+use std::thread::Threads;
 use words::{Words, WordsFault, read_words};
 
 /// Says on standard error why there is no report.
@@ -31,11 +34,15 @@ fn tell(rt: &(impl Eprint + AllocGlobal), refusal: Refusal) -> Ended {
 }
 
 /// Reports what the source has to standard output.
-fn report<S: Source>(rt: &(impl Print + Eprint + AllocGlobal), source: &mut S) -> Ended
+fn report<S: Source>(
+    rt: &(impl Threads + Sync + Print + Eprint + AllocGlobal),
+    source: &mut S,
+    settings: Settings,
+) -> Ended
     requires { S.failed source.old < 2 ^ 64 - 1 }
 {
     let mut sink = FromWriter::new(io::writer(rt));
-    match run(rt.alloc(), source, &mut sink) {
+    match run(rt, rt.alloc(), source, &mut sink, settings, &OpenGate) {
         Ok(Outcome::Atomic) => Ended::Atomic,
         Ok(Outcome::NotAtomic) => Ended::NotAtomic,
         Err(refusal) => tell(rt, refusal),
@@ -43,13 +50,17 @@ fn report<S: Source>(rt: &(impl Print + Eprint + AllocGlobal), source: &mut S) -
 }
 
 /// Reports the history that the words name.
-fn history(rt: &(impl Files + Input + Print + Eprint + AllocGlobal), words: &Words) -> Ended {
+fn history(
+    rt: &(impl Threads + Sync + Files + Input + Print + Eprint + AllocGlobal),
+    words: &Words,
+) -> Ended {
+    let settings = words.settings();
     match &words.file {
         Some(path) => match std::fs::open(rt, path.as_str()) {
-            Ok(file) => report(rt, &mut FromReader::new(file)),
+            Ok(file) => report(rt, &mut FromReader::new(file), settings),
             Err(_) => tell(rt, Refusal::InputFailed),
         },
-        None => report(rt, &mut FromReader::new(rt.reader())),
+        None => report(rt, &mut FromReader::new(rt.reader()), settings),
     }
 }
 

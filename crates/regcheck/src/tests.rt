@@ -1,5 +1,5 @@
 use crate::ended::{Ended, status};
-use crate::words::{WordsFault, read_words};
+use crate::words::{Words, WordsFault, read_words};
 use std::alloc::{AllocError, Global};
 use std::test::Fail;
 
@@ -24,14 +24,14 @@ fn statuses(rt: HostRuntime) -> Result<(), Fail> {
     Ok(())
 }
 
-// The file that the words name, or how the parser's text begins where it refuses them.
-fn read(alloc: Global, words: &[&str]) -> Result<Result<Option<String>, String>, AllocError> {
+// What the words name, or the parser's text where it refuses them.
+fn read(alloc: Global, words: &[&str]) -> Result<Result<Words, String>, AllocError> {
     let mut given = Vec::new(alloc);
     for word in words {
         given.push(String::from_str(alloc, word)?)?;
     }
     match read_words(alloc, given.as_slice()) {
-        Ok(words) => Ok(Ok(words.file)),
+        Ok(words) => Ok(Ok(words)),
         Err(WordsFault::Bad(text)) => Ok(Err(text)),
         Err(WordsFault::Memory) => Err(AllocError),
     }
@@ -46,11 +46,36 @@ fn files(rt: HostRuntime) -> Result<(), Fail> {
         (none, None),
         (&["h.jsonl"], Some("h.jsonl")),
         (&["--", "--help"], Some("--help")),
+        (&["--cut", "1"], None),
+        (&["--cut", "1", "h.jsonl"], Some("h.jsonl")),
     ] {
         let read = read(alloc, words)?;
         assert!(rt; read.is_ok(), "{words:?}");
-        let file = read.ok().flatten();
+        let file = read.ok().and_then(|read| read.file);
         assert_eq!(rt; file.as_deref(), want, "{words:?}");
+    }
+    Ok(())
+}
+
+// The number of workers and the cut: 4 and 4096 where the words name none.
+#[test]
+fn numbers(rt: HostRuntime) -> Result<(), Fail> {
+    let alloc = rt.alloc();
+    let none: &[&str] = &[];
+    for (words, want) in [
+        (none, (4u32, 4096u32)),
+        (&["h.jsonl"], (4, 4096)),
+        (&["--workers", "1", "--cut", "1"], (1, 1)),
+        (&["--cut=7"], (4, 7)),
+        (&["h.jsonl", "--workers", "2"], (2, 4096)),
+        (
+            &["--workers", "16", "--cut", "1048576", "h.jsonl"],
+            (16, 1_048_576),
+        ),
+    ] {
+        let read = read(alloc, words)?;
+        let numbers = read.ok().map(|read| (read.workers, read.cut));
+        assert_eq!(rt; numbers, Some(want), "{words:?}");
     }
     Ok(())
 }
@@ -68,10 +93,44 @@ fn bad_words(rt: HostRuntime) -> Result<(), Fail> {
             &["--unknown"],
             "error: unexpected argument '--unknown' found\n",
         ),
+        (
+            &["--workers", "2", "--workers", "2"],
+            "error: the argument '--workers <N>' cannot be used multiple times\n",
+        ),
+        (
+            &["--workers"],
+            "error: a value is required for '--workers <N>' but none was supplied\n",
+        ),
+        (
+            &["--workers", "-1"],
+            "error: unexpected argument '-1' found\n",
+        ),
     ] {
         let text = read(alloc, words)?.err();
         let said = text.as_deref().unwrap_or("");
         assert!(rt; said.starts_with(begins), "{words:?}");
+    }
+    Ok(())
+}
+
+// A number past its limits is refused, and so is what is no number, each with the parser's text.
+#[test]
+fn bad_numbers(rt: HostRuntime) -> Result<(), Fail> {
+    let alloc = rt.alloc();
+    for (name, number, why) in [
+        ("--workers", "0", "0 is not in 1..=16"),
+        ("--workers", "17", "17 is not in 1..=16"),
+        ("--workers", "4294967297", "4294967297 is not in 1..=16"),
+        ("--workers", "x", "invalid digit found in string"),
+        ("--cut", "0", "0 is not in 1..=1048576"),
+        ("--cut", "1048577", "1048577 is not in 1..=1048576"),
+    ] {
+        let begins = format!(in alloc;
+            "error: invalid value '{number}' for '{name} <N>': {why}\n"
+        )?;
+        let text = read(alloc, &[name, number])?.err();
+        let said = text.as_deref().unwrap_or("");
+        assert!(rt; said.starts_with(begins.as_str()), "{name} {number}");
     }
     Ok(())
 }

@@ -1,11 +1,14 @@
 //! The words of the command line.
-ghost use Rattle.std.specs.Prelude.{◌≡◌, codes, map, option_map, string_bytes, IfOk, IfErr};
-ghost use Rattle.clap.specs.Words.{app_of, first_value, found_of};
+ghost use Rattle.std.specs.Prelude.{◌≡◌, ◌≤◌, codes, false, map, option_map, string_bytes, IfOk, IfErr, Some};
+ghost use Rattle.clap.specs.Words.{app_of, first_value, found_of, rule_of};
 ghost use Rattle.clap.specs.Values.{kind_of};
-ghost use Rattle.regcheck.specs.Words.{command_line, file_named, IsFaultless, IsTaken};
+ghost use Rattle.reg_report.specs.declared.settings.TheConstants.{MAX_CUT, MAX_WORKERS};
+ghost use Rattle.regcheck.specs.Numbers.{HasNumber};
+ghost use Rattle.regcheck.specs.Words.{command_line, cut_named, file_named, number_rule, workers_named, IsFaultless, IsTaken};
 
 use clap::error::ErrorKind;
-use clap::{Arg, ArgMatches, Command, Error};
+use clap::{Arg, ArgAction, ArgMatches, Command, Error, value_parser};
+use reg_report::{MAX_CUT, MAX_WORKERS, Settings};
 use std::alloc::{AllocError, Global};
 
 const ABOUT: &str =
@@ -13,18 +16,40 @@ const ABOUT: &str =
 
 const FILE: &str = "The history, one JSON event a line; standard input where it is absent";
 
+const WORKERS: &str = "Workers, 1 to 16; the report is the same with any number";
+
+const CUT: &str =
+    "Most reads of a worker's piece, 1 to 1048576; the report is the same with any number";
+
 const STATUSES: &str = "The report goes to standard output. Exit status:
   0  the history is atomic
   1  it isn't
   2  the history is refused: it isn't well formed, or too long
   3  the command line is refused, or it asked for this help
-  4  the history couldn't be read, the report couldn't be written, or memory was refused";
+  4  the history couldn't be read, the report couldn't be written, or memory or a thread was refused";
 
 /// What the words ask for.
 #[derive(Drop)]
 pub struct Words {
     /// The name of the file with the history; standard input where there is none.
     pub file: Option<String>,
+    /// How many workers there are, from 1 to [`MAX_WORKERS`].
+    pub workers: u32,
+    /// How many reads a worker's piece has at most, from 1 to [`MAX_CUT`].
+    pub cut: u32,
+    ghost some_workers: { 1 ≤ workers },
+    ghost few_workers: { workers ≤ MAX_WORKERS },
+    ghost some_reads: { 1 ≤ cut },
+    ghost few_reads: { cut ≤ MAX_CUT },
+}
+
+impl Words {
+    /// The settings with these numbers.
+    pub fn settings(&self) -> Settings
+        ensures { result ≡ record { workers = self.now.workers; cut = self.now.cut } }
+    {
+        Settings::new(self.workers, self.cut).unwrap()
+    }
 }
 
 /// Why there are no words.
@@ -46,6 +71,19 @@ impl From<AllocError> for WordsFault {
     }
 }
 
+/// An option with a whole number from 1 to `most`, which is `default` where it isn't given.
+fn number<'a>(alloc: Global, name: &'a str, most: u32, default: &'a str) -> Arg<'a>
+    ensures rule { rule_of result ≡ number_rule name.entry.now most default.entry.now }
+    ensures local { result.global ≡ false }
+{
+    Arg::new(alloc, name)
+        .long(name)
+        .value_name("N")
+        .action(ArgAction::Set)
+        .value_parser(value_parser!(u32).range(1..=i64::from(most)))
+        .default_value(default)
+}
+
 fn command<'a>(alloc: Global) -> Result<Command<'a>, AllocError>
     ensures { IfOk result (λ command. app_of command ≡ command_line) }
 {
@@ -54,7 +92,9 @@ fn command<'a>(alloc: Global) -> Result<Command<'a>, AllocError>
         .no_binary_name(true)
         .about(ABOUT)
         .after_help(STATUSES)
-        .arg(file)
+        .arg(file)?
+        .arg(number(alloc, "workers", MAX_WORKERS, "4").help(WORKERS))?
+        .arg(number(alloc, "cut", MAX_CUT, "4096").help(CUT))
 }
 
 fn fault(alloc: Global, error: &Error) -> WordsFault
@@ -71,6 +111,8 @@ fn fault(alloc: Global, error: &Error) -> WordsFault
 
 fn parsed<'a>(alloc: Global, words: &'a [String]) -> Result<ArgMatches<'a>, WordsFault>
     ensures file { IfOk result (λ matches. first_value (found_of matches) (codes "file") ≡ file_named (map string_bytes words.entry.now)) }
+    ensures workers { IfOk result (λ matches. HasNumber (found_of matches) (codes "workers") MAX_WORKERS (workers_named (map string_bytes words.entry.now))) }
+    ensures cut { IfOk result (λ matches. HasNumber (found_of matches) (codes "cut") MAX_CUT (cut_named (map string_bytes words.entry.now))) }
     ensures faultless { IfOk result (λ _. IsFaultless (map string_bytes words.entry.now)) }
     ensures taken { IfErr result (λ fault. IsTaken (map string_bytes words.entry.now) → fault ≡ WordsFault.Memory) }
 {
@@ -80,12 +122,16 @@ fn parsed<'a>(alloc: Global, words: &'a [String]) -> Result<ArgMatches<'a>, Word
     }
 }
 
-/// Reads the words after the program's name: one file at most.
+/// Reads the words after the program's name: one file at most, `--workers N` and `--cut N`. Where they don't say, there
+/// are 4 workers, and the cut is 4096.
 ///
 /// # Errors
 /// `Bad` where the words are others, or ask for help; `Memory` where memory was refused.
 pub fn read_words(alloc: Global, words: &[String]) -> Result<Words, WordsFault>
     ensures file { IfOk result (λ read. option_map string_bytes read.file ≡ file_named (map string_bytes words.now)) }
+    ensures workers { IfOk result (λ read. Some read.workers ≡ workers_named (map string_bytes words.now)) }
+    ensures cut { IfOk result (λ read. Some read.cut ≡ cut_named (map string_bytes words.now)) }
+    ensures limits { IfOk result (λ read. (1 ≤ read.workers) × (read.workers ≤ MAX_WORKERS) × (1 ≤ read.cut) × (read.cut ≤ MAX_CUT)) }
     ensures faultless { IfOk result (λ _. IsFaultless (map string_bytes words.now)) }
     ensures taken { IfErr result (λ fault. IsTaken (map string_bytes words.now) → fault ≡ WordsFault.Memory) }
 {
@@ -94,5 +140,9 @@ pub fn read_words(alloc: Global, words: &[String]) -> Result<Words, WordsFault>
         Some(name) => Some(String::from_str(alloc, name)?),
         None => None,
     };
-    Ok(Words { file })
+    Ok(Words {
+        file,
+        workers: matches.get_one("workers").unwrap(),
+        cut: matches.get_one("cut").unwrap(),
+    })
 }

@@ -12,7 +12,7 @@ use Rattle.reg_report.specs.declared.refusal.Refusal.TheVariants.{TooLong}
 use Rattle.reg_report.proofs.checked.check.Goals as goal
 
 pub returns-clause-ok : goal.returns-clause-ok
-returns-clause-ok c = go (nat_lt MAX_INPUT (length c.args.input.now)) refl answered
+returns-clause-ok g c = go (nat_lt MAX_INPUT (length c.args.input.now)) refl answered
   where
     answered : IsAnswerToLines (history_lines c.args.input.now) (Ok c.in_ok-history_report.field-0)
     answered =

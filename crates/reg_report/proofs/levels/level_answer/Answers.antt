@@ -1,4 +1,4 @@
-use Rattle.std.proofs.Common.{Some, None, refl, ap, subst}
+use Rattle.std.proofs.Common.{Some, refl, ap, subst, length}
 use Rattle.reg_arena.specs.declared.ids.Oper.TheVariants.{Called}
 use Rattle.reg_lamport.specs.Levels.{IsFirstBadRead}
 use Rattle.reg_lamport.proofs.Cuts.{list-keeps, list-breaks}
@@ -9,21 +9,18 @@ pub line-requires : goal.line-requires
 line-requires c =
     let h = c.args.arena.now in
     let list = c.args.list.now in
-    let first = subst (IsFirstBadRead h list.register c.args.level 0 c.len.result) c.in-Some.is c.first_bad.ensures in
-    let b = list-breaks h list c.args.level c.in-Some.read c.requires.list (subst (λ n. IsFirstBadRead h list.register c.args.level 0 n (Some c.in-Some.read)) c.len.ensures first) in
+    let b = list-breaks h list c.args.level c.in-Some.read c.requires.list (subst (IsFirstBadRead h list.register c.args.level 0 (length list.entries)) c.in-Some.is c.requires.first) in
     named-oper h (Called c.in-Some.read) b.0 b.1
 
 pub returns-in-Some : goal.returns-in-Some
 returns-in-Some c =
     let h = c.args.arena.now in
     let list = c.args.list.now in
-    let first = subst (IsFirstBadRead h list.register c.args.level 0 c.len.result) c.in-Some.is c.first_bad.ensures in
-    let b = list-breaks h list c.args.level c.in-Some.read c.requires.list (subst (λ n. IsFirstBadRead h list.register c.args.level 0 n (Some c.in-Some.read)) c.len.ensures first) in
+    let b = list-breaks h list c.args.level c.in-Some.read c.requires.list (subst (IsFirstBadRead h list.register c.args.level 0 (length list.entries)) c.in-Some.is c.requires.first) in
     (c.requires.writer, (b.0, b.2, ap Some (line-own h (Called c.in-Some.read) b.0 c.line.result b.1 c.line.ensures)))
 
 pub returns-in-None : goal.returns-in-None
 returns-in-None c =
     let h = c.args.arena.now in
     let list = c.args.list.now in
-    let first = subst (IsFirstBadRead h list.register c.args.level 0 c.len.result) c.in-None.is c.first_bad.ensures in
-    (c.requires.writer, list-keeps h list c.args.level c.requires.list (subst (λ n. IsFirstBadRead h list.register c.args.level 0 n None) c.len.ensures first), refl)
+    (c.requires.writer, list-keeps h list c.args.level c.requires.list (subst (IsFirstBadRead h list.register c.args.level 0 (length list.entries)) c.in-None.is c.requires.first), refl)

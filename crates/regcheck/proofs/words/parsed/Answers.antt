@@ -4,6 +4,7 @@ use Rattle.clap.specs.Words.{fault_of, first_of, found_of, is_simple, is_simple_
 use Rattle.clap.proofs.OnLiterals.{clap_on_literals}
 use Rattle.clap.proofs.WalkLemmas.{first_value-rows}
 use Rattle.regcheck.specs.Words.{IsFaultless, IsTaken, command_line, file_named}
+use Rattle.regcheck.proofs.Numbers.{cut_has, workers_has}
 use Rattle.regcheck.proofs.words.parsed.Goals as goal
 
 simple : is_simple command_line ≡ true
@@ -21,6 +22,20 @@ returns-in-Ok-clause-file c =
     let words = map string_bytes c.args.words.now in
     let rows = (c.in-Ok.ensures.matches (ap is_simple ours ∙ simple)).0 in
     first_value-rows (found_of c.in-Ok.matches) (codes "file") ∙ ap (first_of (codes "file")) (rows ∙ ap (λ app. matches_of app words) ours)
+
+pub returns-in-Ok-clause-workers : goal.returns-in-Ok-clause-workers
+returns-in-Ok-clause-workers c =
+    let ours = c.in_ok-command.ensures in
+    let words = map string_bytes c.args.words.now in
+    let rows = (c.in-Ok.ensures.matches (ap is_simple ours ∙ simple)).0 in
+    workers_has c.in_ok-command.field-0 c.in-Ok.matches c.in-Ok.ensures.parsed ours words (rows ∙ ap (λ app. matches_of app words) ours)
+
+pub returns-in-Ok-clause-cut : goal.returns-in-Ok-clause-cut
+returns-in-Ok-clause-cut c =
+    let ours = c.in_ok-command.ensures in
+    let words = map string_bytes c.args.words.now in
+    let rows = (c.in-Ok.ensures.matches (ap is_simple ours ∙ simple)).0 in
+    cut_has c.in_ok-command.field-0 c.in-Ok.matches c.in-Ok.ensures.parsed ours words (rows ∙ ap (λ app. matches_of app words) ours)
 
 pub returns-in-Ok-clause-faultless : goal.returns-in-Ok-clause-faultless
 unfolding IsFaultless
