@@ -1,6 +1,6 @@
 # make: prove and build bin/regcheck. make run: run it on a shipped example, or on FILE=...
 # make test: the merge gate; then, by the program that it built, the examples, and runs with ends that fail.
-# make bench: time it on generated histories, in a few minutes.
+# make bench: time it on generated histories, in five to fifteen minutes.
 # make install: bin/regcheck and its man page below PREFIX, within DESTDIR.
 FILE ?= examples/new_old_inversion.jsonl
 PREFIX ?= /usr/local

@@ -14,12 +14,12 @@ use reg_arena::Arena;
 use std::alloc::Global;
 use std::thread::Threads;
 
-/// The report of the history in the input. Workers do its pieces, each at a gate of its own number; neither their number,
-/// nor the cut, nor the gate changes the report.
+/// The report of the history in the input. Workers do its pieces, past the gate; neither their number, nor the cut, nor
+/// the gate changes the report.
 ///
 /// # Errors
 /// `TooLong` where the input has more than [`MAX_INPUT`] bytes, whatever memory there is; `At` for the least faulty
-/// line where the history isn't well formed; `NoRoom` where memory or a thread was refused. What was made is dropped then.
+/// line where the history isn't well formed; `NoRoom` where memory was refused. What was made is dropped then.
 pub fn check<R: Threads + Sync, G: Gate + Sync>(
     rt: &R,
     alloc: Global,

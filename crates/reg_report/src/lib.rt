@@ -2,13 +2,17 @@
 //!
 //! What the floor above may rely on: [`run`] pulls all the bytes of a source, and the bytes that it pushes into a sink are
 //! the report of their history, or it answers the one refusal and pushes nothing. [`check`] gives the report's values and
-//! [`text`] their bytes; [`merge`] lists the operations of all registers in one legal order. [`laws`] says why the whole
-//! history is atomic exactly where each of its registers is, and that a history has one report.
+//! [`text`] their bytes; [`merge`] lists the operations of all registers in one legal order. [`plan`] numbers the pieces of
+//! work, and [`work`] is one worker, which draws them from a board; how many there are, and how they take turns, changes no
+//! report. [`laws`] says why the whole history is atomic exactly where each of its registers is, and that a history has one
+//! report.
 //!
 //! To read, from the input on: `ends` with `adapters`, `mem_source` and `mem_sink`, then `pulled`; `checked`, which asks
-//! the crates below and `history`; there `register` judges one register, with `tally`, `levels`, `fault` and `order`, and
-//! `merged` all of them; then `report` with `lists`, `send` and `written`; `pushed` and `whole` at last. `refusal` and
-//! `wording` say why there is no report, and `told` asks the arena for what its laws say.
+//! all others; `settings`, `tasks` and `planning`, which cut the work into pieces; `gate`, `piece`, `worker`, `workers` and
+//! `slots`, where they are done; `history`, which puts them together: there `register` makes the line of one register, with
+//! `tally`, `levels`, `fault` and `order`, and `merged` the order of all; then `report` with `lists`, `send` and `written`;
+//! `pushed` and `whole` at last. `refusal` and `wording` say why there is no report, and `told` asks the arena for what its
+//! laws say.
 #![tactic(auto)]
 
 mod adapters;

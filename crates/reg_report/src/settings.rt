@@ -1,4 +1,4 @@
-//! How many workers there are, and how many reads each of their pieces has.
+//! How many workers there are, and how many reads a cut has.
 ghost use Rattle.std.specs.Prelude.{◌≡◌, ◌≤◌, ◌↔◌, IsSome, IfSome};
 ghost use Rattle.reg_report.specs.Settings.{SettingsShown};
 
@@ -7,7 +7,7 @@ use std::marker::Model;
 /// The most workers.
 pub const MAX_WORKERS: u32 = 16;
 
-/// The most reads of a piece.
+/// The most reads of a cut.
 pub const MAX_CUT: u32 = 1_048_576;
 
 /// Numbers within their limits: 1 to [`MAX_WORKERS`] workers, and a cut of 1 to [`MAX_CUT`] reads. Neither changes a

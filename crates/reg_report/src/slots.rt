@@ -40,7 +40,7 @@ pub(crate) fn put(slots: &mut Vec<Option<Piece>>, mut done: Vec<(u64, Piece)>)
 /// Takes a piece out of its slot.
 ///
 /// # Errors
-/// Where the slot is empty: the worker that drew the piece was refused memory.
+/// Where the slot is empty, as after a worker was refused memory.
 pub(crate) fn take(slots: &mut Vec<Option<Piece>>, number: usize) -> Result<Piece, AllocError>
     ensures ok { IfOk result (λ piece. slice_get slots.old.items number ≡ Some (Some piece)) }
     ensures fits { IfOk result (λ _. number < 2 ^ 63) }

@@ -20,7 +20,7 @@ use std::thread::Threads;
 ///
 /// # Errors
 /// `InputFailed` where a pull failed, and nowhere else; `TooLong` where there were more bytes than an input may have,
-/// whatever memory there is; `At` where the history isn't well formed; `NoRoom` where memory or a thread was refused;
+/// whatever memory there is; `At` where the history isn't well formed; `NoRoom` where memory was refused;
 /// `OutputFailed` where a push or the flush failed, and nowhere else; then a beginning of the report is out.
 pub fn run<T: Threads + Sync, R: Source, W: Sink, G: Gate + Sync>(
     rt: &T,

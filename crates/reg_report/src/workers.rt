@@ -100,10 +100,10 @@ fn joined(board: &Board<Global>, whole: Option<Seat>, seat: Seat) -> Seat
     }
 }
 
-/// What is done for all pieces of a plan, by number. A slot is empty where a worker was refused memory.
+/// What is done for all pieces of a plan, by number. A slot stays empty where a worker was refused memory.
 ///
 /// # Errors
-/// Where a growth or the start of a thread was refused.
+/// Where a growth was refused.
 pub(crate) fn done<R: Threads + Sync, G: Gate + Sync>(
     rt: &R,
     alloc: Global,
