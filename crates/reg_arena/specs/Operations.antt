@@ -90,6 +90,10 @@ pub record IsReadOf (w r : Operation) : Type 0 where
 abbrev pub of_register : ℕ → List Operation → List Operation
 of_register r ops = filter (λ a. a.register == r) ops
 
+-- all operations of register r of a history, its initial write among them
+abbrev pub register_of : History → ℕ → List Operation
+register_of h r = of_register r (operations h)
+
 -- ---- what holds of the operations of one register of an accepted history
 
 -- The facts on which every law above stands.

@@ -1,15 +1,16 @@
 -- The pieces of one register are put together, and those of the next stand behind them.
 use Rattle.std.proofs.Common.{◌≡◌, ℕ, zero, suc, ◌+◌, ◌<◌, List, [], ◌∷◌, ◌++◌, length, drop, slice_get, Option, Some, refl, sym, ap, subst, ◌∙◌, arith}
+use Rattle.std.proofs.lemmas.Option.{slice_get_within}
 use Rattle.reg_arena.specs.History.{History}
 use Rattle.reg_lamport.specs.Reads.{ListedReads}
-use Rattle.reg_report.specs.Atomicity.{IsJudged}
+use Rattle.reg_pieces.specs.Judged.{IsJudged}
 use Rattle.reg_report.specs.Cuts.{HasCutsOf, LeavesOf}
-use Rattle.reg_report.specs.Merged.{register_of}
-use Rattle.reg_report.specs.Plan.{AreTasks, PlanShown}
-use Rattle.reg_report.specs.Slots.{AreSlots}
-use Rattle.reg_report.specs.declared.piece.Piece.{Piece}
-use Rattle.reg_report.specs.declared.tasks.Task.TheVariants.{Judge}
-use Rattle.reg_report.proofs.Cutting.{drop-head}
+use Rattle.reg_arena.specs.Operations.{register_of}
+use Rattle.reg_pieces.specs.Plan.{AreTasks, PlanShown}
+use Rattle.reg_pieces.specs.Slots.{AreDoneFrom, IsFull}
+use Rattle.reg_pieces.specs.declared.piece.Piece.{Piece}
+use Rattle.reg_pieces.specs.declared.tasks.Task.TheVariants.{Judge}
+use Rattle.reg_report.proofs.Cutting.{drop-head, stands, taken-piece}
 
 -- what stands at a place of a list, and behind it
 there : {X : Type 0} (xs : List X) (i : ℕ) → i < length xs → (x : X) × (slice_get xs i ≡ Some x) × (drop i xs ≡ x ∷ drop (suc i) xs)
@@ -27,9 +28,15 @@ module _ (h : History) (cut r start : ℕ) (plan : PlanShown) (inside : r < leng
   head : (slice_get plan.tasks start ≡ Some (Judge (record { 0 = r }))) × (drop (start + 1) plan.tasks ≡ at.0 ++ at.1)
   head = drop-head plan.tasks start (Judge (record { 0 = r })) (at.0 ++ at.1) at.4
 
+  pub inside-tasks : start < length plan.tasks
+  inside-tasks = slice_get_within plan.tasks start (Judge (record { 0 = r })) head.0
+
   -- the first piece judges the register
-  pub judged-there : (slots : List (Option Piece)) (p : Piece) → AreSlots h plan.tasks slots → slice_get slots start ≡ Some (Some p) → IsJudged (register_of h r) p
-  judged-there slots p s e = s start p e (Judge (record { 0 = r })) head.0
+  pub judged-stands : (slots : List (Option Piece)) → AreDoneFrom start h plan.tasks slots → IsFull slots start
+  judged-stands slots a = stands h plan.tasks start (Judge (record { 0 = r })) slots head.0 a
+
+  pub judged-there : (slots : List (Option Piece)) (p : Piece) → AreDoneFrom start h plan.tasks slots → slice_get slots start ≡ Some (Some p) → IsJudged (register_of h r) p
+  judged-there slots p a e = taken-piece h plan.tasks start (Judge (record { 0 = r })) slots head.0 a p e
 
   -- then come the cuts of its reads
   pub cuts-there : HasCutsOf cut r plan (drop (start + 1) plan.tasks)

@@ -2,20 +2,20 @@
 use Rattle.std.proofs.Common.{◌≡◌, ℕ, ◌+◌, List, [], ◌∷◌, ◌++◌, true, false, Option, Some, None, inl, inr, refl, sym, ap, subst, ◌∙◌, arith}
 use Rattle.reg_arena.specs.Lists.{In}
 use Rattle.reg_arena.specs.History.{History}
-use Rattle.reg_arena.specs.Operations.{Operation, operations}
+use Rattle.reg_arena.specs.Operations.{Operation, operations, register_of}
 use Rattle.reg_zones.specs.Order.{PlacedOperation, IsOrder, placed, operations_of}
 use Rattle.reg_zones.specs.declared.fault.Fault.{Fault}
 use Rattle.reg_zones.specs.declared.placed.Placed.{Placed}
 use Rattle.reg_zones.proofs.Places.{In-map}
-use Rattle.reg_report.specs.Atomicity.{IsJudged}
+use Rattle.reg_pieces.specs.Judged.{IsJudged}
 use Rattle.reg_report.specs.Lines.{HaveCalls, HavePoints, call_line, point_line, lines_by}
 use Rattle.reg_report.specs.Meaning.{IsAtomicity, IsWholeAtomicity, ShowsFault}
-use Rattle.reg_report.specs.Merged.{AreFirstOrders, IsMergedAnswer, register_of}
+use Rattle.reg_report.specs.Merged.{AreFirstOrders, IsMergedAnswer}
 use Rattle.reg_report.specs.Registers.{AreOrdersSoFar}
 use Rattle.reg_report.specs.Told.{IsTold}
-use Rattle.reg_report.specs.declared.piece.Piece.TheVariants.{Order, Faulty}
+use Rattle.reg_pieces.specs.declared.piece.Piece.TheVariants.{Order, Faulty}
 use Rattle.reg_report.specs.declared.report.FaultLines.{FaultLines}
-use Rattle.reg_report.proofs.Counting.{length-push, push-cases}
+use Rattle.reg_pieces.proofs.Pushed.{length-push, push-cases}
 use Rattle.reg_report.proofs.OrderLines.{calls-lines, points-lines, calls-there, points-there, placed-inside}
 use Rattle.reg_report.proofs.Locality.{each}
 

@@ -1,9 +1,10 @@
 -- A count of calls over all events, and the lines of the registers one after another.
-use Rattle.std.proofs.Common.{◌≡◌, ℕ, zero, suc, ◌+◌, ◌≤◌, cond, Bool, true, false, List, [], ◌∷◌, ◌++◌, length, drop, slice_get, Some, ◌⊎◌, inl, inr, refl, sym, ap, subst, ◌∙◌, arith}
+use Rattle.std.proofs.Common.{◌≡◌, ℕ, zero, suc, ◌+◌, ◌≤◌, cond, Bool, true, false, List, [], ◌∷◌, ◌++◌, length, drop, slice_get, Some, inl, inr, refl, sym, ap, subst, ◌∙◌, arith}
 use Rattle.reg_arena.specs.History.{History}
 use Rattle.reg_arena.specs.Operations.{operation, next_of, calls_from, calls}
 use Rattle.reg_arena.specs.declared.event.Event.{Event}
 use Rattle.reg_arena.proofs.Walking.{drop-at}
+use Rattle.reg_pieces.proofs.Pushed.{length-push, push-cases}
 use Rattle.reg_report.specs.Meaning.{IsRegisterReport}
 use Rattle.reg_report.specs.Registers.{AreFirstLines}
 use Rattle.reg_report.specs.declared.report.RegReport.{RegReport}
@@ -53,16 +54,6 @@ count-ends es count i c l = let e = ap (λ xs. length (calls_from (length es + 2
     past (x ∷ xs) (suc m) l = past xs m (omega arith)
 
 -- ---- the lines of the first registers
-
-pub length-push : {X : Type 0} (xs : List X) (y : X) → length (xs ++ y ∷ []) ≡ length xs + 1
-length-push [] y = refl
-length-push (x ∷ xs) y = let r = length-push xs y in omega arith
-
-pub push-cases : {X : Type 0} (xs : List X) (y z : X) (i : ℕ) → slice_get (xs ++ y ∷ []) i ≡ Some z → (slice_get xs i ≡ Some z) ⊎ ((i ≡ length xs) × (y ≡ z))
-push-cases [] y z zero h = inr (refl, let q : y ≡ z = cc (h) in q)
-push-cases [] y z (suc i) h = absurd (cc (h))
-push-cases (x ∷ xs) y z zero h = inl h
-push-cases (x ∷ xs) y z (suc i) h = elim (push-cases xs y z i h) [ inl k ↦ inl k | inr k ↦ inr (ap suc k.0, k.1) ]
 
 pub one-line-more : (h : History) (regs : List RegReport) (n : ℕ) (reg : RegReport) → AreFirstLines h n regs → IsRegisterReport h n reg → AreFirstLines h (n + 1) (regs ++ reg ∷ [])
 one-line-more h regs n reg a is = record {

@@ -1,16 +1,18 @@
 -- The first bad reads of a register are put together cut by cut.
-use Rattle.std.proofs.Common.{◌≡◌, ℕ, zero, suc, ◌+◌, ◌-◌, ◌<◌, ◌≤◌, min, List, [], ◌∷◌, ◌++◌, drop, slice_get, Option, Some, None, refl, sym, ap, subst, ◌∙◌, arith}
+use Rattle.std.proofs.Common.{◌≡◌, ℕ, zero, suc, ◌+◌, ◌-◌, ◌<◌, ◌≤◌, min, List, [], ◌∷◌, ◌++◌, drop, length, set, slice_get, Option, Some, None, refl, sym, ap, subst, ◌∙◌, arith}
+use Rattle.std.proofs.lemmas.Option.{same_Some, slice_get_within}
 use Rattle.reg_arena.specs.History.{History}
+use Rattle.reg_arena.proofs.Links.{slice_get-set_other}
 use Rattle.reg_lamport.specs.declared.level.Level.TheVariants.{Safe, Regular}
 use Rattle.reg_lamport.proofs.Cuts.{named-cuts-join}
 use Rattle.reg_report.specs.Cuts.{AreFirstBad, HasCuts, IsCut, Leaves, with_cut}
-use Rattle.reg_report.specs.Plan.{AreCuts, IsPieceOf}
-use Rattle.reg_report.specs.Slots.{AreFewer, AreSlots}
+use Rattle.reg_pieces.specs.Plan.{AreCuts, IsPieceOf}
+use Rattle.reg_pieces.specs.Slots.{AreDoneFrom, IsFull}
 use Rattle.reg_report.specs.declared.levels.FirstBad.{FirstBad}
-use Rattle.reg_report.specs.declared.piece.Piece.{Piece}
-use Rattle.reg_report.specs.declared.piece.Piece.TheVariants as piece
-use Rattle.reg_report.specs.declared.tasks.Task.{Task}
-use Rattle.reg_report.specs.declared.tasks.Task.TheVariants.{Reads}
+use Rattle.reg_pieces.specs.declared.piece.Piece.{Piece}
+use Rattle.reg_pieces.specs.declared.piece.Piece.TheVariants as piece
+use Rattle.reg_pieces.specs.declared.tasks.Task.{Task}
+use Rattle.reg_pieces.specs.declared.tasks.Task.TheVariants.{Reads}
 
 head-dropped : {X : Type 0} (xs : List X) (i : ℕ) (y : X) (ys : List X) → drop i xs ≡ y ∷ ys → (slice_get xs i ≡ Some y) × (drop (suc i) xs ≡ ys)
 head-dropped [] zero y ys e = absurd (cc e)
@@ -22,17 +24,31 @@ head-dropped (x ∷ xs) (suc i) y ys e = head-dropped xs i y ys e
 pub drop-head : {X : Type 0} (xs : List X) (i : ℕ) (y : X) (ys : List X) → drop i xs ≡ y ∷ ys → (slice_get xs i ≡ Some y) × (drop (i + 1) xs ≡ ys)
 drop-head xs i y ys e = let k = head-dropped xs i y ys e in let z : suc i ≡ i + 1 = omega arith in (k.0, ap (λ n. drop n xs) (sym z) ∙ k.1)
 
-pub fewer-slots : (h : History) (tasks : List Task) (old new : List (Option Piece)) → AreFewer old new → AreSlots h tasks old → AreSlots h tasks new
-fewer-slots h tasks old new f a i p e = a i p (f i p e)
+-- ---- a piece is taken
+
+-- what stands behind it stays
+pub done-behind : (h : History) (tasks : List Task) (n : ℕ) (old new : List (Option Piece)) → new ≡ set old n None → AreDoneFrom n h tasks old → AreDoneFrom (n + 1) h tasks new
+done-behind h tasks n old new e a i t l at =
+    let d = a i t (omega (arith, l)) at in
+    (d.0, ap (λ xs. slice_get xs i) e ∙ (slice_get-set_other old n i None (λ q. absurd (omega (arith, q, l))) ∙ d.1), d.2)
+
+module _ (h : History) (tasks : List Task) (n : ℕ) (t : Task) (slots : List (Option Piece)) (at : slice_get tasks n ≡ Some t) (a : AreDoneFrom n h tasks slots) where
+  pub stands : IsFull slots n
+  stands = let d = a n t (omega arith) at in (d.0, d.1)
+
+  pub taken-piece : (p : Piece) → slice_get slots n ≡ Some (Some p) → IsPieceOf h t p
+  taken-piece p e = let d = a n t (omega arith) at in subst (IsPieceOf h t) (same_Some _ _ (same_Some _ _ (sym d.1 ∙ e))) d.2
+
+-- ---- the cuts of one register
 
 -- what the cuts up to read number `from` have, of a list of so many reads whose cuts stand from `start` on
 pub record IsPutTogether (h : History) (tasks : List Task) (r cut len start from next : ℕ) (first : FirstBad) (slots : List (Option Piece)) : Type 0 where
   pub within : from ≤ len
   pub bad : AreFirstBad h r 0 from first
-  pub filled : AreSlots h tasks slots
+  pub filled : AreDoneFrom next h tasks slots
   pub ahead : (cuts rest : List Task) → AreCuts cut r 0 len cuts → drop start tasks ≡ cuts ++ rest → (more : List Task) × AreCuts cut r from len more × (drop next tasks ≡ more ++ rest)
 
-pub together-starts : (h : History) (tasks : List Task) (r cut len start : ℕ) (slots : List (Option Piece)) → AreSlots h tasks slots → IsPutTogether h tasks r cut len start 0 start (record { safe = None; regular = None }) slots
+pub together-starts : (h : History) (tasks : List Task) (r cut len start : ℕ) (slots : List (Option Piece)) → AreDoneFrom start h tasks slots → IsPutTogether h tasks r cut len start 0 start (record { safe = None; regular = None }) slots
 together-starts h tasks r cut len start slots a = record {
   within = omega arith;
   bad = (λ i o l k. absurd (omega arith), λ i o l k. absurd (omega arith));
@@ -63,14 +79,20 @@ module _ (h : History) (tasks : List Task) (r cut len start from next : ℕ) (fi
   at-next : slice_get tasks next ≡ Some (Reads (record { 0 = r }) from to)
   at-next = let a = t.ahead has.0 has.1 has.2 has.3 in (next-cut a.0 has.1 a.1 a.2).1
 
-  pub piece-fits : (p : Piece) → slice_get slots next ≡ Some (Some p) → IsCut p × AreFirstBad h r 0 to (with_cut first p)
-  piece-fits p e = cut-piece h r from to first p (omega arith) (t.filled next p e (Reads (record { 0 = r }) from to) at-next) t.bad
+  pub cut-stands : IsFull slots next
+  cut-stands = stands h tasks next (Reads (record { 0 = r }) from to) slots at-next t.filled
 
-  pub together-goes-on : (p : Piece) (new : List (Option Piece)) → slice_get slots next ≡ Some (Some p) → AreFewer slots new → IsPutTogether h tasks r cut len start to (next + 1) (with_cut first p) new
+  pub inside : next < length tasks
+  inside = slice_get_within tasks next (Reads (record { 0 = r }) from to) at-next
+
+  pub piece-fits : (p : Piece) → slice_get slots next ≡ Some (Some p) → IsCut p × AreFirstBad h r 0 to (with_cut first p)
+  piece-fits p e = cut-piece h r from to first p (omega arith) (taken-piece h tasks next (Reads (record { 0 = r }) from to) slots at-next t.filled p e) t.bad
+
+  pub together-goes-on : (p : Piece) (new : List (Option Piece)) → slice_get slots next ≡ Some (Some p) → new ≡ set slots next None → IsPutTogether h tasks r cut len start to (next + 1) (with_cut first p) new
   together-goes-on p new e f = record {
     within = omega (arith, less);
     bad = (piece-fits p e).1;
-    filled = fewer-slots h tasks slots new f t.filled;
+    filled = done-behind h tasks next slots new f t.filled;
     ahead = λ cuts rest c q. let a = t.ahead cuts rest c q in let k = next-cut a.0 rest a.1 a.2 in (k.0, k.2, k.3);
   }
 

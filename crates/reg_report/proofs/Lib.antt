@@ -10,12 +10,8 @@ mod OrderLines
 mod Atomic
 mod Counting
 mod OneReport
-mod Numbering
 mod Cutting
 mod Assembly
 mod ListedLevels
-mod Fitness
-mod Fewness
-mod Putting
 pub mod Pulling
 mod Pushing

@@ -4,8 +4,8 @@ use Rattle.std.proofs.lemmas.Option.{same_Some}
 use Rattle.reg_arena.specs.History.{History}
 use Rattle.reg_lamport.specs.Reads.{ListedReads}
 use Rattle.reg_report.specs.Cuts.{HasCuts, HasCutsOf, Leaves, LeavesOf}
-use Rattle.reg_report.specs.Plan.{AreCutsOf, IsListOf, IsPlan, PlanShown}
-use Rattle.reg_report.specs.declared.tasks.Task.{Task}
+use Rattle.reg_pieces.specs.Plan.{AreCutsOf, IsListOf, IsPlan, PlanShown}
+use Rattle.reg_pieces.specs.declared.tasks.Task.{Task}
 
 module _ (h : History) (cut r : ℕ) (plan : PlanShown) (p : IsPlan h cut plan) (o : Option ListedReads) (at : slice_get plan.lists r ≡ Some o) where
   pub list-cuts : (list : ListedReads) (tasks : List Task) → o ≡ Some list → HasCutsOf cut r plan tasks → HasCuts cut list.register (length list.entries) tasks

@@ -3,14 +3,14 @@ use Rattle.std.proofs.Common.{◌≡◌, ℕ, ◌<◌, ◌≤◌, length, List, 
 use Rattle.std.proofs.lemmas.Bool.{cases_order}
 use Rattle.reg_arena.specs.Lists.{In, Before}
 use Rattle.reg_arena.specs.History.{History}
-use Rattle.reg_arena.specs.Operations.{Operation, IsHistory, of_register, operations}
+use Rattle.reg_arena.specs.Operations.{Operation, IsHistory, of_register, operations, register_of}
 use Rattle.reg_arena.specs.Legal.{IsLegal, IsAtomic}
 use Rattle.reg_zones.specs.Order.{PlacedOperation, placed, operations_of}
 use Rattle.reg_zones.proofs.Places.{Before-total, Before-trans}
 use Rattle.reg_zones.proofs.Points.{placed-In}
 use Rattle.reg_zones.proofs.Registers.{of_register-In}
 use Rattle.reg_zones.proofs.Sorting.{sorted}
-use Rattle.reg_report.specs.Merged.{MergesBefore, IsMerged, register_of}
+use Rattle.reg_report.specs.Merged.{MergesBefore, IsMerged}
 use Rattle.reg_report.proofs.MergedOrder.{placed-once, merged_legal}
 use Rattle.reg_report.proofs.Restrict.{restricted}
 

@@ -3,7 +3,7 @@ use Rattle.std.proofs.Common.{◌≡◌, ℕ, suc, Bool, true, false, List, [], 
 use Rattle.std.proofs.lemmas.Bool.{cases_order}
 use Rattle.reg_arena.specs.Lists.{In, Before}
 use Rattle.reg_arena.specs.History.{History}
-use Rattle.reg_arena.specs.Operations.{Operation, IsHistory, operations}
+use Rattle.reg_arena.specs.Operations.{Operation, IsHistory, operations, register_of}
 use Rattle.reg_arena.specs.Shown.{IsNamed}
 use Rattle.reg_arena.specs.declared.ids.Oper.{Oper}
 use Rattle.reg_lamport.specs.Levels.{IsFirstBreak}
@@ -17,7 +17,7 @@ use Rattle.reg_zones.proofs.Unique.{ascending_one, one_canonical, sooner_one_way
 use Rattle.reg_zones.proofs.Places.{Before-map}
 use Rattle.reg_zones.proofs.Points.{operations_of-placed}
 use Rattle.reg_report.specs.Meaning.{IsVerdict, HasLine, HaveLines, ShowsFault, IsAtomicity, IsWholeAtomicity, IsRegisterReport, IsReport, lines_of, points_of}
-use Rattle.reg_report.specs.Merged.{MergesBefore, IsWholeOrder, register_of}
+use Rattle.reg_report.specs.Merged.{MergesBefore, IsWholeOrder}
 use Rattle.reg_report.specs.declared.report.Verdict.{Verdict}
 use Rattle.reg_report.specs.declared.report.Verdict.TheVariants.{Yes, No, SeveralWriters}
 use Rattle.reg_report.specs.declared.report.FaultLines.{FaultLines}

@@ -4,7 +4,7 @@ use Rattle.std.proofs.lemmas.Option.{slice_get_within}
 use Rattle.std.proofs.lemmas.List.{drop_more}
 use Rattle.reg_arena.specs.Lists.{In}
 use Rattle.reg_arena.specs.History.{History}
-use Rattle.reg_arena.specs.Operations.{Operation, operations}
+use Rattle.reg_arena.specs.Operations.{Operation, operations, register_of}
 use Rattle.reg_arena.specs.Shown.{name_by, name_of}
 use Rattle.reg_arena.specs.declared.event.Event.{Event}
 use Rattle.reg_arena.specs.declared.ids.EvId.{EvId}
@@ -18,7 +18,6 @@ use Rattle.reg_zones.proofs.Points.{after_call, reached, placed-In}
 use Rattle.reg_zones.proofs.Registers.{cases_process, of_register-In}
 use Rattle.reg_report.specs.Lines.{HasCall, HasPoint, HaveCalls, HavePoints, call_of, line_if_called, call_line, point_line, lines_by}
 use Rattle.reg_report.specs.Meaning.{line_at, lines_of, points_of, without_initial}
-use Rattle.reg_report.specs.Merged.{register_of}
 use Rattle.reg_report.specs.Told.{IsTold}
 
 slice_get-In : {X : Type 0} (xs : List X) (i : ℕ) (x : X) → slice_get xs i ≡ Some x → In x xs

@@ -5,11 +5,11 @@ use Rattle.reg_arena.specs.History.{History}
 use Rattle.reg_lamport.specs.Levels.{IsFirstBadRead}
 use Rattle.reg_lamport.specs.Reads.{ListedReads}
 use Rattle.reg_lamport.specs.declared.level.Level.TheVariants.{Safe, Regular}
-use Rattle.reg_report.specs.Plan.{AreCuts, AreCutsOf, PlanShown}
+use Rattle.reg_pieces.specs.Plan.{AreCuts, AreCutsOf, PlanShown}
 use Rattle.reg_report.specs.declared.levels.FirstBad.{FirstBad}
-use Rattle.reg_report.specs.declared.piece.Piece.{Piece}
-use Rattle.reg_report.specs.declared.piece.Piece.TheVariants as piece
-use Rattle.reg_report.specs.declared.tasks.Task.{Task}
+use Rattle.reg_pieces.specs.declared.piece.Piece.{Piece}
+use Rattle.reg_pieces.specs.declared.piece.Piece.TheVariants as piece
+use Rattle.reg_pieces.specs.declared.tasks.Task.{Task}
 
 -- of the completed reads of register r numbered from `from` up to and without `to`, the first that isn't safe, and the first that isn't regular
 abbrev pub AreFirstBad : History → ℕ → ℕ → ℕ → FirstBad → Type 0

@@ -1,5 +1,5 @@
 -- What a source has left and a sink has taken, where they tell it.
-use Rattle.std.specs.Prelude.{◌≡◌, ◌<◌, ◌≤◌, ℕ, ◌+◌, List, length, take, ⊤, Option, Some, None, Result, is_ok, if◌then◌else◌}
+use Rattle.std.specs.Prelude.{◌≡◌, ◌<◌, ◌≤◌, ℕ, List, length, take, ⊤, Option, Some, None}
 use Rattle.std.specs.Io.KnownBytes.{Appends}
 use Rattle.history_text.specs.declared.limits.TheConstants.{MAX_INPUT}
 
@@ -19,7 +19,3 @@ IsWithinLimit left = (bytes : List ℕ) × IsAll left bytes × (length bytes ≤
 -- what was taken grew by a beginning of the bytes
 abbrev pub AppendsBeginning : Option (List ℕ) → Option (List ℕ) → List ℕ → Type 0
 AppendsBeginning old new bytes = (count : ℕ) × (count ≤ length bytes) × Appends old new (take count bytes)
-
--- a failure adds one to the count of failures, and nothing else does
-abbrev pub Counts : {T E : Type 0} → ℕ → ℕ → Result T E → Type 0
-Counts old new result = new ≡ (if is_ok result then old else old + 1)

@@ -13,12 +13,5 @@ pub mod Atomicity
 pub mod Registers
 pub mod Answer
 pub mod Ends
-pub mod Memory
-pub mod Adapters
 pub mod Run
-pub mod Settings
-pub mod Plan
-pub mod Work
-pub mod Slots
-pub mod Workers
 pub mod Cuts

@@ -3,7 +3,7 @@ use Rattle.std.specs.Prelude.{◌≡◌, ◌<◌, ◌-◌, ℕ, List, length, ma
 use Rattle.std.specs.List.{filter}
 use Rattle.reg_arena.specs.History.{History}
 use Rattle.reg_arena.specs.Legal.{IsLegal, IsAtomic}
-use Rattle.reg_arena.specs.Operations.{Operation, operations, calls, of_register, is_write}
+use Rattle.reg_arena.specs.Operations.{Operation, operations, calls, of_register, is_write, register_of}
 use Rattle.reg_arena.specs.declared.event.Event.{Event}
 use Rattle.reg_arena.specs.Lamport.{HasSingleWriter}
 use Rattle.reg_arena.specs.Shown.{IsNamed}
@@ -15,7 +15,7 @@ use Rattle.reg_zones.specs.Faults.{IsFault}
 use Rattle.reg_zones.specs.Order.{PlacedOperation, IsCanonical, placed}
 use Rattle.reg_zones.specs.declared.fault.Fault.{Fault}
 use Rattle.reg_zones.specs.declared.fault.Fault.TheVariants as fault
-use Rattle.reg_report.specs.Merged.{IsWholeOrder, register_of}
+use Rattle.reg_report.specs.Merged.{IsWholeOrder}
 use Rattle.reg_report.specs.declared.report.Verdict.{Verdict}
 use Rattle.reg_report.specs.declared.report.Verdict.TheVariants.{Yes, No, SeveralWriters}
 use Rattle.reg_report.specs.declared.report.FaultLines.{FaultLines}

@@ -3,13 +3,9 @@ use Rattle.std.specs.Prelude.{◌≡◌, ℕ, ◌<◌, ◌⊎◌, List, length, 
 use Rattle.reg_arena.specs.Lists.{In, Before}
 use Rattle.reg_arena.specs.History.{History}
 use Rattle.reg_arena.specs.Legal.{IsLegal}
-use Rattle.reg_arena.specs.Operations.{Operation, operations, of_register}
+use Rattle.reg_arena.specs.Operations.{Operation, operations, register_of}
 use Rattle.reg_zones.specs.Order.{PlacedOperation, IsCanonical, IsOrder, placed, operations_of, shown}
 use Rattle.reg_zones.specs.declared.placed.Placed.{Placed}
-
--- all operations of register r, its initial write among them
-abbrev pub register_of : History → ℕ → List Operation
-register_of h r = of_register r (operations h)
 
 -- by point, then by register, then as in the register's order
 abbrev pub MergesBefore : (ℕ → List Operation) → PlacedOperation → PlacedOperation → Type 0

@@ -4,7 +4,8 @@ use Rattle.reg_arena.specs.History.{History}
 use Rattle.reg_arena.specs.Legal.{IsAtomic}
 use Rattle.reg_zones.specs.declared.placed.Placed.{Placed}
 use Rattle.reg_report.specs.Meaning.{IsRegisterReport}
-use Rattle.reg_report.specs.Merged.{AreFirstOrders, register_of}
+use Rattle.reg_report.specs.Merged.{AreFirstOrders}
+use Rattle.reg_arena.specs.Operations.{register_of}
 use Rattle.reg_report.specs.declared.history.Reported.{Reported}
 use Rattle.reg_report.specs.declared.report.RegReport.{RegReport}
 

@@ -2,15 +2,12 @@
 ghost use Rattle.std.specs.Prelude.{◌≡◌, ◌<◌, length, Ok, Err, IfOk, IfErr};
 ghost use Rattle.reg_report.specs.Answer.{IsAnswer, IsRefused};
 
-use crate::gate::Gate;
 use crate::history::history_report;
-use crate::planning::plan;
 use crate::refusal::Refusal;
 use crate::report::Report;
-use crate::settings::Settings;
-use crate::workers::done;
 use history_text::{MAX_INPUT, read_lines};
 use reg_arena::Arena;
+use reg_pieces::{Gate, Settings, do_pieces, plan};
 use std::alloc::Global;
 use std::thread::Threads;
 
@@ -37,6 +34,6 @@ pub fn check<R: Threads + Sync, G: Gate + Sync>(
     let lines = read_lines(rt, alloc, input)?;
     let arena = Arena::build(alloc, lines)?;
     let plan = plan(alloc, &arena, settings)?;
-    let pieces = done(rt, alloc, &arena, &plan, settings, gate)?;
+    let pieces = do_pieces(rt, alloc, &arena, &plan, settings, gate)?;
     Ok(history_report(alloc, &arena, &plan, settings.cut(), pieces)?)
 }

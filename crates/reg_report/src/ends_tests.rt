@@ -3,8 +3,6 @@ ghost use Rattle.std.specs.Prelude.{◌≡◌};
 
 use super::*;
 use crate::tests::settings;
-use std::alloc::{AllocError, Global};
-use std::io::{self, ErrorKind, Read, Write};
 use std::test::Fail;
 use std::thread::Threads;
 
@@ -160,106 +158,6 @@ fn refused_input(rt: HostRuntime) -> Result<(), Fail> {
         );
         assert_eq!(rt; ran.taken.len(), 0);
         assert_eq!(rt; ran.failures, (0, 0));
-    }
-    Ok(())
-}
-
-// Interrupts every other read and write.
-#[derive(Drop)]
-struct Interrupting<T: Drop> {
-    inner: T,
-    interrupts: bool,
-}
-
-impl<R: Read + Drop> Read for Interrupting<R> {
-    fn read(&mut self, buf: &mut [u8]) -> io::Result<usize> {
-        self.interrupts = !self.interrupts;
-        if self.interrupts {
-            return Err(io::Error::from(ErrorKind::Interrupted));
-        }
-        self.inner.read(buf)
-    }
-}
-
-impl<W: Write + Drop> Write for Interrupting<W> {
-    fn write(&mut self, buf: &[u8]) -> io::Result<usize> {
-        self.interrupts = !self.interrupts;
-        if self.interrupts {
-            return Err(io::Error::from(ErrorKind::Interrupted));
-        }
-        self.inner.write(buf)
-    }
-
-    fn flush(&mut self) -> io::Result<()> {
-        self.inner.flush()
-    }
-}
-
-// A read or a write that is interrupted is tried again, and is no failure.
-#[test]
-fn interrupted(rt: HostRuntime) -> Result<(), Fail> {
-    let alloc = rt.alloc();
-    let mut source = FromReader::new(Interrupting {
-        inner: HISTORY.as_bytes(),
-        interrupts: false,
-    });
-    let mut sink = FromWriter::new(Interrupting {
-        inner: Vec::<u8>::new(alloc),
-        interrupts: false,
-    });
-    let answer = run(
-        &rt,
-        alloc,
-        &mut source,
-        &mut sink,
-        settings(2, 1)?,
-        &OpenGate,
-    );
-    assert_eq!(rt; answer, Ok(Outcome::NotAtomic));
-    assert_eq!(rt; (source.failures(), sink.failures()), (0, 0));
-    Ok(())
-}
-
-// Takes up to so many bytes at a write, and says whether a flush succeeds.
-#[derive(Drop)]
-struct Limited {
-    takes: usize,
-    flushes: bool,
-}
-
-impl Write for Limited {
-    fn write(&mut self, buf: &[u8]) -> io::Result<usize> {
-        Ok(self.takes.min(buf.len()))
-    }
-
-    fn flush(&mut self) -> io::Result<()> {
-        if self.flushes {
-            return Ok(());
-        }
-        Err(io::Error::from(ErrorKind::Other))
-    }
-}
-
-// A writer that takes nothing is a sink that fails, and so is one whose flush fails.
-#[test]
-fn failing_writer(rt: HostRuntime) -> Result<(), Fail> {
-    for (takes, flushes, want, failures) in [
-        (1, true, Ok(Outcome::NotAtomic), 0),
-        (0, true, Err(Refusal::OutputFailed), 1),
-        (1, false, Err(Refusal::OutputFailed), 1),
-    ] {
-        let mut source = MemSource::new(HISTORY.as_bytes(), 4096, None);
-        let mut sink = FromWriter::new(Limited { takes, flushes });
-        let answer = run(
-            &rt,
-            rt.alloc(),
-            &mut source,
-            &mut sink,
-            settings(2, 1)?,
-            &OpenGate,
-        );
-        assert_eq!(rt; answer, want, "{takes} {flushes}");
-        assert_eq!(rt; sink.failures(), failures, "{takes} {flushes}");
     }
     Ok(())
 }

@@ -1,24 +1,21 @@
 //! The report of an accepted history.
 ghost use Rattle.std.specs.Prelude.{◌≡◌, ◌+◌, ◌<◌, length, drop, is_some, IfOk};
-ghost use Rattle.reg_arena.specs.Operations.{calls};
-ghost use Rattle.reg_report.specs.Atomicity.{IsJudged};
+ghost use Rattle.reg_arena.specs.Operations.{calls, register_of};
+ghost use Rattle.reg_pieces.specs.Judged.{IsJudged};
 ghost use Rattle.reg_report.specs.Meaning.{IsRegisterReport, IsReport, IsWholeAtomicity};
-ghost use Rattle.reg_report.specs.Merged.{register_of};
-ghost use Rattle.reg_report.specs.Plan.{AreTasks, IsPlan};
+ghost use Rattle.reg_pieces.specs.Plan.{AreTasks, IsPlan};
 ghost use Rattle.reg_report.specs.Registers.{AreReported, AreOrdersSoFar};
-ghost use Rattle.reg_report.specs.Slots.{AreSlots};
+ghost use Rattle.reg_pieces.specs.Slots.{AreDone, AreDoneFrom};
 
 use crate::levels::levels_of;
-use crate::lists::{Lines, Order, Orders, Registers};
+use crate::lists::{Lines, Orders, Registers};
 use crate::merged::merge;
 use crate::order::order_lines;
-use crate::piece::Piece;
 use crate::register::register_report;
 use crate::report::{RegReport, Report};
-use crate::slots::take;
-use crate::tasks::Plan;
 use crate::told::told;
 use reg_arena::{Arena, EvId, RegId};
+use reg_pieces::{Order, Piece, Pieces, Plan};
 use std::alloc::{AllocError, Global};
 
 /// The lines of the registers, and their orders where all of them are atomic.
@@ -69,19 +66,19 @@ fn register_part(
     plan: &Plan,
     register: RegId,
     cut: u32,
-    slots: &mut Vec<Option<Piece>>,
+    pieces: &mut Pieces,
     start: usize,
 ) -> Result<(RegReport, Piece, usize), AllocError>
     requires register { register.0 < length arena.now.names }
     requires plan { IsPlan arena.now cut plan.now }
     requires cut { 0 < cut }
-    requires slots { AreSlots arena.now plan.now.tasks slots.old.items }
+    requires done { AreDoneFrom start arena.now plan.now.tasks pieces.old }
     requires tasks { AreTasks cut register.0 (drop register.0 plan.now.lists) (drop start plan.now.tasks) }
     ensures ok { IfOk result (λ r. IsRegisterReport arena.now register.0 r.0 × IsJudged (register_of arena.now register.0) r.1 × AreTasks cut (register.0 + 1) (drop (register.0 + 1) plan.now.lists) (drop r.2 plan.now.tasks)) }
-    ensures slots { AreSlots arena.now plan.now.tasks slots.new.items }
+    ensures done { IfOk result (λ r. AreDoneFrom r.2 arena.now plan.now.tasks pieces.new) }
 {
-    let judged = take(slots, start)?;
-    let (levels, next) = levels_of(arena, plan, register, cut, slots, start + 1)?;
+    let judged = pieces.take(start);
+    let (levels, next) = levels_of(arena, plan, register, cut, pieces, start + 1);
     let reg = register_report(alloc, arena, register, &judged, levels)?;
     Ok((reg, judged, next))
 }
@@ -92,11 +89,11 @@ fn register_reports(
     arena: &Arena,
     plan: &Plan,
     cut: u32,
-    mut slots: Vec<Option<Piece>>,
+    mut pieces: Pieces,
 ) -> Result<Reported, AllocError>
     requires plan { IsPlan arena.now cut plan.now }
     requires cut { 0 < cut }
-    requires slots { AreSlots arena.now plan.now.tasks slots.items }
+    requires done { AreDone arena.now plan.now.tasks pieces }
     ensures { IfOk result (AreReported arena.now) }
 {
     let mut regs = Vec::new(alloc);
@@ -105,7 +102,13 @@ fn register_reports(
     for number in 0..arena.register_count() {
         let register = RegId(number);
         let (reg, judged, after) = register_part(
-            alloc, arena, plan, register, cut, &mut slots, next,
+            alloc,
+            arena,
+            plan,
+            register,
+            cut,
+            &mut pieces,
+            next,
         )?;
         regs.push(reg)?;
         orders = with_order(arena, register, orders, judged)?;
@@ -142,14 +145,14 @@ pub(crate) fn history_report(
     arena: &Arena,
     plan: &Plan,
     cut: u32,
-    slots: Vec<Option<Piece>>,
+    pieces: Pieces,
 ) -> Result<Report, AllocError>
     requires plan { IsPlan arena.now cut plan.now }
     requires cut { 0 < cut }
-    requires slots { AreSlots arena.now plan.now.tasks slots.items }
+    requires done { AreDone arena.now plan.now.tasks pieces }
     ensures { IfOk result (IsReport arena.now) }
 {
-    let reported = register_reports(alloc, arena, plan, cut, slots)?;
+    let reported = register_reports(alloc, arena, plan, cut, pieces)?;
     let order = whole_order(alloc, arena, &reported.orders)?;
     Ok(Report {
         regs: reported.regs,

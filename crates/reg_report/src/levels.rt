@@ -1,22 +1,19 @@
 //! Whether a register is safe and regular, with the reads that break it.
-ghost use Rattle.std.specs.Prelude.{◌≡◌, ◌<◌, length, drop, IfOk, Some};
+ghost use Rattle.std.specs.Prelude.{◌≡◌, ◌<◌, length, drop, Some};
 ghost use Rattle.reg_arena.specs.Lamport.{HasSingleWriter};
 ghost use Rattle.reg_lamport.specs.Levels.{IsFirstBadRead};
 ghost use Rattle.reg_lamport.specs.Reads.{IsReadList};
 ghost use Rattle.reg_report.specs.Cuts.{AreFirstBad, HasCuts, HasCutsOf, IsCut, Leaves, LeavesOf, with_cut};
 ghost use Rattle.reg_report.specs.Levels.{AreLevels, IsLevelAnswer};
-ghost use Rattle.reg_report.specs.Merged.{register_of};
-ghost use Rattle.reg_report.specs.Plan.{IsListOf, IsPlan};
-ghost use Rattle.reg_report.specs.Slots.{AreSlots};
+ghost use Rattle.reg_arena.specs.Operations.{register_of};
+ghost use Rattle.reg_pieces.specs.Plan.{IsListOf, IsPlan};
+ghost use Rattle.reg_pieces.specs.Slots.{AreDoneFrom};
 
 use crate::fault::line;
-use crate::piece::Piece;
 use crate::report::Verdict;
-use crate::slots::take;
-use crate::tasks::Plan;
 use reg_arena::{Arena, EvId, Oper, RegId};
 use reg_lamport::{Level, ReadList};
-use std::alloc::AllocError;
+use reg_pieces::{Piece, Pieces, Plan};
 
 /// What is said of one level: the verdict, and where it is no, the line of the read that breaks the level.
 #[derive(Clone, Copy, Debug, PartialEq, Eq)]
@@ -40,8 +37,8 @@ pub(crate) struct FirstBad {
 }
 
 impl FirstBad {
-    /// With one cut more.
-    fn and(self, piece: Piece) -> FirstBad
+    /// With one cut more, which comes behind the others.
+    fn or(self, piece: Piece) -> FirstBad
         requires { IsCut piece }
         ensures { result ≡ with_cut self piece }
     {
@@ -107,14 +104,16 @@ fn first_bad_of(
     plan: &Plan,
     list: &ReadList,
     cut: u32,
-    slots: &mut Vec<Option<Piece>>,
+    pieces: &mut Pieces,
     start: usize,
-) -> Result<(FirstBad, usize), AllocError>
+) -> (FirstBad, usize)
+    requires plan { IsPlan arena.now cut plan.now }
     requires cut { 0 < cut }
-    requires slots { AreSlots arena.now plan.now.tasks slots.old.items }
+    requires done { AreDoneFrom start arena.now plan.now.tasks pieces.old }
     requires cuts { HasCuts cut list.now.register (length list.now.entries) (drop start plan.now.tasks) }
-    ensures ok { IfOk result (λ r. AreFirstBad arena.now list.now.register 0 (length list.now.entries) r.0 × Leaves cut list.now.register (length list.now.entries) (drop start plan.now.tasks) (drop r.1 plan.now.tasks)) }
-    ensures slots { AreSlots arena.now plan.now.tasks slots.new.items }
+    ensures first { AreFirstBad arena.now list.now.register 0 (length list.now.entries) result.0 }
+    ensures next { Leaves cut list.now.register (length list.now.entries) (drop start plan.now.tasks) (drop result.1 plan.now.tasks) }
+    ensures done { AreDoneFrom result.1 arena.now plan.now.tasks pieces.new }
 {
     let len = list.len();
     let mut first = FirstBad {
@@ -124,12 +123,11 @@ fn first_bad_of(
     let mut from = 0;
     let mut next = start;
     while from < len {
-        let piece = take(slots, next)?;
-        first = first.and(piece);
+        first = first.or(pieces.take(next));
         from += (len - from).min(cut as usize);
         next += 1;
     }
-    Ok((first, next))
+    (first, next)
 }
 
 /// Both levels of a register, from the pieces of its reads, which stand from `start` on; and the number after them.
@@ -138,22 +136,23 @@ pub(crate) fn levels_of(
     plan: &Plan,
     register: RegId,
     cut: u32,
-    slots: &mut Vec<Option<Piece>>,
+    pieces: &mut Pieces,
     start: usize,
-) -> Result<(Levels, usize), AllocError>
+) -> (Levels, usize)
     requires register { register.0 < length arena.now.names }
     requires plan { IsPlan arena.now cut plan.now }
     requires cut { 0 < cut }
-    requires slots { AreSlots arena.now plan.now.tasks slots.old.items }
+    requires done { AreDoneFrom start arena.now plan.now.tasks pieces.old }
     requires cuts { HasCutsOf cut register.0 plan.now (drop start plan.now.tasks) }
-    ensures ok { IfOk result (λ r. AreLevels (register_of arena.now register.0) r.0 × LeavesOf cut register.0 plan.now (drop start plan.now.tasks) (drop r.1 plan.now.tasks)) }
-    ensures slots { AreSlots arena.now plan.now.tasks slots.new.items }
+    ensures levels { AreLevels (register_of arena.now register.0) result.0 }
+    ensures next { LeavesOf cut register.0 plan.now (drop start plan.now.tasks) (drop result.1 plan.now.tasks) }
+    ensures done { AreDoneFrom result.1 arena.now plan.now.tasks pieces.new }
 {
     match plan.list(register) {
-        None => Ok((several_writers(), start)),
+        None => (several_writers(), start),
         Some(list) => {
-            let (first, next) = first_bad_of(arena, plan, list, cut, slots, start)?;
-            Ok((listed_levels(arena, list, first), next))
+            let (first, next) = first_bad_of(arena, plan, list, cut, pieces, start);
+            (listed_levels(arena, list, first), next)
         }
     }
 }

@@ -2,7 +2,7 @@
 ghost use Rattle.std.specs.Prelude.{◌≡◌, [], ◌∷◌, ◌++◌, IfOk};
 
 use crate::report::RegReport;
-use reg_zones::Placed;
+use reg_pieces::Order;
 use std::alloc::AllocError;
 use std::marker::Model;
 
@@ -31,35 +31,6 @@ impl Lines {
         ensures { result.now ≡ self.now }
     {
         self.lines.as_slice()
-    }
-}
-
-/// The canonical order of a register; contracts see it as its list.
-#[derive(Drop)]
-pub struct Order {
-    placed: Vec<Placed>,
-}
-
-impl Model for Order {
-    ghost use Rattle.std.specs.Prelude.{List};
-    ghost use Rattle.reg_zones.specs.declared.placed.Placed.{Placed};
-
-    ghost Value = { List Placed };
-
-    ghost view = { λ a. a.placed.items };
-}
-
-impl Order {
-    pub fn new(placed: Vec<Placed>) -> Order
-        ensures { result ≡ placed.items }
-    {
-        Order { placed }
-    }
-
-    pub fn as_slice(&self) -> &[Placed]
-        ensures { result.now ≡ self.now }
-    {
-        self.placed.as_slice()
     }
 }
 

@@ -4,9 +4,9 @@ ghost use Rattle.std.specs.List.{flat_map};
 ghost use Rattle.reg_report.specs.Merged.{AreOrders, IsMergedAnswer};
 ghost use Rattle.reg_report.specs.Merging.{merging_from, unmerged, ComesFirst, same_place};
 
-use crate::lists::Order;
 use crate::told::told;
 use reg_arena::{Arena, Oper};
+use reg_pieces::Order;
 use reg_zones::Placed;
 use std::alloc::{AllocError, Global};
 

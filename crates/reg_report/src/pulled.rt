@@ -3,8 +3,8 @@ ghost use Rattle.std.specs.Prelude.{◌≡◌, ◌-◌, ◌++◌, ◌^◌, ◌<�
 ghost use Rattle.reg_report.specs.Ends.{IsAll, IsTooLong, IsWithinLimit};
 ghost use Rattle.reg_report.specs.Run.{IsOfPull};
 
-use crate::ends::Source;
 use crate::refusal::Refusal;
+use byte_ends::Source;
 use history_text::MAX_INPUT;
 use std::alloc::Global;
 

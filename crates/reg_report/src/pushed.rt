@@ -1,9 +1,10 @@
 //! All the bytes into a sink.
 ghost use Rattle.std.specs.Prelude.{◌-◌, ◌^◌, ◌<◌, OnOk, OnErr};
 ghost use Rattle.std.specs.Io.KnownBytes.{Appends};
-ghost use Rattle.reg_report.specs.Ends.{AppendsBeginning, Counts};
+ghost use Rattle.byte_ends.specs.Ends.{Counts};
+ghost use Rattle.reg_report.specs.Ends.{AppendsBeginning};
 
-use crate::ends::{IoFail, Sink};
+use byte_ends::{IoFail, Sink};
 
 fn push_all<S: Sink>(sink: &mut S, bytes: &[u8]) -> Result<(), IoFail>
     requires { S.failed sink.old < 2 ^ 64 - 1 }

@@ -1,20 +1,21 @@
 //! The line of one register.
 ghost use Rattle.std.specs.Prelude.{◌<◌, length, IfOk};
-ghost use Rattle.reg_report.specs.Atomicity.{IsAtomicityShown, IsJudged};
+ghost use Rattle.reg_pieces.specs.Judged.{IsJudged};
+ghost use Rattle.reg_report.specs.Atomicity.{IsAtomicityShown};
 ghost use Rattle.reg_report.specs.Levels.{AreLevels};
 ghost use Rattle.reg_report.specs.Meaning.{IsRegisterReport};
-ghost use Rattle.reg_report.specs.Merged.{register_of};
+ghost use Rattle.reg_arena.specs.Operations.{register_of};
 
 use crate::fault::fault_lines;
 use crate::levels::Levels;
-use crate::lists::{Lines, Order};
+use crate::lists::Lines;
 use crate::order::{order_lines, point_lines};
-use crate::piece::Piece;
 use crate::report::{FaultLines, RegReport};
 use crate::tally::count_calls;
 use crate::told::told;
 use history_text::Name;
 use reg_arena::{Arena, RegId};
+use reg_pieces::{Order, Piece};
 use reg_zones::Fault;
 use std::alloc::{AllocError, Global};
 

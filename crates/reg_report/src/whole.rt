@@ -4,14 +4,13 @@ ghost use Rattle.history_text.specs.declared.limits.TheConstants.{MAX_INPUT};
 ghost use Rattle.reg_report.specs.Run.{IsOfInput, IsRefusedWhole, Reports, ReportsBeginning, TellsAtomic};
 
 use crate::checked::check;
-use crate::ends::{Sink, Source};
-use crate::gate::Gate;
 use crate::outcome::Outcome;
 use crate::pulled::pull_all;
 use crate::pushed::deliver;
 use crate::refusal::Refusal;
-use crate::settings::Settings;
 use crate::written::text;
+use byte_ends::{Sink, Source};
+use reg_pieces::{Gate, Settings};
 use std::alloc::Global;
 use std::thread::Threads;
 

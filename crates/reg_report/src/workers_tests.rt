@@ -1,21 +1,11 @@
-//! Runs by several workers: by all settings, past gates that hold pieces back, and in threads of the callers' own.
-ghost use Rattle.std.specs.Prelude.{ℕ, All};
-ghost use Rattle.reg_report.specs.Plan.{IsPlan};
-ghost use Rattle.reg_report.specs.Work.{IsSeatFor};
-
+//! Runs by several workers: by all settings, and past gates that hold pieces back.
 use super::*;
 use crate::rows::REPORTS;
 use crate::tests::{answered_by, settings};
-use crate::workers::seats_of;
-use history_text::{MAX_INPUT, read_lines};
-use job_board::{Board, MAX_JOBS, Seat};
-use reg_arena::Arena;
-use std::alloc::{AllocError, Global};
 use std::process::Abort;
-use std::sync::Wait;
 use std::sync::atomic::{AtomicBool, AtomicU64, Ordering};
 use std::test::Fail;
-use std::thread::{self, JoinHandle, Threads};
+use std::thread::Threads;
 
 // Histories of two registers, and how many pieces each has in cuts of one read.
 const TWO_REGISTERS: [(&str, u64); 2] = [
@@ -37,26 +27,6 @@ fn row(name: &str) -> Result<(&'static str, &'static str, Outcome), Fail> {
         }
     }
     Err(Fail::from("no history of this name"))
-}
-
-// The numbers within their limits are settings, and no others.
-#[test]
-fn limits_of_settings(rt: HostRuntime) -> Result<(), Fail> {
-    for (workers, cut, fits) in [
-        (1, 1, true),
-        (16, 1_048_576, true),
-        (0, 1, false),
-        (17, 1, false),
-        (1, 0, false),
-        (1, 1_048_577, false),
-    ] {
-        assert_eq!(rt;
-            Settings::new(workers, cut).is_some(),
-            fits,
-            "{workers} {cut}"
-        );
-    }
-    Ok(())
 }
 
 // The report of each history by so many workers in cuts of so many reads.
@@ -200,90 +170,6 @@ fn no_more_pieces_at_once_than_workers(rt: HostRuntime) -> Result<(), Fail> {
             "{workers}: {at_once}"
         );
         assert_eq!(rt; report.as_slice(), want.as_bytes(), "{workers}");
-    }
-    Ok(())
-}
-
-// A worker for each seat, in a thread of its own.
-fn all_worked<R: Threads + Wait + Sync>(
-    rt: &R,
-    alloc: Global,
-    arena: &Arena,
-    plan: &Plan,
-    board: &Board<Global>,
-    seats: Vec<Seat>,
-) -> Result<Vec<Worked>, AllocError>
-    requires plan { (cut : ℕ) × IsPlan arena.now cut plan.now }
-    requires seats { All (IsSeatFor plan.now.tasks board.now) seats.items }
-{
-    thread::scope(
-        thread::scope_env(),
-        rt,
-        |scope| -> Result<Vec<Worked>, AllocError>
-            requires plan { (cut : ℕ) × IsPlan arena.now cut plan.now }
-            requires seats { All (IsSeatFor plan.now.tasks board.now) seats.items }
-        {
-            let mut handles = Vec::new(alloc);
-            for seat in seats {
-                let started = scope.spawn(
-                    move || -> Worked
-                        requires plan { (cut : ℕ) × IsPlan arena.now cut plan.now }
-                        requires seat { IsSeatFor plan.now.tasks board.now seat }
-                    { work(alloc, arena, plan, board, seat, &OpenGate) },
-                )?;
-                handles.push(started)?;
-            }
-            ended(rt, alloc, handles)
-        },
-    )
-}
-
-fn ended<R: Threads>(
-    rt: &R,
-    alloc: Global,
-    handles: Vec<JoinHandle<Worked>>,
-) -> Result<Vec<Worked>, AllocError> {
-    let mut back = Vec::new(alloc);
-    for handle in handles {
-        back.push(handle.join(rt))?;
-    }
-    Ok(back)
-}
-
-// The numbers of all that is done, sorted, or nothing where a worker was refused memory.
-fn numbers(alloc: Global, back: &[Worked]) -> Result<Option<Vec<u64>>, AllocError> {
-    let mut numbers = Vec::new(alloc);
-    for worked in back {
-        if worked.refused {
-            return Ok(None);
-        }
-        let mine: Vec<u64> = worked
-            .done
-            .iter()
-            .map(|(number, _)| *number)
-            .collect(alloc)?;
-        numbers.extend_from_slice(&mine)?;
-    }
-    numbers.sort()?;
-    Ok(Some(numbers))
-}
-
-// Threads of the callers' own, each with a seat, do each piece once.
-#[test]
-fn callers_threads_do_each_piece_once(rt: HostRuntime) -> Result<(), Fail> {
-    let alloc = rt.alloc();
-    let (input, _, _) = row("two registers that are not atomic")?;
-    assert!(rt; input.len() <= MAX_INPUT);
-    let arena = Arena::build(alloc, read_lines(&rt, alloc, input.as_bytes())?)?;
-    let plan = plan(alloc, &arena, settings(1, 1)?)?;
-    assert_eq!(rt; plan.len(), 4);
-    for count in 1..17u32 {
-        let (board, seat) = Board::open(alloc, plan.len())?;
-        let seats = seats_of(alloc, &plan, &board, seat, count)?;
-        let back = all_worked(&rt, alloc, &arena, &plan, &board, seats)?;
-        assert_eq!(rt; back.len(), count as usize);
-        let done = numbers(alloc, &back)?.ok_or("memory was refused")?;
-        assert_eq!(rt; done.as_slice(), [0, 1, 2, 3].as_slice(), "{count} seats");
     }
     Ok(())
 }

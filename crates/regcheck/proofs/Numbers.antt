@@ -19,7 +19,7 @@ use Rattle.clap.specs.declared.parser.matches.Found.{Found}
 use Rattle.clap.proofs.CallerReads.{signed_reads}
 use Rattle.clap.proofs.SimpleLemmas.{ready_simple, simple_groups}
 use Rattle.clap.proofs.WalkLemmas.{one_text-rows}
-use Rattle.reg_report.specs.declared.settings.TheConstants.{MAX_CUT, MAX_WORKERS}
+use Rattle.reg_pieces.specs.declared.settings.TheConstants.{MAX_CUT, MAX_WORKERS}
 use Rattle.regcheck.specs.Numbers.{HasNumber}
 use Rattle.regcheck.specs.Words.{command_line, cut_named, number_in, number_rule, workers_named}
 use Rattle.regcheck.proofs.DefaultReads.{default_reads}

@@ -4,7 +4,7 @@ use Rattle.std.specs.Str.Parse.{digits_value, without_leading_plus}
 use Rattle.clap.specs.Words.{App, Rule, Text, fault_of, first_of, matches_of, new_app, new_rule, one_of, takes, with_rule}
 use Rattle.clap.specs.declared.builder.action.ArgAction.TheVariants.{Set}
 use Rattle.clap.specs.declared.builder.value_parser.ValueParser.TheVariants.{Signed}
-use Rattle.reg_report.specs.declared.settings.TheConstants.{MAX_CUT, MAX_WORKERS}
+use Rattle.reg_pieces.specs.declared.settings.TheConstants.{MAX_CUT, MAX_WORKERS}
 
 -- the one argument: a word that names the file
 abbrev pub file_rule : Rule

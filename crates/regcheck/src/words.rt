@@ -2,7 +2,7 @@
 ghost use Rattle.std.specs.Prelude.{◌≡◌, ◌≤◌, codes, false, map, option_map, string_bytes, IfOk, IfErr, Some};
 ghost use Rattle.clap.specs.Words.{app_of, first_value, found_of, rule_of};
 ghost use Rattle.clap.specs.Values.{kind_of};
-ghost use Rattle.reg_report.specs.declared.settings.TheConstants.{MAX_CUT, MAX_WORKERS};
+ghost use Rattle.reg_pieces.specs.declared.settings.TheConstants.{MAX_CUT, MAX_WORKERS};
 ghost use Rattle.regcheck.specs.Numbers.{HasNumber};
 ghost use Rattle.regcheck.specs.Words.{command_line, cut_named, file_named, number_rule, workers_named, IsFaultless, IsTaken};
 

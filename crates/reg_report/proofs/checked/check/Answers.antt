@@ -1,11 +1,10 @@
 use Rattle.std.proofs.Common.{◌≡◌, length, Bool, true, false, nat_lt, Ok, Err, refl, subst, arith}
-use Rattle.std.specs.Prelude.{MatchBool}
+use Rattle.std.specs.Prelude.{MatchBool, List}
 use Rattle.std.proofs.lemmas.Bool.{ltb-true}
 use Rattle.history_text.specs.declared.limits.TheConstants.{MAX_INPUT}
 use Rattle.history_text.specs.Reading.{history_lines}
 use Rattle.reg_arena.specs.History.{History}
 use Rattle.reg_arena.specs.Refusals.{Line}
-use Rattle.std.specs.Prelude.{List}
 use Rattle.reg_report.specs.Answer.{IsAnswerToLines}
 use Rattle.reg_report.specs.Meaning.{IsReport}
 use Rattle.reg_report.specs.declared.refusal.Refusal.TheVariants.{TooLong}

@@ -1,23 +1,32 @@
-use Rattle.std.proofs.Common.{◌<◌, sym, subst}
-use Rattle.reg_report.proofs.Assembly.{judged-there, cuts-there, next-there}
-use Rattle.reg_report.proofs.Cutting.{fewer-slots}
+use Rattle.std.proofs.Common.{◌<◌, sym, subst, arith}
+use Rattle.reg_report.proofs.Assembly.{inside-tasks, judged-stands, judged-there, cuts-there, next-there}
+use Rattle.reg_report.proofs.Cutting.{done-behind}
 use Rattle.reg_report.proofs.history.register_part.Goals as goal
 
-pub levels_of-requires-clause-slots : goal.levels_of-requires-clause-slots
-levels_of-requires-clause-slots c = fewer-slots c.args.arena.now c.args.plan.now.tasks c.args.slots.now.items c.take.new.slots.items c.take.ensures.fewer c.requires.slots
+pub take-judged-requires : goal.take-judged-requires
+take-judged-requires c =
+    judged-stands c.args.arena.now c.args.cut c.args.register.0 c.args.start c.args.plan.now (subst (λ n. c.args.register.0 < n) (sym c.requires.plan.registers) c.requires.register) c.requires.tasks c.args.pieces.now c.requires.done
 
-pub levels_of-requires-clause-cuts : goal.levels_of-requires-clause-cuts
-levels_of-requires-clause-cuts c =
+pub overflow_add-start : goal.overflow_add-start
+overflow_add-start c =
+    let inside = inside-tasks c.args.arena.now c.args.cut c.args.register.0 c.args.start c.args.plan.now (subst (λ n. c.args.register.0 < n) (sym c.requires.plan.registers) c.requires.register) c.requires.tasks in
+    omega (arith, inside, c.requires.plan.few)
+
+pub levels_of-next-requires-clause-done : goal.levels_of-next-requires-clause-done
+levels_of-next-requires-clause-done c = done-behind c.args.arena.now c.args.plan.now.tasks c.args.start c.args.pieces.now c.take-judged.new.self c.take-judged.ensures.left c.requires.done
+
+pub levels_of-next-requires-clause-cuts : goal.levels_of-next-requires-clause-cuts
+levels_of-next-requires-clause-cuts c =
     cuts-there c.args.arena.now c.args.cut c.args.register.0 c.args.start c.args.plan.now (subst (λ n. c.args.register.0 < n) (sym c.requires.plan.registers) c.requires.register) c.requires.tasks
 
 pub register_report-requires-clause-judged : goal.register_report-requires-clause-judged
 register_report-requires-clause-judged c =
-    judged-there c.args.arena.now c.args.cut c.args.register.0 c.args.start c.args.plan.now (subst (λ n. c.args.register.0 < n) (sym c.requires.plan.registers) c.requires.register) c.requires.tasks c.args.slots.now.items c.in_ok-judged.judged c.requires.slots c.in_ok-judged.ensures.ok
+    judged-there c.args.arena.now c.args.cut c.args.register.0 c.args.start c.args.plan.now (subst (λ n. c.args.register.0 < n) (sym c.requires.plan.registers) c.requires.register) c.requires.tasks c.args.pieces.now c.take-judged.result c.requires.done c.take-judged.ensures.piece
 
 pub returns-clause-ok : goal.returns-clause-ok
 returns-clause-ok c =
     let inside = subst (λ n. c.args.register.0 < n) (sym c.requires.plan.registers) c.requires.register in (
       c.in_ok-reg.ensures,
-      judged-there c.args.arena.now c.args.cut c.args.register.0 c.args.start c.args.plan.now inside c.requires.tasks c.args.slots.now.items c.in_ok-judged.judged c.requires.slots c.in_ok-judged.ensures.ok,
-      next-there c.args.arena.now c.args.cut c.args.register.0 c.args.start c.args.plan.now inside c.requires.tasks c.in_ok-levels.next c.in_ok-levels.ensures.ok.1,
+      judged-there c.args.arena.now c.args.cut c.args.register.0 c.args.start c.args.plan.now inside c.requires.tasks c.args.pieces.now c.take-judged.result c.requires.done c.take-judged.ensures.piece,
+      next-there c.args.arena.now c.args.cut c.args.register.0 c.args.start c.args.plan.now inside c.requires.tasks c.levels_of-next.result.1 c.levels_of-next.ensures.next,
     )

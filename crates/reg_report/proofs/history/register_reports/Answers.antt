@@ -13,7 +13,7 @@ loop-number-preserved c =
     record {
       lines = subst (λ (xs : List RegReport). AreFirstLines h (n + 1) xs) (sym c.in_ok-push.ensures.items) (one-line-more h l.regs.items n c.in_ok-reg.reg l.invariant.lines part.ok.0);
       orders = c.in_ok-orders.ensures;
-      slots = part.slots;
+      done = part.done;
       tasks = part.ok.2;
     }
 

@@ -1,13 +1,13 @@
 use Rattle.std.proofs.Common.{drop}
-use Rattle.reg_report.specs.Plan.{AreTasks}
+use Rattle.reg_pieces.specs.Plan.{AreTasks}
 use Rattle.reg_report.specs.Registers.{AreFirstLines, AreOrdersSoFar}
-use Rattle.reg_report.specs.Slots.{AreSlots}
+use Rattle.reg_pieces.specs.Slots.{AreDoneFrom}
 use Rattle.reg_report.proofs.history.register_reports.Given as goal
 
 abbrev pub invariant-loop-number : goal.invariant-loop-number
 invariant-loop-number l = record {
   lines : AreFirstLines l.arena l.number l.regs.items;
   orders : AreOrdersSoFar l.arena l.number l.orders;
-  slots : AreSlots l.arena l.plan.tasks l.slots.items;
+  done : AreDoneFrom l.next l.arena l.plan.tasks l.pieces;
   tasks : AreTasks l.cut l.number (drop l.number l.plan.lists) (drop l.next l.plan.tasks);
 }

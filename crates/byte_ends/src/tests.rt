@@ -1,0 +1,139 @@
+//! Ends that give and take little at a time, that are interrupted, and that fail.
+use super::*;
+use std::io::{self, ErrorKind, Read, Write};
+use std::test::Fail;
+
+// Memory gives so many bytes at a pull, fails at the one that it was told, and loses none.
+#[test]
+fn memory_as_a_source(rt: HostRuntime) -> Result<(), Fail> {
+    let mut source = MemSource::new("abcde".as_bytes(), 2, Some(2));
+    let mut into = [0; 4];
+    assert_eq!(rt; source.pull(&mut into), Ok(2));
+    assert_eq!(rt; &into[..2], "ab".as_bytes());
+    assert_eq!(rt; source.pull(&mut into), Err(IoFail));
+    assert_eq!(rt; source.pull(&mut into), Ok(2));
+    assert_eq!(rt; &into[..2], "cd".as_bytes());
+    assert_eq!(rt; source.pull(&mut into), Ok(1));
+    assert_eq!(rt; &into[..1], "e".as_bytes());
+    assert_eq!(rt; source.pull(&mut into), Ok(0));
+    assert_eq!(rt; source.failures(), 1);
+    Ok(())
+}
+
+// Memory takes so many bytes at a push, and fails once it is full.
+#[test]
+fn memory_as_a_sink(rt: HostRuntime) -> Result<(), Fail> {
+    let mut sink = MemSink::new(rt.alloc(), 3, 2, false)?;
+    assert_eq!(rt; sink.push("abcd".as_bytes()), Ok(2));
+    assert_eq!(rt; sink.push("cd".as_bytes()), Ok(1));
+    assert_eq!(rt; sink.push("d".as_bytes()), Err(IoFail));
+    assert_eq!(rt; sink.push("".as_bytes()), Ok(0));
+    assert_eq!(rt; sink.flush(), Ok(()));
+    assert_eq!(rt; sink.taken(), "abc".as_bytes());
+    assert_eq!(rt; sink.failures(), 1);
+    Ok(())
+}
+
+// Memory that is told to fails at its flush.
+#[test]
+fn memory_that_fails_at_a_flush(rt: HostRuntime) -> Result<(), Fail> {
+    let mut sink = MemSink::new(rt.alloc(), 1, 1, true)?;
+    assert_eq!(rt; sink.flush(), Err(IoFail));
+    assert_eq!(rt; sink.failures(), 1);
+    Ok(())
+}
+
+// Interrupts every other read and write.
+#[derive(Drop)]
+struct Interrupting<T: Drop> {
+    inner: T,
+    interrupts: bool,
+}
+
+impl<R: Read + Drop> Read for Interrupting<R> {
+    fn read(&mut self, buf: &mut [u8]) -> io::Result<usize> {
+        self.interrupts = !self.interrupts;
+        if self.interrupts {
+            return Err(io::Error::from(ErrorKind::Interrupted));
+        }
+        self.inner.read(buf)
+    }
+}
+
+impl<W: Write + Drop> Write for Interrupting<W> {
+    fn write(&mut self, buf: &[u8]) -> io::Result<usize> {
+        self.interrupts = !self.interrupts;
+        if self.interrupts {
+            return Err(io::Error::from(ErrorKind::Interrupted));
+        }
+        self.inner.write(buf)
+    }
+
+    fn flush(&mut self) -> io::Result<()> {
+        self.inner.flush()
+    }
+}
+
+// A read that is interrupted is tried again, and is no failure.
+#[test]
+fn interrupted_reader(rt: HostRuntime) -> Result<(), Fail> {
+    let mut source = FromReader::new(Interrupting {
+        inner: "abc".as_bytes(),
+        interrupts: false,
+    });
+    let mut into = [0; 4];
+    assert_eq!(rt; source.pull(&mut into), Ok(3));
+    assert_eq!(rt; &into[..3], "abc".as_bytes());
+    assert_eq!(rt; source.pull(&mut into), Ok(0));
+    assert_eq!(rt; source.failures(), 0);
+    Ok(())
+}
+
+// A write that is interrupted is tried again, and is no failure.
+#[test]
+fn interrupted_writer(rt: HostRuntime) -> Result<(), Fail> {
+    let mut sink = FromWriter::new(Interrupting {
+        inner: Vec::<u8>::new(rt.alloc()),
+        interrupts: false,
+    });
+    assert_eq!(rt; sink.push("abc".as_bytes()), Ok(3));
+    assert_eq!(rt; sink.flush(), Ok(()));
+    assert_eq!(rt; sink.failures(), 0);
+    Ok(())
+}
+
+// Takes up to so many bytes at a write, and says whether a flush succeeds.
+#[derive(Drop)]
+struct Limited {
+    takes: usize,
+    flushes: bool,
+}
+
+impl Write for Limited {
+    fn write(&mut self, buf: &[u8]) -> io::Result<usize> {
+        Ok(self.takes.min(buf.len()))
+    }
+
+    fn flush(&mut self) -> io::Result<()> {
+        if self.flushes {
+            return Ok(());
+        }
+        Err(io::Error::from(ErrorKind::Other))
+    }
+}
+
+// A writer that takes nothing is a sink that fails, and so is one whose flush fails.
+#[test]
+fn failing_writer(rt: HostRuntime) -> Result<(), Fail> {
+    for (takes, flushes, pushed, flushed, failures) in [
+        (1, true, Ok(1), Ok(()), 0),
+        (0, true, Err(IoFail), Ok(()), 1),
+        (1, false, Ok(1), Err(IoFail), 1),
+    ] {
+        let mut sink = FromWriter::new(Limited { takes, flushes });
+        assert_eq!(rt; sink.push("ab".as_bytes()), pushed, "{takes} {flushes}");
+        assert_eq!(rt; sink.flush(), flushed, "{takes} {flushes}");
+        assert_eq!(rt; sink.failures(), failures, "{takes} {flushes}");
+    }
+    Ok(())
+}

@@ -1,0 +1,113 @@
+-- A plan has no more pieces than a board may have.
+use Rattle.std.proofs.Common.{◌≡◌, ℕ, zero, suc, ◌+◌, ◌<◌, ◌≤◌, ◌==◌, cond, Bool, true, false, List, [], ◌∷◌, length, slice_get, Option, Some, None, refl, ap, subst, arith, length-append}
+use Rattle.std.proofs.lemmas.Bool.{eqb-true}
+use Rattle.std.proofs.lemmas.List.Sums.{length-filter, count_by-le-length}
+use Rattle.reg_arena.specs.History.{History}
+use Rattle.reg_arena.specs.Lamport.{completed_reads, is_completed_read}
+use Rattle.reg_arena.specs.Operations.{Operation, operation, next_of, operations, of_register, initial_writes, calls_from, calls, register_of}
+use Rattle.reg_arena.specs.declared.event.Event.{Event}
+use Rattle.reg_lamport.specs.Reads.{ListedReads, IsEntryOf}
+use Rattle.reg_lamport.proofs.Zipped.{zip-length}
+use Rattle.reg_pieces.specs.Plan.{AreCutsOf, AreTasks, IsListOf, PlanShown}
+use Rattle.reg_pieces.specs.declared.tasks.Task.{Task}
+use Rattle.reg_pieces.proofs.Numbering.{cuts-few}
+
+-- ---- the operations of all registers
+
+one_if : Bool → ℕ
+one_if true = 1
+one_if false = 0
+
+-- how many of the n registers from r on are a
+ones : ℕ → ℕ → ℕ → ℕ
+ones r zero a = 0
+ones r (suc n) a = one_if (a == r) + ones (suc r) n a
+
+-- the operations of the n registers from r on
+of_registers : ℕ → ℕ → List Operation → ℕ
+of_registers r zero ops = 0
+of_registers r (suc n) ops = length (of_register r ops) + of_registers (suc r) n ops
+
+ones-none : (r n a : ℕ) → a < r → ones r n a ≡ 0
+unfolding ones one_if
+ones-none r zero a l = refl
+ones-none r (suc n) a l = go (a == r) refl (ones-none (suc r) n a (omega (arith, l)))
+  where
+    go : (b : Bool) → (a == r) ≡ b → ones (suc r) n a ≡ 0 → one_if b + ones (suc r) n a ≡ 0
+    go true e z = absurd (omega (arith, eqb-true a r e, l))
+    go false e z = omega (arith, z)
+
+ones-few : (r n a : ℕ) → ones r n a ≤ 1
+unfolding ones one_if
+ones-few r zero a = omega arith
+ones-few r (suc n) a = go (a == r) refl (ones-few (suc r) n a)
+  where
+    go : (b : Bool) → (a == r) ≡ b → ones (suc r) n a ≤ 1 → one_if b + ones (suc r) n a ≤ 1
+    go true e f = let z = ones-none (suc r) n a (omega (arith, eqb-true a r e)) in omega (arith, z)
+    go false e f = omega (arith, f)
+
+one-more : (r n : ℕ) (o : Operation) (ops : List Operation) → of_registers r n (o ∷ ops) ≡ ones r n o.register + of_registers r n ops
+unfolding ones one_if of_registers
+one-more r zero o ops = refl
+one-more r (suc n) o ops =
+    let rest = one-more (suc r) n o ops in
+    let here : length (of_register r (o ∷ ops)) ≡ one_if (o.register == r) + length (of_register r ops) = go (o.register == r) in
+    omega (arith, rest, here)
+  where
+    go : (b : Bool) → length (cond b (o ∷ of_register r ops) (of_register r ops)) ≡ one_if b + length (of_register r ops)
+    go true = omega arith
+    go false = omega arith
+
+none-more : (r n : ℕ) → of_registers r n [] ≡ 0
+unfolding of_registers
+none-more r zero = refl
+none-more r (suc n) = let z = none-more (suc r) n in omega (arith, z)
+
+all-few : (r n : ℕ) (ops : List Operation) → of_registers r n ops ≤ length ops
+all-few r n [] = omega (arith, none-more r n)
+all-few r n (o ∷ ops) = omega (arith, one-more r n o ops, ones-few r n o.register, all-few r n ops)
+
+-- ---- all operations
+
+initial-count : (n : ℕ) → length (initial_writes n) ≡ n
+initial-count zero = refl
+initial-count (suc n) = let e = initial-count n in omega (arith, e)
+
+calls-few : (m s : ℕ) (es : List Event) → length (calls_from m s es) ≤ length es
+calls-few m s [] = omega arith
+calls-few m s (e ∷ es) = go e.is_call (calls-few m (suc s) es)
+  where
+    go : (b : Bool) → length (calls_from m (suc s) es) ≤ length es → length (cond b (operation m s e (next_of e.process (suc s) es) ∷ calls_from m (suc s) es) (calls_from m (suc s) es)) ≤ suc (length es)
+    go true f = omega (arith, f)
+    go false f = omega (arith, f)
+
+operations-few : (h : History) → length (operations h) ≤ length h.names + length h.events
+operations-few h = omega (arith, length-append (initial_writes (length h.names)) (calls h.events), initial-count (length h.names), calls-few (length h.events + 2) 2 h.events)
+
+-- ---- the tasks
+
+cuts-of-few : (h : History) (cut r : ℕ) (list : Option ListedReads) (cuts : List Task) → 0 < cut → IsListOf h r list → AreCutsOf cut r list cuts → length cuts ≤ length (register_of h r)
+cuts-of-few h cut r None cuts p l c = omega (arith, ap length c)
+cuts-of-few h cut r (Some list) cuts p l c =
+    let few = cuts-few cut r 0 (length list.entries) cuts p c in
+    let zip = zip-length (IsEntryOf h list.register) list.entries (completed_reads (register_of h list.register)) l.2.entries in
+    let own = ap (λ n. length (completed_reads (register_of h n))) l.1 in
+    let part = length-filter is_completed_read (register_of h r) in
+    let less = count_by-le-length is_completed_read (register_of h r) in
+    omega (arith, few, zip, own, part, less)
+
+tasks-few : (h : History) (cut r : ℕ) (lists : List (Option ListedReads)) (tasks : List Task) → 0 < cut → ((i : ℕ) (list : Option ListedReads) → slice_get lists i ≡ Some list → IsListOf h (r + i) list) → AreTasks cut r lists tasks
+    → length tasks ≤ length lists + of_registers r (length lists) (operations h)
+unfolding of_registers
+tasks-few h cut r [] tasks p l a = omega (arith, ap length a)
+tasks-few h cut r (list ∷ lists) tasks p l a =
+    let first : IsListOf h r list = let z : r + 0 ≡ r = omega arith in subst (λ n. IsListOf h n list) z (l 0 list refl) in
+    let rest = tasks-few h cut (suc r) lists a.1 p (λ i o e. let z : r + suc i ≡ suc r + i = omega arith in subst (λ n. IsListOf h n o) z (l (suc i) o e)) a.3 in
+    let cuts = cuts-of-few h cut r list a.0 p first a.2 in
+    omega (arith, ap length a.4, length-append a.0 a.1, rest, cuts)
+
+pub plan-few : (h : History) (cut : ℕ) (plan : PlanShown) → 0 < cut → length plan.lists ≡ length h.names → ((r : ℕ) (list : Option ListedReads) → slice_get plan.lists r ≡ Some list → IsListOf h r list) → AreTasks cut 0 plan.lists plan.tasks
+    → length plan.tasks ≤ length h.names + length h.names + length h.events
+plan-few h cut plan p count lists numbered =
+    let few = tasks-few h cut 0 plan.lists plan.tasks p (λ i o e. let z : i ≡ 0 + i = omega arith in subst (λ n. IsListOf h n o) z (lists i o e)) numbered in
+    omega (arith, few, count, all-few 0 (length plan.lists) (operations h), operations-few h)

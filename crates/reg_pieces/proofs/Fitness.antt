@@ -1,0 +1,57 @@
+-- A task of a plan can be done.
+use Rattle.std.proofs.Common.{◌≡◌, ℕ, ◌<◌, ◌≤◌, length, slice_get, Option, Some, None, refl, sym, ap, subst, ◌∙◌, arith}
+use Rattle.std.proofs.lemmas.Option.{none-some, same_Some, slice_get_within}
+use Rattle.reg_arena.specs.History.{History}
+use Rattle.reg_arena.specs.Lamport.{HasSingleWriter}
+use Rattle.reg_arena.specs.declared.ids.RegId.{RegId}
+use Rattle.reg_lamport.specs.Reads.{ListedReads}
+use Rattle.reg_arena.specs.Operations.{register_of}
+use Rattle.reg_pieces.specs.Plan.{IsListOf, IsPieceAt, IsPieceOf, IsPlan, PlanShown}
+use Rattle.reg_pieces.specs.declared.piece.Piece.{Piece}
+use Rattle.reg_pieces.specs.declared.tasks.Task.{Task}
+use Rattle.reg_pieces.specs.declared.tasks.Task.TheVariants.{Judge, Reads}
+use Rattle.reg_pieces.proofs.Numbering.{IsFit, tasks-fit}
+
+-- the list of a register with a single writer, and a part of it
+pub record IsOwnPart (h : History) (register : RegId) (from to : ℕ) (list : ListedReads) : Type 0 where
+  pub listed : IsListOf h list.register (Some list)
+  pub own : list.register ≡ register.0
+  pub part : (from ≤ to) × (to ≤ length list.entries)
+
+module _ (h : History) (plan : PlanShown) (p : (cut : ℕ) × IsPlan h cut plan) (number : ℕ) (t : Task) (at : slice_get plan.tasks number ≡ Some t) where
+  fit : IsFit 0 plan.lists t
+  fit = tasks-fit p.0 0 plan.lists plan.tasks number t p.1.numbered at
+
+  pub judge-fits : (register : RegId) → t ≡ Judge register → register.0 < length h.names
+  judge-fits register e = let f = subst (IsFit 0 plan.lists) e fit in omega (arith, f.1, p.1.registers)
+
+  pub reads-fit : (register : RegId) (from to : ℕ) → t ≡ Reads register from to → register.0 < length plan.lists
+  reads-fit register from to e =
+      let f = subst (IsFit 0 plan.lists) e fit in
+      let l = slice_get_within plan.lists f.0 (Some f.1) f.3 in omega (arith, f.2, l)
+
+  -- the list that the task of a cut names
+  named : (register : RegId) (from to : ℕ) → t ≡ Reads register from to → (list : ListedReads) × (slice_get plan.lists register.0 ≡ Some (Some list)) × (from ≤ to) × (to ≤ length list.entries)
+  named register from to e =
+      let f = subst (IsFit 0 plan.lists) e fit in
+      let n : f.0 ≡ register.0 = omega (arith, f.2) in
+      (f.1, ap (slice_get plan.lists) (sym n) ∙ f.3, f.4, f.5)
+
+  pub has-part : (register : RegId) (from to : ℕ) → t ≡ Reads register from to → (o : Option ListedReads) → slice_get plan.lists register.0 ≡ Some o → (list : ListedReads) → o ≡ Some list → IsOwnPart h register from to list
+  has-part register from to e o there list s =
+      let f = named register from to e in
+      let stands = there ∙ ap (λ x. Some x) s in
+      let same : f.0 ≡ list = same_Some _ _ (same_Some _ _ (sym f.1 ∙ stands)) in
+      let l : IsListOf h register.0 (Some list) = p.1.lists register.0 (Some list) stands in
+      record {
+        listed = (subst (λ r. HasSingleWriter (register_of h r)) (sym l.1) l.0, refl, l.2);
+        own = l.1;
+        part = (f.2, subst (λ (x : ListedReads). to ≤ length x.entries) same f.3);
+      }
+
+  pub no-none : (register : RegId) (from to : ℕ) → t ≡ Reads register from to → (o : Option ListedReads) → slice_get plan.lists register.0 ≡ Some o → o ≡ None → ⊥
+  no-none register from to e o there s =
+      let f = named register from to e in none-some f.0 (sym s ∙ same_Some _ _ (sym there ∙ f.1))
+
+  pub piece-done : (u : Task) (x : Piece) → t ≡ u → IsPieceOf h u x → IsPieceAt h plan.tasks number x
+  piece-done u x e f = (t, at, subst (λ y. IsPieceOf h y x) (sym e) f)

@@ -1,0 +1,12 @@
+use Rattle.std.proofs.Common.{◌≡◌, length}
+use Rattle.reg_pieces.specs.Slots.{AreWithin, with_pieces}
+use Rattle.reg_pieces.proofs.pieces.Pieces.put_all.Given as goal
+
+abbrev pub invariant-loop-number : goal.invariant-loop-number
+invariant-loop-number l = record {
+  within : AreWithin (length l.self) l.done.items;
+  put : with_pieces l.self l.done.items ≡ with_pieces l.initial.self l.fn.done.items;
+}
+
+abbrev pub decreases-loop-number : goal.decreases-loop-number
+decreases-loop-number l = length l.done.items

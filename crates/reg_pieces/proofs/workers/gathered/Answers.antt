@@ -1,0 +1,52 @@
+use Rattle.std.proofs.Common.{◌≡◌, ◌∙◌, false, length, sym, ap, subst, arith}
+use Rattle.std.proofs.lemmas.Bool.{false≢true}
+use Rattle.std.specs.Prelude.{IfSome}
+use Rattle.reg_pieces.specs.Slots.{AreSlots, AreWithin}
+use Rattle.reg_pieces.specs.Workers.{IsBack, IsJoined, weight_back}
+use Rattle.reg_pieces.proofs.Gathering.{all-done, back-push, first-ones, last-one, one-joined, weight-with}
+use Rattle.reg_pieces.proofs.Putting.{length-with, pieces-within, with-slots}
+use Rattle.reg_pieces.proofs.workers.gathered.Goals as goal
+use Rattle.reg_pieces.proofs.workers.gathered.Goals.{then-refused, else-refused}
+
+pub put_all-requires : goal.put_all-requires
+put_all-requires c =
+    let h = c.args.arena.now in
+    let tasks = c.args.plan.now.tasks in
+    let l = c.loop-worked in
+    let w = c.in-Some.worked in
+    let one = last-one (IsBack h tasks c.args.board) l.back.items c.pop.new.self.items w c.in-Some.ensures.items l.invariant.back in
+    subst (λ n. AreWithin n w.done.items) (sym l.invariant.count) (pieces-within h tasks w.done.items one.pieces)
+
+pub loop-worked-preserved : goal.loop-worked-preserved
+loop-worked-preserved c =
+    let h = c.args.arena.now in
+    let tasks = c.args.plan.now.tasks in
+    let board = c.args.board in
+    let l = c.loop-worked in
+    let w = c.in-Some.worked in
+    let rest = c.pop.new.self.items in
+    let popped = c.in-Some.ensures.items in
+    let put = c.put_all.ensures in
+    let seat = c.joined.result in
+    let one = last-one (IsBack h tasks board) l.back.items rest w popped l.invariant.back in
+    let within = subst (λ n. AreWithin n w.done.items) (sym l.invariant.count) (pieces-within h tasks w.done.items one.pieces) in
+    let both : c.if-refused.refused ≡ false → (l.refused ≡ false) × (w.refused ≡ false) = λ f. elim c.if-refused.branch [
+      | then-refused k ↦ absurd (false≢true (sym f ∙ (k.refused-is ∙ k.if-refused.true)))
+      | else-refused k ↦ (k.if-refused.false, sym k.refused-is ∙ f)
+    ] in
+    record {
+      back = first-ones (IsBack h tasks board) l.back.items rest w popped l.invariant.back;
+      weight = omega (arith, ap (λ v. v.weight) c.joined.ensures.view, weight-with l.whole w.seat, ap weight_back popped, back-push rest w, l.invariant.weight);
+      slots = subst (AreSlots h tasks) (sym put) (with-slots h tasks l.pieces w.done.items one.pieces l.invariant.slots);
+      count = ap length put ∙ (length-with l.pieces w.done.items ∙ l.invariant.count);
+      whole = subst (λ slots. IsJoined board slots c.if-refused.refused seat) (sym put)
+          (one-joined h tasks board l.pieces l.refused l.whole w seat c.if-refused.refused one within l.invariant.whole c.joined.ensures.board c.joined.ensures.view both);
+    }
+
+pub returns : goal.returns
+returns c =
+    let l = c.loop-worked in
+    let seat = c.in-Some-whole.seat in
+    let joined : IsJoined c.args.board l.pieces l.refused seat = subst (λ o. IfSome o (IsJoined c.args.board l.pieces l.refused)) c.in-Some-whole.is l.invariant.whole in
+    let drawn = c.closed.ensures (joined.told c.if-refused-2.false) in
+    all-done c.args.arena.now c.args.plan.now.tasks l.pieces l.invariant.slots (λ n inside. joined.full c.if-refused-2.false n (drawn n (omega (arith, inside, c.requires.jobs))))

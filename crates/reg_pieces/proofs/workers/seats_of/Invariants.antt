@@ -1,0 +1,11 @@
+use Rattle.std.proofs.Common.{◌≡◌, ◌+◌, All}
+use Rattle.reg_pieces.specs.Workers.{IsNewSeat, weight_of_all}
+use Rattle.reg_pieces.proofs.workers.seats_of.Given as goal
+
+abbrev pub invariant-loop : goal.invariant-loop
+invariant-loop l = record {
+  rest : IsNewSeat l.plan.tasks l.board l.rest;
+  left : l.rest.view.weight + l.counter ≡ l.fn.seat.view.weight + 1;
+  weight : weight_of_all l.seats.items + l.rest.view.weight ≡ l.fn.seat.view.weight;
+  seats : All (IsNewSeat l.plan.tasks l.board) l.seats.items;
+}

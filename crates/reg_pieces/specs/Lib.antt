@@ -1,0 +1,6 @@
+pub mod Settings
+pub mod Judged
+pub mod Plan
+pub mod Work
+pub mod Slots
+pub mod Workers

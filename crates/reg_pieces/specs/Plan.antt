@@ -1,0 +1,61 @@
+-- The pieces of work of a history, and what is done for each (this project's own design).
+use Rattle.std.specs.Prelude.{◌≡◌, ℕ, suc, ◌<◌, ◌≤◌, ◌+◌, ◌-◌, min, List, [], ◌∷◌, ◌++◌, length, slice_get, Option, Some, None}
+use Rattle.job_board.specs.declared.limits.TheConstants.{MAX_JOBS}
+use Rattle.reg_arena.specs.History.{History}
+use Rattle.reg_arena.specs.Lamport.{HasSingleWriter}
+use Rattle.reg_lamport.specs.Levels.{IsFirstBadRead}
+use Rattle.reg_lamport.specs.Reads.{IsReadList, ListedReads}
+use Rattle.reg_lamport.specs.declared.level.Level.TheVariants.{Safe, Regular}
+use Rattle.reg_pieces.specs.Judged.{IsJudged}
+use Rattle.reg_arena.specs.Operations.{register_of}
+use Rattle.reg_pieces.specs.declared.piece.Piece.{Piece}
+use Rattle.reg_pieces.specs.declared.piece.Piece.TheVariants as piece
+use Rattle.reg_pieces.specs.declared.tasks.Task.{Task}
+use Rattle.reg_pieces.specs.declared.tasks.Task.TheVariants.{Judge, Reads}
+
+-- what contracts see of a plan: its tasks by number, and the completed reads of each register with a single writer
+pub record PlanShown : Type 0 where
+  pub tasks : List Task
+  pub lists : List (Option ListedReads)
+
+-- the completed reads of register r, where it has a single writer
+abbrev pub IsListOf : History → ℕ → Option ListedReads → Type 0
+IsListOf h r None = HasSingleWriter (register_of h r) → ⊥
+IsListOf h r (Some list) = HasSingleWriter (register_of h r) × (list.register ≡ r) × IsReadList h list
+
+-- the reads of register r numbered from `from` up to and without `len`, in cuts of that many, the last perhaps shorter
+abbrev pub AreCuts : ℕ → ℕ → ℕ → ℕ → List Task → Type 0
+AreCuts cut r from len [] = from ≡ len
+AreCuts cut r from len (t ∷ ts) = (from < len) × (t ≡ Reads (record { 0 = r }) from (from + min (len - from) cut)) × AreCuts cut r (from + min (len - from) cut) len ts
+
+-- all reads of a register with a single writer; none of another
+abbrev pub AreCutsOf : ℕ → ℕ → Option ListedReads → List Task → Type 0
+AreCutsOf cut r None ts = ts ≡ []
+AreCutsOf cut r (Some list) ts = AreCuts cut r 0 (length list.entries) ts
+
+-- the tasks have these cuts more
+abbrev pub AddsCuts : ℕ → ℕ → Option ListedReads → List Task → List Task → Type 0
+AddsCuts cut r list old new = (cuts : List Task) × AreCutsOf cut r list cuts × (new ≡ old ++ cuts)
+
+-- register by register from r on: its verdict, then the cuts of its reads
+abbrev pub AreTasks : ℕ → ℕ → List (Option ListedReads) → List Task → Type 0
+AreTasks cut r [] ts = ts ≡ []
+AreTasks cut r (l ∷ ls) ts = (cuts : List Task) × (rest : List Task) × AreCutsOf cut r l cuts × AreTasks cut (suc r) ls rest × (ts ≡ Judge (record { 0 = r }) ∷ cuts ++ rest)
+
+-- the plan of a history, in cuts of so many reads; it has no more tasks than a board may have jobs
+pub record IsPlan (h : History) (cut : ℕ) (plan : PlanShown) : Type 0 where
+  pub registers : length plan.lists ≡ length h.names
+  pub lists : (r : ℕ) (list : Option ListedReads) → slice_get plan.lists r ≡ Some list → IsListOf h r list
+  pub numbered : AreTasks cut 0 plan.lists plan.tasks
+  pub few : length plan.tasks ≤ MAX_JOBS
+
+-- what is done for a task
+abbrev pub IsPieceOf : History → Task → Piece → Type 0
+IsPieceOf h (Judge r) p = IsJudged (register_of h r.0) p
+IsPieceOf h (Reads r from to) (piece.Order order) = ⊥
+IsPieceOf h (Reads r from to) (piece.Faulty fault) = ⊥
+IsPieceOf h (Reads r from to) (piece.Reads safe regular) = IsFirstBadRead h r.0 Safe from to safe × IsFirstBadRead h r.0 Regular from to regular
+
+-- there is a task of this number, and this is done for it
+abbrev pub IsPieceAt : History → List Task → ℕ → Piece → Type 0
+IsPieceAt h tasks number p = (t : Task) × (slice_get tasks number ≡ Some t) × IsPieceOf h t p

@@ -1,0 +1,31 @@
+-- What is done, by its number.
+use Rattle.std.specs.Prelude.{◌≡◌, ◌<◌, ◌≤◌, ℕ, List, [], ◌∷◌, set, slice_get, Option, Some}
+use Rattle.reg_arena.specs.History.{History}
+use Rattle.reg_pieces.specs.Plan.{IsPieceAt, IsPieceOf}
+use Rattle.reg_pieces.specs.declared.piece.Piece.{Piece}
+use Rattle.reg_pieces.specs.declared.tasks.Task.{Task}
+
+-- a piece stands in the slot of this number
+abbrev pub IsFull : List (Option Piece) → ℕ → Type 0
+IsFull slots number = (p : Piece) × (slice_get slots number ≡ Some (Some p))
+
+-- what stands in a slot is what is done for the task of its number
+abbrev pub AreSlots : History → List Task → List (Option Piece) → Type 0
+AreSlots h tasks slots = (i : ℕ) (p : Piece) → slice_get slots i ≡ Some (Some p) → IsPieceAt h tasks i p
+
+-- from this number on, each task has what is done for it in its slot
+abbrev pub AreDoneFrom : ℕ → History → List Task → List (Option Piece) → Type 0
+AreDoneFrom n h tasks slots = (i : ℕ) (t : Task) → n ≤ i → slice_get tasks i ≡ Some t → (p : Piece) × (slice_get slots i ≡ Some (Some p)) × IsPieceOf h t p
+
+-- each task has what is done for it in its slot
+abbrev pub AreDone : History → List Task → List (Option Piece) → Type 0
+AreDone h tasks slots = AreDoneFrom 0 h tasks slots
+
+-- each number is below the count
+abbrev pub AreWithin : ℕ → List (ℕ × Piece) → Type 0
+AreWithin count done = (i : ℕ) (d : ℕ × Piece) → slice_get done i ≡ Some d → d.0 < count
+
+-- the slots with what is done in them; of two pieces of one number the first one stands
+abbrev pub with_pieces : List (Option Piece) → List (ℕ × Piece) → List (Option Piece)
+with_pieces slots [] = slots
+with_pieces slots (d ∷ ds) = set (with_pieces slots ds) d.0 (Some d.1)

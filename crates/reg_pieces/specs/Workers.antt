@@ -1,0 +1,55 @@
+-- What all workers are given and hand back.
+use Rattle.std.specs.Prelude.{◌≡◌, ◌+◌, ◌<◌, ℕ, Bool, false, true, List, [], ◌∷◌, Option, Some, None}
+use Rattle.job_board.specs.Numbers.{times}
+use Rattle.job_board.specs.Seats.{BoardValue, SeatValue, joint_view}
+use Rattle.job_board.specs.declared.view.View.{View}
+use Rattle.reg_arena.specs.History.{History}
+use Rattle.reg_pieces.specs.Slots.{IsFull}
+use Rattle.reg_pieces.specs.Work.{ArePieces, IsSeatFor, numbers_of}
+use Rattle.reg_pieces.specs.declared.piece.Piece.{Piece}
+use Rattle.reg_pieces.specs.declared.tasks.Task.{Task}
+use Rattle.reg_pieces.specs.declared.worker.Worked.{Worked}
+
+-- ---- before
+
+-- a seat of this board that has drawn nothing
+pub record IsNewSeat (tasks : List Task) (board : BoardValue) (seat : SeatValue) : Type 0 where
+  pub fits : IsSeatFor tasks board seat
+  pub new : seat.view.drawn ≡ []
+
+-- the weights of all seats
+abbrev pub weight_of_all : List SeatValue → ℕ
+weight_of_all [] = 0
+weight_of_all (s ∷ ss) = s.view.weight + weight_of_all ss
+
+-- ---- after
+
+-- What a worker hands back that was given a new seat: where memory wasn't refused, the seat drew what is done and no more, and no number was left.
+pub record IsBack (h : History) (tasks : List Task) (board : BoardValue) (w : Worked) : Type 0 where
+  pub here : w.seat.board ≡ board.id
+  pub drawn : w.refused ≡ false → w.seat.view.drawn ≡ numbers_of w.done.items
+  pub told : w.refused ≡ false → w.seat.view.told ≡ true
+  pub pieces : ArePieces h tasks w.done.items
+
+-- the weights of the seats that are handed back
+abbrev pub weight_back : List Worked → ℕ
+weight_back [] = 0
+weight_back (w ∷ ws) = w.seat.view.weight + weight_back ws
+
+-- ---- put together
+
+-- the weight of the seat that others were made, where there is one
+abbrev pub weight_so_far : Option SeatValue → ℕ
+weight_so_far None = 0
+weight_so_far (Some seat) = seat.view.weight
+
+-- what a seat has once it is made one with those before
+abbrev pub view_with : Option SeatValue → SeatValue → View
+view_with None seat = seat.view
+view_with (Some before) seat = joint_view before.view seat.view
+
+-- Seats of this board that were made one: where no worker was refused memory, each number that they drew has its slot full, and no number was left.
+pub record IsJoined (board : BoardValue) (slots : List (Option Piece)) (refused : Bool) (seat : SeatValue) : Type 0 where
+  pub here : seat.board ≡ board.id
+  pub told : refused ≡ false → seat.view.told ≡ true
+  pub full : refused ≡ false → (n : ℕ) → 0 < times n seat.view.drawn → IsFull slots n

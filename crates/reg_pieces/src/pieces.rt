@@ -1,0 +1,68 @@
+//! What is done, by its number.
+ghost use Rattle.std.specs.Prelude.{◌≡◌, ◌<◌, ℕ, length, set, slice_get, replicate, IfOk, Some, None};
+ghost use Rattle.reg_pieces.specs.Slots.{AreWithin, IsFull, with_pieces};
+ghost use Rattle.reg_pieces.specs.declared.piece.Piece.{Piece as APiece};
+
+use crate::piece::Piece;
+use std::alloc::{AllocError, Global};
+use std::marker::Model;
+
+/// What is done for the pieces of a plan, each in the slot of its number; contracts see it as the list of the slots. A slot
+/// is empty before its piece is done, and after it was taken.
+#[derive(Drop)]
+pub struct Pieces {
+    slots: Vec<Option<Piece>>,
+}
+
+impl Model for Pieces {
+    ghost use Rattle.std.specs.Prelude.{List, Option};
+    ghost use Rattle.reg_pieces.specs.declared.piece.Piece.{Piece};
+
+    ghost Value = { List (Option Piece) };
+
+    ghost view = { λ p. p.slots.items };
+}
+
+impl Pieces {
+    /// So many slots, all of them empty.
+    pub(crate) fn empty(alloc: Global, count: u64) -> Result<Pieces, AllocError>
+        ensures count { IfOk result (λ pieces. length pieces ≡ count) }
+        ensures empty { IfOk result (λ pieces. (number : ℕ) (piece : APiece) → slice_get pieces number ≡ Some (Some piece) → ⊥) }
+    {
+        let mut slots = Vec::with_capacity(alloc, count as usize)?;
+        for _ in 0..count {
+            slots.push(None)?;
+        }
+        Ok(Pieces { slots })
+    }
+
+    /// Puts a piece into its slot.
+    fn put(&mut self, number: u64, piece: Piece)
+        requires { number < length self.old }
+        ensures { self.new ≡ set self.old number (Some piece) }
+    {
+        self.slots[number as usize] = Some(piece);
+    }
+
+    /// Puts what a worker did into its slots.
+    pub(crate) fn put_all(&mut self, mut done: Vec<(u64, Piece)>)
+        requires { AreWithin (length self.old) done.items }
+        ensures { self.new ≡ with_pieces self.old done.items }
+    {
+        while let Some((number, piece)) = done.pop() {
+            self.put(number, piece);
+        }
+    }
+
+    /// Takes a piece out of its slot.
+    pub fn take(&mut self, number: usize) -> Piece
+        requires { IsFull self.old number }
+        ensures piece { slice_get self.old number ≡ Some (Some result) }
+        ensures left { self.new ≡ set self.old number None }
+    {
+        match self.slots[number].take() {
+            Some(piece) => piece,
+            None => unreachable!(),
+        }
+    }
+}

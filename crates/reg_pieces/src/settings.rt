@@ -1,0 +1,61 @@
+//! How many workers there are, and how many reads a cut has.
+ghost use Rattle.std.specs.Prelude.{◌≡◌, ◌≤◌, ◌↔◌, IsSome, IfSome};
+ghost use Rattle.reg_pieces.specs.Settings.{SettingsShown};
+
+use std::marker::Model;
+
+/// The most workers.
+pub const MAX_WORKERS: u32 = 16;
+
+/// The most reads of a cut.
+pub const MAX_CUT: u32 = 1_048_576;
+
+/// Numbers within their limits: 1 to [`MAX_WORKERS`] workers, and a cut of 1 to [`MAX_CUT`] reads. Neither changes a
+/// report.
+#[derive(Clone, Copy, Debug, PartialEq, Eq)]
+pub struct Settings {
+    workers: u32,
+    cut: u32,
+}
+
+impl Model for Settings {
+    ghost use Rattle.std.specs.Prelude.{◌<◌, ◌≤◌};
+    ghost use Rattle.reg_pieces.specs.Settings.{SettingsShown};
+
+    ghost Value = { SettingsShown };
+
+    ghost view = { λ s. record { workers = s.workers; cut = s.cut } };
+
+    ghost inverse = { λ s. record { workers = s.workers; cut = s.cut } };
+
+    ghost invariant = { λ s. (0 < s.workers) × (s.workers ≤ 16) × (0 < s.cut) × (s.cut ≤ 1048576) };
+}
+
+impl Settings {
+    /// These numbers, or nothing where one isn't within its limits.
+    pub fn new(workers: u32, cut: u32) -> Option<Settings>
+        ensures some { IfSome result (λ s. s ≡ record { workers = workers; cut = cut }) }
+        ensures limits { IsSome result ↔ ((1 ≤ workers) × (workers ≤ MAX_WORKERS) × (1 ≤ cut) × (cut ≤ MAX_CUT)) }
+    {
+        if workers == 0 || workers > MAX_WORKERS || cut == 0 || cut > MAX_CUT {
+            return None;
+        }
+        Some(Settings { workers, cut })
+    }
+
+    /// How many workers there are, 1 to [`MAX_WORKERS`].
+    pub(crate) fn workers(&self) -> u32
+        ensures value { result ≡ self.now.workers }
+        ensures limits { (1 ≤ result) × (result ≤ MAX_WORKERS) }
+    {
+        self.workers
+    }
+
+    /// How many reads a cut has at most, 1 to [`MAX_CUT`].
+    pub fn cut(&self) -> u32
+        ensures value { result ≡ self.now.cut }
+        ensures limits { (1 ≤ result) × (result ≤ MAX_CUT) }
+    {
+        self.cut
+    }
+}

@@ -1,0 +1,59 @@
+//! The pieces of work of a history, numbered from 0: register by register, its verdict, then its reads in cuts.
+ghost use Rattle.std.specs.Prelude.{◌≡◌, ◌<◌, length, slice_get, Some};
+
+use reg_arena::RegId;
+use reg_lamport::ReadList;
+use std::marker::Model;
+
+/// One piece of work.
+#[derive(Clone, Copy, Debug, PartialEq, Eq)]
+pub enum Task {
+    /// Whether a register is atomic: its order or its fault.
+    Judge(RegId),
+    /// The first bad reads among a register's completed reads numbered `from` up to and without `to`.
+    Reads {
+        register: RegId,
+        from: usize,
+        to: usize,
+    },
+}
+
+/// The pieces of work of a history, with the completed reads of each register that has a single writer.
+#[derive(Drop)]
+pub struct Plan {
+    pub(crate) tasks: Vec<Task>,
+    pub(crate) lists: Vec<Option<ReadList>>,
+}
+
+impl Model for Plan {
+    ghost use Rattle.reg_pieces.specs.Plan.{PlanShown};
+
+    ghost Value = { PlanShown };
+
+    ghost view = { λ p. record { tasks = p.tasks.items; lists = p.lists.items } };
+}
+
+impl Plan {
+    /// How many pieces there are.
+    pub fn len(&self) -> u64
+        ensures { result ≡ length self.now.tasks }
+    {
+        self.tasks.len() as u64
+    }
+
+    /// The task of this number.
+    pub(crate) fn task(&self, number: u64) -> Task
+        requires { number < length self.now.tasks }
+        ensures { slice_get self.now.tasks number ≡ Some result }
+    {
+        self.tasks[number as usize]
+    }
+
+    /// The completed reads of this register, where it has a single writer.
+    pub fn list(&self, register: RegId) -> &Option<ReadList>
+        requires { register.0 < length self.now.lists }
+        ensures { slice_get self.now.lists register.0 ≡ Some result.now }
+    {
+        &self.lists[register.0 as usize]
+    }
+}

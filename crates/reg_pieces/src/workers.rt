@@ -1,0 +1,143 @@
+//! All workers at once.
+ghost use Rattle.std.specs.Prelude.{◌≡◌, ◌+◌, ◌<◌, ◌≤◌, ℕ, All, IfOk, IfSome, true, length};
+ghost use Rattle.job_board.specs.Numbers.{times};
+ghost use Rattle.job_board.specs.declared.limits.TheConstants.{FULL_WEIGHT};
+ghost use Rattle.reg_pieces.specs.Plan.{IsPlan};
+ghost use Rattle.reg_pieces.specs.Slots.{AreDone};
+ghost use Rattle.reg_pieces.specs.Work.{HasWorked, IsSeatFor};
+ghost use Rattle.reg_pieces.specs.Workers.{IsBack, IsNewSeat, view_with, weight_back, weight_of_all};
+
+use crate::gate::Gate;
+use crate::pieces::Pieces;
+use crate::settings::Settings;
+use crate::tasks::Plan;
+use crate::worker::{Worked, work};
+use job_board::{Board, Seat};
+use reg_arena::Arena;
+use std::alloc::{AllocError, Global};
+use std::thread::{self, Threads};
+
+/// As many seats of a board, made of one that has drawn nothing: all of weight 1 but the last.
+pub(crate) fn seats_of(
+    alloc: Global,
+    plan: &Plan,
+    board: &Board<Global>,
+    seat: Seat,
+    count: u32,
+) -> Result<Vec<Seat>, AllocError>
+    requires seat { IsNewSeat plan.now.tasks board.now seat }
+    requires count { (1 ≤ count) × (count ≤ seat.view.weight) }
+    ensures seats { IfOk result (λ seats. All (IsNewSeat plan.now.tasks board.now) seats.items) }
+    ensures weight { IfOk result (λ seats. weight_of_all seats.items ≡ seat.view.weight) }
+{
+    let mut rest = seat;
+    let mut seats = Vec::with_capacity(alloc, count as usize)?;
+    for _ in 1..count {
+        let (one, more) = board.split(rest, 1);
+        seats.push(one)?;
+        rest = more;
+    }
+    seats.push(rest)?;
+    Ok(seats)
+}
+
+/// A worker for each seat, all of them at once.
+fn all_work<R: Threads + Sync, G: Gate + Sync>(
+    rt: &R,
+    alloc: Global,
+    arena: &Arena,
+    plan: &Plan,
+    board: &Board<Global>,
+    seats: Vec<Seat>,
+    gate: &G,
+) -> Result<Vec<Worked>, AllocError>
+    requires plan { (cut : ℕ) × IsPlan arena.now cut plan.now }
+    requires seats { All (IsNewSeat plan.now.tasks board.now) seats.items }
+    ensures back { IfOk result (λ back. All (IsBack arena.now plan.now.tasks board.now) back.items) }
+    ensures weight { IfOk result (λ back. weight_back back.items ≡ weight_of_all seats.items) }
+{
+    thread::map_vec(
+        rt,
+        seats,
+        &|seat| -> Worked
+            requires plan { (cut : ℕ) × IsPlan arena.now cut plan.now }
+            requires seat { IsNewSeat plan.now.tasks board.now seat }
+            ensures { HasWorked arena.entry.now plan.entry.now.tasks seat result }
+        { work(alloc, arena, plan, board, seat, gate) },
+    )
+}
+
+/// One seat more, made one with those before it.
+fn joined(board: &Board<Global>, before: Option<Seat>, seat: Seat) -> Seat
+    requires seat { seat.board ≡ board.now.id }
+    requires before { IfSome before (λ one. one.board ≡ board.now.id) }
+    ensures board { result.board ≡ board.now.id }
+    ensures view { result.view ≡ view_with before seat }
+{
+    match before {
+        Some(one) => board.join(one, seat),
+        None => seat,
+    }
+}
+
+/// Closes the board with the seat that all others were made.
+fn closed(board: Board<Global>, seat: Seat)
+    requires board { seat.board ≡ board.id }
+    requires weight { seat.view.weight ≡ FULL_WEIGHT }
+    ensures { seat.view.told ≡ true → (n : ℕ) → n < board.jobs → 0 < times n seat.view.drawn }
+{
+    match board.close(seat) {
+        Ok(_least) => {}
+        Err(_) => unreachable!(),
+    }
+}
+
+/// What all workers did, by number. Their seats are made one again, and the board is closed.
+///
+/// # Errors
+/// Where a growth was refused, here or to a worker.
+fn gathered(
+    alloc: Global,
+    arena: &Arena,
+    plan: &Plan,
+    board: Board<Global>,
+    mut back: Vec<Worked>,
+) -> Result<Pieces, AllocError>
+    requires jobs { board.jobs ≡ length plan.now.tasks }
+    requires back { All (IsBack arena.now plan.now.tasks board) back.items }
+    requires weight { weight_back back.items ≡ FULL_WEIGHT }
+    ensures { IfOk result (AreDone arena.now plan.now.tasks) }
+{
+    let mut pieces = Pieces::empty(alloc, plan.len())?;
+    let mut refused = false;
+    let mut whole = None;
+    while let Some(worked) = back.pop() {
+        pieces.put_all(worked.done);
+        refused = refused || worked.refused;
+        whole = Some(joined(&board, whole, worked.seat));
+    }
+    let Some(seat) = whole else { unreachable!() };
+    closed(board, seat);
+    if refused { Err(AllocError) } else { Ok(pieces) }
+}
+
+/// Has as many workers as the settings say do all pieces of a plan at once, past the gate.
+///
+/// # Errors
+/// Where a growth was refused, here or to a worker; what was done is dropped.
+pub fn do_pieces<R: Threads + Sync, G: Gate + Sync>(
+    rt: &R,
+    alloc: Global,
+    arena: &Arena,
+    plan: &Plan,
+    settings: Settings,
+    gate: &G,
+) -> Result<Pieces, AllocError>
+    requires { IsPlan arena.now settings.cut plan.now }
+    ensures { IfOk result (AreDone arena.now plan.now.tasks) }
+{
+    let (board, seat) = Board::open(alloc, plan.len())?;
+    let seats = seats_of(alloc, plan, &board, seat, settings.workers())?;
+    let back = all_work(rt, alloc, arena, plan, &board, seats, gate)?;
+    gathered(alloc, arena, plan, board, back)
+}
