@@ -33,56 +33,59 @@ fn number(alloc: Global, bytes: &[u8]) -> Result<u8, AllocError> {
     }
 }
 
+// A name, a line, and what is read of it as line 7.
+const EVENTS: [(&str, &str, &str); 9] = [
+    (
+        "call of a write",
+        WRITE,
+        "Ok(LineEvent { line: 7, process: 1, kind: CallWrite(Name { text: \"x\" }, 5) })",
+    ),
+    (
+        "reply without parts",
+        REPLY,
+        "Ok(LineEvent { line: 7, process: 1, kind: Reply(ReplyParts { op: None, register: None, value: None }) })",
+    ),
+    (
+        "call of a read",
+        READ,
+        "Ok(LineEvent { line: 7, process: 2, kind: CallRead(Name { text: \"x\" }) })",
+    ),
+    (
+        "call of a read with null",
+        r#"{"process":2,"event":"call","op":"read","register":"x","value":null}"#,
+        "Ok(LineEvent { line: 7, process: 2, kind: CallRead(Name { text: \"x\" }) })",
+    ),
+    (
+        "reply with a value",
+        GOT,
+        "Ok(LineEvent { line: 7, process: 2, kind: Reply(ReplyParts { op: None, register: None, value: Some(Int(5)) }) })",
+    ),
+    (
+        "reply with all parts, null and members that nobody knows",
+        r#"{"process":1,"event":"reply","op":"read","register":"y","value":null,"clock":[1.5]}"#,
+        "Ok(LineEvent { line: 7, process: 1, kind: Reply(ReplyParts { op: Some(ReadOp), register: Some(Name { text: \"y\" }), value: Some(Null) }) })",
+    ),
+    (
+        "greatest process and greatest value",
+        r#"{"process":4294967295,"event":"call","op":"write","register":"x","value":9223372036854775807}"#,
+        "Ok(LineEvent { line: 7, process: 4294967295, kind: CallWrite(Name { text: \"x\" }, 9223372036854775807) })",
+    ),
+    (
+        "least process and least value",
+        r#"{"process":0,"event":"call","op":"write","register":"x","value":-9223372036854775808}"#,
+        "Ok(LineEvent { line: 7, process: 0, kind: CallWrite(Name { text: \"x\" }, -9223372036854775808) })",
+    ),
+    (
+        "fault with its line",
+        r#"{"process":1,"event":"call","op":"write","register":"x","value":9223372036854775808}"#,
+        "Err(LineFault { line: 7, kind: BadValue })",
+    ),
+];
+
 #[test]
 fn events_of_lines(rt: HostRuntime) -> Result<(), Fail> {
     let alloc = rt.alloc();
-    for (name, text, want) in [
-        (
-            "call of a write",
-            WRITE,
-            "Ok(LineEvent { line: 7, process: 1, kind: CallWrite(Name { text: \"x\" }, 5) })",
-        ),
-        (
-            "reply without parts",
-            REPLY,
-            "Ok(LineEvent { line: 7, process: 1, kind: Reply(ReplyParts { op: None, register: None, value: None }) })",
-        ),
-        (
-            "call of a read",
-            READ,
-            "Ok(LineEvent { line: 7, process: 2, kind: CallRead(Name { text: \"x\" }) })",
-        ),
-        (
-            "call of a read with null",
-            r#"{"process":2,"event":"call","op":"read","register":"x","value":null}"#,
-            "Ok(LineEvent { line: 7, process: 2, kind: CallRead(Name { text: \"x\" }) })",
-        ),
-        (
-            "reply with a value",
-            GOT,
-            "Ok(LineEvent { line: 7, process: 2, kind: Reply(ReplyParts { op: None, register: None, value: Some(Int(5)) }) })",
-        ),
-        (
-            "reply with all parts, null and members that nobody knows",
-            r#"{"process":1,"event":"reply","op":"read","register":"y","value":null,"clock":[1.5]}"#,
-            "Ok(LineEvent { line: 7, process: 1, kind: Reply(ReplyParts { op: Some(ReadOp), register: Some(Name { text: \"y\" }), value: Some(Null) }) })",
-        ),
-        (
-            "greatest process and greatest value",
-            r#"{"process":4294967295,"event":"call","op":"write","register":"x","value":9223372036854775807}"#,
-            "Ok(LineEvent { line: 7, process: 4294967295, kind: CallWrite(Name { text: \"x\" }, 9223372036854775807) })",
-        ),
-        (
-            "least process and least value",
-            r#"{"process":0,"event":"call","op":"write","register":"x","value":-9223372036854775808}"#,
-            "Ok(LineEvent { line: 7, process: 0, kind: CallWrite(Name { text: \"x\" }, -9223372036854775808) })",
-        ),
-        (
-            "fault with its line",
-            r#"{"process":1,"event":"call","op":"write","register":"x","value":9223372036854775808}"#,
-            "Err(LineFault { line: 7, kind: BadValue })",
-        ),
-    ] {
+    for (name, text, want) in EVENTS {
         let line = read(alloc, text.as_bytes(), 7)?;
         let got = format!(in alloc; "{line:?}")?;
         assert_eq!(rt; got.as_str(), want, "{name}");
@@ -90,63 +93,66 @@ fn events_of_lines(rt: HostRuntime) -> Result<(), Fail> {
     Ok(())
 }
 
+// A line, and the number of its fault, or 0 where it has an event.
+const FAULTS: [(&str, u8); 28] = [
+    (r#"{"process":2,"ev"#, 2),
+    ("\0", 2),
+    ("[]", 3),
+    ("null", 3),
+    (r#"{"event":"reply"}"#, 4),
+    (r#"{"process":-1,"event":"reply"}"#, 4),
+    (r#"{"process":1.0,"event":"reply"}"#, 4),
+    (r#"{"process":1e0,"event":"reply"}"#, 4),
+    (r#"{"process":"1","event":"reply"}"#, 4),
+    (r#"{"process":4294967296,"event":"reply"}"#, 4),
+    (r#"{"process":1}"#, 5),
+    (r#"{"process":1,"event":"fail"}"#, 5),
+    (r#"{"process":1,"event":"call"}"#, 6),
+    (r#"{"process":1,"event":"call","op":"cas"}"#, 6),
+    (r#"{"process":1,"event":"reply","op":null}"#, 6),
+    (r#"{"process":1,"event":"call","op":"read"}"#, 7),
+    (r#"{"process":1,"event":"reply","register":""}"#, 7),
+    (r#"{"process":1,"event":"reply","register":null}"#, 7),
+    (
+        r#"{"process":1,"event":"call","op":"read","register":"x","value":1}"#,
+        8,
+    ),
+    (
+        r#"{"process":1,"event":"call","op":"write","register":"x"}"#,
+        8,
+    ),
+    (
+        r#"{"process":1,"event":"call","op":"write","register":"x","value":null}"#,
+        8,
+    ),
+    (
+        r#"{"process":1,"event":"call","op":"write","register":"x","value":5.0}"#,
+        8,
+    ),
+    (r#"{"process":1,"event":"reply","value":"5"}"#, 8),
+    (
+        r#"{"process":1,"event":"reply","value":-9223372036854775809}"#,
+        8,
+    ),
+    // Of several faults the least number, wherever its member stands.
+    (
+        r#"{"value":true,"register":0,"op":0,"event":0,"process":1.5}"#,
+        4,
+    ),
+    (
+        r#"{"value":true,"register":0,"op":0,"event":"reply","process":1}"#,
+        6,
+    ),
+    // Of equal names the last counts.
+    (r#"{"process":"1","event":"reply","process":1}"#, 0),
+    // Space around the JSON, a carriage return among it.
+    (" \t{\"process\":1,\"event\":\"reply\"} \r", 0),
+];
+
 #[test]
 fn faults_of_lines(rt: HostRuntime) -> Result<(), Fail> {
     let alloc = rt.alloc();
-    for (text, want) in [
-        (r#"{"process":2,"ev"#, 2),
-        ("\0", 2),
-        ("[]", 3),
-        ("null", 3),
-        (r#"{"event":"reply"}"#, 4),
-        (r#"{"process":-1,"event":"reply"}"#, 4),
-        (r#"{"process":1.0,"event":"reply"}"#, 4),
-        (r#"{"process":1e0,"event":"reply"}"#, 4),
-        (r#"{"process":"1","event":"reply"}"#, 4),
-        (r#"{"process":4294967296,"event":"reply"}"#, 4),
-        (r#"{"process":1}"#, 5),
-        (r#"{"process":1,"event":"fail"}"#, 5),
-        (r#"{"process":1,"event":"call"}"#, 6),
-        (r#"{"process":1,"event":"call","op":"cas"}"#, 6),
-        (r#"{"process":1,"event":"reply","op":null}"#, 6),
-        (r#"{"process":1,"event":"call","op":"read"}"#, 7),
-        (r#"{"process":1,"event":"reply","register":""}"#, 7),
-        (r#"{"process":1,"event":"reply","register":null}"#, 7),
-        (
-            r#"{"process":1,"event":"call","op":"read","register":"x","value":1}"#,
-            8,
-        ),
-        (
-            r#"{"process":1,"event":"call","op":"write","register":"x"}"#,
-            8,
-        ),
-        (
-            r#"{"process":1,"event":"call","op":"write","register":"x","value":null}"#,
-            8,
-        ),
-        (
-            r#"{"process":1,"event":"call","op":"write","register":"x","value":5.0}"#,
-            8,
-        ),
-        (r#"{"process":1,"event":"reply","value":"5"}"#, 8),
-        (
-            r#"{"process":1,"event":"reply","value":-9223372036854775809}"#,
-            8,
-        ),
-        // Of several faults the least number, wherever its member stands.
-        (
-            r#"{"value":true,"register":0,"op":0,"event":0,"process":1.5}"#,
-            4,
-        ),
-        (
-            r#"{"value":true,"register":0,"op":0,"event":"reply","process":1}"#,
-            6,
-        ),
-        // Of equal names the last counts.
-        (r#"{"process":"1","event":"reply","process":1}"#, 0),
-        // Space around the JSON, a carriage return among it.
-        (" \t{\"process\":1,\"event\":\"reply\"} \r", 0),
-    ] {
+    for (text, want) in FAULTS {
         assert_eq!(rt; number(alloc, text.as_bytes())?, want, "{text}");
     }
     assert_eq!(rt;
@@ -266,14 +272,16 @@ fn lines_of_inputs(rt: HostRuntime) -> Result<(), Fail> {
         let got = shown(&rt, alloc, text.as_bytes())?;
         assert_eq!(rt; got.as_str(), want, "{name}");
     }
+    Ok(())
+}
+
+#[test]
+fn blank_lines_have_no_limit(rt: HostRuntime) -> Result<(), Fail> {
+    let alloc = rt.alloc();
     let mut spaces = padded(alloc, "", b' ', 65_537)?;
     spaces.extend_from_slice(b"\n{}".as_slice())?;
     let got = shown(&rt, alloc, spaces.as_slice())?;
-    assert_eq!(rt;
-        got.as_str(),
-        "2:65538-65540 2=4 ",
-        "a blank line has no limit"
-    );
+    assert_eq!(rt; got.as_str(), "2:65538-65540 2=4 ");
     Ok(())
 }
 
@@ -294,6 +302,18 @@ fn replies(alloc: Global, count: u32) -> Result<(String, String), Fail> {
     Ok((text, want))
 }
 
+// What was read of the lines, in order: each with its process or its fault.
+fn told(alloc: Global, lines: &[Result<LineEvent, LineFault>]) -> Result<String, Fail> {
+    let mut told = String::new(alloc);
+    for read in lines {
+        match read {
+            Ok(LineEvent { line, process, .. }) => write!(told, "{line}={process}, ")?,
+            Err(fault) => write!(told, "{}: {}, ", fault.line, fault.number())?,
+        }
+    }
+    Ok(told)
+}
+
 #[test]
 fn many_lines_stay_in_order(rt: HostRuntime) -> Result<(), Fail> {
     let alloc = rt.alloc();
@@ -304,13 +324,7 @@ fn many_lines_stay_in_order(rt: HostRuntime) -> Result<(), Fail> {
     ] {
         let (text, want) = replies(alloc, count)?;
         assert!(rt; text.len() <= MAX_INPUT);
-        let mut got = String::new(alloc);
-        for read in &read_lines(&rt, alloc, text.as_bytes())? {
-            match read {
-                Ok(LineEvent { line, process, .. }) => write!(got, "{line}={process}, ")?,
-                Err(fault) => write!(got, "{}: {}, ", fault.line, fault.number())?,
-            }
-        }
+        let got = told(alloc, &read_lines(&rt, alloc, text.as_bytes())?)?;
         assert!(rt; got == want, "{name}");
     }
     Ok(())

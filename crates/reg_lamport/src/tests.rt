@@ -81,82 +81,81 @@ fn verdict(
     Ok(format!(in alloc; "{count} safe {safe} regular {regular}")?)
 }
 
+// A name, the lines of a history, and its verdict.
+const VERDICTS: [(&str, &[&str], &str); 15] = [
+    ("no event", &[], "0 safe 0 regular 0"),
+    (
+        "a new value, then the old one, while the write is open",
+        &[WRITE_1, OK, WRITE_2, READ, GOT2, READ, GOT1, OK],
+        "2 safe 0 regular 0",
+    ),
+    (
+        "a value never written, without a write",
+        &[READ, GOT9],
+        "1 safe 1 regular 1",
+    ),
+    (
+        "a value written only later",
+        &[READ, GOT1, WRITE_1, OK],
+        "1 safe 1 regular 1",
+    ),
+    (
+        "the value of a pending write",
+        &[WRITE_1, READ, GOT1],
+        "1 safe 0 regular 0",
+    ),
+    (
+        "the value before a pending write",
+        &[WRITE_1, READ, NULL],
+        "1 safe 0 regular 0",
+    ),
+    (
+        "the value before a write that has replied",
+        &[WRITE_1, OK, READ, NULL],
+        "1 safe 3 regular 3",
+    ),
+    (
+        "a value never written, in the time of a write",
+        &[WRITE_1, READ, GOT9, OK],
+        "1 safe 0 regular 2",
+    ),
+    (
+        "two processes write",
+        &[WRITE_1, OK, OTHER_W2, OTHER_OK, READ, GOT2, READ, GOT1],
+        "2 several writers",
+    ),
+    (
+        "a write called in the time of the read",
+        &[READ, WRITE_1, OK, GOT1],
+        "1 safe 0 regular 0",
+    ),
+    (
+        "the first of two writes in the time of the read",
+        &[READ, WRITE_1, OK, WRITE_2, OK, GOT1],
+        "1 safe 0 regular 0",
+    ),
+    (
+        "the value before a write that is open at the call and one called later",
+        &[WRITE_1, OK, WRITE_2, READ, OK, WRITE_3, GOT1],
+        "1 safe 0 regular 0",
+    ),
+    (
+        "the value before that",
+        &[WRITE_1, OK, WRITE_2, READ, OK, WRITE_3, NULL],
+        "1 safe 0 regular 4",
+    ),
+    (
+        "the last value but one, when its successor has replied",
+        &[WRITE_1, OK, WRITE_2, OK, READ, GOT1, WRITE_3],
+        "1 safe 5 regular 5",
+    ),
+    ("a pending read", &[WRITE_1, OK, READ], "0 safe 0 regular 0"),
+];
+
 #[test]
 fn verdicts_of_histories(rt: HostRuntime) -> Result<(), Fail> {
     let alloc = rt.alloc();
-    for (name, lines, want) in [
-        ("no event", [].as_slice(), "0 safe 0 regular 0"),
-        (
-            "a new value, then the old one, while the write is open",
-            [WRITE_1, OK, WRITE_2, READ, GOT2, READ, GOT1, OK].as_slice(),
-            "2 safe 0 regular 0",
-        ),
-        (
-            "a value never written, without a write",
-            [READ, GOT9].as_slice(),
-            "1 safe 1 regular 1",
-        ),
-        (
-            "a value written only later",
-            [READ, GOT1, WRITE_1, OK].as_slice(),
-            "1 safe 1 regular 1",
-        ),
-        (
-            "the value of a pending write",
-            [WRITE_1, READ, GOT1].as_slice(),
-            "1 safe 0 regular 0",
-        ),
-        (
-            "the value before a pending write",
-            [WRITE_1, READ, NULL].as_slice(),
-            "1 safe 0 regular 0",
-        ),
-        (
-            "the value before a write that has replied",
-            [WRITE_1, OK, READ, NULL].as_slice(),
-            "1 safe 3 regular 3",
-        ),
-        (
-            "a value never written, in the time of a write",
-            [WRITE_1, READ, GOT9, OK].as_slice(),
-            "1 safe 0 regular 2",
-        ),
-        (
-            "two processes write",
-            [WRITE_1, OK, OTHER_W2, OTHER_OK, READ, GOT2, READ, GOT1].as_slice(),
-            "2 several writers",
-        ),
-        (
-            "a write called in the time of the read",
-            [READ, WRITE_1, OK, GOT1].as_slice(),
-            "1 safe 0 regular 0",
-        ),
-        (
-            "the first of two writes in the time of the read",
-            [READ, WRITE_1, OK, WRITE_2, OK, GOT1].as_slice(),
-            "1 safe 0 regular 0",
-        ),
-        (
-            "the value before a write that is open at the call and one called later",
-            [WRITE_1, OK, WRITE_2, READ, OK, WRITE_3, GOT1].as_slice(),
-            "1 safe 0 regular 0",
-        ),
-        (
-            "the value before that",
-            [WRITE_1, OK, WRITE_2, READ, OK, WRITE_3, NULL].as_slice(),
-            "1 safe 0 regular 4",
-        ),
-        (
-            "the last value but one, when its successor has replied",
-            [WRITE_1, OK, WRITE_2, OK, READ, GOT1, WRITE_3].as_slice(),
-            "1 safe 5 regular 5",
-        ),
-        (
-            "a pending read",
-            [WRITE_1, OK, READ].as_slice(),
-            "0 safe 0 regular 0",
-        ),
-    ] {
+    for (name, lines, want) in VERDICTS {
         let got = verdict(&rt, alloc, lines)?;
         assert_eq!(rt; got.as_str(), want, "{name}");
     }
