@@ -14,8 +14,6 @@
 #![tactic(auto)]
 
 mod checked;
-#[cfg(test)]
-mod ends_tests;
 mod fault;
 mod history;
 pub mod laws;
@@ -29,17 +27,11 @@ mod pushed;
 mod refusal;
 mod register;
 mod report;
-#[cfg(test)]
-mod rows;
 mod send;
 mod tally;
-#[cfg(test)]
-mod tests;
 mod told;
 mod whole;
 mod wording;
-#[cfg(test)]
-mod workers_tests;
 mod written;
 
 pub use byte_ends::{FromReader, FromWriter, IoFail, MemSink, MemSource, Sink, Source};

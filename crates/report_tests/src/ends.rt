@@ -1,8 +1,8 @@
 //! Ends that give and take little at a time, and ends that fail.
 ghost use Rattle.std.specs.Prelude.{◌≡◌};
 
-use super::*;
-use crate::tests::settings;
+use crate::histories::settings;
+use reg_report::{MemSink, MemSource, OpenGate, Outcome, Refusal, Sink, Source, run};
 use std::test::Fail;
 use std::thread::Threads;
 

@@ -1,6 +1,6 @@
 //! What a run answers to whole histories.
-use super::*;
 use crate::rows::{REFUSALS, REPORTS};
+use reg_report::{Gate, MemSink, MemSource, OpenGate, Outcome, Refusal, Settings, message, run};
 use std::alloc::{AllocError, Global};
 use std::test::Fail;
 use std::thread::Threads;

@@ -1,7 +1,7 @@
 //! Runs by several workers: by all settings, and past gates that hold pieces back.
-use super::*;
+use crate::histories::{answered_by, settings};
 use crate::rows::REPORTS;
-use crate::tests::{answered_by, settings};
+use reg_report::{Gate, OpenGate, Outcome};
 use std::process::Abort;
 use std::sync::atomic::{AtomicBool, AtomicU64, Ordering};
 use std::test::Fail;

@@ -1,5 +1,5 @@
 //! Histories and what each of them is answered, worked out by hand from the definitions.
-use super::*;
+use reg_report::Outcome;
 
 /// A name, a history, the bytes of its report, and whether it is atomic.
 pub(crate) const REPORTS: [(&str, &str, &str, Outcome); 24] = [

@@ -1,0 +1,16 @@
+//! Runs of whole histories, and what each of them answers: tests of what `reg_report` gives, by its public calls alone.
+//!
+//! They are a crate of their own, so that `reg_report` isn't proved once more with them.
+//!
+//! Read it in this order: `rows`, the histories with their answers; `histories`, what is answered to each; `ends`, where little
+//! comes at a time or something fails; `workers`, where several work at once.
+#![tactic(auto)]
+
+#[cfg(test)]
+mod ends;
+#[cfg(test)]
+mod histories;
+#[cfg(test)]
+mod rows;
+#[cfg(test)]
+mod workers;
