@@ -41,7 +41,8 @@ impl Arena {
         ensures ok { IfOk result (λ a. IsWellFormed events.items × (a ≡ history_of (events_of events.items))) }
         ensures err { IfErr result (λ e. IsBuildError events.items e) }
     {
-        let mut arena = Arena::new(alloc, Seeded::over(&events));
+        let count = events.len().min(MAX_EVENTS);
+        let mut arena = Arena::new(alloc, count, Seeded::over(&events))?;
         for line in &events {
             match line {
                 Err(fault) => {
@@ -53,14 +54,14 @@ impl Arena {
         Ok(arena)
     }
 
-    /// The arena of no events.
-    fn new(alloc: Global, hasher: Seeded) -> Self
-        ensures { result ≡ history_of [] }
+    /// The arena of no events, with room for as many as `count`.
+    fn new(alloc: Global, count: usize, hasher: Seeded) -> Result<Self, AllocError>
+        ensures { IfOk result (λ a. a ≡ history_of []) }
     {
-        Arena {
+        Ok(Arena {
             names: Names::new(alloc, hasher),
-            threads: Threads::new(alloc, hasher),
-        }
+            threads: Threads::new(alloc, count, hasher)?,
+        })
     }
 
     /// The arena with the event of a line behind the others, or the event's refusal.

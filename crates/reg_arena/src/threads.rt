@@ -1,5 +1,5 @@
 //! Events in one list, and beside it the links of three families of lists: of each register, of each process, and of each register and value.
-ghost use Rattle.std.specs.Prelude.{◌≡◌, ◌<◌, ◌≤◌, ◌^◌, ◌+◌, ◌++◌, ◌∷◌, [], length, max, OnOk};
+ghost use Rattle.std.specs.Prelude.{◌≡◌, ◌<◌, ◌≤◌, ◌^◌, ◌+◌, ◌++◌, ◌∷◌, [], length, max, OnOk, IfOk};
 ghost use Rattle.reg_arena.specs.Threads.{AreThreads, IsAlike, IsCallAt};
 
 use crate::ends::{Ends, Entry};
@@ -31,24 +31,24 @@ pub(crate) struct Threads {
 }
 
 impl Threads {
-    /// No events.
-    pub(crate) fn new(alloc: Global, hasher: Seeded) -> Self
-        ensures threads { AreThreads result }
-        ensures none { result.events.items ≡ [] }
-        ensures registers { result.registers.items ≡ [] }
+    /// No events, with room for as many as `count`.
+    pub(crate) fn new(alloc: Global, count: usize, hasher: Seeded) -> Result<Self, AllocError>
+        ensures threads { IfOk result AreThreads }
+        ensures none { IfOk result (λ t. t.events.items ≡ []) }
+        ensures registers { IfOk result (λ t. t.registers.items ≡ []) }
     {
-        Threads {
-            events: Vec::new(alloc),
-            calls: Vec::new(alloc),
-            in_register: Vec::new(alloc),
-            in_process: Vec::new(alloc),
-            in_value: Vec::new(alloc),
-            numbers: Vec::new(alloc),
+        Ok(Threads {
+            events: Vec::with_capacity(alloc, count)?,
+            calls: Vec::with_capacity(alloc, count)?,
+            in_register: Vec::with_capacity(alloc, count)?,
+            in_process: Vec::with_capacity(alloc, count)?,
+            in_value: Vec::with_capacity(alloc, count)?,
+            numbers: Vec::with_capacity(alloc, count)?,
             registers: Vec::new(alloc),
             processes: BTreeMap::new(alloc),
             values: IndexSet::with_hasher(alloc, hasher),
             entries: Vec::new(alloc),
-        }
+        })
     }
 
     /// Appends an event with the event of its call, and joins it to its lists. `alike` is an event of the same register and value.
