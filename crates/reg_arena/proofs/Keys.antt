@@ -1,8 +1,9 @@
--- Names as the keys of a set: the place of a name, and one name more.
-use Rattle.std.proofs.Common.{◌≡◌, ℕ, zero, suc, ◌+◌, ◌<◌, ◌≤◌, cond, nat_lt, get_or, not, Bool, true, false, ◌||◌, List, [], ◌∷◌, ◌++◌, length, map, Some, None, refl, sym, ap, arith}
+-- The keys of a set: the place of one, and one key more.
+use Rattle.std.proofs.Common.{◌≡◌, ℕ, zero, suc, ◌+◌, ◌<◌, ◌≤◌, cond, nat_lt, eqb, get_or, not, slice_get, Bool, true, false, ◌||◌, List, [], ◌∷◌, ◌++◌, length, map, Some, None, refl, sym, ap, ◌∙◌, arith, length-append}
 use Rattle.std.specs.Prelude.{if◌then◌else◌}
 use Rattle.std.specs.List.{position, position_or_len, list_any}
-use Rattle.std.proofs.lemmas.Bool.{ltb-true, ltb-false}
+use Rattle.std.proofs.lemmas.Bool.{ltb-true, ltb-false, eqb-true, eqb-false}
+use Rattle.std.proofs.lemmas.List.Folds.{position_or_len_push}
 
 pub place-map : {S X : Type 0} (f : S → X) (p : X → Bool) (ks : List S) → position_or_len p (map f ks) ≡ position_or_len (λ k. p (f k)) ks
 place-map f p [] = refl
@@ -50,3 +51,66 @@ pub map-get : {S X : Type 0} (f : S → X) (ks : List S) (i : ℕ) (k : S) → g
 map-get f [] i k = refl
 map-get f (x ∷ ks) zero k = refl
 map-get f (x ∷ ks) (suc i) k = map-get f ks i k
+
+-- ---- the place of a key by a test, where there is one
+
+-- what stands at the place passes the test
+pub place-at : {X : Type 0} (p : X → Bool) (xs : List X) → position_or_len p xs < length xs → (x : X) × (slice_get xs (position_or_len p xs) ≡ Some x) × (p x ≡ true)
+place-at p [] l = absurd (omega arith)
+place-at {X} p (x ∷ xs) l = go (p x) refl l (place-at p xs)
+  where
+    go : (b : Bool) → p x ≡ b → cond (not b) (1 + position_or_len p xs) 0 < length (x ∷ xs) → (position_or_len p xs < length xs → (y : X) × (slice_get xs (position_or_len p xs) ≡ Some y) × (p y ≡ true))
+        → (y : X) × (slice_get (x ∷ xs) (cond (not b) (1 + position_or_len p xs) 0) ≡ Some y) × (p y ≡ true)
+    go true q l f = (x, refl, q)
+    go false q l f =
+        let r = f (omega (arith, l)) in
+        let e : 1 + position_or_len p xs ≡ suc (position_or_len p xs) = omega arith in
+        (r.0, ap (slice_get (x ∷ xs)) e ∙ r.1, r.2)
+
+pub position-at : {X : Type 0} (p : X → Bool) (xs : List X) (i : ℕ) → position p xs ≡ Some i → (x : X) × (slice_get xs i ≡ Some x) × (p x ≡ true)
+position-at p xs i h =
+    let s = place-some p xs i (sym h) in
+    let r = place-at p xs (omega (arith, s.0, s.1)) in
+    (r.0, ap (slice_get xs) (sym s.0) ∙ r.1, r.2)
+
+position-is : {X : Type 0} (p : X → Bool) (xs : List X) (i : ℕ) → position_or_len p xs ≡ i → i < length xs → position p xs ≡ Some i
+position-is p xs i q l = go (nat_lt (position_or_len p xs) (length xs)) refl
+  where
+    go : (b : Bool) → nat_lt (position_or_len p xs) (length xs) ≡ b → cond b (Some (position_or_len p xs)) None ≡ Some i
+    go true d = ap Some q
+    go false d = absurd (omega (arith, ltb-false (position_or_len p xs) (length xs) d, q, l))
+
+position-past : {X : Type 0} (p : X → Bool) (xs : List X) → position_or_len p xs ≡ length xs → position p xs ≡ None
+position-past p xs q = go (nat_lt (position_or_len p xs) (length xs)) refl
+  where
+    go : (b : Bool) → nat_lt (position_or_len p xs) (length xs) ≡ b → cond b (Some (position_or_len p xs)) None ≡ None
+    go true d = absurd (omega (arith, ltb-true (position_or_len p xs) (length xs) d, q))
+    go false d = refl
+
+-- a place stays where a key is added
+pub position-kept : {X : Type 0} (p : X → Bool) (xs : List X) (y : X) (i : ℕ) → position p xs ≡ Some i → position p (xs ++ y ∷ []) ≡ Some i
+position-kept p xs y i h =
+    let s = place-some p xs i (sym h) in
+    position-is p (xs ++ y ∷ []) i (position_or_len_push p xs y ∙ (go (eqb (position_or_len p xs) (length xs)) refl ∙ s.0)) (omega (arith, s.1, length-append xs (y ∷ [])))
+  where
+    go : (b : Bool) → eqb (position_or_len p xs) (length xs) ≡ b → cond b (length xs + cond (p y) 0 1) (position_or_len p xs) ≡ position_or_len p xs
+    go true d = let s = place-some p xs i (sym h) in absurd (omega (arith, eqb-true (position_or_len p xs) (length xs) d, s.0, s.1))
+    go false d = refl
+
+past-push : {X : Type 0} (p : X → Bool) (xs : List X) (y : X) → position p xs ≡ None → position_or_len p (xs ++ y ∷ []) ≡ length xs + cond (p y) 0 1
+past-push p xs y h = position_or_len_push p xs y ∙ go (eqb (position_or_len p xs) (length xs)) refl
+  where
+    go : (b : Bool) → eqb (position_or_len p xs) (length xs) ≡ b → cond b (length xs + cond (p y) 0 1) (position_or_len p xs) ≡ length xs + cond (p y) 0 1
+    go true d = refl
+    go false d = absurd (eqb-false (position_or_len p xs) (length xs) d (place-none p xs (sym h)))
+
+-- the added key has the last place
+pub position-new : {X : Type 0} (p : X → Bool) (xs : List X) (y : X) → position p xs ≡ None → p y ≡ true → position p (xs ++ y ∷ []) ≡ Some (length xs)
+position-new p xs y h q =
+    let e = past-push p xs y h ∙ ap (λ b. length xs + cond b 0 1) q in
+    position-is p (xs ++ y ∷ []) (length xs) (omega (arith, e)) (omega (arith, length-append xs (y ∷ [])))
+
+pub position-absent : {X : Type 0} (p : X → Bool) (xs : List X) (y : X) → position p xs ≡ None → p y ≡ false → position p (xs ++ y ∷ []) ≡ None
+position-absent p xs y h q =
+    let e = past-push p xs y h ∙ ap (λ b. length xs + cond b 0 1) q in
+    position-past p (xs ++ y ∷ []) (omega (arith, e, length-append xs (y ∷ [])))

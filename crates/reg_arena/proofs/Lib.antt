@@ -1,6 +1,8 @@
 pub mod Rows
 pub mod Links
 pub mod Threading
+pub mod Joining
+pub mod Keys
 pub mod Values
 pub mod Append
 pub mod ByEvent
@@ -19,4 +21,3 @@ pub mod Reading
 pub mod OfValue
 pub mod Precedence
 pub mod Times
-pub mod Keys

@@ -5,6 +5,7 @@ use Rattle.std.proofs.lemmas.Option.{slice_get_past}
 use Rattle.std.proofs.lemmas.List.{take-append-le}
 use Rattle.history_text.specs.declared.limits.TheConstants.{MAX_EVENTS}
 use Rattle.history_text.specs.declared.event.Val.{Val}
+use Rattle.history_text.specs.declared.event.Val.TheVariants.{Int}
 use Rattle.history_text.specs.declared.event.OpKind.{OpKind}
 use Rattle.history_text.specs.declared.event.OpKind.TheVariants.{ReadOp, WriteOp}
 use Rattle.history_text.specs.declared.event.LineEvent.{LineEvent}
@@ -25,7 +26,7 @@ use Rattle.reg_arena.specs.declared.event.Event.{Event}
 use Rattle.reg_arena.proofs.Links.{slice_get-push, slice_get-push_other}
 use Rattle.reg_arena.proofs.Append.{call-keep, key-back, key-within}
 use Rattle.reg_arena.proofs.Numbers.{is-In, place-in, place-out, names-replied, names-known, names-new}
-use Rattle.reg_arena.proofs.Accepted.{free-of, asked-call, asked-reply}
+use Rattle.reg_arena.proofs.Accepted.{free-of, asked-call, asked-reply, asked-value}
 use Rattle.reg_arena.proofs.Turns.{value-of-call}
 use Rattle.reg_arena.proofs.Open.{open-some, number-stays}
 use Rattle.reg_arena.proofs.Refused.{events-length, reply-calls}
@@ -141,6 +142,16 @@ module _ (es : List LineEvent) (acc : AreAccepted es) (e : LineEvent) (parts : R
       let p = (place-in x.2.register (register_names es) s.0).0 in
       let r : call.register.0 ≡ register_number es x.2.register = ap (λ (z : Event). z.register.0) (sym same) ∙ (i.says.says.register ∙ sym s.1) in
       omega (arith, p, r)
+
+  -- an open write has a value
+  pub open-write : call.kind ≡ WriteOp → (v : Val) × (call.value ≡ Some v)
+  open-write w =
+      let x = open-some es acc e.process j h in
+      let i = x.3 in
+      let was = i.there in
+      let same : x.0 ≡ call = cc (was, at) in
+      let k = (asked-value x.1.kind x.2 i.asks).1 (sym (ap (λ (z : Event). z.kind) (sym same) ∙ i.says.says.kind) ∙ w) in
+      (Int k.0, ap (λ (z : Event). z.value) (sym same) ∙ (i.says.value ∙ k.2))
 
   pub names-of_reply : register_names es ≡ register_names (es ++ e ∷ [])
   names-of_reply = sym (names-replied es e (reply-calls e.kind parts replies))

@@ -1,23 +1,25 @@
 -- The entries of registers and values: what a write to one and a new one leave.
-use Rattle.std.proofs.Common.{◌≡◌, ℕ, ◌<◌, List, [], ◌∷◌, ◌++◌, length, set, slice_get, Bool, true, false, Option, Some, None, ◌⊎◌, inl, inr, refl, sym, ap, subst, ◌∙◌, arith, option_map, option_and_then, ℤ, length-append}
-use Rattle.std.proofs.lemmas.Bool.{false≢true}
-use Rattle.std.specs.Cmp.{nat_cmp_total, int_cmp_total, tied_itself}
-use Rattle.std.proofs.lemmas.List.{length-set}
+use Rattle.std.proofs.Common.{◌≡◌, ℕ, ◌<◌, List, [], ◌∷◌, ◌++◌, ◌&&◌, nat_eq, length, set, slice_get, Bool, true, false, Option, Some, None, ◌⊎◌, inl, inr, refl, sym, ap, subst, ◌∙◌, arith, option_map, option_and_then, ℤ}
+use Rattle.std.proofs.lemmas.Bool.{false≢true, eqb-true, eq-eqb}
+use Rattle.std.specs.Cmp.{int_cmp_total, tied_itself}
 use Rattle.std.proofs.lemmas.Option.{slice_get_within}
 use Rattle.std.proofs.Common.{Ordering}
-use Rattle.std.specs.Ordering.{nat_cmp, int_cmp, ordering_then, is_eq}
+use Rattle.std.specs.Prelude.{if◌then◌else◌}
+use Rattle.std.specs.List.{list_any, position}
+use Rattle.std.specs.Ordering.{int_eq, is_eq}
 use Rattle.std.specs.declared.cmp.Ordering.TheVariants.{Less, Equal, Greater}
-use Rattle.std.specs.Option.{option_cmp}
-use Rattle.std.specs.FinMap.{nat_cmp-IsAntisymmetric, int_cmp-IsAntisymmetric}
-use Rattle.std.specs.BTreeMap.{BTreeMap, get, is_at}
+use Rattle.std.specs.Option.{option_eq}
+use Rattle.std.specs.FinMap.{int_cmp-IsAntisymmetric}
 use Rattle.history_text.specs.declared.event.Val.{Val}
 use Rattle.history_text.specs.declared.event.Val.TheVariants.{Null, Int}
 use Rattle.reg_arena.specs.declared.ids.EvId.{EvId}
 use Rattle.reg_arena.specs.declared.event.Event.{Event}
 use Rattle.reg_arena.specs.declared.ends.Ends.{Ends}
 use Rattle.reg_arena.specs.declared.ends.Entry.{Entry}
-use Rattle.reg_arena.specs.Threads.{IsJoined, IsEntered, AreNumbered, whole, key_cmp, value_number, value_entry, entry_alone, entry_with, entry_after}
-use Rattle.reg_arena.proofs.Links.{slice_get-push, slice_get-push_other, slice_get-set, slice_get-set_other}
+use Rattle.reg_arena.specs.Shown.{by_value}
+use Rattle.reg_arena.specs.Threads.{IsJoined, IsEntered, whole, key_eq, event_number, link_at, value_number, value_entry, value_ends, entry_alone, entry_with, entry_after}
+use Rattle.reg_arena.proofs.Keys.{added-last, place-none, place-some, position-at, position-new, position-kept, position-absent}
+use Rattle.reg_arena.proofs.Links.{slice_get-push, slice_get-push_other, slice_get-set, slice_get-set_other, link-push, link-at, link-other}
 
 whole_one : (v w : Val) → whole v ≡ whole w → v ≡ w
 whole_one Null Null h = refl
@@ -25,56 +27,98 @@ whole_one Null (Int n) h = absurd (cc (h))
 whole_one (Int m) Null h = absurd (cc (h))
 whole_one (Int m) (Int n) h = let e : m ≡ n = cc (h) in ap Int e
 
-option_same : (a b : Option ℤ) → option_cmp int_cmp a b ≡ Equal → a ≡ b
-option_same None None h = refl
-option_same None (Some y) h = absurd (cc (h))
-option_same (Some x) None h = absurd (cc (h))
-option_same (Some x) (Some y) h = ap Some (int_cmp-IsAntisymmetric x y h)
-
-then_left : (r s : Ordering) → ordering_then r s ≡ Equal → r ≡ Equal
-then_left Less s h = h
-then_left Equal s h = refl
-then_left Greater s h = h
-
-then_right : (r s : Ordering) → ordering_then r s ≡ Equal → s ≡ Equal
-then_right Less s h = absurd (cc (h))
-then_right Equal s h = h
-then_right Greater s h = absurd (cc (h))
+both : (b c : Bool) → (b && c) ≡ true → (b ≡ true) × (c ≡ true)
+both true c h = (refl, h)
+both false c h = absurd (false≢true h)
 
 is_eq_Equal : (r : Ordering) → is_eq r ≡ true → r ≡ Equal
 is_eq_Equal Less h = absurd (false≢true h)
 is_eq_Equal Equal h = refl
 is_eq_Equal Greater h = absurd (false≢true h)
 
+option_same : (a b : Option ℤ) → option_eq int_eq a b ≡ true → a ≡ b
+option_same None None h = refl
+option_same None (Some y) h = absurd (false≢true h)
+option_same (Some x) None h = absurd (false≢true h)
+option_same (Some x) (Some y) h = ap Some (int_cmp-IsAntisymmetric x y (is_eq_Equal _ h))
+
+option_itself : (a : Option ℤ) → option_eq int_eq a a ≡ true
+option_itself None = refl
+option_itself (Some x) = ap is_eq (tied_itself int_cmp_total x)
+
+-- ---- keys
+
+abbrev key_of : ℕ × Val → ℕ × Option ℤ
+key_of k = (k.0, whole k.1)
+
+key_same : (a b : ℕ × Option ℤ) → key_eq a b ≡ true → a ≡ b
+key_same a b h =
+    let w = both (nat_eq a.0 b.0) (option_eq int_eq a.1 b.1) h in
+    let m : a.0 ≡ b.0 = eqb-true _ _ w.0 in
+    let n : a.1 ≡ b.1 = option_same _ _ w.1 in
+    let pair : (a.0, a.1) ≡ (b.0, b.1) = cc in
+    pair
+
+key_itself : (a : ℕ × Option ℤ) → key_eq a a ≡ true
+key_itself a = ap (λ b. b && option_eq int_eq a.1 a.1) (eq-eqb a.0 a.0 refl) ∙ option_itself a.1
+
 -- equal keys are of equal registers and values
-pub key_same : (k q : ℕ × Val) → is_at (key_cmp (k.0, whole k.1)) (q.0, whole q.1) ≡ true → k ≡ q
-key_same k q h =
-    let e = is_eq_Equal _ h in
-    let a : k.0 ≡ q.0 = nat_cmp-IsAntisymmetric _ _ (then_left _ _ e) in
-    let b : k.1 ≡ q.1 = whole_one _ _ (option_same _ _ (then_right (nat_cmp k.0 q.0) _ e)) in
+key_one : (k q : ℕ × Val) → key_of k ≡ key_of q → k ≡ q
+key_one k q h =
+    let a : k.0 ≡ q.0 = ap (λ (z : ℕ × Option ℤ). z.0) h in
+    let b : k.1 ≡ q.1 = whole_one _ _ (ap (λ (z : ℕ × Option ℤ). z.1) h) in
     let pair : (k.0, k.1) ≡ (q.0, q.1) = cc in
     pair
 
-nat_cmp-refl : (n : ℕ) → nat_cmp n n ≡ Equal
-nat_cmp-refl n = tied_itself nat_cmp_total n
-
-int_cmp-refl : (n : ℤ) → int_cmp n n ≡ Equal
-int_cmp-refl n = tied_itself int_cmp_total n
-
-value_refl : (v : Val) → option_cmp int_cmp (whole v) (whole v) ≡ Equal
-value_refl Null = refl
-value_refl (Int n) = int_cmp-refl n
-
-pub key_refl : (k : ℕ × Val) → is_at (key_cmp (k.0, whole k.1)) (k.0, whole k.1) ≡ true
-key_refl k = rw (nat_cmp-refl, value_refl) refl
-
--- a value is another one or not, as the keys' order tells
-pub decide_key : (k q : ℕ × Val) → (q ≡ k) ⊎ ((q ≡ k → ⊥) × (is_at (key_cmp (k.0, whole k.1)) (q.0, whole q.1) ≡ false))
-decide_key k q = go (is_at (key_cmp (k.0, whole k.1)) (q.0, whole q.1)) refl
+-- a value is another one or not, as the keys tell
+decide_key : (k q : ℕ × Val) → (q ≡ k) ⊎ ((q ≡ k → ⊥) × (key_eq (key_of q) (key_of k) ≡ false))
+decide_key k q = go (key_eq (key_of q) (key_of k)) refl
   where
-    go : (b : Bool) → is_at (key_cmp (k.0, whole k.1)) (q.0, whole q.1) ≡ b → (q ≡ k) ⊎ ((q ≡ k → ⊥) × (is_at (key_cmp (k.0, whole k.1)) (q.0, whole q.1) ≡ false))
-    go true h = inl (sym (key_same k q h))
-    go false h = inr (λ e. false≢true (sym h ∙ subst (λ x. is_at (key_cmp (k.0, whole k.1)) (x.0, whole x.1) ≡ true) (sym e) (key_refl k)), h)
+    go : (b : Bool) → key_eq (key_of q) (key_of k) ≡ b → (q ≡ k) ⊎ ((q ≡ k → ⊥) × (key_eq (key_of q) (key_of k) ≡ false))
+    go true h = inl (key_one q k (key_same _ _ h))
+    go false h = inr (λ e. false≢true (sym h ∙ subst (λ x. key_eq (key_of x) (key_of k) ≡ true) (sym e) (key_itself (key_of k))), h)
+
+-- ---- numbers
+
+module _ (keys : List (ℕ × Option ℤ)) where
+  -- a number is of one register and value only
+  pub number-one : (q r : ℕ × Val) (n : ℕ) → value_number keys q ≡ Some n → value_number keys r ≡ Some n → q ≡ r
+  number-one q r n h g =
+      let x = position-at (key_eq (key_of q)) keys n h in
+      let y = position-at (key_eq (key_of r)) keys n g in
+      let at_x = x.1 in
+      let at_y = y.1 in
+      let same : x.0 ≡ y.0 = cc (at_x, at_y) in
+      key_one q r (key_same (key_of q) x.0 x.2 ∙ (same ∙ sym (key_same (key_of r) y.0 y.2)))
+
+  pub number-within : (q : ℕ × Val) (n : ℕ) → value_number keys q ≡ Some n → n < length keys
+  number-within q n h = (place-some (key_eq (key_of q)) keys n (sym h)).1
+
+  -- one key more
+  module _ (k : ℕ × Val) where
+    pub number-new : value_number keys k ≡ None → value_number (keys ++ (k.0, whole k.1) ∷ []) k ≡ Some (length keys)
+    number-new none = position-new (key_eq (key_of k)) keys (key_of k) none (key_itself (key_of k))
+
+    -- old numbers stay
+    pub number-kept : (q : ℕ × Val) (n : ℕ) → value_number keys q ≡ Some n → value_number (keys ++ (k.0, whole k.1) ∷ []) q ≡ Some n
+    number-kept q n h = position-kept (key_eq (key_of q)) keys (key_of k) n h
+
+    number-apart : (q : ℕ × Val) → key_eq (key_of q) (key_of k) ≡ false → value_number (keys ++ (k.0, whole k.1) ∷ []) q ≡ value_number keys q
+    number-apart q f = go (value_number keys q) refl
+      where
+        go : (o : Option ℕ) → value_number keys q ≡ o → value_number (keys ++ (k.0, whole k.1) ∷ []) q ≡ value_number keys q
+        go None h = position-absent (key_eq (key_of q)) keys (key_of k) h f ∙ sym h
+        go (Some n) h = number-kept q n h ∙ sym h
+
+  -- the register and value of an event whose entry has a number
+  pub known-key : (e : Event) (n : ℕ) → Some n ≡ event_number keys e → (k : ℕ × Val) × (by_value e ≡ Some k) × (value_number keys k ≡ Some n)
+  known-key e n h = go (by_value e) refl h
+    where
+      go : (o : Option (ℕ × Val)) → by_value e ≡ o → Some n ≡ option_and_then (value_number keys) o → (k : ℕ × Val) × (by_value e ≡ Some k) × (value_number keys k ≡ Some n)
+      go None q h = absurd (cc (h))
+      go (Some k) q h = (k, q, sym h)
+
+-- ---- entries
 
 -- other values' entries stay where one is written
 entry-set : (es : List Entry) (j : ℕ) (y : Entry) (o : Option ℕ) → (o ≡ Some j → ⊥) → option_and_then (slice_get (set es j y)) o ≡ option_and_then (slice_get es) o
@@ -109,56 +153,58 @@ joined-entered k e n call entry new_entry link new_link t none some = record {
         subst (λ (z : Ends). (option_map (λ (y : Entry). y.ends) (new_entry k) ≡ Some (record { first = z.first; last = n })) × (new_link z.last.0 ≡ Some n) × ((i : ℕ) → (i ≡ z.last.0 → ⊥) → new_link i ≡ link i)) same
         (ap (option_map (λ (y : Entry). y.ends)) (t.one ∙ ap (λ o. Some (entry_after o e n call)) q), w.0, w.1)
 
--- the ends of a value are those of its entry
-pub ends-entry : (values : BTreeMap (ℕ × Option ℤ) ℕ) (entries : List Entry) (k : ℕ × Val) (j : ℕ) (y : Entry) → value_number values k ≡ Some j → slice_get entries j ≡ Some y → value_entry values entries k ≡ Some y
-ends-entry values entries k j y h at = ap (option_and_then (slice_get entries)) h ∙ at
+-- the entry of a value is the one with its number
+pub entry-is : (keys : List (ℕ × Option ℤ)) (entries : List Entry) (k : ℕ × Val) (j : ℕ) (y : Entry) → value_number keys k ≡ Some j → slice_get entries j ≡ Some y → value_entry keys entries k ≡ Some y
+entry-is keys entries k j y h at = ap (option_and_then (slice_get entries)) h ∙ at
 
-module _ (values : BTreeMap (ℕ × Option ℤ) ℕ) (entries : List Entry) (ok : AreNumbered values entries) (k : ℕ × Val) (e : Event) (n call : EvId) where
+module _ (keys : List (ℕ × Option ℤ)) (entries : List Entry) (k : ℕ × Val) (e : Event) (n call : EvId) where
   -- a value that has an entry
-  pub entered-known : (j : ℕ) (y : Entry) → value_number values k ≡ Some j → slice_get entries j ≡ Some y → IsEntered k e n call (value_entry values entries) (value_entry values (set entries j (entry_with y e n call)))
+  pub entered-known : (j : ℕ) (y : Entry) → value_number keys k ≡ Some j → slice_get entries j ≡ Some y → IsEntered k e n call (value_entry keys entries) (value_entry keys (set entries j (entry_with y e n call)))
   entered-known j y h at =
       let l = slice_get_within entries j _ at in
       record {
-        one = ends-entry values (set entries j (entry_with y e n call)) k j (entry_with y e n call) h (slice_get-set entries j (entry_with y e n call) l) ∙ ap (λ o. Some (entry_after o e n call)) (sym (ends-entry values entries k j y h at));
-        others = λ q. elim (decide_key k q) [ inl x ↦ inl x | inr d ↦ inr (d.0, entry-set entries j (entry_with y e n call) (value_number values q) (λ x. d.0 (ok.one q k j x h))) ];
+        one = entry-is keys (set entries j (entry_with y e n call)) k j (entry_with y e n call) h (slice_get-set entries j (entry_with y e n call) l) ∙ ap (λ o. Some (entry_after o e n call)) (sym (entry-is keys entries k j y h at));
+        others = λ q. elim (decide_key k q) [ inl x ↦ inl x | inr d ↦ inr (d.0, entry-set entries j (entry_with y e n call) (value_number keys q) (λ x. d.0 (number-one keys q k j x h))) ];
       }
 
-  pub numbered-set : (j : ℕ) (y : Entry) → AreNumbered values (set entries j y)
-  numbered-set j y = record { one = ok.one; within = λ q i h. let w = ok.within q i h in omega (arith, length-set entries j y) }
-
   -- a value that gets one
-  module _ (new_values : BTreeMap (ℕ × Option ℤ) ℕ) (none : value_number values k ≡ None) (at : value_number new_values k ≡ Some (length entries)) (apart : (q : ℕ × Val) → is_at (key_cmp (k.0, whole k.1)) (q.0, whole q.1) ≡ false → value_number new_values q ≡ value_number values q) where
-    pub entered-new : IsEntered k e n call (value_entry values entries) (value_entry new_values (entries ++ entry_alone e n call ∷ []))
-    entered-new =
-        let y : Entry = entry_alone e n call in
-        let was : value_entry values entries k ≡ None = ap (option_and_then (slice_get entries)) none in
-        record {
-          one = ends-entry new_values (entries ++ y ∷ []) k (length entries) y at (slice_get-push entries y) ∙ ap (λ o. Some (entry_after o e n call)) (sym was);
-          others = λ q. elim (decide_key k q) [ inl x ↦ inl x | inr d ↦ inr (d.0, ap (option_and_then (slice_get (entries ++ y ∷ []))) (apart q d.1) ∙ entry-push entries y (value_number values q) (λ x. let w = ok.within q (length entries) x in omega arith)) ];
-        }
+  pub entered-new : length keys ≡ length entries → value_number keys k ≡ None → IsEntered k e n call (value_entry keys entries) (value_entry (keys ++ (k.0, whole k.1) ∷ []) (entries ++ entry_alone e n call ∷ []))
+  entered-new column none =
+      let y : Entry = entry_alone e n call in
+      let new_keys = keys ++ (k.0, whole k.1) ∷ [] in
+      let was : value_entry keys entries k ≡ None = ap (option_and_then (slice_get entries)) none in
+      record {
+        one = entry-is new_keys (entries ++ y ∷ []) k (length entries) y (number-new keys k none ∙ ap Some column) (slice_get-push entries y) ∙ ap (λ o. Some (entry_after o e n call)) (sym was);
+        others = λ q. elim (decide_key k q) [ inl x ↦ inl x | inr d ↦ inr (d.0, ap (option_and_then (slice_get (entries ++ y ∷ []))) (number-apart keys k q d.1) ∙ entry-push entries y (value_number keys q) (λ x. let w = number-within keys q (length entries) x in omega (arith, w, column))) ];
+      }
 
-    old_number : (q : ℕ × Val) (i : ℕ) → value_number new_values q ≡ Some i → ((q ≡ k) × (i ≡ length entries)) ⊎ ((value_number values q ≡ Some i) × (i < length entries))
-    old_number q i h = elim (decide_key k q) [
-      | inl x ↦ let z : value_number new_values k ≡ Some i = ap (value_number new_values) (sym x) ∙ h in inl (x, cc (z, at))
-      | inr d ↦ let x = sym (apart q d.1) ∙ h in inr (x, ok.within q i x)
-    ]
+  -- the links with the event in the list
+  module _ (links new_links : List (Option EvId)) where
+    pub joined-known : (j : ℕ) (y : Entry) → value_number keys k ≡ Some j → slice_get entries j ≡ Some y → y.ends.last.0 < length links → new_links ≡ set links y.ends.last.0 (Some n) ++ None ∷ []
+        → IsJoined k n (link_at links) (link_at new_links) (value_ends keys entries) (value_ends keys (set entries j (entry_with y e n call)))
+    joined-known j y h at l items =
+        let was = entry-is keys entries k j y h at in
+        joined-entered k e n call (value_entry keys entries) (value_entry keys (set entries j (entry_with y e n call))) (link_at links) (link_at new_links) (entered-known j y h at)
+        (λ none. absurd (cc (was, none)))
+        (λ z some.
+        let same : y ≡ z = cc (was, some) in
+        subst (λ (z : Entry). (link_at new_links z.ends.last.0 ≡ Some n) × ((i : ℕ) → (i ≡ z.ends.last.0 → ⊥) → link_at new_links i ≡ link_at links i)) same (
+          ap (λ (xs : List (Option EvId)). link_at xs y.ends.last.0) items ∙ link-at links y.ends.last.0 n l,
+          λ i ne. ap (λ (xs : List (Option EvId)). link_at xs i) items ∙ link-other links y.ends.last.0 n i ne,
+        ))
 
-    pub numbered-new : (y : Entry) → AreNumbered new_values (entries ++ y ∷ [])
-    numbered-new y = record {
-      one = λ q r i h g. elim (old_number q i h) [
-        | inl a ↦ elim (old_number r i g) [ inl b ↦ a.0 ∙ sym b.0 | inr b ↦ absurd (omega (arith, a.1, b.1)) ]
-        | inr a ↦ elim (old_number r i g) [ inl b ↦ absurd (omega (arith, a.1, b.1)) | inr b ↦ ok.one q r i a.0 b.0 ]
-      ];
-      within = λ q i h. elim (old_number q i h) [ inl a ↦ omega (arith, a.1, length-append entries (y ∷ [])) | inr a ↦ omega (arith, a.1, length-append entries (y ∷ [])) ];
-    }
+    pub joined-new : length keys ≡ length entries → value_number keys k ≡ None → new_links ≡ links ++ None ∷ []
+        → IsJoined k n (link_at links) (link_at new_links) (value_ends keys entries) (value_ends (keys ++ (k.0, whole k.1) ∷ []) (entries ++ entry_alone e n call ∷ []))
+    joined-new column none items =
+        let was : value_entry keys entries k ≡ None = ap (option_and_then (slice_get entries)) none in
+        joined-entered k e n call (value_entry keys entries) (value_entry (keys ++ (k.0, whole k.1) ∷ []) (entries ++ entry_alone e n call ∷ [])) (link_at links) (link_at new_links) (entered-new column none)
+        (λ none i. ap (λ (xs : List (Option EvId)). link_at xs i) items ∙ link-push links i)
+        (λ z some. absurd (cc (was, some)))
 
-    -- old numbers stay
-    pub number-kept : (q : ℕ × Val) (i : ℕ) → value_number values q ≡ Some i → value_number new_values q ≡ Some i
-    number-kept q i h = elim (decide_key k q) [
-      | inl x ↦ absurd (let z : value_number values k ≡ Some i = ap (value_number values) (sym x) ∙ h in cc (z, none))
-      | inr d ↦ apart q d.1 ∙ h
-    ]
+-- what an insert of a new key leaves
+pub keys-added : (keys : List (ℕ × Option ℤ)) (k : ℕ × Val) (w : Option ℤ) → w ≡ whole k.1 → value_number keys k ≡ None → (if list_any (key_eq (k.0, w)) keys then keys else keys ++ (k.0, w) ∷ []) ≡ keys ++ (k.0, whole k.1) ∷ []
+keys-added keys k w q none = ap (λ w. if list_any (key_eq (k.0, w)) keys then keys else keys ++ (k.0, w) ∷ []) q ∙ added-last (key_eq (key_of k)) keys (key_of k) (place-none (key_eq (key_of k)) keys (sym none))
 
 -- what a look-up told
-pub number_is : (values : BTreeMap (ℕ × Option ℤ) ℕ) (r : ℕ) (v : Val) (w : Option ℤ) (o p : Option ℕ) → w ≡ whole v → o ≡ get key_cmp values (r, w) → p ≡ o → value_number values (r, v) ≡ p
-number_is values r v w o p e f g = ap (λ w. get key_cmp values (r, w)) (sym e) ∙ sym f ∙ sym g
+pub number-is : (keys : List (ℕ × Option ℤ)) (r : ℕ) (v : Val) (w : Option ℤ) (o : Option ℕ) → w ≡ whole v → o ≡ position (key_eq (r, w)) keys → value_number keys (r, v) ≡ o
+number-is keys r v w o e f = ap (λ w. position (key_eq (r, w)) keys) (sym e) ∙ sym f

@@ -8,7 +8,7 @@ use Rattle.reg_arena.specs.declared.ids.EvId.{EvId}
 use Rattle.reg_arena.specs.declared.event.Event.{Event}
 use Rattle.reg_arena.specs.declared.refusal.BuildError.{BuildError}
 use Rattle.reg_arena.specs.declared.refusal.BuildError.TheVariants.{Refused, Memory}
-use Rattle.reg_arena.specs.Shown.{IsCall, IsFirstOf, by_process}
+use Rattle.reg_arena.specs.Shown.{IsCall, IsFirstOf, by_process, by_value}
 use Rattle.reg_arena.specs.Threads.{IsLastOf, by_write}
 use Rattle.reg_arena.specs.History.{History, history_of}
 use Rattle.reg_arena.specs.Refusals.{AreAccepted, event_refusal}
@@ -22,6 +22,12 @@ IsNumber names name (Some r) = (position_or_len (bytes_eq name) names ≡ r) × 
 abbrev pub IsOpen : List Event → ℕ → Option EvId → Type 0
 IsOpen events p None = (j : EvId) → IsLastOf by_process events p (Some j) → IsCall events j.0 → ⊥
 IsOpen events p (Some j) = IsLastOf by_process events p (Some j) × IsCall events j.0
+
+-- the last event of the register and value; a new register has none, nor has a read's call, which has no value
+abbrev pub IsLastWith : List Event → Option ℕ → Option Val → Option EvId → Type 0
+IsLastWith events None v o = o ≡ None
+IsLastWith events (Some r) None o = o ≡ None
+IsLastWith events (Some r) (Some v) o = IsLastOf by_value events (r, v) o
 
 -- the call that wrote the value to the register before; a new register has none
 abbrev pub IsWritten : List Event → Option ℕ → Option Val → Option EvId → Type 0

@@ -1,9 +1,9 @@
 -- The threaded lists of an arena: each family is the filter of the one list of events, ascending.
-use Rattle.std.specs.Prelude.{◌≡◌, ℕ, ◌+◌, ◌^◌, ◌<◌, ◌≤◌, ◌⊎◌, nat_lt, cond, ℤ, List, length, slice_get, Option, Some, None, option_map, option_and_then}
-use Rattle.std.specs.declared.cmp.Ordering.{Ordering}
-use Rattle.std.specs.Ordering.{nat_cmp, int_cmp, ordering_then}
-use Rattle.std.specs.Option.{option_cmp, option_or}
-use Rattle.std.specs.BTreeMap.{BTreeMap, get}
+use Rattle.std.specs.Prelude.{◌≡◌, ℕ, ◌+◌, ◌^◌, ◌<◌, ◌≤◌, ◌⊎◌, ◌&&◌, Bool, nat_lt, nat_eq, cond, ℤ, List, length, slice_get, Option, Some, None, option_map, option_and_then}
+use Rattle.std.specs.List.{position}
+use Rattle.std.specs.Ordering.{nat_cmp, int_eq}
+use Rattle.std.specs.Option.{option_eq, option_or}
+use Rattle.std.specs.BTreeMap.{get}
 use Rattle.history_text.specs.declared.event.Val.{Val}
 use Rattle.history_text.specs.declared.event.Val.TheVariants.{Null, Int}
 use Rattle.reg_arena.specs.declared.ids.EvId.{EvId}
@@ -47,23 +47,22 @@ abbrev pub whole : Val → Option ℤ
 whole Null = None
 whole (Int n) = Some n
 
-abbrev pub key_cmp : ℕ × Option ℤ → ℕ × Option ℤ → Ordering
-key_cmp a b = ordering_then (nat_cmp a.0 b.0) (option_cmp int_cmp a.1 b.1)
+abbrev pub key_eq : ℕ × Option ℤ → ℕ × Option ℤ → Bool
+key_eq a b = nat_eq a.0 b.0 && option_eq int_eq a.1 b.1
 
--- the number of the entry of a register and value
-abbrev pub value_number : BTreeMap (ℕ × Option ℤ) ℕ → ℕ × Val → Option ℕ
-value_number values k = get key_cmp values (k.0, whole k.1)
+-- the number of the entry of a register and value: its place among the keys
+abbrev pub value_number : List (ℕ × Option ℤ) → ℕ × Val → Option ℕ
+value_number keys k = position (key_eq (k.0, whole k.1)) keys
 
-abbrev pub value_entry : BTreeMap (ℕ × Option ℤ) ℕ → List Entry → ℕ × Val → Option Entry
-value_entry values entries k = option_and_then (slice_get entries) (value_number values k)
+abbrev pub value_entry : List (ℕ × Option ℤ) → List Entry → ℕ × Val → Option Entry
+value_entry keys entries k = option_and_then (slice_get entries) (value_number keys k)
 
-abbrev pub value_ends : BTreeMap (ℕ × Option ℤ) ℕ → List Entry → ℕ × Val → Option Ends
-value_ends values entries k = option_map (λ e. e.ends) (value_entry values entries k)
+abbrev pub value_ends : List (ℕ × Option ℤ) → List Entry → ℕ × Val → Option Ends
+value_ends keys entries k = option_map (λ e. e.ends) (value_entry keys entries k)
 
--- each number is an entry's, and of one register and value only
-pub record AreNumbered (values : BTreeMap (ℕ × Option ℤ) ℕ) (entries : List Entry) : Type 0 where
-  pub one : (q r : ℕ × Val) (n : ℕ) → value_number values q ≡ Some n → value_number values r ≡ Some n → q ≡ r
-  pub within : (q : ℕ × Val) (n : ℕ) → value_number values q ≡ Some n → n < length entries
+-- the number of the entry of an event's register and value
+abbrev pub event_number : List (ℕ × Option ℤ) → Event → Option ℕ
+event_number keys e = option_and_then (value_number keys) (by_value e)
 
 -- the entry of a list of one event, with the event of its call
 abbrev pub entry_alone : Event → EvId → EvId → Entry
@@ -95,6 +94,11 @@ IsEnteredBy (Some k) e n call entry new_entry = IsEntered k e n call entry new_e
 abbrev pub IsLastOf : {K : Type 0} → (Event → Option K) → List Event → K → Option EvId → Type 0
 IsLastOf key events k None = (i : ℕ) → key_at key events i ≡ Some k → ⊥
 IsLastOf key events k (Some j) = (key_at key events j.0 ≡ Some k) × ((i : ℕ) → key_at key events i ≡ Some k → i ≤ j.0)
+
+-- an event of the same register and value as the event e; there is none where they are new, or where e has no value
+abbrev pub IsAlike : List Event → Event → Option EvId → Type 0
+IsAlike events e None = (k : ℕ × Val) → by_value e ≡ Some k → IsLastOf by_value events k None
+IsAlike events e (Some j) = (k : ℕ × Val) × (by_value e ≡ Some k) × (key_at by_value events j.0 ≡ Some k)
 
 -- the writes' calls by register and value, and the replies
 abbrev pub by_write : Event → Option (ℕ × Val)
@@ -140,13 +144,13 @@ pub record HasTimes (y : Entry) : Type 0 where
 pub record AreThreads (t : Threads) : Type 0 where
   pub registers : IsThreaded (key_at by_register t.events.items) (link_at t.in_register.items) (slice_get t.registers.items)
   pub processes : IsThreaded (key_at by_process t.events.items) (link_at t.in_process.items) (get nat_cmp t.processes)
-  pub values : IsThreaded (key_at by_value t.events.items) (link_at t.in_value.items) (value_ends t.values t.entries.items)
+  pub values : IsThreaded (key_at by_value t.events.items) (link_at t.in_value.items) (value_ends t.values.keys t.entries.items)
   -- each event's call
   pub calls : (i : ℕ) (c : EvId) → slice_get t.calls.items i ≡ Some c → IsCallAt t.events.items i c.0
   -- each value's entry, and the number of each event's
-  pub entries : (k : ℕ × Val) (y : Entry) → value_entry t.values t.entries.items k ≡ Some y → IsEntry t.events.items t.calls.items k y
-  pub numbered : AreNumbered t.values t.entries.items
-  pub numbers : (i : ℕ) (e : Event) → slice_get t.events.items i ≡ Some e → slice_get t.numbers.items i ≡ Some (option_and_then (value_number t.values) (by_value e))
+  pub entries : (k : ℕ × Val) (y : Entry) → value_entry t.values.keys t.entries.items k ≡ Some y → IsEntry t.events.items t.calls.items k y
+  pub numbered : length t.values.keys ≡ length t.entries.items
+  pub numbers : (i : ℕ) (e : Event) → slice_get t.events.items i ≡ Some e → slice_get t.numbers.items i ≡ Some (event_number t.values.keys e)
   -- the columns are as long as the list of events
   pub register_column : length t.in_register.items ≡ length t.events.items
   pub process_column : length t.in_process.items ≡ length t.events.items

@@ -1,10 +1,11 @@
 //! From lines to an arena: each event is refused, or taken into the history so far.
-ghost use Rattle.std.specs.Prelude.{◌≡◌, [], List, length, cond, nat_le, IfOk, IfErr, Some, None};
+ghost use Rattle.std.specs.Prelude.{◌≡◌, [], ℕ, List, Option, length, cond, nat_le, IfOk, IfErr, Some, None};
 ghost use Rattle.history_text.specs.declared.event.LineEvent.{LineEvent as ALineEvent};
+ghost use Rattle.history_text.specs.declared.event.Val.{Val as AVal};
 ghost use Rattle.reg_arena.specs.Events.{Asked, asked_by, replied_by};
 ghost use Rattle.reg_arena.specs.History.{history_of};
 ghost use Rattle.reg_arena.specs.Refusals.{AreAccepted, IsBuildError, IsWellFormed, event_refusal, events_of};
-ghost use Rattle.reg_arena.specs.Step.{IsNumber, IsOpen, IsStep, IsTaken, IsWritten, OnOkAfter};
+ghost use Rattle.reg_arena.specs.Step.{IsLastWith, IsNumber, IsOpen, IsStep, IsTaken, IsWritten, OnOkAfter};
 
 use crate::agrees::reply_agrees;
 use crate::arena::Arena;
@@ -40,7 +41,8 @@ impl Arena {
         ensures ok { IfOk result (λ a. IsWellFormed events.items × (a ≡ history_of (events_of events.items))) }
         ensures err { IfErr result (λ e. IsBuildError events.items e) }
     {
-        let mut arena = Arena::new(alloc, Seeded::over(&events));
+        let count = events.len().min(MAX_EVENTS);
+        let mut arena = Arena::new(alloc, count, Seeded::over(&events))?;
         for line in &events {
             match line {
                 Err(fault) => {
@@ -52,14 +54,14 @@ impl Arena {
         Ok(arena)
     }
 
-    /// The arena of no events.
-    fn new(alloc: Global, hasher: Seeded) -> Self
-        ensures { result ≡ history_of [] }
+    /// The arena of no events, with room for as many as `count`.
+    fn new(alloc: Global, count: usize, hasher: Seeded) -> Result<Self, AllocError>
+        ensures { IfOk result (λ a. a ≡ history_of []) }
     {
-        Arena {
+        Ok(Arena {
             names: Names::new(alloc, hasher),
-            threads: Threads::new(alloc),
-        }
+            threads: Threads::new(alloc, count, hasher)?,
+        })
     }
 
     /// The arena with the event of a line behind the others, or the event's refusal.
@@ -88,9 +90,10 @@ impl Arena {
         ensures { (es : List ALineEvent) → AreAccepted es → self ≡ history_of es → IsStep es event.now result }
     {
         let number = self.names.number(name);
-        match self.call_refusal(event, number, value) {
+        let last = self.last_with(number, value);
+        match self.call_refusal(event, last) {
             Some(refusal) => Err(BuildError::Refused(refusal)),
-            None => Ok(self.with_call(alloc, event, name, number, kind, value)?),
+            None => Ok(self.with_call(alloc, event, name, number, kind, value, last)?),
         }
     }
 
@@ -108,20 +111,15 @@ impl Arena {
         }
     }
 
-    /// The refusal of a call, where there is one. `number` is that of the call's register, where it has one.
-    fn call_refusal(
-        &self,
-        event: &LineEvent,
-        number: Option<u32>,
-        value: Option<Val>,
-    ) -> Option<LineRefusal>
-        requires { (asked : Asked) × (asked_by event.now.kind ≡ Some asked) × (asked.value ≡ value) × IsNumber self.now.names asked.register number }
+    /// The refusal of a call, where there is one. `last` is the last event of the call's register and value.
+    fn call_refusal(&self, event: &LineEvent, last: Option<EvId>) -> Option<LineRefusal>
+        requires { (asked : Asked) × (number : Option ℕ) × (asked_by event.now.kind ≡ Some asked) × IsNumber self.now.names asked.register number × IsLastWith self.now.events number asked.value last }
         ensures { (es : List ALineEvent) → AreAccepted es → self.now ≡ history_of es → result ≡ event_refusal es event.now }
     {
         if let Some(call) = self.open_call(event.process) {
             return Some(refused(event.line, 9, Some(self.event(call).line)));
         }
-        if let Some(write) = self.written(number, value) {
+        if let Some(write) = self.written(last) {
             return Some(refused(event.line, 13, Some(self.event(write).line)));
         }
         self.too_many(event)
@@ -172,17 +170,28 @@ impl Arena {
         }
     }
 
-    /// The call that wrote a value to a register before, which may be new.
-    fn written(&self, number: Option<u32>, value: Option<Val>) -> Option<EvId>
-        ensures { IsWritten self.now.events number value result }
+    /// The last event of a register and value, which may be new.
+    fn last_with(&self, number: Option<u32>, value: Option<Val>) -> Option<EvId>
+        ensures { IsLastWith self.now.events number value result }
     {
-        match (number, value) {
-            (Some(number), Some(value)) => self.threads.write(RegId(number), value),
-            _ => None,
+        match number {
+            Some(number) => self.threads.last_of_value(RegId(number), value),
+            None => None,
         }
     }
 
-    /// Appends a call that isn't refused.
+    /// The call that wrote the value of the event `last` to its register before.
+    fn written(&self, last: Option<EvId>) -> Option<EvId>
+        requires { (number : Option ℕ) × (value : Option AVal) × IsLastWith self.now.events number value last }
+        ensures { (number : Option ℕ) (value : Option AVal) → IsLastWith self.now.events number value last → IsWritten self.now.events number value result }
+    {
+        match last {
+            Some(last) => self.threads.write_of_event(last),
+            None => None,
+        }
+    }
+
+    /// Appends a call that isn't refused, where `last` is the last event of its register and value.
     fn with_call(
         self,
         alloc: Global,
@@ -191,9 +200,11 @@ impl Arena {
         number: Option<u32>,
         kind: OpKind,
         value: Option<Val>,
+        last: Option<EvId>,
     ) -> Result<Self, AllocError>
         requires asked { asked_by event.now.kind ≡ Some (record { register = name.now; kind = kind; value = value }) }
         requires number { IsNumber self.names name.now number }
+        requires last { IsLastWith self.events number value last }
         requires taken { IsTaken self event.now }
         ensures { OnOkAfter self event.now result }
     {
@@ -212,7 +223,7 @@ impl Arena {
             kind,
             value,
         };
-        threads.append(event, id)?;
+        threads.append(event, id, last)?;
         Ok(Arena { names, threads })
     }
 
@@ -230,18 +241,23 @@ impl Arena {
     {
         let Arena { names, mut threads } = self;
         let open = threads.events[call.0 as usize];
+        // A write's call has the value of its reply, so that nothing is looked up.
+        let (value, alike) = match open.kind {
+            OpKind::ReadOp => (
+                parts.value,
+                threads.last_of_value(open.register, parts.value),
+            ),
+            OpKind::WriteOp => (open.value, Some(call)),
+        };
         let event = Event {
             line: event.line,
             process: event.process,
             register: open.register,
             is_call: false,
             kind: open.kind,
-            value: match open.kind {
-                OpKind::ReadOp => parts.value,
-                OpKind::WriteOp => open.value,
-            },
+            value,
         };
-        threads.append(event, call)?;
+        threads.append(event, call, alike)?;
         Ok(Arena { names, threads })
     }
 }

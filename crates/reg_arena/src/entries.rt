@@ -1,8 +1,10 @@
 //! What is looked up in the threaded lists.
-ghost use Rattle.std.specs.Prelude.{◌≡◌, ◌<◌, ℕ, length, option_and_then, Some};
+ghost use Rattle.std.specs.Prelude.{◌≡◌, ◌<◌, ℕ, length, option_and_then, None, Some};
 ghost use Rattle.history_text.specs.declared.event.Val.{Val as AVal};
 ghost use Rattle.reg_arena.specs.Shown.{IsFirstOf, by_process, by_value, key_at};
-ghost use Rattle.reg_arena.specs.Threads.{AreThreads, IsLastOf, by_write, value_entry};
+ghost use Rattle.reg_arena.specs.Threads.{AreThreads, IsAlike, IsLastOf, by_write, event_number, value_entry};
+ghost use Rattle.reg_arena.specs.declared.event.Event.{Event as AnEvent};
+ghost use Rattle.reg_arena.specs.declared.ids.EvId.{EvId as AnEvId};
 
 use crate::ends::Entry;
 use crate::ids::{EvId, RegId};
@@ -11,14 +13,26 @@ use crate::threads::Threads;
 use history_text::Val;
 
 impl Threads {
-    /// The entry of a register and value.
+    /// The entry of a register and value, by one look-up.
     pub(crate) fn entry(&self, register: RegId, value: Val) -> Option<Entry>
         requires { AreThreads self.now }
-        ensures { result ≡ value_entry self.now.values self.now.entries.items (register.0, value) }
+        ensures { result ≡ value_entry self.now.values.keys self.now.entries.items (register.0, value) }
     {
         let key = (register.0, whole(value));
-        match self.values.get(&key).copied() {
-            Some(number) => Some(self.entries[number as usize]),
+        match self.values.get_index_of(&key) {
+            Some(number) => Some(self.entries[number]),
+            None => None,
+        }
+    }
+
+    /// The number of the entry of an event's register and value, of which `alike` is an event.
+    pub(crate) fn number_of(&self, alike: Option<EvId>) -> Option<u32>
+        requires threads { AreThreads self.now }
+        requires within { (j : AnEvId) → alike ≡ Some j → j.0 < length self.now.events.items }
+        ensures { (e : AnEvent) → IsAlike self.now.events.items e alike → result ≡ event_number self.now.values.keys e }
+    {
+        match alike {
+            Some(id) => self.numbers[id.0 as usize],
             None => None,
         }
     }
@@ -27,7 +41,7 @@ impl Threads {
     pub(crate) fn entry_of(&self, id: EvId) -> Option<Entry>
         requires threads { AreThreads self.now }
         requires within { id.0 < length self.now.events.items }
-        ensures { result ≡ option_and_then (value_entry self.now.values self.now.entries.items) (key_at by_value self.now.events.items id.0) }
+        ensures { result ≡ option_and_then (value_entry self.now.values.keys self.now.entries.items) (key_at by_value self.now.events.items id.0) }
     {
         match self.numbers[id.0 as usize] {
             Some(number) => Some(self.entries[number as usize]),
@@ -54,6 +68,21 @@ impl Threads {
     {
         match self.entry_of(id) {
             Some(entry) => entry.write,
+            None => None,
+        }
+    }
+
+    /// The last event of a register and value.
+    pub(crate) fn last_of_value(&self, register: RegId, value: Option<Val>) -> Option<EvId>
+        requires { AreThreads self.now }
+        ensures last { (v : AVal) → value ≡ Some v → IsLastOf by_value self.now.events.items (register.0, v) result }
+        ensures none { value ≡ None → result ≡ None }
+    {
+        match value {
+            Some(value) => match self.entry(register, value) {
+                Some(entry) => Some(entry.ends.last),
+                None => None,
+            },
             None => None,
         }
     }

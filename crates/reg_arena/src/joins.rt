@@ -1,16 +1,18 @@
 //! How an event joins one list of each family: the last event of the list gets its link, and the new one has none.
 ghost use Rattle.std.specs.BTreeMap.{get};
 ghost use Rattle.std.specs.Ordering.{nat_cmp};
-ghost use Rattle.std.specs.Prelude.{◌≡◌, ◌<◌, ◌≤◌, ◌^◌, ◌+◌, ℕ, length, slice_get, max, Some, None, OnOk, IfOk, option_and_then};
+ghost use Rattle.std.specs.Prelude.{◌≡◌, ◌<◌, ◌≤◌, ◌^◌, ◌+◌, ℕ, length, slice_get, max, Some, OnOk, IfOk};
 ghost use Rattle.history_text.specs.declared.event.Val.{Val as AVal};
-ghost use Rattle.reg_arena.specs.Threads.{AreNumbered, IsJoined, IsJoinedBy, IsEntered, IsEnteredBy, link_at, value_ends, value_entry, value_number, whole};
+ghost use Rattle.reg_arena.specs.Threads.{IsJoined, IsJoinedBy, IsEnteredBy, event_number, link_at, value_ends, value_entry, value_number, whole};
 ghost use Rattle.reg_arena.specs.Shown.{by_value};
 ghost use Rattle.reg_arena.specs.declared.ends.Ends.{Ends};
 
 use crate::ends::{Ends, Entry};
 use crate::event::Event;
 use crate::ids::{EvId, RegId};
+use crate::seeded::Seeded;
 use history_text::Val;
+use indexmap::IndexSet;
 use std::alloc::AllocError;
 use std::collections::BTreeMap;
 
@@ -25,16 +27,10 @@ pub(crate) fn join_process(
     ensures joined { OnOk result (IsJoined process id (link_at links.old.items) (link_at links.new.items) (get nat_cmp processes.old) (get nat_cmp processes.new)) }
     ensures count { OnOk result (length links.new.items ≡ length links.old.items + 1) }
 {
-    match processes.get(&process).copied() {
+    match processes.get_mut(&process) {
         Some(ends) => {
             links[ends.last.0 as usize] = Some(id);
-            processes.insert(
-                process,
-                Ends {
-                    first: ends.first,
-                    last: id,
-                },
-            )?;
+            ends.last = id;
         }
         None => {
             processes.insert(
@@ -91,74 +87,45 @@ pub(crate) fn whole(value: Val) -> Option<i64>
     }
 }
 
-/// Joins event `id`, whose call is the event `call`, to the list of its register and value, and gives the number of the entry.
+/// Joins event `id`, whose call is the event `call`, to the list of its register and value, where it has a value.
+///
+/// `number` is that of the list's entry, where it is there. The number that the entry has then is given back.
 pub(crate) fn join_value(
     links: &mut Vec<Option<EvId>>,
-    values: &mut BTreeMap<(u32, Option<i64>), u32>,
+    values: &mut IndexSet<(u32, Option<i64>), Seeded>,
     entries: &mut Vec<Entry>,
     event: Event,
-    value: Val,
-    id: EvId,
-    call: EvId,
-) -> Result<u32, AllocError>
-    requires within { (e : Ends) → value_ends values.old entries.old.items (event.register.0, value) ≡ Some e → e.last.0 < length links.old.items }
-    requires numbered { AreNumbered values.old entries.old.items }
-    requires room { length entries.old.items < 2 ^ 32 }
-    ensures joined { OnOk result (IsJoined (event.register.0, value) id (link_at links.old.items) (link_at links.new.items) (value_ends values.old entries.old.items) (value_ends values.new entries.new.items)) }
-    ensures entered { OnOk result (IsEntered (event.register.0, value) event id call (value_entry values.old entries.old.items) (value_entry values.new entries.new.items)) }
-    ensures numbered { OnOk result (AreNumbered values.new entries.new.items) }
-    ensures few { length entries.new.items ≤ length entries.old.items + 1 }
-    ensures number { IfOk result (λ n. value_number values.new (event.register.0, value) ≡ Some n) }
-    ensures kept { OnOk result ((q : ℕ × AVal) (n : ℕ) → value_number values.old q ≡ Some n → value_number values.new q ≡ Some n) }
-    ensures count { OnOk result (length links.new.items ≡ length links.old.items + 1) }
-{
-    let key = (event.register.0, whole(value));
-    let number = match values.get(&key).copied() {
-        Some(number) => {
-            let entry = entries[number as usize];
-            links[entry.ends.last.0 as usize] = Some(id);
-            entries[number as usize] = entry.with(event, id, call);
-            number
-        }
-        None => {
-            let number = entries.len() as u32;
-            entries.push(Entry::new(event, id, call))?;
-            values.insert(key, number)?;
-            number
-        }
-    };
-    links.push(None)?;
-    Ok(number)
-}
-
-/// The same of an event that may have no value.
-pub(crate) fn join_value_of(
-    links: &mut Vec<Option<EvId>>,
-    values: &mut BTreeMap<(u32, Option<i64>), u32>,
-    entries: &mut Vec<Entry>,
-    event: Event,
+    number: Option<u32>,
     id: EvId,
     call: EvId,
 ) -> Result<Option<u32>, AllocError>
-    requires within { (k : ℕ × AVal) (e : Ends) → value_ends values.old entries.old.items k ≡ Some e → e.last.0 < length links.old.items }
-    requires numbered { AreNumbered values.old entries.old.items }
+    requires number { number ≡ event_number values.old.keys event }
+    requires within { (k : ℕ × AVal) (e : Ends) → value_ends values.old.keys entries.old.items k ≡ Some e → e.last.0 < length links.old.items }
+    requires numbered { length values.old.keys ≡ length entries.old.items }
     requires room { length entries.old.items < 2 ^ 32 }
-    ensures joined { OnOk result (IsJoinedBy (by_value event) id (link_at links.old.items) (link_at links.new.items) (value_ends values.old entries.old.items) (value_ends values.new entries.new.items)) }
-    ensures entered { OnOk result (IsEnteredBy (by_value event) event id call (value_entry values.old entries.old.items) (value_entry values.new entries.new.items)) }
-    ensures numbered { OnOk result (AreNumbered values.new entries.new.items) }
+    ensures joined { OnOk result (IsJoinedBy (by_value event) id (link_at links.old.items) (link_at links.new.items) (value_ends values.old.keys entries.old.items) (value_ends values.new.keys entries.new.items)) }
+    ensures entered { OnOk result (IsEnteredBy (by_value event) event id call (value_entry values.old.keys entries.old.items) (value_entry values.new.keys entries.new.items)) }
+    ensures numbered { OnOk result (length values.new.keys ≡ length entries.new.items) }
     ensures few { length entries.new.items ≤ length entries.old.items + 1 }
-    ensures number { IfOk result (λ n. n ≡ option_and_then (value_number values.new) (by_value event)) }
-    ensures kept { OnOk result ((q : ℕ × AVal) (n : ℕ) → value_number values.old q ≡ Some n → value_number values.new q ≡ Some n) }
+    ensures number { IfOk result (λ n. n ≡ event_number values.new.keys event) }
+    ensures kept { OnOk result ((q : ℕ × AVal) (n : ℕ) → value_number values.old.keys q ≡ Some n → value_number values.new.keys q ≡ Some n) }
     ensures count { OnOk result (length links.new.items ≡ length links.old.items + 1) }
 {
-    match event.value {
-        None => {
-            links.push(None)?;
-            Ok(None)
+    let number = match (number, event.value) {
+        (Some(number), _) => {
+            let entry = entries[number as usize];
+            links[entry.ends.last.0 as usize] = Some(id);
+            entries[number as usize] = entry.with(event, id, call);
+            Some(number)
         }
-        Some(value) => {
-            let number = join_value(links, values, entries, event, value, id, call)?;
-            Ok(Some(number))
+        (None, Some(value)) => {
+            let number = entries.len() as u32;
+            values.insert((event.register.0, whole(value)))?;
+            entries.push(Entry::new(event, id, call))?;
+            Some(number)
         }
-    }
+        (None, None) => None,
+    };
+    links.push(None)?;
+    Ok(number)
 }

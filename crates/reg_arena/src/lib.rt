@@ -5,8 +5,8 @@
 //! Operations, their times and their order are those of the definitions, and the laws of this crate say what holds of them in every accepted history.
 //! All calls but `build` take no memory and always answer.
 //!
-//! Read it in this order: `ids`, `event`, `op` and `refusal`, which are what is asked and answered; `ends`, `joins`, `threads` and `entries`, the lists
-//! that run through the events; `seeded` and `names`; `arena`, `called` and `members`, which answer; `agrees` and `build`; `laws`.
+//! Read it in this order: `ids`, `event`, `op` and `refusal`, which are what is asked and answered; `seeded`, by which is hashed; `ends`, `joins`, `threads`
+//! and `entries`, the lists that run through the events; `names`; `arena`, `called` and `members`, which answer; `agrees` and `build`; `laws`.
 #![tactic(auto)]
 
 mod agrees;
@@ -24,6 +24,8 @@ mod names;
 mod op;
 mod refusal;
 mod seeded;
+#[cfg(test)]
+mod tables;
 #[cfg(test)]
 mod tests;
 mod threads;

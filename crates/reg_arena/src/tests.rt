@@ -1,6 +1,7 @@
 ghost use Rattle.std.specs.Prelude.{◌<◌, length};
 
 use super::*;
+use crate::tables::{EVENTS, OPERATIONS, REFUSALS, VALUED, VALUES};
 use history_text::{LineEvent, LineFault, MAX_INPUT, Val, read_lines};
 use std::alloc::{AllocError, Global};
 use std::process::Abort;
@@ -172,39 +173,7 @@ fn walks_meet_every_event(rt: HostRuntime) -> Result<(), Fail> {
 #[test]
 fn refusals_name_the_least_line(rt: HostRuntime) -> Result<(), Fail> {
     let alloc = rt.alloc();
-    for (history, line, number, other) in [
-        ("p1 W x 5; p1 ok; p1 W x 5", 3, 13, Some(1)),
-        ("p1 ok", 1, 10, None),
-        ("p1 W x 1; p1 W x 2; {\"process\":2,\"ev", 2, 9, Some(1)),
-        // The line's own fault comes first where it stands first, and of two reasons the least number.
-        ("{; p1 ok", 1, 2, None),
-        ("p1 W x 5; p1 W x 5", 2, 9, Some(1)),
-        ("p1 R x; p1 ok; p2 ok", 2, 12, None),
-        (
-            "p1 R x; {\"process\":1,\"event\":\"reply\",\"op\":\"write\"}",
-            2,
-            11,
-            None,
-        ),
-        // A reply disagrees by its operation, its register or a write's value; null agrees.
-        (
-            "p1 W x 5; {\"process\":1,\"event\":\"reply\",\"op\":\"read\"}",
-            2,
-            11,
-            None,
-        ),
-        (
-            "p1 W x 5; {\"process\":1,\"event\":\"reply\",\"register\":\"y\"}",
-            2,
-            11,
-            None,
-        ),
-        ("p1 W x 5; p1 = 6", 2, 11, None),
-        ("p1 W x 5; p1 = null; p1 ok", 3, 10, None),
-        // The other lines are the open call's and the earlier write's, blank lines counted.
-        ("p3 R y;; p3 = 1;; p3 R y; p3 R x", 6, 9, Some(5)),
-        ("p1 W x 7; p2 W y 5; p3 W x 5; p4 W x 5", 4, 13, Some(3)),
-    ] {
+    for (history, line, number, other) in REFUSALS {
         let want = LineRefusal {
             line,
             number,
@@ -219,6 +188,14 @@ fn refusals_name_the_least_line(rt: HostRuntime) -> Result<(), Fail> {
     Ok(())
 }
 
+// The arena of a history in short that is well formed.
+fn arena_of(rt: &(impl Threads + Sync), alloc: Global, history: &str) -> Result<Arena, Fail> {
+    match Arena::build(alloc, lines(rt, alloc, history)?) {
+        Ok(arena) => Ok(arena),
+        Err(_) => Err(Fail::from(AllocError)),
+    }
+}
+
 // The operation of an event.
 fn op_at(arena: &Arena, id: EvId) -> Op
     requires { id.0 < length arena.now.events }
@@ -229,44 +206,12 @@ fn op_at(arena: &Arena, id: EvId) -> Op
 #[test]
 fn operations_have_their_times(rt: HostRuntime) -> Result<(), Fail> {
     let alloc = rt.alloc();
-    // Events 0 to 5 have the times 2 to 7; the call of line 5 has no reply.
-    let arena = match Arena::build(
+    let arena = arena_of(
+        &rt,
         alloc,
-        lines(
-            &rt,
-            alloc,
-            "p1 W x 5; p2 R x; p2 = null; p1 ok; p1 W x 7; p2 R y",
-        )?,
-    ) {
-        Ok(arena) => arena,
-        Err(_) => return Err(Fail::from(AllocError)),
-    };
-    for (event, want) in [
-        (
-            0,
-            "Op { line: 1, call: 2, reply: Some(5), process: Some(1), register: RegId(0), kind: WriteOp, value: Some(Int(5)) }",
-        ),
-        (
-            1,
-            "Op { line: 2, call: 3, reply: Some(4), process: Some(2), register: RegId(0), kind: ReadOp, value: Some(Null) }",
-        ),
-        (
-            2,
-            "Op { line: 2, call: 3, reply: Some(4), process: Some(2), register: RegId(0), kind: ReadOp, value: Some(Null) }",
-        ),
-        (
-            3,
-            "Op { line: 1, call: 2, reply: Some(5), process: Some(1), register: RegId(0), kind: WriteOp, value: Some(Int(5)) }",
-        ),
-        (
-            4,
-            "Op { line: 5, call: 6, reply: None, process: Some(1), register: RegId(0), kind: WriteOp, value: Some(Int(7)) }",
-        ),
-        (
-            5,
-            "Op { line: 6, call: 7, reply: None, process: Some(2), register: RegId(1), kind: ReadOp, value: None }",
-        ),
-    ] {
+        "p1 W x 5; p2 R x; p2 = null; p1 ok; p1 W x 7; p2 R y",
+    )?;
+    for (event, want) in OPERATIONS {
         if event < arena.event_count() {
             let got = format!(in alloc; "{:?}", op_at(&arena, EvId(event)))?;
             assert_eq!(rt; got.as_str(), want, "event {event}");
@@ -279,30 +224,13 @@ fn operations_have_their_times(rt: HostRuntime) -> Result<(), Fail> {
 
 #[test]
 fn values_have_their_writes_and_times(rt: HostRuntime) -> Result<(), Fail> {
-    let alloc = rt.alloc();
-    let arena = match Arena::build(
-        alloc,
-        lines(
-            &rt,
-            alloc,
-            "p1 W x 5; p2 R x; p2 = null; p1 ok; p1 W x 7; p2 R x; p2 = 9",
-        )?,
-    ) {
-        Ok(arena) => arena,
-        Err(_) => return Err(Fail::from(AllocError)),
-    };
+    let arena = arena_of(&rt, rt.alloc(), VALUED)?;
     if arena.register_count() == 0 {
         return Err(Fail::from(AllocError));
     }
     let x = RegId(0);
     assert_eq!(rt; arena.name(x), "x");
-    for (value, write, last_call, first_reply) in [
-        (Val::Null, Some(Oper::Initial(x)), Some(3), Some(1)),
-        (Val::Int(5), Some(Oper::Called(EvId(0))), Some(2), Some(5)),
-        (Val::Int(7), Some(Oper::Called(EvId(4))), Some(6), None),
-        (Val::Int(9), None, Some(7), Some(8)),
-        (Val::Int(8), None, None, None),
-    ] {
+    for (value, write, last_call, first_reply) in VALUES {
         assert_eq!(rt; arena.write_of(x, value), write, "write of {value:?}");
         assert_eq!(rt;
             arena.last_call(x, value),
@@ -315,13 +243,13 @@ fn values_have_their_writes_and_times(rt: HostRuntime) -> Result<(), Fail> {
             "first reply of {value:?}"
         );
     }
-    for (event, write, last_call, first_reply) in [
-        (0, Some(Oper::Called(EvId(0))), Some(2), Some(5)),
-        (1, None, None, None),
-        (2, Some(Oper::Initial(x)), Some(3), Some(1)),
-        (4, Some(Oper::Called(EvId(4))), Some(6), None),
-        (6, None, Some(7), Some(8)),
-    ] {
+    Ok(())
+}
+
+#[test]
+fn events_have_the_writes_and_times_of_their_values(rt: HostRuntime) -> Result<(), Fail> {
+    let arena = arena_of(&rt, rt.alloc(), VALUED)?;
+    for (event, write, last_call, first_reply) in EVENTS {
         if event < arena.event_count() {
             let id = EvId(event);
             assert_eq!(rt; arena.write_of_event(id), write, "write of event {event}");
@@ -351,17 +279,11 @@ fn precedes(arena: &Arena, one: u32, other: u32) -> bool
 #[test]
 fn operations_precede_by_reply_and_call(rt: HostRuntime) -> Result<(), Fail> {
     let alloc = rt.alloc();
-    let arena = match Arena::build(
+    let arena = arena_of(
+        &rt,
         alloc,
-        lines(
-            &rt,
-            alloc,
-            "p1 W x 5; p2 R x; p1 ok; p1 W x 6; p2 = 5; p2 R x",
-        )?,
-    ) {
-        Ok(arena) => arena,
-        Err(_) => return Err(Fail::from(AllocError)),
-    };
+        "p1 W x 5; p2 R x; p1 ok; p1 W x 6; p2 = 5; p2 R x",
+    )?;
     for (one, other, want) in [
         (0, 1, false),
         (0, 3, true),

@@ -1,11 +1,13 @@
 //! Events in one list, and beside it the links of three families of lists: of each register, of each process, and of each register and value.
-ghost use Rattle.std.specs.Prelude.{◌≡◌, ◌<◌, ◌≤◌, ◌^◌, ◌+◌, ◌++◌, ◌∷◌, [], length, max, OnOk};
-ghost use Rattle.reg_arena.specs.Threads.{AreThreads, IsCallAt};
+ghost use Rattle.std.specs.Prelude.{◌≡◌, ◌<◌, ◌≤◌, ◌^◌, ◌+◌, ◌++◌, ◌∷◌, [], length, max, OnOk, IfOk};
+ghost use Rattle.reg_arena.specs.Threads.{AreThreads, IsAlike, IsCallAt};
 
 use crate::ends::{Ends, Entry};
 use crate::event::Event;
 use crate::ids::EvId;
-use crate::joins::{join_process, join_register, join_value_of};
+use crate::joins::{join_process, join_register, join_value};
+use crate::seeded::Seeded;
+use indexmap::IndexSet;
 use std::alloc::{AllocError, Global};
 use std::collections::BTreeMap;
 
@@ -23,42 +25,50 @@ pub(crate) struct Threads {
     pub(crate) numbers: Vec<Option<u32>>,
     pub(crate) registers: Vec<Ends>,
     pub(crate) processes: BTreeMap<u32, Ends>,
-    pub(crate) values: BTreeMap<(u32, Option<i64>), u32>,
+    /// The registers and values that events have; the place of each is the number of its entry.
+    pub(crate) values: IndexSet<(u32, Option<i64>), Seeded>,
     pub(crate) entries: Vec<Entry>,
 }
 
 impl Threads {
-    /// No events.
-    pub(crate) fn new(alloc: Global) -> Self
-        ensures threads { AreThreads result }
-        ensures none { result.events.items ≡ [] }
-        ensures registers { result.registers.items ≡ [] }
+    /// No events, with room for as many as `count`.
+    pub(crate) fn new(alloc: Global, count: usize, hasher: Seeded) -> Result<Self, AllocError>
+        ensures threads { IfOk result AreThreads }
+        ensures none { IfOk result (λ t. t.events.items ≡ []) }
+        ensures registers { IfOk result (λ t. t.registers.items ≡ []) }
     {
-        Threads {
-            events: Vec::new(alloc),
-            calls: Vec::new(alloc),
-            in_register: Vec::new(alloc),
-            in_process: Vec::new(alloc),
-            in_value: Vec::new(alloc),
-            numbers: Vec::new(alloc),
+        Ok(Threads {
+            events: Vec::with_capacity(alloc, count)?,
+            calls: Vec::with_capacity(alloc, count)?,
+            in_register: Vec::with_capacity(alloc, count)?,
+            in_process: Vec::with_capacity(alloc, count)?,
+            in_value: Vec::with_capacity(alloc, count)?,
+            numbers: Vec::with_capacity(alloc, count)?,
             registers: Vec::new(alloc),
             processes: BTreeMap::new(alloc),
-            values: BTreeMap::new(alloc),
+            values: IndexSet::with_hasher(alloc, hasher),
             entries: Vec::new(alloc),
-        }
+        })
     }
 
-    /// Appends an event with the event of its call, and joins it to its lists.
-    pub(crate) fn append(&mut self, event: Event, call: EvId) -> Result<(), AllocError>
+    /// Appends an event with the event of its call, and joins it to its lists. `alike` is an event of the same register and value.
+    pub(crate) fn append(
+        &mut self,
+        event: Event,
+        call: EvId,
+        alike: Option<EvId>,
+    ) -> Result<(), AllocError>
         requires threads { AreThreads self.old }
         requires register { event.register.0 ≤ length self.old.registers.items }
         requires room { length self.old.events.items < 2 ^ 20 }
         requires call { IsCallAt (self.old.events.items ++ event ∷ []) (length self.old.events.items) call.0 }
+        requires alike { IsAlike self.old.events.items event alike }
         ensures threads { OnOk result (AreThreads self.new) }
         ensures registers { OnOk result (length self.new.registers.items ≡ max (length self.old.registers.items) (event.register.0 + 1)) }
         ensures events { OnOk result (self.new.events.items ≡ self.old.events.items ++ event ∷ []) }
     {
         let id = EvId(self.events.len() as u32);
+        let found = self.number_of(alike);
         join_register(
             &mut self.in_register,
             &mut self.registers,
@@ -66,11 +76,12 @@ impl Threads {
             id,
         )?;
         join_process(&mut self.in_process, &mut self.processes, event.process, id)?;
-        let number = join_value_of(
+        let number = join_value(
             &mut self.in_value,
             &mut self.values,
             &mut self.entries,
             event,
+            found,
             id,
             call,
         )?;

@@ -15,7 +15,7 @@ pub returns-in_err-arena-in-Ok-clause-err : goal.returns-in_err-arena-in-Ok-clau
 returns-in_err-arena-in-Ok-clause-err c =
     let at = ap (λ (xs : List Line). slice_get xs c.loop-line.line-index) (sym c.deref-line-items.ensures.value) ∙ slice_get_read c.deref-line-items.result.now _ c.loop-line.line-index c.line-item.result refl (omega (arith, c.loop-line-test.true, ap length c.deref-line-items.ensures.value)) c.line-item.is ∙ ap Some c.in-Ok.is in
     let i = c.loop-line.invariant in
-    error-passed c.args.events.items c.from_residual.result c.in_err-arena-in-Ok.field-0.0 c.from_residual.ensures.1
+    error-passed c.args.events.items c.from_residual-in_err-arena-in-Ok.result c.in_err-arena-in-Ok.field-0.0 c.from_residual-in_err-arena-in-Ok.ensures.1
     (refused-event c.args.events.items c.loop-line.line-index c.in-Ok.event at c.in_err-arena-in-Ok.field-0.0 i.free (c.in_err-arena-in-Ok.ensures _ i.accepted i.is))
 
 pub loop-line-preserved : goal.loop-line-preserved

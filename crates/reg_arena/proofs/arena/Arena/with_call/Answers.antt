@@ -1,10 +1,11 @@
 -- The history with one call more is the definition's.
-use Rattle.std.proofs.Common.{◌≡◌, ◌++◌, ◌∷◌, [], length, length-append, unwrap_or, true, ap, subst, ◌∙◌, refl, arith}
+use Rattle.std.proofs.Common.{◌≡◌, ◌++◌, ◌∷◌, [], length, length-append, unwrap_or, true, ap, sym, subst, ◌∙◌, refl, arith}
 use Rattle.reg_arena.specs.History.{History}
-use Rattle.reg_arena.specs.Step.{IsNumber}
+use Rattle.reg_arena.specs.Step.{IsLastWith, IsNumber}
 use Rattle.reg_arena.specs.declared.event.Event.{Event}
 use Rattle.reg_arena.specs.Threads.{IsCallAt}
 use Rattle.reg_arena.proofs.Step.{accepted-push, room-of, next-history, event_by, call-event_is, names-of_known, names-of_new, own-call}
+use Rattle.reg_arena.proofs.ByEvent.{alike-call}
 use Rattle.reg_arena.proofs.arena.Arena.with_call.Goals as goal
 use Rattle.reg_arena.proofs.arena.Arena.with_call.Goals.{in-Some, in-None+in_ok-names-in-None}
 
@@ -22,6 +23,12 @@ append-requires-clause-call c =
     let n : length c.self.inside.threads.events.items ≡ c.len.result = omega (arith, c.len.ensures) in
     let ev : Event = event_by c.args.event.now c.unwrap_or.result true c.args.kind c.args.value in
     subst (λ m. IsCallAt (c.self.inside.threads.events.items ++ ev ∷ []) (length c.self.inside.threads.events.items) m) n (own-call c.self.inside.threads.events.items ev refl)
+
+pub append-requires-clause-alike : goal.append-requires-clause-alike
+append-requires-clause-alike c =
+    let register = c.unwrap_or.ensures ∙ ap (unwrap_or c.args.number) (c.len-count.ensures ∙ c.self.invariant.1) in
+    alike-call c.self.inside.threads c.self.invariant.0 (event_by c.args.event.now c.unwrap_or.result true c.args.kind c.args.value) c.args.number c.args.last register
+    (subst (λ (h : History). IsLastWith h.events c.args.number c.args.value c.args.last) (sym c.self.view_is) c.requires.last)
 
 pub returns : goal.returns
 returns c = λ before acc q.

@@ -14,8 +14,8 @@ join_register-requires-clause-within c = λ e h. let w = ends-within by_register
 pub join_process-requires : goal.join_process-requires
 join_process-requires c = λ e h. let w = ends-within by_process _ _ _ c.requires.threads.processes _ e h in omega (arith, c.requires.threads.process_column)
 
-pub join_value_of-requires-clause-within : goal.join_value_of-requires-clause-within
-join_value_of-requires-clause-within c = λ k e h. let w = ends-within by_value _ _ _ c.requires.threads.values k e h in omega (arith, c.requires.threads.value_column)
+pub join_value-requires-clause-within : goal.join_value-requires-clause-within
+join_value-requires-clause-within c = λ k e h. let w = ends-within by_value _ _ _ c.requires.threads.values k e h in omega (arith, c.requires.threads.value_column)
 
 pub returns-clause-threads : goal.returns-clause-threads
 returns-clause-threads c =
@@ -25,18 +25,18 @@ returns-clause-threads c =
     let at : c.len.result ≡ length es = omega (arith, c.len.ensures) in
     let n : EvId = record { 0 = c.len.result } in
     let items = c.in_ok-push.ensures.items in
-    let none : (k : ℕ × Val) → value_entry c.args.self.now.values c.args.self.now.entries.items k ≡ None → (i : ℕ) → key_at by_value es i ≡ Some k → ⊥ =
+    let none : (k : ℕ × Val) → value_entry c.args.self.now.values.keys c.args.self.now.entries.items k ≡ None → (i : ℕ) → key_at by_value es i ≡ Some k → ⊥ =
     λ k h i q. t.values.none k (ap (option_map (λ (y : Entry). y.ends)) h) i q in
-    let no_number : (k : ℕ × Val) → value_number c.args.self.now.values k ≡ None → (i : ℕ) → key_at by_value es i ≡ Some k → ⊥ =
+    let no_number : (k : ℕ × Val) → value_number c.args.self.now.values.keys k ≡ None → (i : ℕ) → key_at by_value es i ≡ Some k → ⊥ =
     λ k h i q. none k (ap (option_and_then (slice_get c.args.self.now.entries.items)) h) i q in
     record {
       registers = rw items (family by_register es e n c.args.self.now.in_register.items c.join_register.new.links.items _ _ at t.register_column t.registers c.in_ok-join_register.ensures.joined);
       processes = rw items (family by_process es e n c.args.self.now.in_process.items c.join_process.new.links.items _ _ at t.process_column t.processes c.in_ok-join_process.ensures.joined);
-      values = rw items (family by_value es e n c.args.self.now.in_value.items c.join_value_of.new.links.items _ _ at t.value_column t.values c.in_ok-number.ensures.joined);
+      values = rw items (family by_value es e n c.args.self.now.in_value.items c.join_value.new.links.items _ _ at t.value_column t.values c.in_ok-number.ensures.joined);
       calls = rw (items, c.in_ok-push-2.ensures.items) (calls-push es e c.args.self.now.calls.items c.args.call t.call_column t.calls c.requires.call);
       entries = rw (items, c.in_ok-push-2.ensures.items) (entries-push es e n c.args.self.now.calls.items c.args.call at t.call_column _ _ none t.entries c.in_ok-number.ensures.entered);
       numbered = c.in_ok-number.ensures.numbered;
-      numbers = rw (items, c.in_ok-push-3.ensures.items) (numbers-push es e c.args.self.now.numbers.items c.in_ok-number.number (value_number c.args.self.now.values) (value_number c.join_value_of.new.values) t.number_column t.numbers no_number c.in_ok-number.ensures.kept c.in_ok-number.ensures.number);
+      numbers = rw (items, c.in_ok-push-3.ensures.items) (numbers-push es e c.args.self.now.numbers.items c.in_ok-number.number (value_number c.args.self.now.values.keys) (value_number c.join_value.new.values.keys) t.number_column t.numbers no_number c.in_ok-number.ensures.kept c.in_ok-number.ensures.number);
       register_column = rw items (omega (arith, length-append es (e ∷ []), c.in_ok-join_register.ensures.count, t.register_column));
       process_column = rw items (omega (arith, length-append es (e ∷ []), c.in_ok-join_process.ensures.count, t.process_column));
       value_column = rw items (omega (arith, length-append es (e ∷ []), c.in_ok-number.ensures.count, t.value_column));

@@ -7,5 +7,5 @@ use Rattle.reg_arena.proofs.threads.Threads.write_of_event.Goals as goal
 
 pub returns-in-None : goal.returns-in-None
 returns-in-None c = λ k q i _ h.
-    let none = sym (ap (option_and_then (value_entry c.args.self.now.values c.args.self.now.entries.items)) q) ∙ sym c.in-None.ensures in
+    let none = sym (ap (option_and_then (value_entry c.args.self.now.values.keys c.args.self.now.entries.items)) q) ∙ sym c.in-None.ensures in
     c.requires.threads.values.none k (ap (option_map (λ (y : Entry). y.ends)) none) i (key-along by_write by_value c.args.self.now.events.items k (λ e. write-value e k) i h)

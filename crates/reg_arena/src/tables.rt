@@ -1,0 +1,87 @@
+//! Histories and what each of them is answered, worked out by hand from the definitions.
+use super::*;
+use history_text::Val;
+
+/// A history in short, its least faulty line, the number of the refusal there, and the other line that it names.
+pub(crate) const REFUSALS: [(&str, u32, u8, Option<u32>); 13] = [
+    ("p1 W x 5; p1 ok; p1 W x 5", 3, 13, Some(1)),
+    ("p1 ok", 1, 10, None),
+    ("p1 W x 1; p1 W x 2; {\"process\":2,\"ev", 2, 9, Some(1)),
+    // The line's own fault comes first where it stands first, and of two reasons the least number.
+    ("{; p1 ok", 1, 2, None),
+    ("p1 W x 5; p1 W x 5", 2, 9, Some(1)),
+    ("p1 R x; p1 ok; p2 ok", 2, 12, None),
+    (
+        "p1 R x; {\"process\":1,\"event\":\"reply\",\"op\":\"write\"}",
+        2,
+        11,
+        None,
+    ),
+    // A reply disagrees by its operation, its register or a write's value; null agrees.
+    (
+        "p1 W x 5; {\"process\":1,\"event\":\"reply\",\"op\":\"read\"}",
+        2,
+        11,
+        None,
+    ),
+    (
+        "p1 W x 5; {\"process\":1,\"event\":\"reply\",\"register\":\"y\"}",
+        2,
+        11,
+        None,
+    ),
+    ("p1 W x 5; p1 = 6", 2, 11, None),
+    ("p1 W x 5; p1 = null; p1 ok", 3, 10, None),
+    // The other lines are the open call's and the earlier write's, blank lines counted.
+    ("p3 R y;; p3 = 1;; p3 R y; p3 R x", 6, 9, Some(5)),
+    ("p1 W x 7; p2 W y 5; p3 W x 5; p4 W x 5", 4, 13, Some(3)),
+];
+
+/// Of each event of `p1 W x 5; p2 R x; p2 = null; p1 ok; p1 W x 7; p2 R y`, which have the times 2 to 7, the operation; the call of line 5 has no reply.
+pub(crate) const OPERATIONS: [(u32, &str); 6] = [
+    (
+        0,
+        "Op { line: 1, call: 2, reply: Some(5), process: Some(1), register: RegId(0), kind: WriteOp, value: Some(Int(5)) }",
+    ),
+    (
+        1,
+        "Op { line: 2, call: 3, reply: Some(4), process: Some(2), register: RegId(0), kind: ReadOp, value: Some(Null) }",
+    ),
+    (
+        2,
+        "Op { line: 2, call: 3, reply: Some(4), process: Some(2), register: RegId(0), kind: ReadOp, value: Some(Null) }",
+    ),
+    (
+        3,
+        "Op { line: 1, call: 2, reply: Some(5), process: Some(1), register: RegId(0), kind: WriteOp, value: Some(Int(5)) }",
+    ),
+    (
+        4,
+        "Op { line: 5, call: 6, reply: None, process: Some(1), register: RegId(0), kind: WriteOp, value: Some(Int(7)) }",
+    ),
+    (
+        5,
+        "Op { line: 6, call: 7, reply: None, process: Some(2), register: RegId(1), kind: ReadOp, value: None }",
+    ),
+];
+
+/// The history of the two tables below.
+pub(crate) const VALUED: &str = "p1 W x 5; p2 R x; p2 = null; p1 ok; p1 W x 7; p2 R x; p2 = 9";
+
+/// A value of the register x, its write, the greatest call and the first reply.
+pub(crate) const VALUES: [(Val, Option<Oper>, Option<u32>, Option<u32>); 5] = [
+    (Val::Null, Some(Oper::Initial(RegId(0))), Some(3), Some(1)),
+    (Val::Int(5), Some(Oper::Called(EvId(0))), Some(2), Some(5)),
+    (Val::Int(7), Some(Oper::Called(EvId(4))), Some(6), None),
+    (Val::Int(9), None, Some(7), Some(8)),
+    (Val::Int(8), None, None, None),
+];
+
+/// An event, and the same of its value.
+pub(crate) const EVENTS: [(u32, Option<Oper>, Option<u32>, Option<u32>); 5] = [
+    (0, Some(Oper::Called(EvId(0))), Some(2), Some(5)),
+    (1, None, None, None),
+    (2, Some(Oper::Initial(RegId(0))), Some(3), Some(1)),
+    (4, Some(Oper::Called(EvId(4))), Some(6), None),
+    (6, None, Some(7), Some(8)),
+];
