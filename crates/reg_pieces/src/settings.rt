@@ -28,7 +28,7 @@ impl Model for Settings {
 
     ghost inverse = { λ s. record { workers = s.workers; cut = s.cut } };
 
-    ghost invariant = { λ s. (0 < s.workers) × (s.workers ≤ 16) × (0 < s.cut) × (s.cut ≤ 1048576) };
+    ghost invariant = { λ s. (0 < s.workers) × (s.workers ≤ MAX_WORKERS) × (0 < s.cut) × (s.cut ≤ MAX_CUT) };
 }
 
 impl Settings {
