@@ -1,5 +1,6 @@
 # make: prove and build bin/regcheck. make run: run it on a shipped example, or on FILE=...
-# make test: the merge gate; then, by the program that it built, the examples, and runs with ends that fail.
+# make test: the merge gate; then, by the programs that it built, the examples, runs with ends that fail, and workers on one
+# processor.
 # make bench: time it on generated histories, in five to fifteen minutes.
 # make install: bin/regcheck and its man page below PREFIX, within DESTDIR.
 FILE ?= examples/new_old_inversion.jsonl
@@ -29,6 +30,7 @@ test:
 	rt ci
 	@examples/compare crates/regcheck/out/regcheck
 	@examples/wrong_ends crates/regcheck/out/regcheck
+	@examples/one_processor crates/report_tests/out/report_tests_tests
 
 bench: bin/regcheck bin/history_generator
 	bench/run
