@@ -21,6 +21,7 @@ pub struct Settings {
 impl Model for Settings {
     ghost use Rattle.std.specs.Prelude.{◌<◌, ◌≤◌};
     ghost use Rattle.reg_pieces.specs.Settings.{SettingsShown};
+    ghost use Rattle.reg_pieces.specs.declared.settings.TheConstants.{MAX_CUT, MAX_WORKERS};
 
     ghost Value = { SettingsShown };
 
