@@ -20,12 +20,14 @@ impl Model for Order {
 }
 
 impl Order {
+    /// The order of these operations.
     pub fn new(placed: Vec<Placed>) -> Order
         ensures { result ≡ placed.items }
     {
         Order { placed }
     }
 
+    /// The operations with their points, in their order.
     pub fn as_slice(&self) -> &[Placed]
         ensures { result.now ≡ self.now }
     {

@@ -21,12 +21,14 @@ impl Model for Lines {
 }
 
 impl Lines {
+    /// The operations of these calls' lines, in this order.
     pub fn new(lines: Vec<u32>) -> Lines
         ensures { result ≡ lines.items }
     {
         Lines { lines }
     }
 
+    /// The lines of the calls, counted from 1, in the operations' order.
     pub fn as_slice(&self) -> &[u32]
         ensures { result.now ≡ self.now }
     {
@@ -88,12 +90,14 @@ impl Model for Registers {
 }
 
 impl Registers {
+    /// These registers' lines.
     pub fn new(regs: Vec<RegReport>) -> Registers
         ensures { result ≡ regs.items }
     {
         Registers { regs }
     }
 
+    /// The lines, in the order of the registers' first calls.
     pub fn as_slice(&self) -> &[RegReport]
         ensures { result.now ≡ self.now }
     {
