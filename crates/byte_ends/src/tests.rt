@@ -102,6 +102,64 @@ fn interrupted_writer(rt: HostRuntime) -> Result<(), Fail> {
     Ok(())
 }
 
+// Fails at its first read or write, and at no other.
+#[derive(Drop)]
+struct FailsOnce<T: Drop> {
+    inner: T,
+    failed: bool,
+}
+
+impl<R: Read + Drop> Read for FailsOnce<R> {
+    fn read(&mut self, buf: &mut [u8]) -> io::Result<usize> {
+        if !self.failed {
+            self.failed = true;
+            return Err(io::Error::from(ErrorKind::Other));
+        }
+        self.inner.read(buf)
+    }
+}
+
+impl<W: Write + Drop> Write for FailsOnce<W> {
+    fn write(&mut self, buf: &[u8]) -> io::Result<usize> {
+        if !self.failed {
+            self.failed = true;
+            return Err(io::Error::from(ErrorKind::Other));
+        }
+        self.inner.write(buf)
+    }
+
+    fn flush(&mut self) -> io::Result<()> {
+        self.inner.flush()
+    }
+}
+
+// A read that fails isn't tried again: it is a failure, and the next pull is another read.
+#[test]
+fn failed_read(rt: HostRuntime) -> Result<(), Fail> {
+    let mut source = FromReader::new(FailsOnce {
+        inner: "abc".as_bytes(),
+        failed: false,
+    });
+    let mut into = [0; 4];
+    assert_eq!(rt; source.pull(&mut into), Err(IoFail));
+    assert_eq!(rt; source.pull(&mut into), Ok(3));
+    assert_eq!(rt; source.failures(), 1);
+    Ok(())
+}
+
+// A write that fails isn't tried again either.
+#[test]
+fn failed_write(rt: HostRuntime) -> Result<(), Fail> {
+    let mut sink = FromWriter::new(FailsOnce {
+        inner: Vec::<u8>::new(rt.alloc()),
+        failed: false,
+    });
+    assert_eq!(rt; sink.push("abc".as_bytes()), Err(IoFail));
+    assert_eq!(rt; sink.push("abc".as_bytes()), Ok(3));
+    assert_eq!(rt; sink.failures(), 1);
+    Ok(())
+}
+
 // Takes up to so many bytes at a write, and says whether a flush succeeds.
 #[derive(Drop)]
 struct Limited {

@@ -89,7 +89,7 @@ pub(crate) fn whole(value: Val) -> Option<i64>
 
 /// Joins event `id`, whose call is the event `call`, to the list of its register and value, where it has a value.
 ///
-/// `number` is that of the list's entry, where it is there. The number that the entry has then is given back.
+/// `number` is the number of that list's entry, where there is one already. Gives back the number of its entry.
 pub(crate) fn join_value(
     links: &mut Vec<Option<EvId>>,
     values: &mut IndexSet<(u32, Option<i64>), Seeded>,

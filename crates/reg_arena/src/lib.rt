@@ -5,7 +5,7 @@
 //! Operations, their times and their order are those of the definitions, and the laws of this crate say what holds of them in every accepted history.
 //! All calls but `build` take no memory and always answer.
 //!
-//! Read it in this order: `ids`, `event`, `op` and `refusal`, which are what is asked and answered; `seeded`, by which is hashed; `ends`, `joins`, `threads`
+//! Read it in this order: `ids`, `event`, `op` and `refusal`, which are what is asked and answered; `seeded`, which makes the hashes; `ends`, `joins`, `threads`
 //! and `entries`, the lists that run through the events; `names`; `arena`, `called` and `members`, which answer; `agrees` and `build`; `laws`.
 #![tactic(auto)]
 

@@ -36,7 +36,7 @@ impl Seeded {
     }
 }
 
-/// Reads which kind it is, and then its name and its value, so that no two are read alike.
+/// Reads which kind it is, and then its name and its value, so that no two that differ in these are read alike.
 fn read(kind: &Kind, state: &mut DefaultHasher) {
     match kind {
         Kind::CallRead(name) => {

@@ -51,7 +51,7 @@ impl Threads {
         })
     }
 
-    /// Appends an event with the event of its call, and joins it to its lists. `alike` is an event of the same register and value.
+    /// Appends an event with the event of its call, and joins it to its lists. `alike` is an event of the same register and value, where there is one.
     pub(crate) fn append(
         &mut self,
         event: Event,

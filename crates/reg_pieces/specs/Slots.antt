@@ -5,6 +5,10 @@ use Rattle.reg_pieces.specs.Plan.{IsPieceAt, IsPieceOf}
 use Rattle.reg_pieces.specs.declared.piece.Piece.{Piece}
 use Rattle.reg_pieces.specs.declared.tasks.Task.{Task}
 
+-- no slot has a piece
+abbrev pub AreEmpty : List (Option Piece) → Type 0
+AreEmpty slots = (number : ℕ) (p : Piece) → slice_get slots number ≡ Some (Some p) → ⊥
+
 -- a piece stands in the slot of this number
 abbrev pub IsFull : List (Option Piece) → ℕ → Type 0
 IsFull slots number = (p : Piece) × (slice_get slots number ≡ Some (Some p))

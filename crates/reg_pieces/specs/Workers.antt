@@ -38,7 +38,7 @@ weight_back (w ∷ ws) = w.seat.view.weight + weight_back ws
 
 -- ---- put together
 
--- the weight of the seat that others were made, where there is one
+-- the weight of the seat that those before were made into, where there is one
 abbrev pub weight_so_far : Option SeatValue → ℕ
 weight_so_far None = 0
 weight_so_far (Some seat) = seat.view.weight
@@ -48,7 +48,7 @@ abbrev pub view_with : Option SeatValue → SeatValue → View
 view_with None seat = seat.view
 view_with (Some before) seat = joint_view before.view seat.view
 
--- Seats of this board that were made one: where no worker was refused memory, each number that they drew has its slot full, and no number was left.
+-- Seats of this board that were made into one: where no worker was refused memory, each number that they drew has its slot full, and no number was left.
 pub record IsJoined (board : BoardValue) (slots : List (Option Piece)) (refused : Bool) (seat : SeatValue) : Type 0 where
   pub here : seat.board ≡ board.id
   pub told : refused ≡ false → seat.view.told ≡ true

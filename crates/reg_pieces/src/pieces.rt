@@ -1,7 +1,6 @@
 //! What is done, by its number.
-ghost use Rattle.std.specs.Prelude.{◌≡◌, ◌<◌, ℕ, length, set, slice_get, replicate, IfOk, Some, None};
-ghost use Rattle.reg_pieces.specs.Slots.{AreWithin, IsFull, with_pieces};
-ghost use Rattle.reg_pieces.specs.declared.piece.Piece.{Piece as APiece};
+ghost use Rattle.std.specs.Prelude.{◌≡◌, ◌<◌, length, set, slice_get, IfOk, Some, None};
+ghost use Rattle.reg_pieces.specs.Slots.{AreEmpty, AreWithin, IsFull, with_pieces};
 
 use crate::piece::Piece;
 use std::alloc::{AllocError, Global};
@@ -27,7 +26,7 @@ impl Pieces {
     /// So many slots, all of them empty.
     pub(crate) fn empty(alloc: Global, count: u64) -> Result<Pieces, AllocError>
         ensures count { IfOk result (λ pieces. length pieces ≡ count) }
-        ensures empty { IfOk result (λ pieces. (number : ℕ) (piece : APiece) → slice_get pieces number ≡ Some (Some piece) → ⊥) }
+        ensures empty { IfOk result AreEmpty }
     {
         let mut slots = Vec::with_capacity(alloc, count as usize)?;
         for _ in 0..count {

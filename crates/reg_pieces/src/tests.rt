@@ -84,34 +84,47 @@ fn counts_of_pieces(rt: HostRuntime) -> Result<(), Fail> {
     Ok(())
 }
 
-// Counts how many arrive, and adds up their numbers.
+// Counts how often the piece of one number arrives.
 #[derive(Drop)]
 struct Counter {
+    number: u64,
     arrived: AtomicU64,
-    numbers: AtomicU64,
 }
 
 impl Gate for Counter {
     fn arrive(&self, piece: u64) {
-        self.arrived.fetch_add(1, Ordering::SeqCst);
-        self.numbers.fetch_add(piece, Ordering::SeqCst);
+        if piece == self.number {
+            self.arrived.fetch_add(1, Ordering::SeqCst);
+        }
     }
+}
+
+// How often the piece of this number passes the gate of so many workers.
+fn passes(
+    rt: &(impl Threads + AllocGlobal + Sync),
+    arena: &Arena,
+    workers: u32,
+    number: u64,
+) -> Result<u64, Fail> {
+    let by = settings(workers, 1)?;
+    let plan = plan(rt.alloc(), arena, by)?;
+    let gate = Counter {
+        number,
+        arrived: AtomicU64::new(0),
+    };
+    let _pieces = do_pieces(rt, rt.alloc(), arena, &plan, by, &gate)?;
+    Ok(gate.arrived.load(Ordering::SeqCst))
 }
 
 // However many workers there are, each piece passes the gate once.
 #[test]
 fn each_piece_passes_the_gate_once(rt: HostRuntime) -> Result<(), Fail> {
     let arena = two_registers(&rt)?;
-    for workers in 1..17u32 {
-        let by = settings(workers, 1)?;
-        let plan = plan(rt.alloc(), &arena, by)?;
-        let gate = Counter {
-            arrived: AtomicU64::new(0),
-            numbers: AtomicU64::new(0),
-        };
-        let _pieces = do_pieces(&rt, rt.alloc(), &arena, &plan, by, &gate)?;
-        assert_eq!(rt; gate.arrived.load(Ordering::SeqCst), 4, "{workers}");
-        assert_eq!(rt; gate.numbers.load(Ordering::SeqCst), 6, "{workers}");
+    for workers in [1, 2, 3, 4, 16] {
+        for (number, times) in [(0, 1), (1, 1), (2, 1), (3, 1), (4, 0)] {
+            let passed = passes(&rt, &arena, workers, number)?;
+            assert_eq!(rt; passed, times, "{workers} {number}");
+        }
     }
     Ok(())
 }
@@ -150,6 +163,7 @@ fn all_worked<R: Threads + Wait + Sync>(
     )
 }
 
+// What each thread hands back, once it has ended.
 fn ended<R: Threads>(
     rt: &R,
     alloc: Global,

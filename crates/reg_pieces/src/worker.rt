@@ -1,6 +1,6 @@
 //! One worker: it draws pieces from a board and does them.
-ghost use Rattle.std.specs.Prelude.{◌≡◌, ◌<◌, ◌++◌, ◌∷◌, [], ℕ, length, IsErr, OnOk};
-ghost use Rattle.reg_pieces.specs.Plan.{IsPieceAt, IsPlan};
+ghost use Rattle.std.specs.Prelude.{◌≡◌, ◌<◌, ℕ, length, IsErr, OnOk};
+ghost use Rattle.reg_pieces.specs.Plan.{IsPlan};
 ghost use Rattle.reg_pieces.specs.Work.{AddsPiece, HasWorked, IsSeatFor};
 
 use crate::gate::Gate;

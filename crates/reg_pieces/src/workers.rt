@@ -1,10 +1,10 @@
 //! All workers at once.
-ghost use Rattle.std.specs.Prelude.{◌≡◌, ◌+◌, ◌<◌, ◌≤◌, ℕ, All, IfOk, IfSome, true, length};
+ghost use Rattle.std.specs.Prelude.{◌≡◌, ◌<◌, ◌≤◌, ℕ, All, IfOk, IfSome, true, length};
 ghost use Rattle.job_board.specs.Numbers.{times};
 ghost use Rattle.job_board.specs.declared.limits.TheConstants.{FULL_WEIGHT};
 ghost use Rattle.reg_pieces.specs.Plan.{IsPlan};
-ghost use Rattle.reg_pieces.specs.Slots.{AreDone};
-ghost use Rattle.reg_pieces.specs.Work.{HasWorked, IsSeatFor};
+ghost use Rattle.reg_pieces.specs.Slots.{AreDone, AreEmpty};
+ghost use Rattle.reg_pieces.specs.Work.{HasWorked};
 ghost use Rattle.reg_pieces.specs.Workers.{IsBack, IsNewSeat, view_with, weight_back, weight_of_all};
 
 use crate::gate::Gate;
@@ -29,6 +29,7 @@ pub(crate) fn seats_of(
     requires count { (1 ≤ count) × (count ≤ seat.view.weight) }
     ensures seats { IfOk result (λ seats. All (IsNewSeat plan.now.tasks board.now) seats.items) }
     ensures weight { IfOk result (λ seats. weight_of_all seats.items ≡ seat.view.weight) }
+    ensures count { IfOk result (λ seats. length seats.items ≡ count) }
 {
     let mut rest = seat;
     let mut seats = Vec::with_capacity(alloc, count as usize)?;
@@ -80,7 +81,7 @@ fn joined(board: &Board<Global>, before: Option<Seat>, seat: Seat) -> Seat
     }
 }
 
-/// Closes the board with the seat that all others were made.
+/// Closes the board with the one seat that all others were made into.
 fn closed(board: Board<Global>, seat: Seat)
     requires board { seat.board ≡ board.id }
     requires weight { seat.view.weight ≡ FULL_WEIGHT }
@@ -92,23 +93,25 @@ fn closed(board: Board<Global>, seat: Seat)
     }
 }
 
-/// What all workers did, by number. Their seats are made one again, and the board is closed.
+/// What all workers did, by number, put into slots that are empty. Their seats are made one again, and the board is
+/// closed.
 ///
 /// # Errors
-/// Where a growth was refused, here or to a worker.
+/// Where a growth was refused to a worker.
 fn gathered(
-    alloc: Global,
     arena: &Arena,
     plan: &Plan,
     board: Board<Global>,
+    mut pieces: Pieces,
     mut back: Vec<Worked>,
 ) -> Result<Pieces, AllocError>
     requires jobs { board.jobs ≡ length plan.now.tasks }
+    requires count { length pieces ≡ length plan.now.tasks }
+    requires empty { AreEmpty pieces }
     requires back { All (IsBack arena.now plan.now.tasks board) back.items }
     requires weight { weight_back back.items ≡ FULL_WEIGHT }
     ensures { IfOk result (AreDone arena.now plan.now.tasks) }
 {
-    let mut pieces = Pieces::empty(alloc, plan.len())?;
     let mut refused = false;
     let mut whole = None;
     while let Some(worked) = back.pop() {
@@ -136,8 +139,9 @@ pub fn do_pieces<R: Threads + Sync, G: Gate + Sync>(
     requires { IsPlan arena.now settings.cut plan.now }
     ensures { IfOk result (AreDone arena.now plan.now.tasks) }
 {
+    let pieces = Pieces::empty(alloc, plan.len())?;
     let (board, seat) = Board::open(alloc, plan.len())?;
     let seats = seats_of(alloc, plan, &board, seat, settings.workers())?;
     let back = all_work(rt, alloc, arena, plan, &board, seats, gate)?;
-    gathered(alloc, arena, plan, board, back)
+    gathered(arena, plan, board, pieces, back)
 }

@@ -31,7 +31,7 @@ with_cut first (piece.Reads safe regular) = record { safe = option_or first.safe
 abbrev pub HasCuts : ℕ → ℕ → ℕ → List Task → Type 0
 HasCuts cut r len tasks = (cuts : List Task) × (rest : List Task) × AreCuts cut r 0 len cuts × (tasks ≡ cuts ++ rest)
 
--- behind these cuts nothing is left but what is left behind them in the tasks
+-- `left` is what the tasks have behind these cuts
 abbrev pub Leaves : ℕ → ℕ → ℕ → List Task → List Task → Type 0
 Leaves cut r len tasks left = (cuts rest : List Task) → AreCuts cut r 0 len cuts → tasks ≡ cuts ++ rest → left ≡ rest
 

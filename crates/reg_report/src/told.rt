@@ -1,5 +1,4 @@
 //! What the arena tells of its history.
-ghost use Rattle.std.specs.Prelude.{◌<◌, ℕ, length};
 ghost use Rattle.reg_report.specs.Told.{IsTold};
 
 use reg_arena::{

@@ -48,9 +48,9 @@ fn run_between(
     })
 }
 
-// Pieces of any size give the bytes of the whole.
+// However few bytes come at a time, they are the bytes of the whole.
 #[test]
-fn pieces(rt: HostRuntime) -> Result<(), Fail> {
+fn bytes_a_few_at_a_time(rt: HostRuntime) -> Result<(), Fail> {
     let alloc = rt.alloc();
     for (pulled, pushed) in [(1, 1), (1, 4096), (7, 10), (4096, 1), (4096, 4096)] {
         let source = MemSource::new(HISTORY.as_bytes(), pulled, None);

@@ -50,7 +50,7 @@ fn expect_reports(
 
 // Neither the number of workers nor the cut changes a byte.
 #[test]
-fn reports_by_all_settings(rt: HostRuntime) -> Result<(), Fail> {
+fn reports_by_nine_settings(rt: HostRuntime) -> Result<(), Fail> {
     for (workers, cut) in [
         (1, 1),
         (1, 2),
@@ -169,6 +169,40 @@ fn no_more_pieces_at_once_than_workers(rt: HostRuntime) -> Result<(), Fail> {
             0 < at_once && at_once <= u64::from(workers),
             "{workers}: {at_once}"
         );
+        assert_eq!(rt; report.as_slice(), want.as_bytes(), "{workers}");
+    }
+    Ok(())
+}
+
+// Holds each piece until as many have arrived as there are workers.
+#[derive(Drop)]
+struct HoldsEach {
+    workers: u64,
+    arrived: AtomicU64,
+    gave_up: AtomicBool,
+}
+
+impl Gate for HoldsEach {
+    fn arrive(&self, _piece: u64) {
+        self.arrived.fetch_add(1, Ordering::SeqCst);
+        if !comes_to(&self.arrived, self.workers) {
+            self.gave_up.store(true, Ordering::SeqCst);
+        }
+    }
+}
+
+// As many workers as were asked for are at work at once, as long as there are pieces for them.
+#[test]
+fn as_many_at_once_as_workers(rt: HostRuntime) -> Result<(), Fail> {
+    let (input, want, _) = row("two registers that are not atomic")?;
+    for workers in [1, 2, 3, 4] {
+        let gate = HoldsEach {
+            workers: u64::from(workers),
+            arrived: AtomicU64::new(0),
+            gave_up: AtomicBool::new(false),
+        };
+        let (report, _) = answered_by(&rt, input.as_bytes(), settings(workers, 1)?, &gate)?;
+        assert!(rt; !gate.gave_up.load(Ordering::SeqCst), "{workers}");
         assert_eq!(rt; report.as_slice(), want.as_bytes(), "{workers}");
     }
     Ok(())

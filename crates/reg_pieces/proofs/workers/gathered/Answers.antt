@@ -43,8 +43,8 @@ loop-worked-preserved c =
           (one-joined h tasks board l.pieces l.refused l.whole w seat c.if-refused.refused one within l.invariant.whole c.joined.ensures.board c.joined.ensures.view both);
     }
 
-pub returns : goal.returns
-returns c =
+pub returns-else-refused-2 : goal.returns-else-refused-2
+returns-else-refused-2 c =
     let l = c.loop-worked in
     let seat = c.in-Some-whole.seat in
     let joined : IsJoined c.args.board l.pieces l.refused seat = subst (λ o. IfSome o (IsJoined c.args.board l.pieces l.refused)) c.in-Some-whole.is l.invariant.whole in
