@@ -1,7 +1,6 @@
 //! One line: its event, or the least fault that applies to it.
 //!
 //! Faults are looked for by ascending number, so the first that is found is the least.
-ghost use Rattle.std.specs.Prelude.{◌≡◌};
 ghost use Rattle.serde_json.specs.View.{view};
 ghost use Rattle.history_text.specs.Reading.{call_kind, reply_kind, kind_of, event_of, line_form, line_reading};
 ghost use Rattle.history_text.specs.Memory.{Gives, GivesLine};

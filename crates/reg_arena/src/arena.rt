@@ -1,10 +1,9 @@
 //! An accepted history, and what is asked of it. No call takes memory, and each always answers.
-ghost use Rattle.std.specs.Prelude.{◌≡◌, ◌<◌, ◌≤◌, ◌^◌, ◌↔◌, ℕ, length, slice_get, None, Some, IsTrue};
-ghost use Rattle.history_text.specs.declared.event.Val.{Val as AVal};
+ghost use Rattle.std.specs.Prelude.{◌≡◌, ◌<◌, ◌≤◌, ◌^◌, ◌↔◌, length, slice_get, None, Some, IsTrue};
 ghost use Rattle.history_text.specs.Limits.{IsName};
 ghost use Rattle.reg_arena.specs.History.{IsRecorded};
 ghost use Rattle.reg_arena.specs.Operations.{Operation, Precedes};
-ghost use Rattle.reg_arena.specs.Shown.{IsEventOf, IsFirstOf, IsFirstReply, IsLastCall, IsNamed, IsNextOf, IsOper, IsWriteOf, by_process, by_register, by_value, key_at, op_shown};
+ghost use Rattle.reg_arena.specs.Shown.{IsEventOf, IsFirstOf, IsNamed, IsNextOf, IsOper, IsWriteOf, by_process, by_register, by_value, key_at, op_shown};
 
 use crate::event::Event;
 use crate::ids::{EvId, Oper, RegId};

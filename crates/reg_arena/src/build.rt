@@ -1,4 +1,6 @@
 //! From lines to an arena: each event is refused, or taken into the history so far.
+//!
+//! The arena is handed on by value, since a contract may be asked of it wherever it can be seen; the calls that do so are inlined, so that none copies it.
 ghost use Rattle.std.specs.Prelude.{◌≡◌, [], ℕ, List, Option, length, cond, nat_le, IfOk, IfErr, Some, None};
 ghost use Rattle.history_text.specs.declared.event.LineEvent.{LineEvent as ALineEvent};
 ghost use Rattle.history_text.specs.declared.event.Val.{Val as AVal};
@@ -65,6 +67,7 @@ impl Arena {
     }
 
     /// The arena with the event of a line behind the others, or the event's refusal.
+    #[inline(always)]
     fn step(self, alloc: Global, event: &LineEvent) -> Result<Self, BuildError>
         ensures { (es : List ALineEvent) → AreAccepted es → self ≡ history_of es → IsStep es event.now result }
     {
@@ -78,6 +81,7 @@ impl Arena {
     }
 
     /// A step by a call.
+    #[inline(always)]
     fn call(
         self,
         alloc: Global,
@@ -98,6 +102,7 @@ impl Arena {
     }
 
     /// A step by a reply.
+    #[inline(always)]
     fn reply(self, event: &LineEvent, parts: &ReplyParts) -> Result<Self, BuildError>
         requires { replied_by event.now.kind ≡ Some parts.now }
         ensures { (es : List ALineEvent) → AreAccepted es → self ≡ history_of es → IsStep es event.now result }
@@ -192,6 +197,7 @@ impl Arena {
     }
 
     /// Appends a call that isn't refused, where `last` is the last event of its register and value.
+    #[inline(always)]
     fn with_call(
         self,
         alloc: Global,
@@ -228,6 +234,7 @@ impl Arena {
     }
 
     /// Appends a reply that isn't refused.
+    #[inline(always)]
     fn with_reply(
         self,
         event: &LineEvent,

@@ -1,6 +1,5 @@
 //! Where a threaded list begins and ends.
 ghost use Rattle.std.specs.Prelude.{◌≡◌, Some, None};
-ghost use Rattle.std.specs.Option.{option_or};
 ghost use Rattle.reg_arena.specs.Threads.{entry_alone, entry_with};
 
 use crate::event::Event;

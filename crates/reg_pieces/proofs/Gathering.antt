@@ -13,7 +13,7 @@ use Rattle.reg_arena.proofs.Links.{slice_get-push}
 use Rattle.reg_pieces.specs.Plan.{IsPieceOf}
 use Rattle.reg_pieces.specs.Slots.{AreDone, AreSlots, AreWithin, IsFull, with_pieces}
 use Rattle.reg_pieces.specs.Work.{HasWorked, numbers_of}
-use Rattle.reg_pieces.specs.Workers.{IsBack, IsJoined, IsNewSeat, view_with, weight_back, weight_of_all, weight_so_far}
+use Rattle.reg_pieces.specs.Workers.{IsHandedBack, IsJoined, IsNewSeat, view_with, weight_back, weight_of_all, weight_so_far}
 use Rattle.reg_pieces.specs.declared.piece.Piece.{Piece}
 use Rattle.reg_pieces.specs.declared.tasks.Task.{Task}
 use Rattle.reg_pieces.specs.declared.worker.Worked.{Worked}
@@ -38,7 +38,7 @@ same-weights (s ∷ seats) (w ∷ back) l e =
     omega (arith, r, here)
 
 -- what is handed back for a new seat
-pub back-of : (h : History) (tasks : List Task) (board : BoardValue) (seat : SeatValue) (w : Worked) → IsNewSeat tasks board seat → HasWorked h tasks seat w → IsBack h tasks board w
+pub back-of : (h : History) (tasks : List Task) (board : BoardValue) (seat : SeatValue) (w : Worked) → IsNewSeat tasks board seat → HasWorked h tasks seat w → IsHandedBack h tasks board w
 back-of h tasks board seat w s worked = record {
   here = worked.board ∙ s.fits.here;
   drawn = λ f. elim worked.drawn [
@@ -96,7 +96,7 @@ drawn-with board slots refused (Some one) seat n j f l = go (times n one.view.dr
     go (suc k) e p = inr (j.full f n (omega (arith, e)))
 
 -- a worker's seat and what it did are put to those before
-pub one-joined : (h : History) (tasks : List Task) (board : BoardValue) (slots : List (Option Piece)) (refused : Bool) (before : Option SeatValue) (w : Worked) (joined : SeatValue) (flag : Bool) → IsBack h tasks board w → AreWithin (length slots) w.done.items → IfSome before (IsJoined board slots refused)
+pub one-joined : (h : History) (tasks : List Task) (board : BoardValue) (slots : List (Option Piece)) (refused : Bool) (before : Option SeatValue) (w : Worked) (joined : SeatValue) (flag : Bool) → IsHandedBack h tasks board w → AreWithin (length slots) w.done.items → IfSome before (IsJoined board slots refused)
     → joined.board ≡ board.id → joined.view ≡ view_with before w.seat → (flag ≡ false → (refused ≡ false) × (w.refused ≡ false)) → IsJoined board (with_pieces slots w.done.items) flag joined
 one-joined h tasks board slots refused before w joined flag back within j here view both = record {
   here = here;

@@ -25,7 +25,7 @@ weight_of_all (s ∷ ss) = s.view.weight + weight_of_all ss
 -- ---- after
 
 -- What a worker hands back that was given a new seat: where memory wasn't refused, the seat drew what is done and no more, and no number was left.
-pub record IsBack (h : History) (tasks : List Task) (board : BoardValue) (w : Worked) : Type 0 where
+pub record IsHandedBack (h : History) (tasks : List Task) (board : BoardValue) (w : Worked) : Type 0 where
   pub here : w.seat.board ≡ board.id
   pub drawn : w.refused ≡ false → w.seat.view.drawn ≡ numbers_of w.done.items
   pub told : w.refused ≡ false → w.seat.view.told ≡ true

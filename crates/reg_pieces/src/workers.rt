@@ -5,7 +5,7 @@ ghost use Rattle.job_board.specs.declared.limits.TheConstants.{FULL_WEIGHT};
 ghost use Rattle.reg_pieces.specs.Plan.{IsPlan};
 ghost use Rattle.reg_pieces.specs.Slots.{AreDone, AreEmpty};
 ghost use Rattle.reg_pieces.specs.Work.{HasWorked};
-ghost use Rattle.reg_pieces.specs.Workers.{IsBack, IsNewSeat, view_with, weight_back, weight_of_all};
+ghost use Rattle.reg_pieces.specs.Workers.{IsHandedBack, IsNewSeat, view_with, weight_back, weight_of_all};
 
 use crate::gate::Gate;
 use crate::pieces::Pieces;
@@ -54,7 +54,7 @@ fn all_work<R: Threads + Sync, G: Gate + Sync>(
 ) -> Result<Vec<Worked>, AllocError>
     requires plan { (cut : ℕ) × IsPlan arena.now cut plan.now }
     requires seats { All (IsNewSeat plan.now.tasks board.now) seats.items }
-    ensures back { IfOk result (λ back. All (IsBack arena.now plan.now.tasks board.now) back.items) }
+    ensures back { IfOk result (λ back. All (IsHandedBack arena.now plan.now.tasks board.now) back.items) }
     ensures weight { IfOk result (λ back. weight_back back.items ≡ weight_of_all seats.items) }
 {
     thread::map_vec(
@@ -108,7 +108,7 @@ fn gathered(
     requires jobs { board.jobs ≡ length plan.now.tasks }
     requires count { length pieces ≡ length plan.now.tasks }
     requires empty { AreEmpty pieces }
-    requires back { All (IsBack arena.now plan.now.tasks board) back.items }
+    requires back { All (IsHandedBack arena.now plan.now.tasks board) back.items }
     requires weight { weight_back back.items ≡ FULL_WEIGHT }
     ensures { IfOk result (AreDone arena.now plan.now.tasks) }
 {

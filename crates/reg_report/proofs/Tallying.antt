@@ -1,50 +1,88 @@
--- A count over a walk: what was counted, and what is left, are all calls of the register.
-use Rattle.std.proofs.Common.{◌≡◌, ℕ, ◌+◌, ◌<◌, ◌≤◌, ◌^◌, cond, Bool, true, false, not, List, [], ◌∷◌, length, is_none, slice_get, Option, Some, None, refl, sym, ap, ◌∙◌, arith, suc, ◌==◌}
+-- Counts of each register's calls, in a pass over the events: what was counted, and what is left, are all calls of the register.
+use Rattle.std.proofs.Common.{◌≡◌, ℕ, zero, ◌+◌, ◌<◌, ◌≤◌, ◌^◌, cond, Bool, true, false, not, List, [], ◌∷◌, length, drop, set, replicate, is_none, slice_get, Some, None, ◌⊎◌, inl, inr, refl, sym, ap, subst, ◌∙◌, arith, suc, ◌==◌}
 use Rattle.std.specs.List.{count_by}
+use Rattle.std.proofs.lemmas.Bool.{eq-eqb, ne_eqb}
+use Rattle.std.proofs.lemmas.List.{length-set, length-replicate}
 use Rattle.std.proofs.lemmas.List.Sums.{sum_by-cons, length-filter, count_by-le-length}
 use Rattle.reg_arena.specs.History.{History}
-use Rattle.reg_arena.specs.Operations.{Operation, operation, next_of, calls_from, calls, is_write, writes}
-use Rattle.reg_arena.specs.Shown.{IsFirstOf, IsNextOf, IsNamed, by_register, op_shown}
-use Rattle.reg_arena.specs.Walking.{called_at, calls_at, IsOnWalk}
-use Rattle.reg_arena.proofs.Walking.{walk-begins, walk-goes, walk-first, walk-next, named-is-called}
-use Rattle.reg_arena.specs.declared.ids.EvId.{EvId}
+use Rattle.reg_arena.specs.Operations.{Operation, operation, next_of, calls_from, calls, of_register, is_write, writes}
+use Rattle.reg_arena.specs.Shown.{IsNamed, op_shown}
+use Rattle.reg_arena.specs.Walking.{called_at}
+use Rattle.reg_arena.proofs.ByEvent.{element}
+use Rattle.reg_arena.proofs.Links.{slice_get-set, slice_get-set_other, decide_eq}
+use Rattle.reg_arena.proofs.Walking.{drop-at, named-is-called}
 use Rattle.reg_arena.specs.declared.ids.Oper.TheVariants.{Called}
 use Rattle.reg_arena.specs.declared.event.Event.{Event}
 use Rattle.reg_arena.specs.declared.op.Op.{Op}
 use Rattle.reg_report.specs.Meaning.{calls_of, is_pending}
-use Rattle.reg_report.specs.Tally.{IsTally, counted}
+use Rattle.reg_report.specs.Tally.{AreTallies, HasRoom, IsTally, counted, no_calls}
 use Rattle.reg_report.specs.declared.tally.Tally.{Tally}
 
-pub record IsCounting (h : History) (r : ℕ) (t : Tally) (next : Option EvId) : Type 0 where
-  pub write : count_by is_write (calls_of h r) ≡ t.writes + count_by is_write (calls_at h.events r next)
-  pub read : count_by (λ o. not (is_write o)) (calls_of h r) ≡ t.reads + count_by (λ o. not (is_write o)) (calls_at h.events r next)
-  pub open_calls : count_by is_pending (calls_of h r) ≡ t.pending + count_by is_pending (calls_at h.events r next)
-  pub on : IsOnWalk h.events r next
+-- the calls of register r from place n on
+abbrev pub calls_left : History → ℕ → ℕ → List Operation
+calls_left h r n = of_register r (calls_from (length h.events + 2) (n + 2) (drop n h.events))
 
-pub counting-begins : (h : History) (r : ℕ) (o : Option EvId) → IsFirstOf by_register h.events r o → IsCounting h r (record { writes = 0; reads = 0; pending = 0 }) o
-counting-begins h r o first =
-    let e = walk-begins r h.events o first in
-    record {
-      write = ap (count_by is_write) e ∙ omega arith;
-      read = ap (count_by (λ o. not (is_write o))) e ∙ omega arith;
-      open_calls = ap (count_by is_pending) e ∙ omega arith;
-      on = walk-first r h.events o first;
-    }
+-- what was counted of a register's calls before place n
+pub record IsCounting (h : History) (r n : ℕ) (t : Tally) : Type 0 where
+  pub write : count_by is_write (calls_of h r) ≡ t.writes + count_by is_write (calls_left h r n)
+  pub read : count_by (λ o. not (is_write o)) (calls_of h r) ≡ t.reads + count_by (λ o. not (is_write o)) (calls_left h r n)
+  pub open_calls : count_by is_pending (calls_of h r) ≡ t.pending + count_by is_pending (calls_left h r n)
 
-pub counting-ends : (h : History) (r : ℕ) (t : Tally) → IsCounting h r t None → IsTally (calls_of h r) t
-counting-ends h r t c = record { write = omega (arith, c.write); read = omega (arith, c.read); open_calls = omega (arith, c.open_calls) }
+-- the same of each register
+pub record AreCounting (h : History) (n : ℕ) (ts : List Tally) : Type 0 where
+  pub count : length ts ≡ length h.names
+  pub each : (r : ℕ) (t : Tally) → slice_get ts r ≡ Some t → IsCounting h r n t
+
+-- ---- the pass begins
+
+none-yet : (h : History) (r : ℕ) → IsCounting h r 0 no_calls
+none-yet h r = record { write = omega arith; read = omega arith; open_calls = omega arith }
+
+all-alike : {X : Type 0} (n : ℕ) (x : X) (i : ℕ) (y : X) → slice_get (replicate n x) i ≡ Some y → y ≡ x
+all-alike zero x i y q = absurd (cc (q))
+all-alike (suc n) x zero y q = cc (q)
+all-alike (suc n) x (suc i) y q = all-alike n x i y q
+
+pub counting-begins : (h : History) (ts : List Tally) (n : ℕ) → ts ≡ replicate n no_calls → n ≡ length h.names → AreCounting h 0 ts
+counting-begins h ts n q few = record {
+  count = ap length q ∙ (length-replicate n no_calls ∙ few);
+  each = λ r t at. subst (IsCounting h r 0) (sym (all-alike n no_calls r t (sym (ap (λ xs. slice_get xs r) q) ∙ at))) (none-yet h r);
+}
+
+-- ---- it goes on
+
+left-at : (h : History) (r n : ℕ) (e : Event) → slice_get h.events n ≡ Some e
+    → calls_left h r n ≡ of_register r (cond e.is_call (called_at h.events n e ∷ calls_from (length h.events + 2) (n + 1 + 2) (drop (n + 1) h.events)) (calls_from (length h.events + 2) (n + 1 + 2) (drop (n + 1) h.events)))
+left-at h r n e at =
+    let es = h.events in
+    let t : suc (n + 2) ≡ n + 1 + 2 = omega arith in
+    let u : suc n ≡ n + 1 = omega arith in
+    ap (λ xs. of_register r (calls_from (length es + 2) (n + 2) xs)) (drop-at es n e at)
+    ∙ (ap (λ m. of_register r (cond e.is_call (called_at es n e ∷ calls_from (length es + 2) m (drop (suc n) es)) (calls_from (length es + 2) m (drop (suc n) es)))) t
+    ∙ ap (λ m. of_register r (cond e.is_call (called_at es n e ∷ calls_from (length es + 2) (n + 1 + 2) (drop m es)) (calls_from (length es + 2) (n + 1 + 2) (drop m es)))) u)
+
+left-reply : (h : History) (r n : ℕ) (e : Event) → slice_get h.events n ≡ Some e → e.is_call ≡ false → calls_left h r n ≡ calls_left h r (n + 1)
+left-reply h r n e at reply =
+    let xs = calls_from (length h.events + 2) (n + 1 + 2) (drop (n + 1) h.events) in
+    left-at h r n e at ∙ ap (λ b. of_register r (cond b (called_at h.events n e ∷ xs) xs)) reply
+
+left-call : (h : History) (r n : ℕ) (e : Event) → slice_get h.events n ≡ Some e → e.is_call ≡ true
+    → calls_left h r n ≡ cond ((called_at h.events n e).register == r) (called_at h.events n e ∷ calls_left h r (n + 1)) (calls_left h r (n + 1))
+left-call h r n e at call =
+    let xs = calls_from (length h.events + 2) (n + 1 + 2) (drop (n + 1) h.events) in
+    left-at h r n e at ∙ ap (λ b. of_register r (cond b (called_at h.events n e ∷ xs) xs)) call
+
+-- an event that adds nothing to a register
+skip : (h : History) (r n : ℕ) (t : Tally) → calls_left h r n ≡ calls_left h r (n + 1) → IsCounting h r n t → IsCounting h r (n + 1) t
+skip h r n t q c = record {
+  write = c.write ∙ ap (λ xs. t.writes + count_by is_write xs) q;
+  read = c.read ∙ ap (λ xs. t.reads + count_by (λ o. not (is_write o)) xs) q;
+  open_calls = c.open_calls ∙ ap (λ xs. t.pending + count_by is_pending xs) q;
+}
 
 -- an event that is no call adds nothing
-pub counting-skips : (h : History) (r : ℕ) (t : Tally) (i : EvId) (o : Option EvId) (e : Event) → IsCounting h r t (Some i) → slice_get h.events i.0 ≡ Some e → e.register.0 ≡ r → e.is_call ≡ false → IsNextOf by_register h.events i.0 o → IsCounting h r t o
-counting-skips h r t i o e c at own reply next =
-    let g = walk-goes r h.events i e o at own next in
-    let q : calls_at h.events r (Some i) ≡ calls_at h.events r o = g ∙ ap (λ b. cond b (called_at h.events i.0 e ∷ calls_at h.events r o) (calls_at h.events r o)) reply in
-    record {
-      write = c.write ∙ ap (λ xs. t.writes + count_by is_write xs) q;
-      read = c.read ∙ ap (λ xs. t.reads + count_by (λ o. not (is_write o)) xs) q;
-      open_calls = c.open_calls ∙ ap (λ xs. t.pending + count_by is_pending xs) q;
-      on = walk-next r h.events i o c.on next;
-    }
+pub counting-skips : (h : History) (n : ℕ) (ts : List Tally) (e : Event) → AreCounting h n ts → slice_get h.events n ≡ Some e → e.is_call ≡ false → AreCounting h (n + 1) ts
+counting-skips h n ts e c at reply = record { count = c.count; each = λ r t q. skip h r n t (left-reply h r n e at reply) (c.each r t q) }
 
 writes-shown : (o : Operation) → writes (op_shown o).kind ≡ is_write o
 writes-shown o = refl
@@ -67,21 +105,64 @@ one-less : (b : Bool) (n m : ℕ) → n + (cond (not b) 1 0 + m) ≡ cond b n (n
 one-less true n m = omega arith
 one-less false n m = omega arith
 
--- a call adds itself
-pub counting-adds : (h : History) (r : ℕ) (t : Tally) (i : EvId) (o : Option EvId) (e : Event) (a : Operation) (p : Op) → IsCounting h r t (Some i) → slice_get h.events i.0 ≡ Some e → e.register.0 ≡ r → e.is_call ≡ true
-    → IsNamed h (Called i) a → p ≡ op_shown a → IsNextOf by_register h.events i.0 o → IsCounting h r (counted p t) o
-counting-adds h r t i o e a p c at own call named shown next =
-    let g = walk-goes r h.events i e o at own next in
-    let n = named-is-called h i e a at named in
-    let rest = calls_at h.events r o in
-    let q : calls_at h.events r (Some i) ≡ a ∷ rest = g ∙ (ap (λ b. cond b (called_at h.events i.0 e ∷ rest) rest) call ∙ ap (λ x. x ∷ rest) (sym n)) in
+-- a call adds itself to its register
+more : (h : History) (r n : ℕ) (t : Tally) (a : Operation) (p : Op) → calls_left h r n ≡ a ∷ calls_left h r (n + 1) → p ≡ op_shown a → IsCounting h r n t → IsCounting h r (n + 1) (counted p t)
+more h r n t a p q shown c =
+    let rest = calls_left h r (n + 1) in
     let w : is_write a ≡ writes p.kind = sym (ap (λ (x : Op). writes x.kind) shown) in
     let u : is_pending a ≡ is_none p.reply = sym (ap (λ (x : Op). is_none x.reply) shown ∙ pending-shown a) in
     record {
       write = c.write ∙ (ap (λ xs. t.writes + count_by is_write xs) q ∙ (ap (λ m. t.writes + m) (count-cons is_write a rest) ∙ (one-more (is_write a) t.writes (count_by is_write rest) ∙ ap (λ b. cond b (t.writes + 1) t.writes + count_by is_write rest) w)));
       read = c.read ∙ (ap (λ xs. t.reads + count_by (λ o. not (is_write o)) xs) q ∙ (ap (λ m. t.reads + m) (count-cons (λ o. not (is_write o)) a rest) ∙ (one-less (is_write a) t.reads (count_by (λ o. not (is_write o)) rest) ∙ ap (λ b. cond b t.reads (t.reads + 1) + count_by (λ o. not (is_write o)) rest) w)));
       open_calls = c.open_calls ∙ (ap (λ xs. t.pending + count_by is_pending xs) q ∙ (ap (λ m. t.pending + m) (count-cons is_pending a rest) ∙ (one-more (is_pending a) t.pending (count_by is_pending rest) ∙ ap (λ b. cond b (t.pending + 1) t.pending + count_by is_pending rest) u)));
-      on = walk-next r h.events i o c.on next;
+    }
+
+pub counting-adds : (h : History) (n : ℕ) (ts us : List Tally) (e : Event) (a : Operation) (p : Op) → AreCounting h n ts → slice_get h.events n ≡ Some e → e.is_call ≡ true
+    → IsNamed h (Called (record { 0 = n })) a → p ≡ op_shown a → ((t : Tally) → slice_get ts a.register ≡ Some t → us ≡ set ts a.register (counted p t)) → a.register < length h.names → AreCounting h (n + 1) us
+counting-adds h n ts us e a p c at call named shown new within =
+    let x = element ts a.register (omega (arith, c.count, within)) in
+    let v = new x.0 x.1 in
+    record {
+      count = ap length v ∙ (length-set ts a.register (counted p x.0) ∙ c.count);
+      each = λ r t q. own r t x.0 x.1 (decide_eq r a.register) (sym (ap (λ xs. slice_get xs r) v) ∙ q);
+    }
+  where
+    is : a ≡ called_at h.events n e
+    is = named-is-called h (record { 0 = n }) e a at named
+
+    left : (r : ℕ) → calls_left h r n ≡ cond (a.register == r) (a ∷ calls_left h r (n + 1)) (calls_left h r (n + 1))
+    left r = left-call h r n e at call ∙ ap (λ (b : Operation). cond (b.register == r) (b ∷ calls_left h r (n + 1)) (calls_left h r (n + 1))) (sym is)
+
+    own : (r : ℕ) (t was : Tally) → slice_get ts a.register ≡ Some was → (r ≡ a.register) ⊎ (r ≡ a.register → ⊥) → slice_get (set ts a.register (counted p was)) r ≡ Some t → IsCounting h r (n + 1) t
+    own r t was there (inl q) got =
+        let here = slice_get-set ts a.register (counted p was) (omega (arith, c.count, within)) in
+        let moved = ap (slice_get (set ts a.register (counted p was))) q in
+        let same : t ≡ counted p was = cc (got, here, moved) in
+        let d = eq-eqb a.register r (sym q) in
+        subst (IsCounting h r (n + 1)) (sym same) (more h r n was a p (left r ∙ ap (λ b. cond b (a ∷ calls_left h r (n + 1)) (calls_left h r (n + 1))) d) shown (c.each r was (ap (slice_get ts) q ∙ there)))
+    own r t was there (inr ne) got =
+        let d = ne_eqb a.register r (λ q. ne (sym q)) in
+        skip h r n t (left r ∙ ap (λ b. cond b (a ∷ calls_left h r (n + 1)) (calls_left h r (n + 1))) d) (c.each r t (sym (slice_get-set_other ts a.register r (counted p was) ne) ∙ got))
+
+-- ---- it ends
+
+pub counting-ends : (h : History) (n : ℕ) (ts : List Tally) → length h.events ≤ n → AreCounting h n ts → AreTallies h ts
+counting-ends h n ts l c = record { count = c.count; each = λ r t q. ends r t (c.each r t q) }
+  where
+    past : {X : Type 0} (xs : List X) (m : ℕ) → length xs ≤ m → drop m xs ≡ []
+    past [] zero l = refl
+    past [] (suc m) l = refl
+    past (x ∷ xs) zero l = absurd (omega arith)
+    past (x ∷ xs) (suc m) l = past xs m (omega arith)
+
+    nothing : (p : Operation → Bool) (r : ℕ) → count_by p (calls_left h r n) ≡ 0
+    nothing p r = ap (λ xs. count_by p (of_register r (calls_from (length h.events + 2) (n + 2) xs))) (past h.events n l)
+
+    ends : (r : ℕ) (t : Tally) → IsCounting h r n t → IsTally (calls_of h r) t
+    ends r t c = record {
+      write = omega (arith, c.write, nothing is_write r);
+      read = omega (arith, c.read, nothing (λ o. not (is_write o)) r);
+      open_calls = omega (arith, c.open_calls, nothing is_pending r);
     }
 
 -- ---- no count passes the number of events
@@ -102,9 +183,10 @@ count-few p h r =
     let c = calls-few (length h.events + 2) 2 h.events in
     omega arith
 
-pub tally-room : (h : History) (r : ℕ) (t : Tally) (next : Option EvId) → IsCounting h r t next → length h.events ≤ 2 ^ 20 → (t.writes < 2 ^ 31) × (t.reads < 2 ^ 31) × (t.pending < 2 ^ 31)
-tally-room h r t next c few =
+pub tally-room : (h : History) (n : ℕ) (ts : List Tally) → AreCounting h n ts → length h.events ≤ 2 ^ 20 → (r : ℕ) (t : Tally) → slice_get ts r ≡ Some t → HasRoom t
+tally-room h n ts cs few r t q =
+    let c = cs.each r t q in
     let a = count-few is_write h r in
     let b = count-few (λ o. not (is_write o)) h r in
     let d = count-few is_pending h r in
-    (omega (arith, c.write), omega (arith, c.read), omega (arith, c.open_calls))
+    record { writes = omega (arith, c.write); reads = omega (arith, c.read); pending = omega (arith, c.open_calls) }

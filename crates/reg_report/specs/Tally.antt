@@ -1,8 +1,9 @@
 -- Counts of calls.
-use Rattle.std.specs.Prelude.{◌≡◌, ◌+◌, List, count_by, not, cond, is_none}
+use Rattle.std.specs.Prelude.{◌≡◌, ◌+◌, ◌^◌, ◌<◌, ℕ, List, length, slice_get, Some, count_by, not, cond, is_none}
+use Rattle.reg_arena.specs.History.{History}
 use Rattle.reg_arena.specs.Operations.{Operation, is_write, writes}
 use Rattle.reg_arena.specs.declared.op.Op.{Op}
-use Rattle.reg_report.specs.Meaning.{is_pending}
+use Rattle.reg_report.specs.Meaning.{calls_of, is_pending}
 use Rattle.reg_report.specs.declared.tally.Tally.{Tally}
 
 -- the counts of some calls
@@ -18,3 +19,17 @@ counted op t = record {
   reads = cond (writes op.kind) t.reads (t.reads + 1);
   pending = cond (is_none op.reply) (t.pending + 1) t.pending;
 }
+
+abbrev pub no_calls : Tally
+no_calls = record { writes = 0; reads = 0; pending = 0 }
+
+-- no count is near the greatest number of a u32
+pub record HasRoom (t : Tally) : Type 0 where
+  pub writes : t.writes < 2 ^ 31
+  pub reads : t.reads < 2 ^ 31
+  pub pending : t.pending < 2 ^ 31
+
+-- the counts of all registers, by number
+pub record AreTallies (h : History) (ts : List Tally) : Type 0 where
+  pub count : length ts ≡ length h.names
+  pub each : (r : ℕ) (t : Tally) → slice_get ts r ≡ Some t → IsTally (calls_of h r) t

@@ -2,17 +2,19 @@
 ghost use Rattle.std.specs.Prelude.{◌≡◌, ◌+◌, ◌<◌, length, drop, is_some, IfOk};
 ghost use Rattle.reg_arena.specs.Operations.{calls, register_of};
 ghost use Rattle.reg_pieces.specs.Judged.{IsJudged};
-ghost use Rattle.reg_report.specs.Meaning.{IsRegisterReport, IsReport, IsWholeAtomicity};
+ghost use Rattle.reg_report.specs.Levels.{AreLevels};
+ghost use Rattle.reg_report.specs.Meaning.{IsReport, IsWholeAtomicity};
 ghost use Rattle.reg_pieces.specs.Plan.{AreTasks, IsPlan};
 ghost use Rattle.reg_report.specs.Registers.{AreReported, AreOrdersSoFar};
 ghost use Rattle.reg_pieces.specs.Slots.{AreDone, AreDoneFrom};
 
-use crate::levels::levels_of;
+use crate::levels::{Levels, levels_of};
 use crate::lists::{Lines, Orders, Registers};
 use crate::merged::merge;
 use crate::order::order_lines;
 use crate::register::register_report;
-use crate::report::{RegReport, Report};
+use crate::report::Report;
+use crate::tally::count_calls;
 use crate::told::told;
 use reg_arena::{Arena, EvId, RegId};
 use reg_pieces::{Order, Piece, Pieces, Plan};
@@ -59,28 +61,28 @@ fn with_order(
     }
 }
 
-/// The line of one register, its order or fault, and the number after its pieces, which stand from `start` on.
-fn register_part(
-    alloc: Global,
+/// The order or the fault of one register, its levels, and the number after its pieces, which stand from `start` on.
+fn register_pieces(
     arena: &Arena,
     plan: &Plan,
     register: RegId,
     cut: u32,
     pieces: &mut Pieces,
     start: usize,
-) -> Result<(RegReport, Piece, usize), AllocError>
+) -> (Piece, Levels, usize)
     requires register { register.0 < length arena.now.names }
     requires plan { IsPlan arena.now cut plan.now }
     requires cut { 0 < cut }
     requires done { AreDoneFrom start arena.now plan.now.tasks pieces.old }
     requires tasks { AreTasks cut register.0 (drop register.0 plan.now.lists) (drop start plan.now.tasks) }
-    ensures ok { IfOk result (λ r. IsRegisterReport arena.now register.0 r.0 × IsJudged (register_of arena.now register.0) r.1 × AreTasks cut (register.0 + 1) (drop (register.0 + 1) plan.now.lists) (drop r.2 plan.now.tasks)) }
-    ensures done { IfOk result (λ r. AreDoneFrom r.2 arena.now plan.now.tasks pieces.new) }
+    ensures judged { IsJudged (register_of arena.now register.0) result.0 }
+    ensures levels { AreLevels (register_of arena.now register.0) result.1 }
+    ensures tasks { AreTasks cut (register.0 + 1) (drop (register.0 + 1) plan.now.lists) (drop result.2 plan.now.tasks) }
+    ensures done { AreDoneFrom result.2 arena.now plan.now.tasks pieces.new }
 {
     let judged = pieces.take(start);
     let (levels, next) = levels_of(arena, plan, register, cut, pieces, start + 1);
-    let reg = register_report(alloc, arena, register, &judged, levels)?;
-    Ok((reg, judged, next))
+    (judged, levels, next)
 }
 
 /// The lines of all registers, in the order of their first calls, and their orders, from what is done.
@@ -96,21 +98,28 @@ fn register_reports(
     requires done { AreDone arena.now plan.now.tasks pieces }
     ensures { IfOk result (AreReported arena.now) }
 {
+    let tallies = count_calls(alloc, arena)?;
     let mut regs = Vec::new(alloc);
     let mut orders = Some(Orders::new(Vec::new(alloc)));
     let mut next = 0;
     for number in 0..arena.register_count() {
         let register = RegId(number);
-        let (reg, judged, after) = register_part(
-            alloc,
+        let (judged, levels, after) = register_pieces(
             arena,
             plan,
             register,
             cut,
             &mut pieces,
             next,
-        )?;
-        regs.push(reg)?;
+        );
+        regs.push(register_report(
+            alloc,
+            arena,
+            register,
+            &judged,
+            levels,
+            tallies[number as usize],
+        )?)?;
         orders = with_order(arena, register, orders, judged)?;
         next = after;
     }

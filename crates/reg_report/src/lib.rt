@@ -8,8 +8,8 @@
 //! of its registers is, and that a history has one report.
 //!
 //! To read, from the input on: `pulled`; `checked`, which asks all others, and below it `reg_pieces`; `history`, which
-//! puts what is done together: there `register` makes the line of one register, with `tally`, `levels`, `fault` and
-//! `order`, and `merged` the order of all; then `report` with `lists`, `send` and `written`; `pushed`, `outcome` and `whole` at last.
+//! puts what is done together: there `tally` counts the calls, `register` makes the line of one register, with `levels`,
+//! `fault` and `order`, and `merged` the order of all; then `report` with `lists`, `send` and `written`; `pushed`, `outcome` and `whole` at last.
 //! `refusal` and `wording` say why there is no report, and `told` asks the arena for what its laws say.
 #![tactic(auto)]
 

@@ -27,7 +27,7 @@ pub fn merge(alloc: Global, arena: &Arena, orders: &[Order]) -> Result<Vec<Place
 {
     told(arena);
     let mut merging = gathered(alloc, orders)?;
-    rank(&mut merging);
+    rank(&mut merging)?;
     placed(alloc, &merging)
 }
 
@@ -57,12 +57,14 @@ fn gather(merging: &mut Vec<Merging>, order: &[Placed]) -> Result<(), AllocError
 }
 
 /// Sorts operations whose places differ by their points, and where these are equal by their places.
-fn rank(merging: &mut Vec<Merging>)
+///
+/// Each register's order ascends already: the stable sort merges what ascends, and so it is the faster one here.
+fn rank(merging: &mut Vec<Merging>) -> Result<(), AllocError>
     requires { AllPairs (λ x y. same_place x y ≡ false) merging.old.items }
     ensures permutation { IsPermutation merging.old.items merging.new.items }
-    ensures ascending { AllPairs ComesFirst merging.new.items }
+    ensures ascending { OnOk result (AllPairs ComesFirst merging.new.items) }
 {
-    merging.sort_unstable_by_key(|x| (x.point, x.place));
+    merging.sort_by_key(|x| (x.point, x.place))
 }
 
 /// The operations with their points.

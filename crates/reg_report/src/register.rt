@@ -3,7 +3,8 @@ ghost use Rattle.std.specs.Prelude.{◌<◌, length, IfOk};
 ghost use Rattle.reg_pieces.specs.Judged.{IsJudged};
 ghost use Rattle.reg_report.specs.Atomicity.{IsAtomicityShown};
 ghost use Rattle.reg_report.specs.Levels.{AreLevels};
-ghost use Rattle.reg_report.specs.Meaning.{IsRegisterReport};
+ghost use Rattle.reg_report.specs.Meaning.{IsRegisterReport, calls_of};
+ghost use Rattle.reg_report.specs.Tally.{IsTally};
 ghost use Rattle.reg_arena.specs.Operations.{register_of};
 
 use crate::fault::fault_lines;
@@ -11,7 +12,7 @@ use crate::levels::Levels;
 use crate::lists::Lines;
 use crate::order::{order_lines, point_lines};
 use crate::report::{FaultLines, RegReport};
-use crate::tally::count_calls;
+use crate::tally::Tally;
 use crate::told::told;
 use history_text::Name;
 use reg_arena::{Arena, RegId};
@@ -86,14 +87,15 @@ pub(crate) fn register_report(
     register: RegId,
     judged: &Piece,
     levels: Levels,
+    tally: Tally,
 ) -> Result<RegReport, AllocError>
     requires register { register.0 < length arena.now.names }
     requires judged { IsJudged (register_of arena.now register.0) judged.now }
     requires levels { AreLevels (register_of arena.now register.0) levels }
+    requires tally { IsTally (calls_of arena.now register.0) tally }
     ensures { IfOk result (IsRegisterReport arena.now register.0) }
 {
     let name = Name::new(alloc, arena.name(register))?;
-    let tally = count_calls(arena, register);
     let said = atomicity_of(alloc, arena, register, judged)?;
     Ok(RegReport {
         register: name,

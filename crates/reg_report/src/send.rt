@@ -1,5 +1,5 @@
 //! What the lines of a report send to a serializer.
-ghost use Rattle.std.specs.Prelude.{◌≡◌, ◌+◌, length, OnOk, if◌then◌else◌, is_some};
+ghost use Rattle.std.specs.Prelude.{◌≡◌, ◌+◌, length, OnOk, if◌then◌else◌};
 ghost use Rattle.serde_json.specs.Data.{string};
 ghost use Rattle.serde_json.specs.Events.{SendsValue};
 ghost use Rattle.reg_report.specs.Text.{always, fields_of, shown, number_json, numbers_json, pair_json, yes_or_no, verdict_json, fault_json, register_json, register_parts, summary_json, summary_parts};

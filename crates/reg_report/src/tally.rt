@@ -1,10 +1,12 @@
-//! How many calls a register has.
-ghost use Rattle.std.specs.Prelude.{◌≡◌, ◌<◌, ◌^◌};
-ghost use Rattle.reg_report.specs.Meaning.{calls_of};
-ghost use Rattle.reg_report.specs.Tally.{IsTally, counted};
+//! How many calls each register has.
+ghost use Rattle.std.specs.Prelude.{◌≡◌, ◌<◌, length, replicate, set, slice_get, Some, IfOk};
+ghost use Rattle.reg_report.specs.Tally.{AreTallies, HasRoom, counted, no_calls};
+ghost use Rattle.reg_report.specs.declared.tally.Tally.{Tally as ATally};
 
+use crate::told::told;
 use history_text::OpKind;
-use reg_arena::{Arena, Op, Oper, RegId};
+use reg_arena::{Arena, EvId, Op, Oper};
+use std::alloc::{AllocError, Global};
 
 /// The calls of a register, pending ones too.
 #[derive(Clone, Copy, Debug, PartialEq, Eq)]
@@ -17,9 +19,7 @@ pub(crate) struct Tally {
 impl Tally {
     /// One call more.
     fn and(self, op: &Op) -> Tally
-        requires writes { self.writes < 2 ^ 31 }
-        requires reads { self.reads < 2 ^ 31 }
-        requires pending { self.pending < 2 ^ 31 }
+        requires { HasRoom self }
         ensures { result ≡ counted op.now self }
     {
         let pending = if op.reply.is_none() {
@@ -42,21 +42,44 @@ impl Tally {
     }
 }
 
-/// Counts the calls of a register.
-pub(crate) fn count_calls(arena: &Arena, register: RegId) -> Tally
-    ensures { IsTally (calls_of arena.now register.0) result }
+/// So many registers without calls.
+fn none_counted(alloc: Global, count: u32) -> Result<Vec<Tally>, AllocError>
+    ensures { IfOk result (λ tallies. tallies.items ≡ replicate count no_calls) }
 {
-    let mut tally = Tally {
-        writes: 0,
-        reads: 0,
-        pending: 0,
-    };
-    let mut next = arena.first_of_register(register);
-    while let Some(id) = next {
+    let mut tallies = Vec::new(alloc);
+    tallies.resize(
+        count as usize,
+        Tally {
+            writes: 0,
+            reads: 0,
+            pending: 0,
+        },
+    )?;
+    Ok(tallies)
+}
+
+/// Adds a call to the tally of its register.
+fn add(tallies: &mut Vec<Tally>, op: &Op)
+    requires within { op.now.register.0 < length tallies.old.items }
+    requires room { (tally : ATally) → slice_get tallies.old.items op.now.register.0 ≡ Some tally → HasRoom tally }
+    ensures { (tally : ATally) → slice_get tallies.old.items op.now.register.0 ≡ Some tally → tallies.new.items ≡ set tallies.old.items op.now.register.0 (counted op.now tally) }
+{
+    let register = op.register.0 as usize;
+    let tally = tallies[register];
+    tallies[register] = tally.and(op);
+}
+
+/// Counts the calls of each register, in one pass over the events.
+pub(crate) fn count_calls(alloc: Global, arena: &Arena) -> Result<Vec<Tally>, AllocError>
+    ensures { IfOk result (λ tallies. AreTallies arena.now tallies.items) }
+{
+    told(arena);
+    let mut tallies = none_counted(alloc, arena.register_count())?;
+    for number in 0..arena.event_count() {
+        let id = EvId(number);
         if arena.event(id).is_call {
-            tally = tally.and(&arena.op(Oper::Called(id)));
+            add(&mut tallies, &arena.op(Oper::Called(id)));
         }
-        next = arena.next_in_register(id);
     }
-    tally
+    Ok(tallies)
 }

@@ -1,5 +1,5 @@
 //! Why clusters and zones decide: laws over the definitions alone. Each is the contract of a function that does nothing.
-ghost use Rattle.std.specs.Prelude.{◌≡◌, ◌↔◌, ◌≤◌, ◌<◌, ℕ, List, None};
+ghost use Rattle.std.specs.Prelude.{◌≡◌, ◌↔◌, ◌≤◌, ◌<◌, List, None};
 ghost use Rattle.reg_arena.specs.Lists.{In, Before};
 ghost use Rattle.reg_arena.specs.Operations.{Operation, IsHistory};
 ghost use Rattle.reg_arena.specs.Legal.{IsLegal, IsAtomic};

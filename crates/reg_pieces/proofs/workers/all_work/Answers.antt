@@ -2,7 +2,7 @@ use Rattle.std.proofs.Common.{◌≡◌, ◌<◌, ◌∙◌, ℕ, All, Some, len
 use Rattle.std.proofs.lemmas.Option.{get_or_from_slice_get, slice_get_within}
 use Rattle.std.specs.Vec.{vec_len}
 use Rattle.job_board.specs.Seats.{SeatValue}
-use Rattle.reg_pieces.specs.Workers.{IsBack, IsNewSeat, weight_back, weight_of_all}
+use Rattle.reg_pieces.specs.Workers.{IsHandedBack, IsNewSeat, weight_back, weight_of_all}
 use Rattle.reg_pieces.specs.declared.worker.Worked.{Worked}
 use Rattle.reg_pieces.proofs.Gathering.{back-of, ok-both, same-weights}
 use Rattle.reg_pieces.proofs.workers.all_work.Goals as goal
@@ -12,7 +12,7 @@ returns-clause-back g c =
     let h = c.args.arena.now in
     let tasks = c.args.plan.now.tasks in
     let board = c.args.board.now in
-    ok-both (λ v. vec_len v ≡ vec_len c.args.seats) _ (λ back. All (IsBack h tasks board) back.items) c.map_vec.result
+    ok-both (λ v. vec_len v ≡ vec_len c.args.seats) _ (λ back. All (IsHandedBack h tasks board) back.items) c.map_vec.result
     (λ back len each. λ k d l.
     let inside : k < length c.args.seats.items = omega (arith, l, back.ok.0, c.args.seats.ok.0, len) in
     let j = (each k d inside).1 in

@@ -2,7 +2,7 @@ use Rattle.std.proofs.Common.{◌≡◌, ◌∙◌, false, length, sym, ap, subs
 use Rattle.std.proofs.lemmas.Bool.{false≢true}
 use Rattle.std.specs.Prelude.{IfSome}
 use Rattle.reg_pieces.specs.Slots.{AreSlots, AreWithin}
-use Rattle.reg_pieces.specs.Workers.{IsBack, IsJoined, weight_back}
+use Rattle.reg_pieces.specs.Workers.{IsHandedBack, IsJoined, weight_back}
 use Rattle.reg_pieces.proofs.Gathering.{all-done, back-push, first-ones, last-one, one-joined, weight-with}
 use Rattle.reg_pieces.proofs.Putting.{length-with, pieces-within, with-slots}
 use Rattle.reg_pieces.proofs.workers.gathered.Goals as goal
@@ -14,7 +14,7 @@ put_all-requires c =
     let tasks = c.args.plan.now.tasks in
     let l = c.loop-worked in
     let w = c.in-Some.worked in
-    let one = last-one (IsBack h tasks c.args.board) l.back.items c.pop.new.self.items w c.in-Some.ensures.items l.invariant.back in
+    let one = last-one (IsHandedBack h tasks c.args.board) l.back.items c.pop.new.self.items w c.in-Some.ensures.items l.invariant.back in
     subst (λ n. AreWithin n w.done.items) (sym l.invariant.count) (pieces-within h tasks w.done.items one.pieces)
 
 pub loop-worked-preserved : goal.loop-worked-preserved
@@ -28,14 +28,14 @@ loop-worked-preserved c =
     let popped = c.in-Some.ensures.items in
     let put = c.put_all.ensures in
     let seat = c.joined.result in
-    let one = last-one (IsBack h tasks board) l.back.items rest w popped l.invariant.back in
+    let one = last-one (IsHandedBack h tasks board) l.back.items rest w popped l.invariant.back in
     let within = subst (λ n. AreWithin n w.done.items) (sym l.invariant.count) (pieces-within h tasks w.done.items one.pieces) in
     let both : c.if-refused.refused ≡ false → (l.refused ≡ false) × (w.refused ≡ false) = λ f. elim c.if-refused.branch [
       | then-refused k ↦ absurd (false≢true (sym f ∙ (k.refused-is ∙ k.if-refused.true)))
       | else-refused k ↦ (k.if-refused.false, sym k.refused-is ∙ f)
     ] in
     record {
-      back = first-ones (IsBack h tasks board) l.back.items rest w popped l.invariant.back;
+      back = first-ones (IsHandedBack h tasks board) l.back.items rest w popped l.invariant.back;
       weight = omega (arith, ap (λ v. v.weight) c.joined.ensures.view, weight-with l.whole w.seat, ap weight_back popped, back-push rest w, l.invariant.weight);
       slots = subst (AreSlots h tasks) (sym put) (with-slots h tasks l.pieces w.done.items one.pieces l.invariant.slots);
       count = ap length put ∙ (length-with l.pieces w.done.items ∙ l.invariant.count);

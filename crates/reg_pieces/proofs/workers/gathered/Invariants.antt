@@ -2,12 +2,12 @@ use Rattle.std.proofs.Common.{◌≡◌, ◌+◌, All, length}
 use Rattle.std.specs.Prelude.{IfSome}
 use Rattle.job_board.specs.declared.limits.TheConstants.{FULL_WEIGHT}
 use Rattle.reg_pieces.specs.Slots.{AreSlots}
-use Rattle.reg_pieces.specs.Workers.{IsBack, IsJoined, weight_back, weight_so_far}
+use Rattle.reg_pieces.specs.Workers.{IsHandedBack, IsJoined, weight_back, weight_so_far}
 use Rattle.reg_pieces.proofs.workers.gathered.Given as goal
 
 abbrev pub invariant-loop-worked : goal.invariant-loop-worked
 invariant-loop-worked l = record {
-  back : All (IsBack l.arena l.plan.tasks l.board) l.back.items;
+  back : All (IsHandedBack l.arena l.plan.tasks l.board) l.back.items;
   weight : weight_so_far l.whole + weight_back l.back.items ≡ FULL_WEIGHT;
   slots : AreSlots l.arena l.plan.tasks l.pieces;
   count : length l.pieces ≡ length l.plan.tasks;

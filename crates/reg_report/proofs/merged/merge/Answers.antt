@@ -18,5 +18,5 @@ returns c =
     let os = c.args.orders.now in
     let moved = subst (λ ms. IsPermutation ms c.rank.new.merging.items) (c.in_ok-merging.ensures ∙ ap (merging_from 0) (names h c.told.ensures os c.requires)) c.rank.ensures.permutation in
     IfOk-weaker c.placed.result (λ v. v.items ≡ unmerged c.deref.result.now) (λ v. IsMergedAnswer h v.items)
-    (λ v e. merged_answer h c.told.ensures os c.requires c.rank.new.merging.items moved c.rank.ensures.ascending v.items (e ∙ ap unmerged c.deref.ensures.value))
+    (λ v e. merged_answer h c.told.ensures os c.requires c.rank.new.merging.items moved c.in_ok-rank.ensures.ascending v.items (e ∙ ap unmerged c.deref.ensures.value))
     c.placed.ensures

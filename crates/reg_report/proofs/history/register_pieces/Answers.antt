@@ -1,7 +1,7 @@
 use Rattle.std.proofs.Common.{◌<◌, sym, subst, arith}
 use Rattle.reg_report.proofs.Assembly.{inside-tasks, judged-stands, judged-there, cuts-there, next-there}
 use Rattle.reg_report.proofs.Cutting.{done-behind}
-use Rattle.reg_report.proofs.history.register_part.Goals as goal
+use Rattle.reg_report.proofs.history.register_pieces.Goals as goal
 
 pub take-judged-requires : goal.take-judged-requires
 take-judged-requires c =
@@ -19,14 +19,10 @@ pub levels_of-next-requires-clause-cuts : goal.levels_of-next-requires-clause-cu
 levels_of-next-requires-clause-cuts c =
     cuts-there c.args.arena.now c.args.cut c.args.register.0 c.args.start c.args.plan.now (subst (λ n. c.args.register.0 < n) (sym c.requires.plan.registers) c.requires.register) c.requires.tasks
 
-pub register_report-requires-clause-judged : goal.register_report-requires-clause-judged
-register_report-requires-clause-judged c =
+pub returns-clause-judged : goal.returns-clause-judged
+returns-clause-judged c =
     judged-there c.args.arena.now c.args.cut c.args.register.0 c.args.start c.args.plan.now (subst (λ n. c.args.register.0 < n) (sym c.requires.plan.registers) c.requires.register) c.requires.tasks c.args.pieces.now c.take-judged.result c.requires.done c.take-judged.ensures.piece
 
-pub returns-clause-ok : goal.returns-clause-ok
-returns-clause-ok c =
-    let inside = subst (λ n. c.args.register.0 < n) (sym c.requires.plan.registers) c.requires.register in (
-      c.in_ok-reg.ensures,
-      judged-there c.args.arena.now c.args.cut c.args.register.0 c.args.start c.args.plan.now inside c.requires.tasks c.args.pieces.now c.take-judged.result c.requires.done c.take-judged.ensures.piece,
-      next-there c.args.arena.now c.args.cut c.args.register.0 c.args.start c.args.plan.now inside c.requires.tasks c.levels_of-next.result.1 c.levels_of-next.ensures.next,
-    )
+pub returns-clause-tasks : goal.returns-clause-tasks
+returns-clause-tasks c =
+    next-there c.args.arena.now c.args.cut c.args.register.0 c.args.start c.args.plan.now (subst (λ n. c.args.register.0 < n) (sym c.requires.plan.registers) c.requires.register) c.requires.tasks c.levels_of-next.result.1 c.levels_of-next.ensures.next
