@@ -216,27 +216,33 @@ fn limits_of_a_line(rt: HostRuntime) -> Result<(), Fail> {
     Ok(())
 }
 
-// The lines and the spans of an input: `line:from-to` and the number of the fault, or 0.
-fn shown(rt: &(impl Threads + Abort + Sync), alloc: Global, bytes: &[u8]) -> Result<String, Fail> {
-    assert!(rt; bytes.len() <= MAX_INPUT);
-    let mut shown = String::new(alloc);
-    for span in &lines_of(alloc, bytes)? {
+// Each span as `line:from-to`.
+fn show_spans(shown: &mut String, spans: &[Span]) -> Result<(), Fail> {
+    for span in spans {
         let Span { line, from, to } = *span;
         write!(shown, "{line}:{from}-{to} ")?;
     }
-    for read in &read_lines(rt, alloc, bytes)? {
-        match read {
-            Ok(event) => {
-                let line = event.line;
-                write!(shown, "{line}=0 ")?;
-            }
-            Err(fault) => {
-                let line = fault.line;
-                let number = fault.number();
-                write!(shown, "{line}={number} ")?;
-            }
-        }
+    Ok(())
+}
+
+// Each line as `line=number`, with the number of its fault, or 0.
+fn show_lines(shown: &mut String, lines: &[Result<LineEvent, LineFault>]) -> Result<(), Fail> {
+    for read in lines {
+        let (line, number) = match read {
+            Ok(event) => (event.line, 0),
+            Err(fault) => (fault.line, fault.number()),
+        };
+        write!(shown, "{line}={number} ")?;
     }
+    Ok(())
+}
+
+// The spans and the lines of an input.
+fn shown(rt: &(impl Threads + Abort + Sync), alloc: Global, bytes: &[u8]) -> Result<String, Fail> {
+    assert!(rt; bytes.len() <= MAX_INPUT);
+    let mut shown = String::new(alloc);
+    show_spans(&mut shown, &lines_of(alloc, bytes)?)?;
+    show_lines(&mut shown, &read_lines(rt, alloc, bytes)?)?;
     Ok(shown)
 }
 

@@ -105,29 +105,44 @@ fn add_value(
     Ok(())
 }
 
-// All walks of an arena of one or two registers, x and y, whose processes are 1 to 4 and whose values are null, 1, 2, 5 and 9.
-fn walks(alloc: Global, arena: &Arena) -> Result<String, AllocError> {
-    let mut text = String::new(alloc);
-    for register in 0..2 {
-        text.push_str(format!(in alloc; "register {register}:")?.as_str())?;
-        add_register(&mut text, alloc, arena, RegId(register))?;
-        for value in [
-            Val::Null,
-            Val::Int(1),
-            Val::Int(2),
-            Val::Int(5),
-            Val::Int(9),
-        ] {
-            text.push_str(" |")?;
-            add_value(&mut text, alloc, arena, RegId(register), value)?;
-        }
-        text.push_str("; ")?;
+// The walks of a register and of its values null, 1, 2, 5 and 9.
+fn add_register_walks(
+    text: &mut String,
+    alloc: Global,
+    arena: &Arena,
+    register: u32,
+) -> Result<(), AllocError> {
+    text.push_str(format!(in alloc; "register {register}:")?.as_str())?;
+    add_register(text, alloc, arena, RegId(register))?;
+    for value in [
+        Val::Null,
+        Val::Int(1),
+        Val::Int(2),
+        Val::Int(5),
+        Val::Int(9),
+    ] {
+        text.push_str(" |")?;
+        add_value(text, alloc, arena, RegId(register), value)?;
     }
+    text.push_str("; ")
+}
+
+// The walks of the processes 1 to 4.
+fn add_process_walks(text: &mut String, alloc: Global, arena: &Arena) -> Result<(), AllocError> {
     for process in 1..5 {
         text.push_str(format!(in alloc; "p{process}:")?.as_str())?;
-        add_process(&mut text, alloc, arena, process)?;
+        add_process(text, alloc, arena, process)?;
         text.push_str("; ")?;
     }
+    Ok(())
+}
+
+// All walks of an arena of one or two registers, x and y.
+fn walks(alloc: Global, arena: &Arena) -> Result<String, AllocError> {
+    let mut text = String::new(alloc);
+    add_register_walks(&mut text, alloc, arena, 0)?;
+    add_register_walks(&mut text, alloc, arena, 1)?;
+    add_process_walks(&mut text, alloc, arena)?;
     Ok(text)
 }
 
