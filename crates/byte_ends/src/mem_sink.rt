@@ -78,6 +78,7 @@ impl Sink for MemSink {
         ensures told { IsErr result ↔ ((0 < length bytes.now) × (self.old.room ≤ length self.old.taken)) }
         ensures much { IfOk result (λ count. count ≡ min self.old.step (min (length bytes.now) (self.old.room - length self.old.taken))) }
         ensures unflushed { IfOk result (λ _. self.new.flushed ≡ false) }
+        ensures kept { IsErr result → self.new.flushed ≡ self.old.flushed }
         ensures stays { (self.new.room ≡ self.old.room) × (self.new.step ≡ self.old.step) × (self.new.flush_fails ≡ self.old.flush_fails) }
     {
         let free = self.buffer.len() - self.used;
@@ -97,6 +98,7 @@ impl Sink for MemSink {
         requires { self.old.failures < 2 ^ 64 - 1 }
         ensures bytes { Keeps (Some self.old.taken) (Some self.new.taken) }
         ensures flushed { OnOk result (IsTrue self.new.flushed) }
+        ensures kept { IsErr result → self.new.flushed ≡ self.old.flushed }
         ensures failures { Counts self.old.failures self.new.failures result }
         ensures told { IsErr result ↔ IsTrue self.old.flush_fails }
         ensures stays { (self.new.room ≡ self.old.room) × (self.new.step ≡ self.old.step) × (self.new.flush_fails ≡ self.old.flush_fails) }

@@ -43,29 +43,31 @@ fn memory_that_fails_at_a_flush(rt: HostRuntime) -> Result<(), Fail> {
     Ok(())
 }
 
-// Interrupts every other read and write.
+// Interrupts a hundred times before each read and write.
 #[derive(Drop)]
 struct Interrupting<T: Drop> {
     inner: T,
-    interrupts: bool,
+    interrupts: u32,
 }
 
 impl<R: Read + Drop> Read for Interrupting<R> {
     fn read(&mut self, buf: &mut [u8]) -> io::Result<usize> {
-        self.interrupts = !self.interrupts;
-        if self.interrupts {
+        if self.interrupts < 100 {
+            self.interrupts += 1;
             return Err(io::Error::from(ErrorKind::Interrupted));
         }
+        self.interrupts = 0;
         self.inner.read(buf)
     }
 }
 
 impl<W: Write + Drop> Write for Interrupting<W> {
     fn write(&mut self, buf: &[u8]) -> io::Result<usize> {
-        self.interrupts = !self.interrupts;
-        if self.interrupts {
+        if self.interrupts < 100 {
+            self.interrupts += 1;
             return Err(io::Error::from(ErrorKind::Interrupted));
         }
+        self.interrupts = 0;
         self.inner.write(buf)
     }
 
@@ -79,7 +81,7 @@ impl<W: Write + Drop> Write for Interrupting<W> {
 fn interrupted_reader(rt: HostRuntime) -> Result<(), Fail> {
     let mut source = FromReader::new(Interrupting {
         inner: "abc".as_bytes(),
-        interrupts: false,
+        interrupts: 0,
     });
     let mut into = [0; 4];
     assert_eq!(rt; source.pull(&mut into), Ok(3));
@@ -94,10 +96,23 @@ fn interrupted_reader(rt: HostRuntime) -> Result<(), Fail> {
 fn interrupted_writer(rt: HostRuntime) -> Result<(), Fail> {
     let mut sink = FromWriter::new(Interrupting {
         inner: Vec::<u8>::new(rt.alloc()),
-        interrupts: false,
+        interrupts: 0,
     });
     assert_eq!(rt; sink.push("abc".as_bytes()), Ok(3));
     assert_eq!(rt; sink.flush(), Ok(()));
+    assert_eq!(rt; sink.failures(), 0);
+    Ok(())
+}
+
+// Nothing pulled and nothing pushed is no failure.
+#[test]
+fn nothing_is_no_failure(rt: HostRuntime) -> Result<(), Fail> {
+    let mut source = FromReader::new("abc".as_bytes());
+    let mut nothing = [0; 0];
+    assert_eq!(rt; source.pull(&mut nothing), Ok(0));
+    assert_eq!(rt; source.failures(), 0);
+    let mut sink = FromWriter::new(Vec::<u8>::new(rt.alloc()));
+    assert_eq!(rt; sink.push("".as_bytes()), Ok(0));
     assert_eq!(rt; sink.failures(), 0);
     Ok(())
 }

@@ -181,10 +181,10 @@ fn first_bad_reads_of_parts(rt: HostRuntime) -> Result<(), Fail> {
         (2, 3, 7),
         (3, 3, 0),
     ] {
-        let safe = bad_line(&rt, alloc, &arena, (from, to), Level::Safe)?;
-        assert_eq!(rt; safe, want, "safe from {from} to {to}");
-        let regular = bad_line(&rt, alloc, &arena, (from, to), Level::Regular)?;
-        assert_eq!(rt; regular, want, "regular from {from} to {to}");
+        for level in [Level::Safe, Level::Regular] {
+            let got = bad_line(&rt, alloc, &arena, (from, to), level)?;
+            assert_eq!(rt; got, want, "{level:?} from {from} to {to}");
+        }
     }
     Ok(())
 }

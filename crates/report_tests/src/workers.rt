@@ -2,6 +2,7 @@
 use crate::histories::{answered_by, settings};
 use crate::rows::REPORTS;
 use reg_report::{Gate, OpenGate, Outcome};
+use std::alloc::{AllocError, Global};
 use std::process::Abort;
 use std::sync::atomic::{AtomicBool, AtomicU64, Ordering};
 use std::test::Fail;
@@ -205,5 +206,38 @@ fn as_many_at_once_as_workers(rt: HostRuntime) -> Result<(), Fail> {
         assert!(rt; !gate.gave_up.load(Ordering::SeqCst), "{workers}");
         assert_eq!(rt; report.as_slice(), want.as_bytes(), "{workers}");
     }
+    Ok(())
+}
+
+// A write and fifteen reads of it, one after another: sixteen pieces in cuts of one read.
+fn fifteen_reads(alloc: Global) -> Result<String, AllocError> {
+    let mut input = String::from_str(
+        alloc,
+        r#"{"process":1,"event":"call","op":"write","register":"x","value":1}
+{"process":1,"event":"reply"}
+"#,
+    )?;
+    for _ in 0..15 {
+        input.push_str(
+            r#"{"process":2,"event":"call","op":"read","register":"x"}
+{"process":2,"event":"reply","value":1}
+"#,
+        )?;
+    }
+    Ok(input)
+}
+
+// So are as many workers as may be asked for.
+#[test]
+fn sixteen_workers_at_once(rt: HostRuntime) -> Result<(), Fail> {
+    let input = fifteen_reads(rt.alloc())?;
+    let gate = HoldsEach {
+        workers: 16,
+        arrived: AtomicU64::new(0),
+        gave_up: AtomicBool::new(false),
+    };
+    let (_, told) = answered_by(&rt, input.as_bytes(), settings(16, 1)?, &gate)?;
+    assert!(rt; !gate.gave_up.load(Ordering::SeqCst));
+    assert_eq!(rt; told, Ok(Outcome::Atomic));
     Ok(())
 }
