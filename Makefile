@@ -1,7 +1,7 @@
 # make: prove and build bin/regcheck. make run: run it on a shipped example, or on FILE=...
 # make test: the merge gate; then, by the programs that it built, the examples, runs with ends that fail, and workers on one
 # processor.
-# make bench: time it on generated histories, in five to fifteen minutes.
+# make bench: time it on generated histories, in three to fifteen minutes.
 # make install: bin/regcheck and its man page below PREFIX, within DESTDIR.
 FILE ?= examples/new_old_inversion.jsonl
 PREFIX ?= /usr/local
