@@ -4,3 +4,5 @@ pub mod InOrder
 pub mod Numbered
 pub mod Reading
 mod Rows
+mod Lexed
+mod Joined

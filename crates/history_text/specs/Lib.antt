@@ -5,3 +5,4 @@ pub mod Members
 pub mod Reading
 pub mod Faults
 pub mod Memory
+pub mod Flat

@@ -12,6 +12,7 @@
 
 mod event;
 mod fault;
+mod flat;
 mod limits;
 mod line;
 mod lines;

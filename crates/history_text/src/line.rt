@@ -7,6 +7,7 @@ ghost use Rattle.history_text.specs.Memory.{Gives, GivesLine};
 
 use crate::event::{Kind, LineEvent, OpKind, ReplyParts};
 use crate::fault::{LineFault, LineKind};
+use crate::flat::flat_event;
 use crate::limits::MAX_LINE;
 use crate::members;
 use crate::name::Name;
@@ -42,6 +43,9 @@ fn event_in(alloc: Global, bytes: &[u8], line: u32) -> Result<LineEvent, Refused
 {
     if bytes.len() > MAX_LINE {
         return Err(Refused::Fault(LineKind::TooLong));
+    }
+    if let Some(event) = flat_event(alloc, bytes, line)? {
+        return Ok(event);
     }
     match Value::from_slice(alloc, bytes) {
         Ok(value) => event(alloc, &value, line),
