@@ -5,6 +5,7 @@ use crate::settings::Settings;
 use reg_report::{OpenGate, Report, Verdict, check};
 use std::alloc::Global;
 use std::process::Abort;
+use std::random::RandomSource;
 use std::test::Fail;
 use std::thread::Threads;
 
@@ -20,7 +21,11 @@ const ASKED: [(u32, u64, Option<u32>, Option<u32>); 7] = [
 ];
 
 // The report of a history, by one worker.
-fn checked(rt: &(impl Threads + Sync), alloc: Global, text: &str) -> Result<Report, Fail> {
+fn checked(
+    rt: &(impl Threads + RandomSource + Sync),
+    alloc: Global,
+    text: &str,
+) -> Result<Report, Fail> {
     let by_one = reg_report::Settings::new(1, 4096).ok_or("settings beyond their limits")?;
     Ok(check(rt, alloc, text.as_bytes(), by_one, &OpenGate)?)
 }
@@ -35,7 +40,7 @@ fn is_regular(report: &Report) -> bool {
 
 // What the checker says of a kind's histories, whatever their settings.
 fn expect(
-    rt: &(impl Threads + Abort + Sync),
+    rt: &(impl Threads + RandomSource + Abort + Sync),
     alloc: Global,
     kind: Kind,
     atomic: bool,
@@ -91,7 +96,7 @@ fn few_events(rt: HostRuntime) -> Result<(), Fail> {
 }
 
 fn expect_counts(
-    rt: &(impl Threads + Abort + Sync),
+    rt: &(impl Threads + RandomSource + Abort + Sync),
     alloc: Global,
     kind: Kind,
 ) -> Result<(), Fail> {

@@ -1,15 +1,17 @@
 -- The threaded lists of an arena: each family is the filter of the one list of events, ascending.
 use Rattle.std.specs.Prelude.{◌≡◌, ℕ, ◌+◌, ◌^◌, ◌<◌, ◌≤◌, ◌⊎◌, ◌&&◌, Bool, nat_lt, nat_eq, cond, ℤ, List, length, slice_get, Option, Some, None, option_map, option_and_then}
 use Rattle.std.specs.List.{position}
-use Rattle.std.specs.Ordering.{nat_cmp, int_eq}
+use Rattle.std.specs.Ordering.{int_eq}
 use Rattle.std.specs.Option.{option_eq, option_or}
-use Rattle.std.specs.BTreeMap.{get}
+use Rattle.indexmap.specs.IndexMap.{get}
 use Rattle.history_text.specs.declared.event.Val.{Val}
 use Rattle.history_text.specs.declared.event.Val.TheVariants.{Null, Int}
 use Rattle.reg_arena.specs.declared.ids.EvId.{EvId}
 use Rattle.reg_arena.specs.declared.event.Event.{Event}
 use Rattle.reg_arena.specs.declared.ends.Ends.{Ends}
 use Rattle.reg_arena.specs.declared.ends.Entry.{Entry}
+use Rattle.reg_arena.specs.declared.processes.Processes.{Processes}
+use Rattle.reg_arena.specs.declared.processes.TheConstants.{TABLED}
 use Rattle.reg_arena.specs.declared.threads.Threads.{Threads}
 use Rattle.reg_arena.specs.Shown.{IsLeastFrom, IsFirstOf, IsCall, key_at, by_register, by_process, by_value}
 
@@ -40,6 +42,20 @@ pub record IsJoined {K : Type 0} (k : K) (n : EvId) (link new_link : ℕ → Opt
 abbrev pub IsJoinedBy : {K : Type 0} → Option K → EvId → (ℕ → Option EvId) → (ℕ → Option EvId) → (K → Option Ends) → (K → Option Ends) → Type 0
 IsJoinedBy {K} None n link new_link ends new_ends = ((i : ℕ) → new_link i ≡ link i) × ((q : K) → new_ends q ≡ ends q)
 IsJoinedBy (Some k) n link new_link ends new_ends = IsJoined k n link new_link ends new_ends
+
+-- ---- processes and the ends of their lists
+
+abbrev pub table_at : List (Option Ends) → ℕ → Option Ends
+table_at table p = option_and_then (λ o. o) (slice_get table p)
+
+-- those of small numbers stand in the table, and the others in the map
+abbrev pub process_ends : Processes → ℕ → Option Ends
+process_ends t p = cond (nat_lt p TABLED) (table_at t.table.items p) (get nat_eq t.others p)
+
+-- one key has new ends, and the others those that they had
+pub record IsSetAt (k : ℕ) (e : Ends) (ends new_ends : ℕ → Option Ends) : Type 0 where
+  pub one : new_ends k ≡ Some e
+  pub others : (q : ℕ) → (q ≡ k) ⊎ ((q ≡ k → ⊥) × (new_ends q ≡ ends q))
 
 -- ---- values and their entries
 
@@ -143,7 +159,7 @@ pub record HasTimes (y : Entry) : Type 0 where
 -- each of the three families is the filter of the one list of events, ascending
 pub record AreThreads (t : Threads) : Type 0 where
   pub registers : IsThreaded (key_at by_register t.events.items) (link_at t.in_register.items) (slice_get t.registers.items)
-  pub processes : IsThreaded (key_at by_process t.events.items) (link_at t.in_process.items) (get nat_cmp t.processes)
+  pub processes : IsThreaded (key_at by_process t.events.items) (link_at t.in_process.items) (process_ends t.processes)
   pub values : IsThreaded (key_at by_value t.events.items) (link_at t.in_value.items) (value_ends t.values.keys t.entries.items)
   -- each event's call
   pub calls : (i : ℕ) (c : EvId) → slice_get t.calls.items i ≡ Some c → IsCallAt t.events.items i c.0

@@ -131,7 +131,7 @@ impl Arena {
     pub fn first_of_process(&self, process: u32) -> Option<EvId>
         ensures { IsFirstOf by_process self.now.events process result }
     {
-        match self.threads.processes.get(&process).copied() {
+        match self.threads.processes.get(process) {
             Some(ends) => Some(ends.first),
             None => None,
         }

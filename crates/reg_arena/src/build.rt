@@ -15,7 +15,7 @@ use crate::event::Event;
 use crate::ids::{EvId, RegId};
 use crate::names::Names;
 use crate::refusal::{BuildError, LineRefusal};
-use crate::seeded::Seeded;
+use crate::seeded::{HashKey, Seeded};
 use crate::threads::Threads;
 use history_text::{Kind, LineEvent, LineFault, MAX_EVENTS, Name, OpKind, ReplyParts, Val};
 use std::alloc::{AllocError, Global};
@@ -43,8 +43,23 @@ impl Arena {
         ensures ok { IfOk result (λ a. IsWellFormed events.items × (a ≡ history_of (events_of events.items))) }
         ensures err { IfErr result (λ e. IsBuildError events.items e) }
     {
+        Arena::build_keyed(alloc, None, events)
+    }
+
+    /// The same, with a key of the hashes.
+    ///
+    /// # Errors
+    /// As of [`Arena::build`].
+    pub fn build_keyed(
+        alloc: Global,
+        key: Option<HashKey>,
+        events: Vec<Result<LineEvent, LineFault>>,
+    ) -> Result<Self, BuildError>
+        ensures ok { IfOk result (λ a. IsWellFormed events.items × (a ≡ history_of (events_of events.items))) }
+        ensures err { IfErr result (λ e. IsBuildError events.items e) }
+    {
         let count = events.len().min(MAX_EVENTS);
-        let mut arena = Arena::new(alloc, count, Seeded::over(&events))?;
+        let mut arena = Arena::new(alloc, count, Seeded::new(key, &events))?;
         for line in &events {
             match line {
                 Err(fault) => {

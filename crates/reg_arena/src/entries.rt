@@ -92,7 +92,7 @@ impl Threads {
         requires { AreThreads self.now }
         ensures { IsLastOf by_process self.now.events.items process result }
     {
-        match self.processes.get(&process).copied() {
+        match self.processes.get(process) {
             Some(ends) => Some(ends.last),
             None => None,
         }

@@ -1,47 +1,38 @@
 //! How an event joins one list of each family: the last event of the list gets its link, and the new one has none.
-ghost use Rattle.std.specs.BTreeMap.{get};
-ghost use Rattle.std.specs.Ordering.{nat_cmp};
 ghost use Rattle.std.specs.Prelude.{◌≡◌, ◌<◌, ◌≤◌, ◌^◌, ◌+◌, ℕ, length, slice_get, max, Some, OnOk, IfOk};
 ghost use Rattle.history_text.specs.declared.event.Val.{Val as AVal};
-ghost use Rattle.reg_arena.specs.Threads.{IsJoined, IsJoinedBy, IsEnteredBy, event_number, link_at, value_ends, value_entry, value_number, whole};
+ghost use Rattle.reg_arena.specs.Threads.{IsJoined, IsJoinedBy, IsEnteredBy, event_number, link_at, process_ends, value_ends, value_entry, value_number, whole};
 ghost use Rattle.reg_arena.specs.Shown.{by_value};
 ghost use Rattle.reg_arena.specs.declared.ends.Ends.{Ends};
 
 use crate::ends::{Ends, Entry};
 use crate::event::Event;
 use crate::ids::{EvId, RegId};
+use crate::processes::Processes;
 use crate::seeded::Seeded;
 use history_text::Val;
 use indexmap::IndexSet;
 use std::alloc::AllocError;
-use std::collections::BTreeMap;
 
 /// Joins event `id` to the list of its process.
 pub(crate) fn join_process(
     links: &mut Vec<Option<EvId>>,
-    processes: &mut BTreeMap<u32, Ends>,
+    processes: &mut Processes,
     process: u32,
     id: EvId,
 ) -> Result<(), AllocError>
-    requires { (e : Ends) → get nat_cmp processes.old process ≡ Some e → e.last.0 < length links.old.items }
-    ensures joined { OnOk result (IsJoined process id (link_at links.old.items) (link_at links.new.items) (get nat_cmp processes.old) (get nat_cmp processes.new)) }
+    requires { (e : Ends) → process_ends processes.old process ≡ Some e → e.last.0 < length links.old.items }
+    ensures joined { OnOk result (IsJoined process id (link_at links.old.items) (link_at links.new.items) (process_ends processes.old) (process_ends processes.new)) }
     ensures count { OnOk result (length links.new.items ≡ length links.old.items + 1) }
 {
-    match processes.get_mut(&process) {
+    let first = match processes.get(process) {
         Some(ends) => {
             links[ends.last.0 as usize] = Some(id);
-            ends.last = id;
+            ends.first
         }
-        None => {
-            processes.insert(
-                process,
-                Ends {
-                    first: id,
-                    last: id,
-                },
-            )?;
-        }
-    }
+        None => id,
+    };
+    processes.set(process, Ends { first, last: id })?;
     links.push(None)?;
     Ok(())
 }

@@ -5,8 +5,8 @@
 //! Operations, their times and their order are those of the definitions, and the laws of this crate say what holds of them in every accepted history.
 //! All calls but `build` take no memory and always answer.
 //!
-//! Read it in this order: `ids`, `event`, `op` and `refusal`, which are what is asked and answered; `seeded`, which makes the hashes; `ends`, `joins`, `threads`
-//! and `entries`, the lists that run through the events; `names`; `arena`, `called` and `members`, which answer; `agrees` and `build`; `laws`.
+//! Read it in this order: `ids`, `event`, `op` and `refusal`, which are what is asked and answered; `seeded`, which makes the hashes; `ends`, `processes`, `joins`,
+//! `threads` and `entries`, the lists that run through the events; `names`; `arena`, `called` and `members`, which answer; `agrees` and `build`; `laws`.
 #![tactic(auto)]
 
 mod agrees;
@@ -22,6 +22,7 @@ mod laws;
 mod members;
 mod names;
 mod op;
+mod processes;
 mod refusal;
 mod seeded;
 #[cfg(test)]
@@ -39,3 +40,4 @@ pub use laws::{
 };
 pub use op::Op;
 pub use refusal::{BuildError, LineRefusal};
+pub use seeded::HashKey;

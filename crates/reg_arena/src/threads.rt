@@ -6,10 +6,10 @@ use crate::ends::{Ends, Entry};
 use crate::event::Event;
 use crate::ids::EvId;
 use crate::joins::{join_process, join_register, join_value};
+use crate::processes::Processes;
 use crate::seeded::Seeded;
 use indexmap::IndexSet;
 use std::alloc::{AllocError, Global};
-use std::collections::BTreeMap;
 
 /// The events of a history in their order; each column beside them has one item an event.
 #[derive(Drop)]
@@ -24,7 +24,7 @@ pub(crate) struct Threads {
     /// The number of the entry of the event's register and value.
     pub(crate) numbers: Vec<Option<u32>>,
     pub(crate) registers: Vec<Ends>,
-    pub(crate) processes: BTreeMap<u32, Ends>,
+    pub(crate) processes: Processes,
     /// The registers and values that events have; the place of each is the number of its entry.
     pub(crate) values: IndexSet<(u32, Option<i64>), Seeded>,
     pub(crate) entries: Vec<Entry>,
@@ -45,7 +45,7 @@ impl Threads {
             in_value: Vec::with_capacity(alloc, count)?,
             numbers: Vec::with_capacity(alloc, count)?,
             registers: Vec::new(alloc),
-            processes: BTreeMap::new(alloc),
+            processes: Processes::new(alloc, hasher),
             values: IndexSet::with_hasher(alloc, hasher),
             entries: Vec::new(alloc),
         })

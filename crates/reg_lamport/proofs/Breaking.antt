@@ -1,15 +1,17 @@
 -- Whether a read keeps a level, by its old write and the one write of its value.
-use Rattle.std.proofs.Common.{◌≡◌, ℕ, ◌<◌, Bool, true, false, Some, None, length, inl, inr, refl, sym, ap, subst, ◌∙◌, arith, ◌↔◌, IsTrue}
+use Rattle.std.proofs.Common.{◌≡◌, ℕ, ◌-◌, ◌<◌, ◌≤◌, Bool, true, false, cond, Option, Some, None, option_map, option_and_then, length, inl, inr, refl, sym, ap, subst, ◌∙◌, arith, ◌↔◌, IsTrue}
 use Rattle.std.proofs.lemmas.Bool.{false≢true}
+use Rattle.std.proofs.lemmas.Option.{slice_get_within}
 use Rattle.history_text.specs.declared.event.Val.{Val}
 use Rattle.reg_arena.specs.Lists.{In}
 use Rattle.reg_arena.specs.History.{History, IsRecorded}
 use Rattle.reg_arena.specs.Lamport.{HasSingleWriter, HasOldValue, HasOverlappedValue, IsOldWrite}
-use Rattle.reg_arena.specs.Operations.{Operation, IsCompletedRead, Overlaps, of_register, operations}
-use Rattle.reg_arena.specs.Shown.{IsNamed, IsOper, IsWriteOf}
+use Rattle.reg_arena.specs.Operations.{Operation, IsCompletedRead, Overlaps, is_write, of_register, operations}
+use Rattle.reg_arena.specs.Shown.{IsNamed, IsOper, IsWriteOf, by_value, key_at, op_shown}
 use Rattle.reg_arena.specs.declared.ids.Oper.{Oper}
+use Rattle.reg_arena.specs.declared.op.Op.{Op}
 use Rattle.reg_arena.proofs.Recorded.{of_register-In, In-of_register, accepted-history}
-use Rattle.reg_arena.proofs.Named.{has-oper, one-named, operation-has-register, operation-has-value}
+use Rattle.reg_arena.proofs.Named.{has-oper, one-named, operation-has-reply, operation-has-value}
 use Rattle.reg_lamport.specs.declared.level.Level.{Level}
 use Rattle.reg_lamport.specs.declared.level.Level.TheVariants.{Safe, Regular}
 use Rattle.reg_lamport.specs.Levels.{Keeps}
@@ -21,11 +23,34 @@ pub named-oper : (h : History) (name : Oper) (o : Operation) → IsNamed h name 
 named-oper h name o n = subst (IsOper h) n.named (has-oper h o n.one)
 
 module _ (h : History) (rec : IsRecorded h) (r : ℕ) (o : Operation) (i : In o (of_register r (operations h))) (read : IsCompletedRead o) where
-  pub register-known : r < length h.names
-  register-known = let x = of_register-In r (operations h) o i in subst (λ k. k < length h.names) x.1 (operation-has-register h rec o x.0)
-
   pub value-there : (v : Val) × (o.value ≡ Some v)
   value-there = operation-has-value h rec o (of_register-In r (operations h) o i).0 (inr read.completed)
+
+  -- ---- its reply
+
+  caller : (p : ℕ) × (o.process ≡ Some p)
+  caller = go o.process refl
+    where
+      go : (p : Option ℕ) → o.process ≡ p → (p : ℕ) × (o.process ≡ Some p)
+      go None n = absurd (false≢true (sym read.read ∙ ap (λ (z : Operation). is_write z) ((accepted-history h rec r).initial o i n)))
+      go (Some p) n = (p, n)
+
+  pub shown-reply : (op_shown o).reply ≡ Some o.reply
+  shown-reply = ap (λ b. cond b (Some o.reply) None) read.completed
+
+  -- the reply that it shows is an event with its value
+  pub reply-event : (op : Op) → op ≡ op_shown o → (n : ℕ) → op.reply ≡ Some n → (2 ≤ n) × (n - 2 < length h.events) × (key_at by_value h.events (n - 2) ≡ Some (r, value-there.0))
+  reply-event op is n shown =
+      let p = caller in
+      let x = of_register-In r (operations h) o i in
+      let c = (accepted-history h rec r).called o p.0 i p.1 in
+      let lives = (accepted-history h rec r).life o i in
+      let e = operation-has-reply h rec o p.0 x.0 p.1 read.completed in
+      let same : o.reply ≡ n = cc (sym shown-reply, ap (λ (z : Op). z.reply) is, shown) in
+      let at = ap (option_and_then by_value) e.1.at in
+      let with_value = ap (option_map (λ (v : Val). (e.0.register.0, v))) (sym (e.1.reply e.2).2 ∙ value-there.1) in
+      let key : key_at by_value h.events (o.reply - 2) ≡ Some (r, value-there.0) = at ∙ (with_value ∙ ap (λ n. Some (n, value-there.0)) (sym e.1.register ∙ x.1)) in
+      subst (λ m. (2 ≤ m) × (m - 2 < length h.events) × (key_at by_value h.events (m - 2) ≡ Some (r, value-there.0))) same (omega arith, slice_get_within h.events (o.reply - 2) e.0 e.1.at, key)
 
   -- ---- the write of its value
 

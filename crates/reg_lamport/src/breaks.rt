@@ -57,10 +57,10 @@ fn has_overlapped_value(arena: &Arena, register: RegId, name: Oper, read: &Op) -
     requires { IsReadShown arena.now register.0 name read.now }
     ensures { (r : Operation) → IsNamed arena.now name r → IsTrue result ↔ HasOverlappedValue (of_register register.0 (operations arena.now)) r }
 {
-    let Some(value) = read.value else {
+    let Some(reply) = read.reply else {
         return false;
     };
-    match arena.write_of(register, value) {
+    match arena.write_of_event(EvId(reply - 2)) {
         Some(write) => overlap(arena, write, name),
         None => false,
     }

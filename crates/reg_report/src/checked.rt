@@ -6,9 +6,10 @@ use crate::history::history_report;
 use crate::refusal::Refusal;
 use crate::report::Report;
 use history_text::{MAX_INPUT, read_lines};
-use reg_arena::Arena;
+use reg_arena::{Arena, HashKey};
 use reg_pieces::{Gate, Settings, do_pieces, plan};
 use std::alloc::Global;
+use std::random::RandomSource;
 use std::thread::Threads;
 
 /// The report of the history in the input. Workers do its pieces, past the gate; neither their number, nor the cut, nor
@@ -17,7 +18,7 @@ use std::thread::Threads;
 /// # Errors
 /// `TooLong` where the input has more than [`MAX_INPUT`] bytes, whatever memory there is; `At` for the least faulty
 /// line where the history isn't well formed; `NoRoom` where memory was refused. What was made is dropped then.
-pub fn check<R: Threads + Sync, G: Gate + Sync>(
+pub fn check<R: Threads + RandomSource + Sync, G: Gate + Sync>(
     rt: &R,
     alloc: Global,
     input: &[u8],
@@ -32,7 +33,7 @@ pub fn check<R: Threads + Sync, G: Gate + Sync>(
         return Err(Refusal::TooLong);
     }
     let lines = read_lines(rt, alloc, input)?;
-    let arena = Arena::build(alloc, lines)?;
+    let arena = Arena::build_keyed(alloc, HashKey::drawn(rt), lines)?;
     let plan = plan(alloc, &arena, settings)?;
     let pieces = do_pieces(rt, alloc, &arena, &plan, settings, gate)?;
     Ok(history_report(alloc, &arena, &plan, settings.cut(), pieces)?)

@@ -12,6 +12,7 @@ use crate::written::text;
 use byte_ends::{Sink, Source};
 use reg_pieces::{Gate, Settings};
 use std::alloc::Global;
+use std::random::RandomSource;
 use std::thread::Threads;
 
 /// Checks the history in all the bytes that the source has left, pushes its report, whole, and flushes. Nothing is
@@ -21,7 +22,7 @@ use std::thread::Threads;
 /// `InputFailed` where a pull failed, and nowhere else; `TooLong` where there were more bytes than an input may have,
 /// whatever memory there is; `At` where the history isn't well formed; `NoRoom` where memory was refused;
 /// `OutputFailed` where a push or the flush failed, and nowhere else; then a beginning of the report is out.
-pub fn run<T: Threads + Sync, R: Source, W: Sink, G: Gate + Sync>(
+pub fn run<T: Threads + RandomSource + Sync, R: Source, W: Sink, G: Gate + Sync>(
     rt: &T,
     alloc: Global,
     source: &mut R,

@@ -6,11 +6,11 @@ use Rattle.reg_arena.specs.declared.event.Event.{Event}
 use Rattle.reg_arena.specs.declared.op.Op.{Op}
 use Rattle.reg_arena.specs.Lists.{In}
 use Rattle.reg_arena.specs.History.{History}
-use Rattle.reg_arena.specs.Operations.{Operation, IsWrite, IsCompleted, of_register, operations}
+use Rattle.reg_arena.specs.Operations.{Operation, IsWrite, IsCompleted, IsCompletedRead, is_write, of_register, operations}
 use Rattle.reg_arena.specs.Shown.{IsEventIn, IsEventOf, by_value, key_at, op_shown}
 use Rattle.reg_zones.specs.Register.{IsRegister}
 use Rattle.reg_zones.specs.Sweep.{IsBelonging}
-use Rattle.reg_zones.proofs.Registers.{of_register-In, event-process}
+use Rattle.reg_zones.proofs.Registers.{of_register-In, event-process, cases_process}
 
 -- an operation that shows a reply is completed, with this reply
 pub shown-reply : (o : Operation) (t : ℕ) → (op_shown o).reply ≡ Some t → IsCompleted o × (o.reply ≡ t)
@@ -30,6 +30,28 @@ shown-pending o e = go o.completed refl e
 -- the key of an event with the register and the value of an operation
 pub value-key : (h : History) (i : ℕ) (e : Event) (o : Operation) (v : Val) → IsEventIn h i e o → e.value ≡ Some v → key_at by_value h.events i ≡ Some (o.register, v)
 value-key h i e o v s q = ap (option_and_then by_value) s.at ∙ (ap (option_map (λ (v : Val). (e.register.0, v))) q ∙ ap (λ n. Some (n, v)) (sym s.register))
+
+-- the reply of a completed read is an event with its value
+module _ (h : History) (r : ℕ) (y : IsRegister h r) (a : Operation) (k : In a (of_register r (operations h))) (d : IsCompletedRead a) where
+  caller : (p : ℕ) × (a.process ≡ Some p)
+  caller = elim (cases_process a.process) [
+    | inl n ↦ absurd (false≢true (sym d.read ∙ ap (λ (x : Operation). is_write x) (y.history.initial a k n)))
+    | inr p ↦ p
+  ]
+
+  pub read-late : 2 ≤ a.reply
+  read-late =
+      let p = caller in
+      let c = y.history.called a p.0 k p.1 in
+      let lives = y.history.life a k in
+      omega arith
+
+  pub read-key : (v : Val) → a.value ≡ Some v → key_at by_value h.events (a.reply - 2) ≡ Some (r, v)
+  read-key v q =
+      let p = caller in
+      let at = of_register-In r (operations h) a k in
+      let e = y.reply a p.0 at.0 p.1 d.completed in
+      value-key h (a.reply - 2) e.0 a v e.1 (sym (e.1.reply e.2).2 ∙ q) ∙ ap (λ n. Some (n, v)) at.1
 
 module _ (h : History) (r : ℕ) (y : IsRegister h r) (i : ℕ) (o : Operation) (op : Op) (b : IsBelonging h r i o op) where
   -- an operation with an event was called by a process

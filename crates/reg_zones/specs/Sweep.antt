@@ -59,6 +59,10 @@ AreWritten ops = (r : Operation) → In r ops → IsCompletedRead r → (w : Ope
 abbrev pub AreInTime : List Operation → Type 0
 AreInTime ops = (r w : Operation) → IsEarly ops r w → ⊥
 
+-- the read is one of the operations, completed, with its value and its reply
+abbrev pub IsReadOfRegister : List Operation → Read → Type 0
+IsReadOfRegister ops read = (r : Operation) × In r ops × IsCompletedRead r × (r.value ≡ Some read.value) × (r.reply ≡ read.reply)
+
 -- the completed read that is called at time n, if there is one
 abbrev pub IsReadCalledAt : List Operation → ℕ → Option Read → Type 0
 IsReadCalledAt ops n None = (r : Operation) → In r ops → IsCompletedRead r → r.call ≡ n → ⊥

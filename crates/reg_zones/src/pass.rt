@@ -98,7 +98,7 @@ fn low_end_at(arena: &Arena, register: RegId, id: EvId) -> Option<Cluster>
     if zone.low() != id.0 + 2 {
         return None;
     }
-    let write = arena.write_of(register, op.value?)?;
+    let write = arena.write_of_event(valued)?;
     Some(Cluster { write, zone })
 }
 

@@ -1,9 +1,9 @@
 //! The completed reads of a register, by call: those without a write, and those before their write.
 ghost use Rattle.std.specs.Prelude.{◌≡◌, ◌<◌, ◌+◌, length, Some, IfOk, IfErr};
 ghost use Rattle.reg_arena.specs.Operations.{of_register, operations};
-ghost use Rattle.reg_arena.specs.Shown.{by_register, key_at};
+ghost use Rattle.reg_arena.specs.Shown.{IsWriteOf, by_register, key_at};
 ghost use Rattle.reg_zones.specs.Faults.{IsFault};
-ghost use Rattle.reg_zones.specs.Sweep.{AreInTime, AreWritten, IsEarlyAt, IsReadCalledAt, IsUnwrittenAt};
+ghost use Rattle.reg_zones.specs.Sweep.{AreInTime, AreWritten, IsEarlyAt, IsReadCalledAt, IsReadOfRegister, IsUnwrittenAt};
 
 use crate::fault::Fault;
 use crate::told::{operation, operation_of, told};
@@ -62,7 +62,7 @@ fn unwritten_at(arena: &Arena, register: RegId, id: EvId) -> Option<Oper>
 {
     told(arena, register);
     let read = read_called_at(arena, register, id)?;
-    match arena.write_of(register, read.value) {
+    match write_read(arena, register, read) {
         Some(_) => None,
         None => Some(read.oper),
     }
@@ -76,12 +76,22 @@ fn early_at(arena: &Arena, register: RegId, id: EvId) -> Option<(Oper, Oper)>
 {
     told(arena, register);
     let read = read_called_at(arena, register, id)?;
-    let write = arena.write_of(register, read.value)?;
+    let write = write_read(arena, register, read)?;
     if read.reply < operation(arena, write).call {
         Some((read.oper, write))
     } else {
         None
     }
+}
+
+/// The write of the value of a completed read, by the event of its reply.
+fn write_read(arena: &Arena, register: RegId, read: Read) -> Option<Oper>
+    requires register { register.0 < length arena.now.names }
+    requires read { IsReadOfRegister (of_register register.0 (operations arena.now)) read }
+    ensures { IsWriteOf arena.now register.0 read.value result }
+{
+    told(arena, register);
+    arena.write_of_event(EvId(read.reply - 2))
 }
 
 /// The completed read that the event calls, if it calls one.

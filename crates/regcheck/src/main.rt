@@ -15,6 +15,7 @@ use reg_report::{
 use std::alloc::AllocError;
 use std::io;
 use std::process::ExitCode;
+use std::random::RandomSource;
 use std::rt::{Env, Files};
 use std::thread::Threads;
 use words::{Words, WordsFault, read_words};
@@ -35,7 +36,7 @@ fn tell(rt: &(impl Eprint + AllocGlobal), refusal: Refusal) -> Ended {
 
 /// Reports what the source has to standard output.
 fn report<S: Source>(
-    rt: &(impl Threads + Sync + Print + Eprint + AllocGlobal),
+    rt: &(impl Threads + RandomSource + Sync + Print + Eprint + AllocGlobal),
     source: &mut S,
     settings: Settings,
 ) -> Ended
@@ -51,7 +52,7 @@ fn report<S: Source>(
 
 /// Reports the history that the words name.
 fn history(
-    rt: &(impl Threads + Sync + Files + Input + Print + Eprint + AllocGlobal),
+    rt: &(impl Threads + RandomSource + Sync + Files + Input + Print + Eprint + AllocGlobal),
     words: &Words,
 ) -> Ended {
     let settings = words.settings();

@@ -3,6 +3,7 @@ ghost use Rattle.std.specs.Prelude.{◌≡◌};
 
 use crate::histories::settings;
 use reg_report::{MemSink, MemSource, OpenGate, Outcome, Refusal, Sink, Source, run};
+use std::random::RandomSource;
 use std::test::Fail;
 use std::thread::Threads;
 
@@ -32,7 +33,7 @@ struct Ran {
 
 // A run over the history between these ends.
 fn run_between(
-    rt: &(impl Threads + AllocGlobal + Sync),
+    rt: &(impl Threads + RandomSource + AllocGlobal + Sync),
     mut source: MemSource<'_>,
     mut sink: MemSink,
 ) -> Result<Ran, Fail>

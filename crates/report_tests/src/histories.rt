@@ -2,6 +2,7 @@
 use crate::rows::{REFUSALS, REPORTS};
 use reg_report::{Gate, MemSink, MemSource, OpenGate, Outcome, Refusal, Settings, message, run};
 use std::alloc::{AllocError, Global};
+use std::random::RandomSource;
 use std::test::Fail;
 use std::thread::Threads;
 
@@ -15,7 +16,7 @@ pub(crate) fn settings(workers: u32, cut: u32) -> Result<Settings, Fail> {
 
 // A run from memory to so much memory: the bytes that the sink took, and the outcome.
 fn run_on(
-    rt: &(impl Threads + AllocGlobal + Sync),
+    rt: &(impl Threads + RandomSource + AllocGlobal + Sync),
     input: &[u8],
     room: usize,
     settings: Settings,
@@ -30,7 +31,7 @@ fn run_on(
 
 // What a run answers by these workers at this gate.
 pub(crate) fn answered_by(
-    rt: &(impl Threads + AllocGlobal + Sync),
+    rt: &(impl Threads + RandomSource + AllocGlobal + Sync),
     input: &[u8],
     settings: Settings,
     gate: &(impl Gate + Sync),
@@ -45,7 +46,10 @@ pub(crate) fn answered_by(
 }
 
 // What a run answers by four workers.
-fn answered(rt: &(impl Threads + AllocGlobal + Sync), input: &[u8]) -> Result<Answer, Fail> {
+fn answered(
+    rt: &(impl Threads + RandomSource + AllocGlobal + Sync),
+    input: &[u8],
+) -> Result<Answer, Fail> {
     Ok(answered_by(rt, input, settings(4, 4096)?, &OpenGate)?)
 }
 
@@ -155,7 +159,7 @@ fn other_refusals(rt: HostRuntime) -> Result<(), Fail> {
 
 // What is answered to an input of so many equal bytes.
 fn answered_to(
-    rt: &(impl Threads + AllocGlobal + Sync),
+    rt: &(impl Threads + RandomSource + AllocGlobal + Sync),
     byte: u8,
     length: usize,
 ) -> Result<Result<Outcome, u8>, Fail> {

@@ -4,6 +4,7 @@ use crate::rows::REPORTS;
 use reg_report::{Gate, OpenGate, Outcome};
 use std::alloc::{AllocError, Global};
 use std::process::Abort;
+use std::random::RandomSource;
 use std::sync::atomic::{AtomicBool, AtomicU64, Ordering};
 use std::test::Fail;
 use std::thread::Threads;
@@ -32,7 +33,7 @@ fn row(name: &str) -> Result<(&'static str, &'static str, Outcome), Fail> {
 
 // The report of each history by so many workers in cuts of so many reads.
 fn expect_reports(
-    rt: &(impl Threads + AllocGlobal + Abort + Sync),
+    rt: &(impl Threads + RandomSource + AllocGlobal + Abort + Sync),
     workers: u32,
     cut: u32,
 ) -> Result<(), Fail> {
@@ -99,7 +100,7 @@ impl Gate for HoldsOne {
 
 // Two workers do all other pieces while any one of them is held.
 fn expect_past_each(
-    rt: &(impl Threads + AllocGlobal + Abort + Sync),
+    rt: &(impl Threads + RandomSource + AllocGlobal + Abort + Sync),
     name: &str,
     pieces: u64,
 ) -> Result<(), Fail> {

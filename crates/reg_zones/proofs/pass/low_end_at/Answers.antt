@@ -1,4 +1,5 @@
-use Rattle.std.proofs.Common.{sym, subst, ◌+◌}
+use Rattle.std.proofs.Common.{sym, ap, subst, ◌+◌, ◌∙◌}
+use Rattle.reg_arena.specs.declared.op.Op.{Op}
 use Rattle.reg_arena.specs.Operations.{of_register, operations}
 use Rattle.reg_zones.specs.Sweep.{IsLowEndAt}
 use Rattle.reg_zones.proofs.Walks.{value-within}
@@ -38,10 +39,10 @@ returns-in_err-write c =
     let v = c.in_ok-valued.ensures b.0 b.1 in
     let none = c.in_err-write.ensures in
     subst (IsLowEndAt (of_register c.args.register.0 (operations c.args.arena.now)) (c.args.id.0 + 2)) (sym c.from_residual-in_err-write.ensures)
-    (not_written c.args.arena.now c.args.register.0 c.told.ensures c.args.id.0 b.0 _ b.1 v.0 v.1 _ c.in_ok-op.was none)
+    (not_written c.args.arena.now c.args.register.0 c.told.ensures c.args.id.0 b.0 _ b.1 v.0 v.1 v.0 (ap (λ (x : Op). x.value) b.1.shown ∙ v.1) (none.write _ v.2))
 
 pub returns : goal.returns
 returns c =
     let b = c.operation_of.ensures in
     let v = c.in_ok-valued.ensures b.0 b.1 in
-    low_here c.args.arena.now c.args.register.0 c.told.ensures c.args.id.0 b.0 _ b.1 v.0 v.1 c.in_ok-zone.zone _ _ _ (c.in_ok-zone.ensures _ v.2) c.low.ensures c.if-low-id.false c.in_ok-op.was c.in_ok-write.ensures
+    low_here c.args.arena.now c.args.register.0 c.told.ensures c.args.id.0 b.0 _ b.1 v.0 v.1 c.in_ok-zone.zone _ _ _ (c.in_ok-zone.ensures _ v.2) c.low.ensures c.if-low-id.false (ap (λ (x : Op). x.value) b.1.shown ∙ v.1) (c.in_ok-write.ensures.write _ v.2)

@@ -4,7 +4,7 @@ use Rattle.std.proofs.lemmas.Option.{slice_get_read}
 use Rattle.reg_arena.specs.Refusals.{Line, events_of}
 use Rattle.reg_arena.specs.History.{history_of}
 use Rattle.reg_arena.proofs.Reading.{take-all, is-more, accepted-more, free-more, refused-event, refused-line, well-formed, error-passed}
-use Rattle.reg_arena.proofs.arena.Arena.build.Goals as goal
+use Rattle.reg_arena.proofs.arena.Arena.build_keyed.Goals as goal
 
 pub returns-in-Err-clause-err : goal.returns-in-Err-clause-err
 returns-in-Err-clause-err c =

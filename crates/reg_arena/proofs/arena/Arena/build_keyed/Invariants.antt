@@ -1,7 +1,7 @@
 use Rattle.std.proofs.Common.{◌≡◌, ℕ, ◌<◌, take, None}
 use Rattle.reg_arena.specs.Refusals.{AreAccepted, events_of, refusal_at}
 use Rattle.reg_arena.specs.History.{history_of}
-use Rattle.reg_arena.proofs.arena.Arena.build.Given as goal
+use Rattle.reg_arena.proofs.arena.Arena.build_keyed.Given as goal
 
 abbrev pub invariant-loop-line : goal.invariant-loop-line
 invariant-loop-line l = record {

@@ -1,0 +1,70 @@
+//! The ends of the processes' lists: those of small numbers stand in a table, and the others in a map.
+ghost use Rattle.std.specs.Prelude.{◌≡◌, ◌<◌, ℕ, None, OnOk};
+ghost use Rattle.reg_arena.specs.Threads.{IsSetAt, process_ends, table_at};
+
+use crate::ends::Ends;
+use crate::seeded::Seeded;
+use indexmap::IndexMap;
+use std::alloc::{AllocError, Global};
+
+/// The numbers below it stand in the table, which grows up to the greatest that was met.
+const TABLED: u32 = 65_536;
+
+/// For each process that has events the first and the last of them.
+#[derive(Drop)]
+pub(crate) struct Processes {
+    table: Vec<Option<Ends>>,
+    others: IndexMap<u32, Ends, Seeded>,
+}
+
+impl Processes {
+    /// No process has events.
+    pub(crate) fn new(alloc: Global, hasher: Seeded) -> Self
+        ensures { (p : ℕ) → process_ends result p ≡ None }
+    {
+        Processes {
+            table: Vec::new(alloc),
+            others: IndexMap::with_hasher(alloc, hasher),
+        }
+    }
+
+    /// The ends of a process's list.
+    pub(crate) fn get(&self, process: u32) -> Option<Ends>
+        ensures { result ≡ process_ends self.now process }
+    {
+        if process < TABLED {
+            let place = process as usize;
+            if place < self.table.len() {
+                self.table[place]
+            } else {
+                None
+            }
+        } else {
+            self.others.get(&process).copied()
+        }
+    }
+
+    /// Sets the ends of a process's list.
+    pub(crate) fn set(&mut self, process: u32, ends: Ends) -> Result<(), AllocError>
+        ensures { OnOk result (IsSetAt process ends (process_ends self.old) (process_ends self.new)) }
+    {
+        if process < TABLED {
+            set_in_table(&mut self.table, process as usize, ends)?;
+        } else {
+            self.others.insert(process, ends)?;
+        }
+        Ok(())
+    }
+}
+
+/// Sets one place of a table, which grows up to it.
+fn set_in_table(table: &mut Vec<Option<Ends>>, place: usize, ends: Ends) -> Result<(), AllocError>
+    requires { place < 65536 }
+    ensures { OnOk result (IsSetAt place ends (table_at table.old.items) (table_at table.new.items)) }
+{
+    if table.len() <= place {
+        table.resize(place + 1, None)?;
+    }
+    table[place] = Some(ends);
+    Ok(())
+}
