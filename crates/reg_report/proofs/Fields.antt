@@ -5,7 +5,7 @@ use Rattle.serde.specs.Event.{Log, Logs, map_begins, map_ends}
 use Rattle.serde_json.specs.Data.{Data, object, string}
 use Rattle.serde_json.specs.Events.{SendsValue, SendsMembers, members_len, items_len}
 use Rattle.serde_json.specs.Written.{has_float, members_have_float}
-use Rattle.reg_report.specs.Text.{Field, fields_of, members_of, items_of, number_json, numbers_json, always, shown, yes_or_no, verdict_json, fault_json, register_parts, register_json, summary_parts, summary_json}
+use Rattle.reg_report.specs.Text.{Field, fields_of, members_of, items_of, number_json, numbers_json, pair_json, always, shown, yes_or_no, verdict_json, fault_json, register_parts, register_json, summary_parts, summary_json}
 use Rattle.reg_report.specs.Sends.{SendsFields, SendsParts}
 use Rattle.reg_report.specs.declared.report.Verdict.{Verdict}
 use Rattle.reg_report.specs.declared.report.Verdict.TheVariants.{Yes, No, SeveralWriters}
@@ -56,19 +56,20 @@ one_when b = if b then 1 else 0
 pub one_of : {A : Type 0} (o : Option A) (b : Bool) (n : ℕ) → b ≡ is_some o → n ≡ one_when b → n ≡ one_when (is_some o)
 one_of o b n e h = h ∙ ap one_when e
 
-pub register_parts_len : (reg : RegReport) → length (fields_of (register_parts reg)) ≡ 7 + (if is_some reg.fault then 1 else 0) + (if is_some reg.order then 1 else 0) + (if is_some reg.points then 1 else 0) + (if is_some reg.regular_read then 1 else 0) + (if is_some reg.safe_read then 1 else 0)
+pub register_parts_len : (reg : RegReport) → length (fields_of (register_parts reg)) ≡ 7 + (if is_some reg.fault then 1 else 0) + (if is_some reg.inversion then 1 else 0) + (if is_some reg.order then 1 else 0) + (if is_some reg.points then 1 else 0) + (if is_some reg.regular_read then 1 else 0) + (if is_some reg.safe_read then 1 else 0)
 unfolding parts_len
 register_parts_len reg =
     let whole = length-fields_of (register_parts reg) in
     let a = shown_len (codes "fault") fault_json reg.fault in
-    let b = shown_len (codes "order") numbers_json reg.order in
-    let c = shown_len (codes "points") numbers_json reg.points in
-    let d = shown_len (codes "regular_read") number_json reg.regular_read in
-    let e = shown_len (codes "safe_read") number_json reg.safe_read in
+    let b = shown_len (codes "inversion") pair_json reg.inversion in
+    let c = shown_len (codes "order") numbers_json reg.order in
+    let d = shown_len (codes "points") numbers_json reg.points in
+    let e = shown_len (codes "regular_read") number_json reg.regular_read in
+    let f = shown_len (codes "safe_read") number_json reg.safe_read in
     omega arith
 
-pub register_count : (reg : RegReport) (a b c d e : ℕ) → a ≡ one_when (is_some reg.fault) → b ≡ one_when (is_some reg.order) → c ≡ one_when (is_some reg.points) → d ≡ one_when (is_some reg.regular_read) → e ≡ one_when (is_some reg.safe_read) → 7 + a + b + c + d + e ≡ length (fields_of (register_parts reg))
-register_count reg a b c d e ha hb hc hd he = let whole = register_parts_len reg in omega arith
+pub register_count : (reg : RegReport) (a b c d e f : ℕ) → a ≡ one_when (is_some reg.fault) → b ≡ one_when (is_some reg.inversion) → c ≡ one_when (is_some reg.order) → d ≡ one_when (is_some reg.points) → e ≡ one_when (is_some reg.regular_read) → f ≡ one_when (is_some reg.safe_read) → 7 + a + b + c + d + e + f ≡ length (fields_of (register_parts reg))
+register_count reg a b c d e f ha hb hc hd he hf = let whole = register_parts_len reg in omega arith
 
 pub summary_count : (report : Report) (a : ℕ) → a ≡ one_when (is_some report.order) → 3 + a ≡ length (fields_of (summary_parts report))
 unfolding parts_len
@@ -116,6 +117,9 @@ plain_numbers : (ns : List ℕ) → has_float (numbers_json ns) ≡ false
 plain_numbers [] = refl
 plain_numbers (n ∷ ns) = plain_numbers ns
 
+plain_pair : (p : ℕ × ℕ) → has_float (pair_json p) ≡ false
+plain_pair p = plain_numbers (p.0 ∷ p.1 ∷ [])
+
 plain_number : (n : ℕ) → has_float (number_json n) ≡ false
 plain_number n = refl
 
@@ -149,26 +153,29 @@ register_has_no_float reg = plain_parts (register_parts reg) (
   (
     plain_shown (codes "fault") fault_json reg.fault plain_fault,
     (
-      plain_shown (codes "order") numbers_json reg.order plain_numbers,
+      plain_shown (codes "inversion") pair_json reg.inversion plain_pair,
       (
-        plain_always (codes "pending") (number_json reg.pending) refl,
+        plain_shown (codes "order") numbers_json reg.order plain_numbers,
         (
-          plain_shown (codes "points") numbers_json reg.points plain_numbers,
+          plain_always (codes "pending") (number_json reg.pending) refl,
           (
-            plain_always (codes "reads") (number_json reg.reads) refl,
+            plain_shown (codes "points") numbers_json reg.points plain_numbers,
             (
-              plain_always (codes "register") (string reg.register) refl,
+              plain_always (codes "reads") (number_json reg.reads) refl,
               (
-                plain_always (codes "regular") (verdict_json reg.regular) (plain_verdict reg.regular),
+                plain_always (codes "register") (string reg.register) refl,
                 (
-                  plain_shown (codes "regular_read") number_json reg.regular_read plain_number,
+                  plain_always (codes "regular") (verdict_json reg.regular) (plain_verdict reg.regular),
                   (
-                    plain_always (codes "safe") (verdict_json reg.safe) (plain_verdict reg.safe),
+                    plain_shown (codes "regular_read") number_json reg.regular_read plain_number,
                     (
-                      plain_shown (codes "safe_read") number_json reg.safe_read plain_number,
+                      plain_always (codes "safe") (verdict_json reg.safe) (plain_verdict reg.safe),
                       (
-                        plain_always (codes "writes") (number_json reg.writes) refl,
-                        tt,
+                        plain_shown (codes "safe_read") number_json reg.safe_read plain_number,
+                        (
+                          plain_always (codes "writes") (number_json reg.writes) refl,
+                          tt,
+                        ),
                       ),
                     ),
                   ),

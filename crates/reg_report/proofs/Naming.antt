@@ -1,5 +1,5 @@
--- The operations that an answer names are there, and their lines are their own.
-use Rattle.std.proofs.Common.{◌≡◌, ℕ, refl, sym, ap, subst, ◌∙◌}
+-- The operations that an answer names are there, and their lines are their own; a fault's inversion is shown by them.
+use Rattle.std.proofs.Common.{◌≡◌, ℕ, Some, refl, sym, ap, subst, ◌∙◌}
 use Rattle.reg_arena.specs.Lists.{In}
 use Rattle.reg_arena.specs.History.{History}
 use Rattle.reg_arena.specs.Operations.{Operation, operations, of_register}
@@ -8,9 +8,10 @@ use Rattle.reg_arena.specs.declared.ids.Oper.{Oper}
 use Rattle.reg_arena.proofs.Named.{has-oper, one-named}
 use Rattle.reg_arena.proofs.Recorded.{of_register-In}
 use Rattle.reg_zones.specs.Faults.{IsFault}
+use Rattle.reg_zones.specs.Inversions.{IsInversion, inversion_named}
 use Rattle.reg_zones.specs.declared.fault.Fault.{Fault}
 use Rattle.reg_zones.specs.declared.fault.Fault.TheVariants.{Unwritten, Early, Zones}
-use Rattle.reg_report.specs.Meaning.{HasLine}
+use Rattle.reg_report.specs.Meaning.{HasLine, HaveLines, IsInversionShown}
 use Rattle.reg_report.specs.Named.{AreOpers, HasOpers}
 
 -- a named operation is there
@@ -37,3 +38,17 @@ fault-opers h r (Zones writes first second) f = (
   pair-opers h r f.2 f.3 first f.7.reply.member.within f.7.call.member.within f.10,
   pair-opers h r f.4 f.5 second f.8.reply.member.within f.8.call.member.within f.11,
 )
+
+-- ---- an inversion
+
+module _ (h : History) (r : ℕ) (fault : Fault) (pair : Oper × Oper) (a b : Operation) (i : IsInversion (of_register r (operations h)) a b) (named : inversion_named fault ≡ Some (name_of a, name_of b)) (is : inversion_named fault ≡ Some pair) where
+  names : pair ≡ (name_of a, name_of b)
+  names = let q : Some pair ≡ Some (name_of a, name_of b) = sym is ∙ named in cc (q)
+
+  -- its two operations are there
+  pub inversion-opers : AreOpers h pair
+  inversion-opers = pair-opers h r a b pair i.gives_newer.within i.gives_older.within names
+
+  -- and their lines show it
+  pub inversion-shown : IsFault (of_register r (operations h)) fault → (lines : ℕ × ℕ) → HaveLines h pair lines → IsInversionShown h (of_register r (operations h)) lines
+  inversion-shown f lines s = record { fault = fault; is_fault = f; first = a; second = b; inversion = i; named = named; shown = subst (λ (n : Oper × Oper). HaveLines h n lines) names s }

@@ -4,11 +4,12 @@ use Rattle.std.proofs.lemmas.Bool.{cases_order}
 use Rattle.reg_arena.specs.Lists.{In, Before}
 use Rattle.reg_arena.specs.History.{History}
 use Rattle.reg_arena.specs.Operations.{Operation, IsHistory, operations, register_of}
-use Rattle.reg_arena.specs.Shown.{IsNamed}
+use Rattle.reg_arena.specs.Shown.{IsNamed, name_of}
 use Rattle.reg_arena.specs.declared.ids.Oper.{Oper}
 use Rattle.reg_lamport.specs.Levels.{IsFirstBreak}
 use Rattle.reg_lamport.specs.declared.level.Level.{Level}
 use Rattle.reg_lamport.specs.declared.level.Level.TheVariants.{Safe, Regular}
+use Rattle.reg_zones.specs.Inversions.{inversion_named}
 use Rattle.reg_zones.specs.Order.{PlacedOperation, placed}
 use Rattle.reg_zones.specs.declared.fault.Fault.{Fault}
 use Rattle.reg_zones.specs.declared.fault.Fault.TheVariants as fault
@@ -16,7 +17,7 @@ use Rattle.reg_zones.proofs.OneFault.{one_fault}
 use Rattle.reg_zones.proofs.Unique.{ascending_one, one_canonical, sooner_one_way}
 use Rattle.reg_zones.proofs.Places.{Before-map}
 use Rattle.reg_zones.proofs.Points.{operations_of-placed}
-use Rattle.reg_report.specs.Meaning.{IsVerdict, HasLine, HaveLines, ShowsFault, IsAtomicity, IsWholeAtomicity, IsRegisterReport, IsReport, lines_of, points_of}
+use Rattle.reg_report.specs.Meaning.{IsVerdict, HasLine, HaveLines, ShowsFault, IsAtomicity, IsInversionShown, IsInversionAnswer, IsWholeAtomicity, IsRegisterReport, IsReport, lines_of, points_of}
 use Rattle.reg_report.specs.Merged.{MergesBefore, IsWholeOrder}
 use Rattle.reg_report.specs.declared.report.Verdict.{Verdict}
 use Rattle.reg_report.specs.declared.report.Verdict.TheVariants.{Yes, No, SeveralWriters}
@@ -99,6 +100,20 @@ module _ (h : History) (named : (name : Oper) (o p : Operation) → IsNamed h na
         a.2 ∙ sym b.2,
       )
 
+  -- ---- the inversion
+
+  one_inversion : (ops : List Operation) → IsHistory ops → (l m : ℕ × ℕ) → IsInversionShown h ops l → IsInversionShown h ops m → l ≡ m
+  one_inversion ops y l m a b =
+      let same = one_fault ops y a.fault b.fault a.is_fault b.is_fault in
+      let names = some_same (sym a.named ∙ (ap inversion_named same ∙ b.named)) in
+      one_pair (name_of b.first, name_of b.second) l m (subst (λ (n : Oper × Oper). HaveLines h n l) names a.shown) b.shown
+
+  one_inversion_answer : (ops : List Operation) → IsHistory ops → (atomic : Bool) (regular : Verdict) (o p : Option (ℕ × ℕ)) → IsInversionAnswer h ops atomic regular o → IsInversionAnswer h ops atomic regular p → o ≡ p
+  one_inversion_answer ops y true v o p a b = a ∙ sym b
+  one_inversion_answer ops y false Yes o p a b = a.2 ∙ (ap Some (one_inversion ops y a.0 b.0 a.1 b.1) ∙ sym b.2)
+  one_inversion_answer ops y false No o p a b = a ∙ sym b
+  one_inversion_answer ops y false SeveralWriters o p a b = a ∙ sym b
+
   -- ---- the merged order
 
   module _ (m n : List PlacedOperation) (a : IsWholeOrder h m) (b : IsWholeOrder h n) where
@@ -146,11 +161,11 @@ module _ (h : History) (named : (name : Oper) (o p : Operation) → IsNamed h na
   -- ---- the report
 
   -- a line by its fields
-  line_with : List ℕ → ℕ → ℕ → ℕ → Verdict → Verdict → Option ℕ → Option ℕ → Bool → Option FaultLines → Option (List ℕ) → Option (List ℕ) → RegReport
-  line_with register writes reads pending safe regular safe_read regular_read atomic fault order points =
-      record { register = register; writes = writes; reads = reads; pending = pending; safe = safe; regular = regular; safe_read = safe_read; regular_read = regular_read; atomic = atomic; fault = fault; order = order; points = points }
+  line_with : List ℕ → ℕ → ℕ → ℕ → Verdict → Verdict → Option ℕ → Option ℕ → Bool → Option FaultLines → Option (ℕ × ℕ) → Option (List ℕ) → Option (List ℕ) → RegReport
+  line_with register writes reads pending safe regular safe_read regular_read atomic fault inversion order points =
+      record { register = register; writes = writes; reads = reads; pending = pending; safe = safe; regular = regular; safe_read = safe_read; regular_read = regular_read; atomic = atomic; fault = fault; inversion = inversion; order = order; points = points }
 
-  with_fields : (a : RegReport) → line_with a.register a.writes a.reads a.pending a.safe a.regular a.safe_read a.regular_read a.atomic a.fault a.order a.points ≡ a
+  with_fields : (a : RegReport) → line_with a.register a.writes a.reads a.pending a.safe a.regular a.safe_read a.regular_read a.atomic a.fault a.inversion a.order a.points ≡ a
   unfolding line_with
   with_fields a = refl
 
@@ -172,7 +187,9 @@ module _ (h : History) (named : (name : Oper) (o p : Operation) → IsNamed h na
       let fault_is = atomic.1 in
       let order_is = atomic.2 in
       let points_is = atomic.3 in
-      let same : line_with a.register a.writes a.reads a.pending a.safe a.regular a.safe_read a.regular_read a.atomic a.fault a.order a.points ≡ line_with b.register b.writes b.reads b.pending b.safe b.regular b.safe_read b.regular_read b.atomic b.fault b.order b.points = cc in
+      let inversion_is = one_inversion_answer ops y b.atomic b.regular a.inversion b.inversion
+      (subst (λ v. IsInversionAnswer h ops b.atomic v a.inversion) regular_is (subst (λ x. IsInversionAnswer h ops x a.regular a.inversion) atomic_is p.inversion)) q.inversion in
+      let same : line_with a.register a.writes a.reads a.pending a.safe a.regular a.safe_read a.regular_read a.atomic a.fault a.inversion a.order a.points ≡ line_with b.register b.writes b.reads b.pending b.safe b.regular b.safe_read b.regular_read b.atomic b.fault b.inversion b.order b.points = cc in
       sym (with_fields a) ∙ (same ∙ with_fields b)
 
   report_with : List RegReport → ℕ → ℕ → Bool → Option (List ℕ) → Report

@@ -2,8 +2,11 @@
 use Rattle.std.specs.Prelude.{List}
 use Rattle.reg_arena.specs.History.{History}
 use Rattle.reg_arena.specs.Operations.{Operation}
-use Rattle.reg_report.specs.Meaning.{IsAtomicity}
+use Rattle.reg_report.specs.Meaning.{IsAtomicity, IsInversionAnswer}
 use Rattle.reg_report.specs.declared.register.Atomicity.{Atomicity}
+use Rattle.reg_report.specs.declared.report.Verdict.{Verdict}
 
-abbrev pub IsAtomicityShown : History → List Operation → Atomicity → Type 0
-IsAtomicityShown h ops a = IsAtomicity h ops a.atomic a.fault a.order a.points
+-- `regular` is what the line says of regular
+pub record IsAtomicityShown (h : History) (ops : List Operation) (regular : Verdict) (a : Atomicity) : Type 0 where
+  pub atomicity : IsAtomicity h ops a.atomic a.fault a.order a.points
+  pub inversion : IsInversionAnswer h ops a.atomic regular a.inversion

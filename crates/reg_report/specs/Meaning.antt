@@ -6,12 +6,13 @@ use Rattle.reg_arena.specs.Legal.{IsLegal, IsAtomic}
 use Rattle.reg_arena.specs.Operations.{Operation, operations, calls, of_register, is_write, register_of}
 use Rattle.reg_arena.specs.declared.event.Event.{Event}
 use Rattle.reg_arena.specs.Lamport.{HasSingleWriter}
-use Rattle.reg_arena.specs.Shown.{IsNamed}
+use Rattle.reg_arena.specs.Shown.{IsNamed, name_of}
 use Rattle.reg_arena.specs.declared.ids.Oper.{Oper}
 use Rattle.reg_lamport.specs.Levels.{IsAtLevel, IsFirstBreak}
 use Rattle.reg_lamport.specs.declared.level.Level.{Level}
 use Rattle.reg_lamport.specs.declared.level.Level.TheVariants.{Safe, Regular}
 use Rattle.reg_zones.specs.Faults.{IsFault}
+use Rattle.reg_zones.specs.Inversions.{IsInversion, inversion_named}
 use Rattle.reg_zones.specs.Order.{PlacedOperation, IsCanonical, placed}
 use Rattle.reg_zones.specs.declared.fault.Fault.{Fault}
 use Rattle.reg_zones.specs.declared.fault.Fault.TheVariants as fault
@@ -64,6 +65,25 @@ ShowsFault h (fault.Zones writes first second) (Zones ws f s) = HaveLines h writ
 -- the lines of the fault of a register's operations
 abbrev pub IsFaultShown : History → List Operation → FaultLines → Type 0
 IsFaultShown h ops lines = (f : Fault) × IsFault ops f × ShowsFault h f lines
+
+-- ---- an inversion
+
+-- a new-old inversion that the fault of a register's operations names, by lines
+pub record IsInversionShown (h : History) (ops : List Operation) (lines : ℕ × ℕ) : Type 0 where
+  pub fault : Fault
+  pub is_fault : IsFault ops fault
+  pub first : Operation
+  pub second : Operation
+  pub inversion : IsInversion ops first second
+  pub named : inversion_named fault ≡ Some (name_of first, name_of second)
+  pub shown : HaveLines h (name_of first, name_of second) lines
+
+-- an inversion is shown of a register with a single writer that is regular and not atomic, and of no other (Lamport, On Interprocess Communication, Part II, 1986)
+abbrev pub IsInversionAnswer : History → List Operation → Bool → Verdict → Option (ℕ × ℕ) → Type 0
+IsInversionAnswer h ops true regular inversion = inversion ≡ None
+IsInversionAnswer h ops false Yes inversion = (lines : ℕ × ℕ) × IsInversionShown h ops lines × (inversion ≡ Some lines)
+IsInversionAnswer h ops false No inversion = inversion ≡ None
+IsInversionAnswer h ops false SeveralWriters inversion = inversion ≡ None
 
 -- ---- an order
 
@@ -124,6 +144,7 @@ pub record IsRegisterReport (h : History) (r : ℕ) (reg : RegReport) : Type 0 w
   pub safe : IsVerdict Safe (register_of h r) reg.safe reg.safe_read
   pub regular : IsVerdict Regular (register_of h r) reg.regular reg.regular_read
   pub atomic : IsAtomicity h (register_of h r) reg.atomic reg.fault reg.order reg.points
+  pub inversion : IsInversionAnswer h (register_of h r) reg.atomic reg.regular reg.inversion
 
 -- each register is atomic
 abbrev pub IsEachAtomic : History → Type 0

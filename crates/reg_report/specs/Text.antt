@@ -67,6 +67,7 @@ abbrev pub register_parts : RegReport → List (List Field)
 register_parts reg =
     always (codes "atomic") (yes_or_no reg.atomic)
     ∷ shown (codes "fault") fault_json reg.fault
+    ∷ shown (codes "inversion") pair_json reg.inversion
     ∷ shown (codes "order") numbers_json reg.order
     ∷ always (codes "pending") (number_json reg.pending)
     ∷ shown (codes "points") numbers_json reg.points

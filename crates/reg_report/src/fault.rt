@@ -15,7 +15,8 @@ pub(crate) fn line(arena: &Arena, oper: Oper) -> u32
     arena.op(oper).line
 }
 
-fn lines(arena: &Arena, opers: (Oper, Oper)) -> (u32, u32)
+/// The lines of two operations' calls.
+pub(crate) fn lines(arena: &Arena, opers: (Oper, Oper)) -> (u32, u32)
     requires { AreOpers arena.now opers }
     ensures { HaveLines arena.now opers result }
 {

@@ -1,23 +1,29 @@
 //! The line of one register.
-ghost use Rattle.std.specs.Prelude.{◌<◌, length, IfOk};
+ghost use Rattle.std.specs.Prelude.{◌<◌, length, false, IfOk};
 ghost use Rattle.reg_pieces.specs.Judged.{IsJudged};
 ghost use Rattle.reg_report.specs.Atomicity.{IsAtomicityShown};
-ghost use Rattle.reg_report.specs.Levels.{AreLevels};
-ghost use Rattle.reg_report.specs.Meaning.{IsRegisterReport, calls_of};
+ghost use Rattle.reg_arena.specs.Lamport.{HasSingleWriter};
+ghost use Rattle.reg_lamport.specs.declared.level.Level.TheVariants.{Regular};
+ghost use Rattle.reg_zones.specs.Faults.{IsFault};
+ghost use Rattle.reg_zones.specs.Inversions.{IsRegular};
+ghost use Rattle.reg_report.specs.Levels.{AreLevels, IsLevelAnswer};
+ghost use Rattle.reg_report.specs.Meaning.{IsInversionAnswer, IsRegisterReport, calls_of};
 ghost use Rattle.reg_report.specs.Tally.{IsTally};
+ghost use Rattle.reg_report.specs.declared.report.Verdict.TheVariants.{Yes};
 ghost use Rattle.reg_arena.specs.Operations.{register_of};
 
-use crate::fault::fault_lines;
-use crate::levels::Levels;
+use crate::fault::{fault_lines, lines};
+use crate::levels::{LevelAnswer, Levels};
 use crate::lists::Lines;
 use crate::order::{order_lines, point_lines};
-use crate::report::{FaultLines, RegReport};
+use crate::report::{FaultLines, RegReport, Verdict};
 use crate::tally::Tally;
 use crate::told::told;
 use history_text::Name;
 use reg_arena::{Arena, RegId};
 use reg_pieces::{Order, Piece};
-use reg_zones::Fault;
+use reg_zones::laws::inversions_decide;
+use reg_zones::{Fault, inversion_of};
 use std::alloc::{AllocError, Global};
 
 /// What a register's line says of whether it is atomic.
@@ -25,6 +31,7 @@ use std::alloc::{AllocError, Global};
 pub(crate) struct Atomicity {
     pub(crate) atomic: bool,
     pub(crate) fault: Option<FaultLines>,
+    pub(crate) inversion: Option<(u32, u32)>,
     pub(crate) order: Option<Lines>,
     pub(crate) points: Option<Lines>,
 }
@@ -37,7 +44,7 @@ fn ordered(
     order: &Order,
 ) -> Result<Atomicity, AllocError>
     requires { IsJudged (register_of arena.now register.0) (Piece.Order order.now) }
-    ensures { IfOk result (IsAtomicityShown arena.now (register_of arena.now register.0)) }
+    ensures { (regular : _) → IfOk result (IsAtomicityShown arena.now (register_of arena.now register.0) regular) }
 {
     told(arena);
     let lines = order_lines(alloc, arena, order.as_slice())?;
@@ -45,37 +52,72 @@ fn ordered(
     Ok(Atomicity {
         atomic: true,
         fault: None,
+        inversion: None,
         order: Some(lines),
         points: Some(points),
     })
 }
 
-/// The fault by lines.
-fn faulty(arena: &Arena, register: RegId, fault: Fault) -> Atomicity
-    requires { IsJudged (register_of arena.now register.0) (Piece.Faulty fault) }
-    ensures { IsAtomicityShown arena.now (register_of arena.now register.0) result }
+/// The inversion that the fault of a regular register names, by lines.
+fn inverted(arena: &Arena, register: RegId, fault: Fault) -> Option<(u32, u32)>
+    requires fault { IsFault (register_of arena.now register.0) fault }
+    requires single { HasSingleWriter (register_of arena.now register.0) }
+    requires regular { IsRegular (register_of arena.now register.0) }
+    ensures { IsInversionAnswer arena.now (register_of arena.now register.0) false Yes result }
+{
+    told(arena);
+    inversions_decide();
+    Some(lines(arena, inversion_of(&fault)?))
+}
+
+/// The inversion that the line names, where `regular` is what it says of regular.
+fn inversion_lines(
+    arena: &Arena,
+    register: RegId,
+    fault: Fault,
+    regular: LevelAnswer,
+) -> Option<(u32, u32)>
+    requires fault { IsFault (register_of arena.now register.0) fault }
+    requires regular { IsLevelAnswer Regular (register_of arena.now register.0) regular }
+    ensures { IsInversionAnswer arena.now (register_of arena.now register.0) false regular.verdict result }
+{
+    match regular.verdict {
+        Verdict::Yes => inverted(arena, register, fault),
+        Verdict::No => None,
+        Verdict::SeveralWriters => None,
+    }
+}
+
+/// The fault by lines, where `regular` is what is said of regular.
+fn faulty(arena: &Arena, register: RegId, fault: Fault, regular: LevelAnswer) -> Atomicity
+    requires judged { IsJudged (register_of arena.now register.0) (Piece.Faulty fault) }
+    requires regular { IsLevelAnswer Regular (register_of arena.now register.0) regular }
+    ensures { IsAtomicityShown arena.now (register_of arena.now register.0) regular.verdict result }
 {
     Atomicity {
         atomic: false,
         fault: Some(fault_lines(arena, fault)),
+        inversion: inversion_lines(arena, register, fault, regular),
         order: None,
         points: None,
     }
 }
 
-/// What the line says of the order or the fault.
+/// What the line says of the order or the fault, where `regular` is what is said of regular.
 fn atomicity_of(
     alloc: Global,
     arena: &Arena,
     register: RegId,
     judged: &Piece,
+    regular: LevelAnswer,
 ) -> Result<Atomicity, AllocError>
-    requires { IsJudged (register_of arena.now register.0) judged.now }
-    ensures { IfOk result (IsAtomicityShown arena.now (register_of arena.now register.0)) }
+    requires judged { IsJudged (register_of arena.now register.0) judged.now }
+    requires regular { IsLevelAnswer Regular (register_of arena.now register.0) regular }
+    ensures { IfOk result (IsAtomicityShown arena.now (register_of arena.now register.0) regular.verdict) }
 {
     match judged {
         Piece::Order(order) => ordered(alloc, arena, register, order),
-        Piece::Faulty(fault) => Ok(faulty(arena, register, *fault)),
+        Piece::Faulty(fault) => Ok(faulty(arena, register, *fault, regular)),
         Piece::Reads { .. } => unreachable!(),
     }
 }
@@ -96,7 +138,7 @@ pub(crate) fn register_report(
     ensures { IfOk result (IsRegisterReport arena.now register.0) }
 {
     let name = Name::new(alloc, arena.name(register))?;
-    let said = atomicity_of(alloc, arena, register, judged)?;
+    let said = atomicity_of(alloc, arena, register, judged, levels.regular)?;
     Ok(RegReport {
         register: name,
         writes: tally.writes,
@@ -108,6 +150,7 @@ pub(crate) fn register_report(
         regular_read: levels.regular.read,
         atomic: said.atomic,
         fault: said.fault,
+        inversion: said.inversion,
         order: said.order,
         points: said.points,
     })

@@ -54,6 +54,9 @@ pub struct RegReport {
     pub atomic: bool,
     /// Where it isn't atomic, why.
     pub fault: Option<FaultLines>,
+    /// Where it is regular and not atomic, a new-old inversion: a read that gives a new value, and one after it that gives
+    /// an older one.
+    pub inversion: Option<(u32, u32)>,
     /// Where it is atomic, its canonical order without the initial write.
     pub order: Option<Lines>,
     /// Where it is atomic, the points of `order`, place by place: each by the line of the call that has that time.

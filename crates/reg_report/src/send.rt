@@ -149,6 +149,19 @@ fn show_fault<S: Serializer>(
     }
 }
 
+fn show_pair<S: Serializer>(
+    out: &mut S,
+    key: &str,
+    pair: Option<(u32, u32)>,
+) -> Result<(), S::Error>
+    ensures { OnOk result (SendsFields (shown key.now pair_json pair) (S.written out.old) (S.written out.new)) }
+{
+    match pair {
+        Some(pair) => send_pair(out, key, pair),
+        None => Ok(()),
+    }
+}
+
 fn one_if(b: bool) -> usize
     ensures { result ≡ (if b then 1 else 0) }
 {
@@ -159,6 +172,7 @@ fn register_len(reg: &RegReport) -> usize
     ensures { result ≡ length (fields_of (register_parts reg.now)) }
 {
     7 + one_if(reg.fault.is_some())
+        + one_if(reg.inversion.is_some())
         + one_if(reg.order.is_some())
         + one_if(reg.points.is_some())
         + one_if(reg.regular_read.is_some())
@@ -170,6 +184,7 @@ fn send_register_parts<S: Serializer>(out: &mut S, reg: &RegReport) -> Result<()
 {
     send_yes_or_no(out, "atomic", reg.atomic)?;
     show_fault(out, "fault", reg.fault)?;
+    show_pair(out, "inversion", reg.inversion)?;
     show_lines(out, "order", &reg.order)?;
     send_number(out, "pending", reg.pending)?;
     show_lines(out, "points", &reg.points)?;

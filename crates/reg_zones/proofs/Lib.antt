@@ -13,6 +13,7 @@ pub mod ClearBelow
 pub mod OneFault
 pub mod Points
 pub mod Initial
+pub mod Inversions
 pub mod Registers
 pub mod Walks
 pub mod ValuedEvents

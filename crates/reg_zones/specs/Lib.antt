@@ -4,3 +4,4 @@ pub mod Order
 pub mod Register
 pub mod Sweep
 pub mod Entries
+pub mod Inversions

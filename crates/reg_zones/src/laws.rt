@@ -1,13 +1,18 @@
 //! Why clusters and zones decide: laws over the definitions alone. Each is the contract of a function that does nothing.
-ghost use Rattle.std.specs.Prelude.{◌≡◌, ◌↔◌, ◌≤◌, ◌<◌, List, None};
+ghost use Rattle.std.specs.Prelude.{◌≡◌, ◌↔◌, ◌≤◌, ◌<◌, List, None, Some};
 ghost use Rattle.reg_arena.specs.Lists.{In, Before};
 ghost use Rattle.reg_arena.specs.Operations.{Operation, IsHistory};
+ghost use Rattle.reg_arena.specs.Lamport.{HasSingleWriter};
 ghost use Rattle.reg_arena.specs.Legal.{IsLegal, IsAtomic};
+ghost use Rattle.reg_arena.specs.Shown.{name_of};
 ghost use Rattle.reg_zones.specs.Clusters.{low_end, IsConflict, IsClearBelow, IsLastForward, IsFirstConflict};
 ghost use Rattle.reg_zones.specs.Faults.{IsFault, HasNoFault};
+ghost use Rattle.reg_zones.specs.Inversions.{IsInversion, IsRegular, HasInversion, inversion_named};
 ghost use Rattle.reg_zones.specs.Order.{IsListed, IsSooner, IsCanonical, PlacedOperation, placed, IsWithinLife, IsOrder};
 ghost use Rattle.reg_zones.specs.declared.fault.Fault.{Fault};
 ghost use Rattle.reg_zones.specs.declared.placed.Placed.{Placed};
+
+use reg_arena::single_writer_takes_turns;
 
 /// A register with a fault has no legal order, whichever pending operations are completed.
 pub fn fault_means_no_order()
@@ -58,3 +63,13 @@ pub fn initial_write_is_first()
     ensures legal { (ops order : List Operation) → IsHistory ops → IsLegal ops order → (i : Operation) → In i ops → i.process ≡ None
         → (a : Operation) → In a order → (a ≡ i → ⊥) → Before i a order }
 {}
+
+/// With a single writer a register is atomic exactly where it is regular and has no new-old inversion (Lamport, On
+/// Interprocess Communication, Part II, 1986); the fault of one that is regular is a conflict that names an inversion.
+pub fn inversions_decide()
+    ensures atomic { (ops : List Operation) → IsHistory ops → HasSingleWriter ops → (IsAtomic ops ↔ (IsRegular ops × (HasInversion ops → ⊥))) }
+    ensures fault { (ops : List Operation) (fault : Fault) → IsHistory ops → HasSingleWriter ops → IsRegular ops → IsFault ops fault
+        → (r : Operation) × (s : Operation) × IsInversion ops r s × (inversion_named fault ≡ Some (name_of r, name_of s)) }
+{
+    single_writer_takes_turns()
+}

@@ -7,13 +7,14 @@
 //!
 //! The method is that of Gibbons and Korach (Testing Shared Memories, 1997) for distinct written values. To read: `zone`,
 //! then `reads` (the two faults of single reads) and `pass` (one pass over low ends), which `atomic` puts together; then
-//! `entry` and `canonical` for the order. `told` asks the arena for what its laws say, and `valued` for an operation's value.
+//! `entry` and `canonical` for the order, and `inversion`. `told` asks the arena for what its laws say, and `valued` for an operation's value.
 #![tactic(auto)]
 
 mod atomic;
 mod canonical;
 mod entry;
 mod fault;
+mod inversion;
 pub mod laws;
 mod pass;
 mod placed;
@@ -27,5 +28,6 @@ mod zone;
 pub use atomic::sweep;
 pub use canonical::order;
 pub use fault::Fault;
+pub use inversion::inversion_of;
 pub use placed::Placed;
 pub use zone::{Zone, is_kept, zone_of};

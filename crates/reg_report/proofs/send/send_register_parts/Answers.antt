@@ -16,33 +16,37 @@ returns g c =
         at c.show_fault.new.out,
         c.in_ok-show_fault.ensures,
         (
-          at c.show_lines.new.out,
-          c.in_ok-show_lines.ensures,
+          at c.show_pair.new.out,
+          c.in_ok-show_pair.ensures,
           (
-            at c.send_number.new.out,
-            c.in_ok-send_number.ensures,
+            at c.show_lines.new.out,
+            c.in_ok-show_lines.ensures,
             (
-              at c.show_lines-2.new.out,
-              c.in_ok-show_lines-2.ensures,
+              at c.send_number.new.out,
+              c.in_ok-send_number.ensures,
               (
-                at c.send_number-2.new.out,
-                c.in_ok-send_number-2.ensures,
+                at c.show_lines-2.new.out,
+                c.in_ok-show_lines-2.ensures,
                 (
-                  at c.send_text.new.out,
-                  named,
+                  at c.send_number-2.new.out,
+                  c.in_ok-send_number-2.ensures,
                   (
-                    at c.send_verdict.new.out,
-                    c.in_ok-send_verdict.ensures,
+                    at c.send_text.new.out,
+                    named,
                     (
-                      at c.show_number.new.out,
-                      c.in_ok-show_number.ensures,
+                      at c.send_verdict.new.out,
+                      c.in_ok-send_verdict.ensures,
                       (
-                        at c.send_verdict-2.new.out,
-                        c.in_ok-send_verdict-2.ensures,
+                        at c.show_number.new.out,
+                        c.in_ok-show_number.ensures,
                         (
-                          at c.show_number-2.new.out,
-                          c.in_ok-show_number-2.ensures,
-                          (at c.send_number-3.new.out, e, refl),
+                          at c.send_verdict-2.new.out,
+                          c.in_ok-send_verdict-2.ensures,
+                          (
+                            at c.show_number-2.new.out,
+                            c.in_ok-show_number-2.ensures,
+                            (at c.send_number-3.new.out, e, refl),
+                          ),
                         ),
                       ),
                     ),
