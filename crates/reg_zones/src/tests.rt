@@ -229,3 +229,23 @@ fn zones_of_writes(rt: HostRuntime) -> Result<(), Fail> {
     );
     Ok(())
 }
+
+// A conflict can be an inversion, and no other fault is one.
+#[test]
+fn inversions(rt: HostRuntime) -> Result<(), Fail> {
+    let (a, b) = (Oper::Called(EvId(0)), Oper::Called(EvId(2)));
+    let (c, d) = (Oper::Called(EvId(4)), Oper::Called(EvId(6)));
+    let zones = Fault::Zones {
+        writes: (a, b),
+        first: (a, c),
+        second: (c, d),
+    };
+    for (fault, want) in [
+        (Fault::Unwritten { read: a }, None),
+        (Fault::Early { read: a, write: b }, None),
+        (zones, Some((c, d))),
+    ] {
+        assert_eq!(rt; inversion_of(&fault), want, "{fault:?}");
+    }
+    Ok(())
+}

@@ -19,7 +19,7 @@ const HISTORY: &str = r#"{"process":1,"event":"call","op":"write","register":"x"
 "#;
 
 const REPORT: &str =
-    r#"{"atomic":"no","fault":{"first":[1,4],"kind":"zones","second":[4,6],"writes":[1,3]},"pending":0,"reads":2,"register":"x","regular":"yes","safe":"yes","writes":2}
+    r#"{"atomic":"no","fault":{"first":[1,4],"kind":"zones","second":[4,6],"writes":[1,3]},"inversion":[4,6],"pending":0,"reads":2,"register":"x","regular":"yes","safe":"yes","writes":2}
 {"atomic":"no","operations":4,"registers":1}
 "#;
 

@@ -2,7 +2,7 @@
 use reg_report::Outcome;
 
 /// A name, a history, the bytes of its report, and whether it is atomic.
-pub(crate) const REPORTS: [(&str, &str, &str, Outcome); 24] = [
+pub(crate) const REPORTS: [(&str, &str, &str, Outcome); 25] = [
     (
         "no events",
         "",
@@ -33,8 +33,22 @@ pub(crate) const REPORTS: [(&str, &str, &str, Outcome); 24] = [
 {"process":2,"event":"reply","value":1}
 {"process":1,"event":"reply"}
 "#,
-        r#"{"atomic":"no","fault":{"first":[1,4],"kind":"zones","second":[4,6],"writes":[1,3]},"pending":0,"reads":2,"register":"x","regular":"yes","safe":"yes","writes":2}
+        r#"{"atomic":"no","fault":{"first":[1,4],"kind":"zones","second":[4,6],"writes":[1,3]},"inversion":[4,6],"pending":0,"reads":2,"register":"x","regular":"yes","safe":"yes","writes":2}
 {"atomic":"no","operations":4,"registers":1}
+"#,
+        Outcome::NotAtomic,
+    ),
+    (
+        "the written value, then the initial one, while the write goes on",
+        r#"{"process":1,"event":"call","op":"write","register":"x","value":5}
+{"process":2,"event":"call","op":"read","register":"x"}
+{"process":2,"event":"reply","value":5}
+{"process":2,"event":"call","op":"read","register":"x"}
+{"process":2,"event":"reply","value":null}
+{"process":1,"event":"reply"}
+"#,
+        r#"{"atomic":"no","fault":{"first":[0,2],"kind":"zones","second":[2,4],"writes":[0,1]},"inversion":[2,4],"pending":0,"reads":2,"register":"x","regular":"yes","safe":"yes","writes":1}
+{"atomic":"no","operations":3,"registers":1}
 "#,
         Outcome::NotAtomic,
     ),
@@ -248,7 +262,7 @@ pub(crate) const REPORTS: [(&str, &str, &str, Outcome); 24] = [
 {"process":3,"event":"call","op":"read","register":"y"}
 {"process":3,"event":"reply","value":1}
 "#,
-        r#"{"atomic":"no","fault":{"first":[1,4],"kind":"zones","second":[4,6],"writes":[1,3]},"pending":0,"reads":2,"register":"x","regular":"yes","safe":"yes","writes":2}
+        r#"{"atomic":"no","fault":{"first":[1,4],"kind":"zones","second":[4,6],"writes":[1,3]},"inversion":[4,6],"pending":0,"reads":2,"register":"x","regular":"yes","safe":"yes","writes":2}
 {"atomic":"no","fault":{"first":[9,13],"kind":"zones","second":[11,15],"writes":[9,11]},"pending":0,"reads":2,"register":"y","regular":"several writers","safe":"several writers","writes":2}
 {"atomic":"no","operations":8,"registers":2}
 "#,
