@@ -11,7 +11,7 @@ use Rattle.reg_arena.specs.declared.event.Event.{Event}
 use Rattle.reg_arena.specs.declared.ends.Ends.{Ends}
 use Rattle.reg_arena.specs.declared.ends.Entry.{Entry}
 use Rattle.reg_arena.specs.declared.processes.Processes.{Processes}
-use Rattle.reg_arena.specs.declared.processes.TheConstants.{TABLED}
+use Rattle.reg_arena.specs.declared.processes.TheConstants.{TABLE_LIMIT}
 use Rattle.reg_arena.specs.declared.threads.Threads.{Threads}
 use Rattle.reg_arena.specs.Shown.{IsLeastFrom, IsFirstOf, IsCall, key_at, by_register, by_process, by_value}
 
@@ -45,12 +45,13 @@ IsJoinedBy (Some k) n link new_link ends new_ends = IsJoined k n link new_link e
 
 -- ---- processes and the ends of their lists
 
+-- what stands at a place of a table, which may be shorter
 abbrev pub table_at : List (Option Ends) → ℕ → Option Ends
 table_at table p = option_and_then (λ o. o) (slice_get table p)
 
 -- those of small numbers stand in the table, and the others in the map
 abbrev pub process_ends : Processes → ℕ → Option Ends
-process_ends t p = cond (nat_lt p TABLED) (table_at t.table.items p) (get nat_eq t.others p)
+process_ends t p = cond (nat_lt p TABLE_LIMIT) (table_at t.table.items p) (get nat_eq t.others p)
 
 -- one key has new ends, and the others those that they had
 pub record IsSetAt (k : ℕ) (e : Ends) (ends new_ends : ℕ → Option Ends) : Type 0 where

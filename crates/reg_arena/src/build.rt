@@ -12,10 +12,11 @@ ghost use Rattle.reg_arena.specs.Step.{IsLastWith, IsNumber, IsOpen, IsStep, IsT
 use crate::agrees::reply_agrees;
 use crate::arena::Arena;
 use crate::event::Event;
+use crate::hash_key::HashKey;
 use crate::ids::{EvId, RegId};
 use crate::names::Names;
 use crate::refusal::{BuildError, LineRefusal};
-use crate::seeded::{HashKey, Seeded};
+use crate::seeded::Seeded;
 use crate::threads::Threads;
 use history_text::{Kind, LineEvent, LineFault, MAX_EVENTS, Name, OpKind, ReplyParts, Val};
 use std::alloc::{AllocError, Global};
@@ -32,10 +33,10 @@ fn refused(line: u32, number: u8, other: Option<u32>) -> LineRefusal
 }
 
 impl Arena {
-    /// The arena of all events of the lines, or the refusal of the least faulty line, with the least number that applies there.
+    /// `build_keyed` with a digest of the lines as the key, for callers that have no random bytes.
     ///
     /// # Errors
-    /// `Refused` where the history isn't well formed, and `Memory` where a growth was refused; what was built and the lines are then dropped.
+    /// As of [`Arena::build_keyed`].
     pub fn build(
         alloc: Global,
         events: Vec<Result<LineEvent, LineFault>>,
@@ -43,23 +44,25 @@ impl Arena {
         ensures ok { IfOk result (λ a. IsWellFormed events.items × (a ≡ history_of (events_of events.items))) }
         ensures err { IfErr result (λ e. IsBuildError events.items e) }
     {
-        Arena::build_keyed(alloc, None, events)
+        let key = HashKey::digest(&events);
+        Arena::build_keyed(alloc, key, events)
     }
 
-    /// The same, with a key of the hashes.
+    /// The arena of all events of the lines, or the refusal of the least faulty line, with the least number that applies there. The key of its hashes
+    /// changes neither.
     ///
     /// # Errors
-    /// As of [`Arena::build`].
+    /// `Refused` where the history isn't well formed, and `Memory` where a growth was refused; what was built and the lines are then dropped.
     pub fn build_keyed(
         alloc: Global,
-        key: Option<HashKey>,
+        key: HashKey,
         events: Vec<Result<LineEvent, LineFault>>,
     ) -> Result<Self, BuildError>
         ensures ok { IfOk result (λ a. IsWellFormed events.items × (a ≡ history_of (events_of events.items))) }
         ensures err { IfErr result (λ e. IsBuildError events.items e) }
     {
         let count = events.len().min(MAX_EVENTS);
-        let mut arena = Arena::new(alloc, count, Seeded::new(key, &events))?;
+        let mut arena = Arena::new(alloc, count, Seeded::new(key))?;
         for line in &events {
             match line {
                 Err(fault) => {

@@ -7,10 +7,10 @@ use crate::seeded::Seeded;
 use indexmap::IndexMap;
 use std::alloc::{AllocError, Global};
 
-/// The numbers below it stand in the table, which grows up to the greatest that was met.
-const TABLED: u32 = 65_536;
+/// Process numbers below it stand in the table, which reaches as far as the greatest of them that was met.
+const TABLE_LIMIT: u32 = 65_536;
 
-/// For each process that has events the first and the last of them.
+/// The first and the last event of each process that has events.
 #[derive(Drop)]
 pub(crate) struct Processes {
     table: Vec<Option<Ends>>,
@@ -32,7 +32,7 @@ impl Processes {
     pub(crate) fn get(&self, process: u32) -> Option<Ends>
         ensures { result ≡ process_ends self.now process }
     {
-        if process < TABLED {
+        if process < TABLE_LIMIT {
             let place = process as usize;
             if place < self.table.len() {
                 self.table[place]
@@ -48,7 +48,7 @@ impl Processes {
     pub(crate) fn set(&mut self, process: u32, ends: Ends) -> Result<(), AllocError>
         ensures { OnOk result (IsSetAt process ends (process_ends self.old) (process_ends self.new)) }
     {
-        if process < TABLED {
+        if process < TABLE_LIMIT {
             set_in_table(&mut self.table, process as usize, ends)?;
         } else {
             self.others.insert(process, ends)?;
@@ -57,9 +57,9 @@ impl Processes {
     }
 }
 
-/// Sets one place of a table, which grows up to it.
+/// Sets the ends at one place of a table, which grows as far as that place where it is shorter.
 fn set_in_table(table: &mut Vec<Option<Ends>>, place: usize, ends: Ends) -> Result<(), AllocError>
-    requires { place < 65536 }
+    requires { place < TABLE_LIMIT }
     ensures { OnOk result (IsSetAt place ends (table_at table.old.items) (table_at table.new.items)) }
 {
     if table.len() <= place {

@@ -1,15 +1,16 @@
-//! Hashes of the registers' names and values, under a key that the writer of an input can't foresee.
+//! Hashes of the registers' names, of registers with values, and of large process numbers, under a key.
 //!
-//! The kit's default hasher has a fixed key, so that names or values which collide under it could be chosen beforehand, and each look-up would then walk over
-//! them all. Which key it is changes no answer.
+//! The kit's own hashers have a fixed key, so that names or values which collide under it could be chosen beforehand, and each look-up would then walk over
+//! them all. Here the fold of the kit starts from one word of a secret key, and its result is folded once more with the other word.
+ghost use Rattle.std.specs.Hash as fed;
 ghost use Rattle.std.specs.Hash.FoldHasher as folding;
+ghost use Rattle.std.specs.List.{fold};
 ghost use Rattle.std.specs.Prelude.{◌≡◌};
 
-use history_text::{Kind, LineEvent, LineFault, Val};
+use crate::hash_key::HashKey;
 use std::hash::{BuildHasher, FoldHasher, Hasher};
-use std::random::RandomSource;
 
-/// A hash under a secret key of two words: the state begins with the one, and the end multiplies by the other.
+/// A fold under a key of two words: the state begins with the one, and the end is folded with the other.
 #[derive(Clone, Copy)]
 pub(crate) struct KeyedHasher {
     state: FoldHasher,
@@ -30,19 +31,12 @@ impl Hasher for KeyedHasher {
     }
 }
 
-/// The two halves of the product, joined by xor.
+/// The two halves of the product, joined by exclusive or.
 fn folded_multiply(a: u64, b: u64) -> u64
     ensures { result ≡ folding.folded_multiply a b }
 {
     let product = a as u128 * b as u128;
     (product & 0xFFFF_FFFF_FFFF_FFFF) as u64 ^ (product >> 64) as u64
-}
-
-/// A key of an arena's hashes. It changes no answer; who doesn't know it can't choose names or values whose hashes collide.
-#[derive(Clone, Copy)]
-pub struct HashKey {
-    first: u64,
-    second: u64,
 }
 
 /// Makes hashers with one key.
@@ -61,76 +55,19 @@ impl BuildHasher for Seeded {
     }
 }
 
-impl HashKey {
-    /// From the system's random bytes, or none where it gives none.
-    pub fn drawn(rt: &impl RandomSource) -> Option<HashKey> {
-        let mut first = [0; 8];
-        let mut second = [0; 8];
-        if rt.fill_bytes(&mut first).is_err() || rt.fill_bytes(&mut second).is_err() {
-            return None;
-        }
-        Some(HashKey {
-            first: u64::from_le_bytes(first),
-            second: u64::from_le_bytes(second),
-        })
-    }
-}
-
 impl Seeded {
-    /// With this key, or else with a digest of the lines as the key.
-    pub(crate) fn new(key: Option<HashKey>, lines: &[Result<LineEvent, LineFault>]) -> Self {
-        match key {
-            Some(key) => Seeded::with_key(key),
-            None => Seeded::over(lines),
-        }
-    }
-
-    fn with_key(key: HashKey) -> Self {
+    /// Hashers with this key; each of its words counts.
+    pub(crate) fn new(key: HashKey) -> Self
+        ensures first { result.hasher.state ≡ fold folding.write folding.initial (fed.u64 key.first) }
+        ensures second { result.hasher.multiplier ≡ key.second }
+    {
         let mut state = FoldHasher::default();
         state.write_u64(key.first);
         Seeded {
             hasher: KeyedHasher {
                 state,
-                multiplier: key.second | 1,
+                multiplier: key.second,
             },
         }
-    }
-
-    /// With a digest of the lines' calls and replies as the key.
-    fn over(lines: &[Result<LineEvent, LineFault>]) -> Self {
-        let mut state = FoldHasher::default();
-        for line in lines {
-            if let Ok(event) = line {
-                read(event, &mut state);
-            }
-        }
-        let first = state.finish();
-        state.write_u8(0);
-        let second = state.finish();
-        Seeded::with_key(HashKey { first, second })
-    }
-}
-
-/// Reads the process, which kind it is, and then its name and its value, so that no two that differ in these are read alike.
-fn read(event: &LineEvent, state: &mut FoldHasher) {
-    let process = event.process as u64 * 8;
-    match &event.kind {
-        Kind::CallRead(name) => {
-            state.write_u64(process);
-            state.write(name.as_str().as_bytes());
-        }
-        Kind::CallWrite(name, value) => {
-            state.write_u64(process + 1);
-            state.write(name.as_str().as_bytes());
-            state.write_i64(*value);
-        }
-        Kind::Reply(parts) => match parts.value {
-            None => state.write_u64(process + 2),
-            Some(Val::Null) => state.write_u64(process + 3),
-            Some(Val::Int(value)) => {
-                state.write_u64(process + 4);
-                state.write_i64(value);
-            }
-        },
     }
 }

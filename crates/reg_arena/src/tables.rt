@@ -3,7 +3,7 @@ use super::*;
 use history_text::Val;
 
 /// A history in short, its least faulty line, the number of the refusal there, and the other line that it names.
-pub(crate) const REFUSALS: [(&str, u32, u8, Option<u32>); 13] = [
+pub(crate) const REFUSALS: [(&str, u32, u8, Option<u32>); 16] = [
     ("p1 W x 5; p1 ok; p1 W x 5", 3, 13, Some(1)),
     ("p1 ok", 1, 10, None),
     ("p1 W x 1; p1 W x 2; {\"process\":2,\"ev", 2, 9, Some(1)),
@@ -35,6 +35,10 @@ pub(crate) const REFUSALS: [(&str, u32, u8, Option<u32>); 13] = [
     // The other lines are the open call's and the earlier write's, blank lines counted.
     ("p3 R y;; p3 = 1;; p3 R y; p3 R x", 6, 9, Some(5)),
     ("p1 W x 7; p2 W y 5; p3 W x 5; p4 W x 5", 4, 13, Some(3)),
+    // Process numbers that differ by a multiple of 65,536 are different processes.
+    ("p65537 R x; p1 R x; p65537 R y", 3, 9, Some(1)),
+    ("p1 R x; p65537 = 1", 2, 10, None),
+    ("p65536 R x; p0 = 1", 2, 10, None),
 ];
 
 /// Of each event of `p1 W x 5; p2 R x; p2 = null; p1 ok; p1 W x 7; p2 R y`, which have the times 2 to 7, the operation; the call of line 5 has no reply.

@@ -31,7 +31,7 @@ fn line_of(alloc: Global, event: &str) -> Result<String, AllocError> {
 }
 
 // The lines of a history in short, with a semicolon between two events.
-fn lines(
+pub(crate) fn lines(
     rt: &(impl Threads + Sync),
     alloc: Global,
     history: &str,
@@ -67,7 +67,7 @@ fn add_register(
 }
 
 // The lines of a process's events, as its walk meets them.
-fn add_process(
+pub(crate) fn add_process(
     text: &mut String,
     alloc: Global,
     arena: &Arena,
@@ -138,7 +138,7 @@ fn add_process_walks(text: &mut String, alloc: Global, arena: &Arena) -> Result<
 }
 
 // All walks of an arena of one or two registers, x and y.
-fn walks(alloc: Global, arena: &Arena) -> Result<String, AllocError> {
+pub(crate) fn walks(alloc: Global, arena: &Arena) -> Result<String, AllocError> {
     let mut text = String::new(alloc);
     add_register_walks(&mut text, alloc, arena, 0)?;
     add_register_walks(&mut text, alloc, arena, 1)?;
@@ -204,7 +204,11 @@ fn refusals_name_the_least_line(rt: HostRuntime) -> Result<(), Fail> {
 }
 
 // The arena of a history in short that is well formed.
-fn arena_of(rt: &(impl Threads + Sync), alloc: Global, history: &str) -> Result<Arena, Fail> {
+pub(crate) fn arena_of(
+    rt: &(impl Threads + Sync),
+    alloc: Global,
+    history: &str,
+) -> Result<Arena, Fail> {
     match Arena::build(alloc, lines(rt, alloc, history)?) {
         Ok(arena) => Ok(arena),
         Err(_) => Err(Fail::from(AllocError)),

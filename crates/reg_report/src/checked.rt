@@ -33,7 +33,8 @@ pub fn check<R: Threads + RandomSource + Sync, G: Gate + Sync>(
         return Err(Refusal::TooLong);
     }
     let lines = read_lines(rt, alloc, input)?;
-    let arena = Arena::build_keyed(alloc, HashKey::drawn(rt), lines)?;
+    let key = HashKey::drawn(rt, &lines);
+    let arena = Arena::build_keyed(alloc, key, lines)?;
     let plan = plan(alloc, &arena, settings)?;
     let pieces = do_pieces(rt, alloc, &arena, &plan, settings, gate)?;
     Ok(history_report(alloc, &arena, &plan, settings.cut(), pieces)?)

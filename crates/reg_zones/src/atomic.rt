@@ -12,8 +12,7 @@ use reg_arena::{Arena, RegId};
 
 /// The fault of a register, or that it has none: then, and only then, it is atomic.
 ///
-/// It takes no memory and always answers, in a time that grows with the register's events, and with the logarithm of
-/// the history's.
+/// It takes no memory and always answers, in a time that grows with the register's events alone.
 pub fn sweep(arena: &Arena, register: RegId) -> Result<(), Fault>
     requires { register.0 < length arena.now.names }
     ensures fault { MatchResult result

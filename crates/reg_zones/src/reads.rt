@@ -62,7 +62,7 @@ fn unwritten_at(arena: &Arena, register: RegId, id: EvId) -> Option<Oper>
 {
     told(arena, register);
     let read = read_called_at(arena, register, id)?;
-    match write_read(arena, register, read) {
+    match write_of_read(arena, register, read) {
         Some(_) => None,
         None => Some(read.oper),
     }
@@ -76,7 +76,7 @@ fn early_at(arena: &Arena, register: RegId, id: EvId) -> Option<(Oper, Oper)>
 {
     told(arena, register);
     let read = read_called_at(arena, register, id)?;
-    let write = write_read(arena, register, read)?;
+    let write = write_of_read(arena, register, read)?;
     if read.reply < operation(arena, write).call {
         Some((read.oper, write))
     } else {
@@ -85,7 +85,7 @@ fn early_at(arena: &Arena, register: RegId, id: EvId) -> Option<(Oper, Oper)>
 }
 
 /// The write of the value of a completed read, by the event of its reply.
-fn write_read(arena: &Arena, register: RegId, read: Read) -> Option<Oper>
+fn write_of_read(arena: &Arena, register: RegId, read: Read) -> Option<Oper>
     requires register { register.0 < length arena.now.names }
     requires read { IsReadOfRegister (of_register register.0 (operations arena.now)) read }
     ensures { IsWriteOf arena.now register.0 read.value result }

@@ -5,8 +5,8 @@ use Rattle.reg_zones.specs.Sweep.{IsEarlyAt}
 use Rattle.reg_zones.proofs.CalledReads.{the_write, no_write, read_of, one_write}
 use Rattle.reg_zones.proofs.reads.early_at.Goals as goal
 
-pub write_read-requires-clause-read : goal.write_read-requires-clause-read
-write_read-requires-clause-read c = let q = c.in_ok-read.ensures in (q.0, q.1, q.2, q.5, q.6)
+pub write_of_read-requires-clause-read : goal.write_of_read-requires-clause-read
+write_of_read-requires-clause-read c = let q = c.in_ok-read.ensures in (q.0, q.1, q.2, q.5, q.6)
 
 pub returns-in_err-write : goal.returns-in_err-write
 returns-in_err-write c =

@@ -3,8 +3,8 @@ use Rattle.reg_arena.specs.Operations.{Operation}
 use Rattle.reg_zones.proofs.CalledReads.{the_write, no_write, read_of}
 use Rattle.reg_zones.proofs.reads.unwritten_at.Goals as goal
 
-pub write_read-requires-clause-read : goal.write_read-requires-clause-read
-write_read-requires-clause-read c = let q = c.in_ok-read.ensures in (q.0, q.1, q.2, q.5, q.6)
+pub write_of_read-requires-clause-read : goal.write_of_read-requires-clause-read
+write_of_read-requires-clause-read c = let q = c.in_ok-read.ensures in (q.0, q.1, q.2, q.5, q.6)
 
 pub returns-in-Some : goal.returns-in-Some
 returns-in-Some c a k d e =

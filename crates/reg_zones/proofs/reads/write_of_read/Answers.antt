@@ -2,7 +2,7 @@ use Rattle.std.proofs.Common.{◌≡◌, ◌-◌, ◌<◌, Some, length, subst, 
 use Rattle.reg_arena.specs.Shown.{by_value, key_at}
 use Rattle.reg_zones.proofs.ValuedEvents.{read-late, read-key}
 use Rattle.reg_zones.proofs.Walks.{value-within}
-use Rattle.reg_zones.proofs.reads.write_read.Goals as goal
+use Rattle.reg_zones.proofs.reads.write_of_read.Goals as goal
 
 pub overflow_sub-read : goal.overflow_sub-read
 overflow_sub-read c = let q = c.requires.read in omega (arith, read-late c.args.arena.now c.args.register.0 c.told.ensures q.0 q.1 q.2, q.4)

@@ -1,0 +1,71 @@
+//! The key of an arena's hashes, which nobody who makes up a history can know.
+use history_text::{Kind, LineEvent, LineFault, Val};
+use std::hash::{DefaultHasher, Hash, Hasher};
+use std::io;
+use std::random::RandomSource;
+
+/// The secret of an arena's hashes. It changes no answer; it only keeps names, values and process numbers from being chosen so that their hashes collide.
+#[derive(Clone, Copy, Debug, PartialEq, Eq)]
+pub struct HashKey {
+    pub(crate) first: u64,
+    pub(crate) second: u64,
+}
+
+impl HashKey {
+    /// Two words of the system's random bytes; where the system gives none, the digest of the lines.
+    pub fn drawn(rt: &impl RandomSource, lines: &[Result<LineEvent, LineFault>]) -> Self {
+        match (random_word(rt), random_word(rt)) {
+            (Ok(first), Ok(second)) => HashKey { first, second },
+            _ => HashKey::digest(lines),
+        }
+    }
+
+    /// A digest of all calls and replies. It reads each one's process, kind, name and value, so that none of them can be changed under the same key.
+    ///
+    /// It is SipHash's and no fold: the last value of a history is free, and could be chosen so that a fold ends in a key that was picked beforehand.
+    pub(crate) fn digest(lines: &[Result<LineEvent, LineFault>]) -> Self {
+        let mut state = DefaultHasher::new();
+        for line in lines {
+            if let Ok(event) = line {
+                event.process.hash(&mut state);
+                read(&event.kind, &mut state);
+            }
+        }
+        let first = state.finish();
+        first.hash(&mut state);
+        HashKey {
+            first,
+            second: state.finish(),
+        }
+    }
+}
+
+/// Eight random bytes.
+fn random_word(rt: &impl RandomSource) -> io::Result<u64> {
+    let mut bytes = [0; 8];
+    rt.fill_bytes(&mut bytes)?;
+    Ok(u64::from_le_bytes(bytes))
+}
+
+/// Reads which kind it is, and then its name and its value, so that no two that differ in these are read alike.
+fn read(kind: &Kind, state: &mut DefaultHasher) {
+    match kind {
+        Kind::CallRead(name) => {
+            0_u8.hash(state);
+            name.as_str().hash(state);
+        }
+        Kind::CallWrite(name, value) => {
+            1_u8.hash(state);
+            name.as_str().hash(state);
+            value.hash(state);
+        }
+        Kind::Reply(parts) => match parts.value {
+            None => 2_u8.hash(state),
+            Some(Val::Null) => 3_u8.hash(state),
+            Some(Val::Int(value)) => {
+                4_u8.hash(state);
+                value.hash(state);
+            }
+        },
+    }
+}

@@ -1,0 +1,134 @@
+//! Tests of process numbers on both sides of the table's limit, and of the key of the hashes.
+use super::*;
+use crate::tests::{add_process, arena_of, lines, walks};
+use std::io;
+use std::random::RandomSource;
+use std::test::Fail;
+
+/// Processes on both sides of the table's limit, 65,536. Of them 1, 65,537 and 131,073 are equal in their low 16 bits, and so are 0 and 65,536.
+const MIXED: &str =
+    "p65535 W x 1; p65536 R x; p1 R y; p4294967295 R x; p65537 R y; p65535 ok; p65536 = 1; p0 R x; p131073 R y; p1 = null; p65537 = null; p65536 R x";
+
+/// The lines of each process in `MIXED`, and of some that have none.
+const LINES: [(u32, &str); 11] = [
+    (0, " 8"),
+    (1, " 3 10"),
+    (2, ""),
+    (65_534, ""),
+    (65_535, " 1 6"),
+    (65_536, " 2 7 12"),
+    (65_537, " 5 11"),
+    (65_538, ""),
+    (131_072, ""),
+    (131_073, " 9"),
+    (4_294_967_295, " 4"),
+];
+
+#[test]
+fn small_and_large_processes_keep_their_lists(rt: HostRuntime) -> Result<(), Fail> {
+    let alloc = rt.alloc();
+    let arena = arena_of(&rt, alloc, MIXED)?;
+    for (process, want) in LINES {
+        let mut text = String::new(alloc);
+        add_process(&mut text, alloc, &arena, process)?;
+        assert_eq!(rt; text.as_str(), want, "process {process}");
+    }
+    Ok(())
+}
+
+// A system whose random bytes are all the same.
+struct Alike {
+    byte: u8,
+}
+
+impl RandomSource for Alike {
+    fn fill_bytes(&self, buf: &mut [u8]) -> io::Result<()> {
+        for byte in buf.iter_mut() {
+            *byte = self.byte;
+        }
+        Ok(())
+    }
+}
+
+// A system that gives no random bytes.
+struct Refusing;
+
+impl RandomSource for Refusing {
+    fn fill_bytes(&self, _buf: &mut [u8]) -> io::Result<()> {
+        Err(io::Error::from_raw_os_error(5))
+    }
+}
+
+#[test]
+fn a_key_is_drawn_or_a_digest(rt: HostRuntime) -> Result<(), Fail> {
+    let lines = lines(&rt, rt.alloc(), "p1 W x 5; p1 ok")?;
+    let drawn = HashKey::drawn(&Alike { byte: 0x5A }, &lines);
+    assert_eq!(rt; drawn.first, 0x5A5A_5A5A_5A5A_5A5A);
+    assert_eq!(rt; drawn.second, 0x5A5A_5A5A_5A5A_5A5A);
+    let digest = HashKey::digest(&lines);
+    let undrawn = HashKey::drawn(&Refusing, &lines);
+    assert_eq!(rt; undrawn.first, digest.first);
+    assert_eq!(rt; undrawn.second, digest.second);
+    Ok(())
+}
+
+/// Lines that differ from one another in one part: a process, a kind, a name, a value, whether a reply has one, or the order.
+const DIFFERENT: [&str; 11] = [
+    "p1 W x 5; p1 ok",
+    "p2 W x 5; p1 ok",
+    "p65537 W x 5; p1 ok",
+    "p1 W y 5; p1 ok",
+    "p1 W x 6; p1 ok",
+    "p1 R x; p1 ok",
+    "p1 W x 5; p1 = 5",
+    "p1 W x 5; p1 = 6",
+    "p1 W x 5; p1 = null",
+    "p1 W x 5; p2 ok",
+    "p1 ok; p1 W x 5",
+];
+
+#[test]
+fn a_digest_reads_every_part(rt: HostRuntime) -> Result<(), Fail> {
+    let alloc = rt.alloc();
+    for one in 0..DIFFERENT.len() {
+        let digest = HashKey::digest(&lines(&rt, alloc, DIFFERENT[one])?);
+        assert_ne!(rt; digest.first, digest.second, "{}", DIFFERENT[one]);
+        for other in 0..one {
+            let before = HashKey::digest(&lines(&rt, alloc, DIFFERENT[other])?);
+            assert_ne!(rt; digest.first, before.first, "{one} and {other}");
+            assert_ne!(rt; digest.second, before.second, "{one} and {other}");
+        }
+    }
+    Ok(())
+}
+
+/// Registers, values and processes whose hashes all collide under a second word of 0.
+const KEYED: &str =
+    "p1 R x; p2 R y; p70000 W x 1; p70001 W y 2; p1 = 1; p2 = 2; p70000 ok; p70001 ok; p3 W y 1; p70000 R y";
+
+/// The walks of `KEYED`, and the lines of process 70,000 behind them.
+const WALKS: &str =
+    "register 0: 1 3 5 7 | | 3 5 7 | | |; register 1: 2 4 6 8 9 10 | | 9 | 4 6 8 | |; p1: 1 5; p2: 2 6; p3: 9; p4:;  3 7 10";
+
+#[test]
+fn no_key_changes_an_answer(rt: HostRuntime) -> Result<(), Fail> {
+    let alloc = rt.alloc();
+    for (first, second) in [
+        (0, 0),
+        (0, 1),
+        (1, 0),
+        (u64::MAX, u64::MAX),
+        (0x5A5A, 0xA5A5),
+    ] {
+        let key = HashKey { first, second };
+        match Arena::build_keyed(alloc, key, lines(&rt, alloc, KEYED)?) {
+            Ok(arena) => {
+                let mut text = walks(alloc, &arena)?;
+                add_process(&mut text, alloc, &arena, 70_000)?;
+                assert_eq!(rt; text.as_str(), WALKS, "{first} and {second}");
+            }
+            Err(error) => assert!(rt; false, "{first} and {second}: {error:?}"),
+        }
+    }
+    Ok(())
+}
