@@ -7,7 +7,7 @@ ghost use Rattle.history_text.specs.Memory.{Gives, GivesLine};
 
 use crate::event::{Kind, LineEvent, OpKind, ReplyParts};
 use crate::fault::{LineFault, LineKind};
-use crate::flat::flat_event;
+use crate::flat_line::flat_event;
 use crate::limits::MAX_LINE;
 use crate::members;
 use crate::name::Name;
