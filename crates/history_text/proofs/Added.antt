@@ -73,10 +73,10 @@ module _ (f : Found) (ms : Members) (h : Holds ms f) where
 abbrev IsKeyed : List ℕ → List ℕ → List ℕ → Type 0
 IsKeyed k text rest = (lex between text ≡ token (Token.string k) ∷ colon ∷ lex between rest) × (IsUtf8 rest → IsUtf8 text)
 
-keyed : (k name text rest : List ℕ) → ((behind : List ℕ) → lex between (name ++ behind) ≡ token (Token.string k) ∷ lex between behind) → are_ascii name ≡ true → Named name text rest → IsKeyed k text rest
+keyed : (k name text rest : List ℕ) → ((behind : List ℕ) → lex between (name ++ behind) ≡ token (Token.string k) ∷ colon ∷ lex between behind) → are_ascii name ≡ true → Named name text rest → IsKeyed k text rest
 keyed k name text rest lexed ascii named = (
-  ap (lex between) named.begins ∙ lexed named.behind ∙ ap (λ l. token (Token.string k) ∷ l) named.lexed,
-  λ u. subst IsUtf8 (sym named.begins) (ascii_front name named.behind ascii (named.utf8 u)),
+  ap (lex between) named.begins ∙ lexed named.behind ∙ ap (λ l. token (Token.string k) ∷ colon ∷ l) named.gap.lexed,
+  λ u. subst IsUtf8 (sym named.begins) (ascii_front name named.behind ascii (named.gap.utf8 u)),
 )
 
 adds_member : (k : List ℕ) (d : Data) (old new : Found) (text mid rest : List ℕ) → IsKeyed k text mid → Scalar mid d rest
@@ -93,31 +93,31 @@ adds_member k d old new text mid rest front scalar put_holds ended =
     )
 
 module _ (f : Found) (text mid rest : List ℕ) where
-  pub adds_process : (p : ℕ) → p ≤ MAX_PROCESS → Named (codes "\"process\"") text mid → Scalar mid (process_data p) rest
+  pub adds_process : (p : ℕ) → p ≤ MAX_PROCESS → Named (codes "\"process\":") text mid → Scalar mid (process_data p) rest
       → Adds text f (record { process = Some p; is_call = f.is_call; op = f.op; register = f.register; value = f.value }) rest
   unfolding lex content
   adds_process p fits named scalar =
       adds_member (codes "process") (process_data p) f _ text mid rest (keyed (codes "process") _ text mid (λ behind. refl) refl named) scalar (λ ms h. put_process f ms h p fits)
 
-  pub adds_event : (b : Bool) → Named (codes "\"event\"") text mid → Scalar mid (event_data b) rest
+  pub adds_event : (b : Bool) → Named (codes "\"event\":") text mid → Scalar mid (event_data b) rest
       → Adds text f (record { process = f.process; is_call = Some b; op = f.op; register = f.register; value = f.value }) rest
   unfolding lex content
   adds_event b named scalar =
       adds_member (codes "event") (event_data b) f _ text mid rest (keyed (codes "event") _ text mid (λ behind. refl) refl named) scalar (λ ms h. put_event f ms h b)
 
-  pub adds_op : (k : OpKind) → Named (codes "\"op\"") text mid → Scalar mid (op_data k) rest
+  pub adds_op : (k : OpKind) → Named (codes "\"op\":") text mid → Scalar mid (op_data k) rest
       → Adds text f (record { process = f.process; is_call = f.is_call; op = Some k; register = f.register; value = f.value }) rest
   unfolding lex content
   adds_op k named scalar =
       adds_member (codes "op") (op_data k) f _ text mid rest (keyed (codes "op") _ text mid (λ behind. refl) refl named) scalar (λ ms h. put_op f ms h k)
 
-  pub adds_register : (s : Bor (List ℕ)) → Named (codes "\"register\"") text mid → Scalar mid (string s.now) rest
+  pub adds_register : (s : Bor (List ℕ)) → Named (codes "\"register\":") text mid → Scalar mid (string s.now) rest
       → Adds text f (record { process = f.process; is_call = f.is_call; op = f.op; register = Some s; value = f.value }) rest
   unfolding lex content
   adds_register s named scalar =
       adds_member (codes "register") (string s.now) f _ text mid rest (keyed (codes "register") _ text mid (λ behind. refl) refl named) scalar (λ ms h. put_register f ms h s)
 
-  pub adds_value : (v : Val) → Named (codes "\"value\"") text mid → Scalar mid (value_data v) rest
+  pub adds_value : (v : Val) → Named (codes "\"value\":") text mid → Scalar mid (value_data v) rest
       → Adds text f (record { process = f.process; is_call = f.is_call; op = f.op; register = f.register; value = Some v }) rest
   unfolding lex content
   adds_value v named scalar =

@@ -1,8 +1,9 @@
-//! The event of a line that is a flat object, read with no tree: the common form of a line.
+//! The event of a flat line, read with no tree. Flat is the common form of a line: one object of up to
+//! five members, each of a known name and with a plain value, as `flat_members` reads them.
 //!
-//! What an event is stays with `line`, which reads any JSON. The contract here names the same
-//! definitions, so a line has one event, whichever way it is read. Nothing is judged here: a line that
-//! is not flat, or has a fault, gives `None` and is read again as JSON.
+//! The contract of `read_line` says what it would say without this module: [`flat_event`] gives an event
+//! only if `line_form` gives it, which is defined over the JSON that `serde_json` reads. A line that is
+//! not flat, or has a fault, gives `None`, and `line` reads it as JSON. So faults are judged there alone.
 ghost use Rattle.std.specs.Prelude.{◌≡◌, ◌≤◌, length, IfSome, IfOk, Ok, ⊤};
 ghost use Rattle.std.specs.Bool.{MatchBool};
 ghost use Rattle.serde_json.specs.Data.{Members, object};
@@ -60,6 +61,7 @@ fn kind(alloc: Global, found: Found<'_>, is_call: bool) -> Result<Option<Kind>, 
     Ok(Some(Kind::Reply(parts)))
 }
 
+/// The call of an operation on a register.
 fn call(alloc: Global, found: Found<'_>) -> Result<Option<Kind>, AllocError>
     ensures { IfOk result (λ o. IfSome o (λ kind. (ms : Members) → Holds ms found.entry
         → call_kind (object ms) ≡ Ok kind)) }

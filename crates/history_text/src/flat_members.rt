@@ -2,7 +2,9 @@
 //!
 //! An object is flat here if it has one to five members, in any order, each with a name that the
 //! format knows and with a plain value of that member: a number, a word, a string or null. Spaces may
-//! stand wherever JSON takes them. As in `members`, the last of equal names counts.
+//! stand wherever JSON takes them, but before a colon. As in `members`, the last of equal names counts.
+//!
+//! Each function gives what it read and the text behind that. `None` tells nothing of the text.
 ghost use Rattle.std.specs.Prelude.{◌≤◌, IfSome};
 ghost use Rattle.serde_json.specs.Data.{string};
 ghost use Rattle.history_text.specs.Limits.{MAX_PROCESS};
@@ -32,6 +34,7 @@ const NOTHING: Found<'static> = Found {
 // One for each name that the format knows.
 const MOST_MEMBERS: usize = 5;
 
+/// The process, a whole number within its limit.
 #[inline(always)]
 fn process(text: &[u8]) -> Option<(u32, &[u8])>
     ensures text { IfSome result (λ r. Scalar text.now (process_data r.0) r.1.now) }
@@ -56,6 +59,7 @@ fn is_call(text: &[u8]) -> Option<(bool, &[u8])>
     Some((false, rest))
 }
 
+/// Whether the operation reads or writes.
 #[inline(always)]
 fn op(text: &[u8]) -> Option<(OpKind, &[u8])>
     ensures { IfSome result (λ r. Scalar text.now (op_data r.0) r.1.now) }
@@ -67,6 +71,7 @@ fn op(text: &[u8]) -> Option<(OpKind, &[u8])>
     Some((OpKind::WriteOp, rest))
 }
 
+/// The text that names the register. Its length is not judged here.
 #[inline(always)]
 fn register(text: &[u8]) -> Option<(&str, &[u8])>
     ensures { IfSome result (λ r. Scalar text.now (string r.0.now) r.1.now) }
@@ -74,6 +79,7 @@ fn register(text: &[u8]) -> Option<(&str, &[u8])>
     plain_string(text)
 }
 
+/// The value, null or a whole number.
 #[inline(always)]
 fn value(text: &[u8]) -> Option<(Val, &[u8])>
     ensures { IfSome result (λ r. Scalar text.now (value_data r.0) r.1.now) }
@@ -85,49 +91,48 @@ fn value(text: &[u8]) -> Option<(Val, &[u8])>
     Some((Val::Int(number), rest))
 }
 
-/// The text of a member's value, if this is the member's name, which is given in its quotes.
+/// The text of a member's value, if `name` is the member's name, in its quotes and with its colon.
 #[inline(always)]
 fn named<'a>(text: &'a [u8], name: &[u8]) -> Option<&'a [u8]>
     ensures { IfSome result (λ rest. Named name.now text.now rest.now) }
 {
     let behind = after(text, name)?;
-    let value = after(skip_spaces(behind), b":")?;
-    Some(skip_spaces(value))
+    Some(skip_spaces(behind))
 }
 
-/// One member more, in the place of an earlier one of its name, and the text behind it.
+/// One member more, in the place of an earlier one of its name.
 #[inline(always)]
 fn member<'a>(text: &'a [u8], found: Found<'a>) -> Option<(Found<'a>, &'a [u8])>
     ensures { IfSome result (λ r. Adds text.now found.entry r.0 r.1.now) }
 {
     let mut found = found;
-    if let Some(behind) = named(text, b"\"process\"") {
+    if let Some(behind) = named(text, b"\"process\":") {
         let (process, rest) = process(behind)?;
         found.process = Some(process);
         return Some((found, rest));
     }
-    if let Some(behind) = named(text, b"\"event\"") {
+    if let Some(behind) = named(text, b"\"event\":") {
         let (is_call, rest) = is_call(behind)?;
         found.is_call = Some(is_call);
         return Some((found, rest));
     }
-    if let Some(behind) = named(text, b"\"op\"") {
+    if let Some(behind) = named(text, b"\"op\":") {
         let (op, rest) = op(behind)?;
         found.op = Some(op);
         return Some((found, rest));
     }
-    if let Some(behind) = named(text, b"\"register\"") {
+    if let Some(behind) = named(text, b"\"register\":") {
         let (register, rest) = register(behind)?;
         found.register = Some(register);
         return Some((found, rest));
     }
-    let behind = named(text, b"\"value\"")?;
+    let behind = named(text, b"\"value\":")?;
     let (value, rest) = value(behind)?;
     found.value = Some(value);
     Some((found, rest))
 }
 
-/// The members of the flat object that the text is. `None` tells nothing of the text.
+/// The members, if the text is one flat object with nothing but spaces around it.
 #[inline(always)]
 pub(crate) fn flat_object(text: &[u8]) -> Option<Found<'_>>
     ensures { IfSome result (λ found. IsFlat text.now found) }

@@ -39,7 +39,7 @@ pub(crate) fn after<'a>(text: &'a [u8], front: &[u8]) -> Option<&'a [u8]>
     Some(&text[front.len()..])
 }
 
-/// Whether the byte is a space, a tab or a carriage return. JSON's fourth space ends a line.
+/// Whether the byte is a space, a tab or a carriage return. JSON's fourth, the line feed, ends a line.
 #[inline(always)]
 fn is_space(byte: u8) -> bool
     ensures { result ≡ is_space_byte byte }
@@ -62,9 +62,7 @@ pub(crate) fn skip_spaces(text: &[u8]) -> &[u8]
     rest
 }
 
-/// A whole number without a sign, which is written with no leading zero.
-///
-/// Of the numbers of 19 digits only those below 9,223,372,036,854,775,800 are read, and none above.
+/// A whole number without a sign and with no leading zero, below 9,223,372,036,854,775,800.
 #[inline(always)]
 pub(crate) fn unsigned(text: &[u8]) -> Option<(u64, &[u8])>
     ensures text { IfSome result (λ r. text.now ≡ decimal r.0 ++ r.1.now) }
@@ -92,7 +90,7 @@ pub(crate) fn unsigned(text: &[u8]) -> Option<(u64, &[u8])>
     Some((number, rest))
 }
 
-/// A whole number, with a minus where it is below zero. `-0` is none: JSON's readers take it for a float.
+/// A whole number, with a minus if it is below zero. `-0` is not read: `serde_json` takes it for a float.
 #[inline(always)]
 pub(crate) fn signed(text: &[u8]) -> Option<(i64, &[u8])>
     ensures text { IfSome result (λ r. text.now ≡ signed_decimal r.0 ++ r.1.now) }
@@ -120,7 +118,7 @@ fn is_plain(byte: u8) -> bool
     byte >= b' ' && byte != b'"' && byte != b'\\'
 }
 
-/// A string without escapes, given without its quotes. What is no UTF-8 is no string.
+/// The text of a string without escapes. What is not UTF-8 is not read.
 #[inline(always)]
 pub(crate) fn plain_string(text: &[u8]) -> Option<(&str, &[u8])>
     ensures plain { IfSome result (λ r. IsPlain r.0.now) }
