@@ -6,3 +6,4 @@ pub mod Reading
 mod Rows
 mod Lexed
 mod Joined
+mod Added

@@ -7,12 +7,14 @@
 //! Nothing here knows how events follow one another; that is the floor above.
 //!
 //! Read it in this order: `limits`; `name`, `event` and `fault`, which say what a line can mean;
-//! `members`, `refused` and `line`, which read one line; `lines` and `read`, which read them all.
+//! `members`, `refused` and `line`, which read one line; `scan`, `flat_members` and `flat_line`, which read
+//! a line of the common form faster; `lines` and `read`, which read them all.
 #![tactic(auto)]
 
 mod event;
 mod fault;
-mod flat;
+mod flat_line;
+mod flat_members;
 mod limits;
 mod line;
 mod lines;
@@ -20,6 +22,7 @@ mod members;
 mod name;
 mod read;
 mod refused;
+mod scan;
 #[cfg(test)]
 mod tests;
 

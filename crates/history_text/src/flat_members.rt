@@ -1,0 +1,158 @@
+//! The members of a flat object, one after another, read from its text with no tree.
+//!
+//! An object is flat here if it has one to five members, in any order, each with a name that the
+//! format knows and with a plain value of that member: a number, a word, a string or null. Spaces may
+//! stand wherever JSON takes them, but before a colon. As in `members`, the last of equal names counts.
+//!
+//! Each function gives what it read and the text behind that. `None` tells nothing of the text.
+ghost use Rattle.std.specs.Prelude.{◌≤◌, IfSome};
+ghost use Rattle.serde_json.specs.Data.{string};
+ghost use Rattle.history_text.specs.Limits.{MAX_PROCESS};
+ghost use Rattle.history_text.specs.Flat.{Scalar, Named, Adds, IsFlat, process_data, event_data, op_data, value_data};
+
+use crate::event::{OpKind, Val};
+use crate::scan::{after, next_byte, plain_string, signed, skip_spaces, unsigned};
+
+/// What was found of the members, each as it is read. What is absent is `None`.
+#[derive(Clone, Copy, Drop)]
+pub(crate) struct Found<'a> {
+    pub(crate) process: Option<u32>,
+    pub(crate) is_call: Option<bool>,
+    pub(crate) op: Option<OpKind>,
+    pub(crate) register: Option<&'a str>,
+    pub(crate) value: Option<Val>,
+}
+
+const NOTHING: Found<'static> = Found {
+    process: None,
+    is_call: None,
+    op: None,
+    register: None,
+    value: None,
+};
+
+// One for each name that the format knows.
+const MOST_MEMBERS: usize = 5;
+
+/// The process, a whole number within its limit.
+#[inline(always)]
+fn process(text: &[u8]) -> Option<(u32, &[u8])>
+    ensures text { IfSome result (λ r. Scalar text.now (process_data r.0) r.1.now) }
+    ensures limit { IfSome result (λ r. r.0 ≤ MAX_PROCESS) }
+{
+    let (number, rest) = unsigned(text)?;
+    if number > u32::MAX as u64 {
+        return None;
+    }
+    Some((number as u32, rest))
+}
+
+/// Whether the event is a call, or else a reply.
+#[inline(always)]
+fn is_call(text: &[u8]) -> Option<(bool, &[u8])>
+    ensures { IfSome result (λ r. Scalar text.now (event_data r.0) r.1.now) }
+{
+    if let Some(rest) = after(text, b"\"call\"") {
+        return Some((true, rest));
+    }
+    let rest = after(text, b"\"reply\"")?;
+    Some((false, rest))
+}
+
+/// Whether the operation reads or writes.
+#[inline(always)]
+fn op(text: &[u8]) -> Option<(OpKind, &[u8])>
+    ensures { IfSome result (λ r. Scalar text.now (op_data r.0) r.1.now) }
+{
+    if let Some(rest) = after(text, b"\"read\"") {
+        return Some((OpKind::ReadOp, rest));
+    }
+    let rest = after(text, b"\"write\"")?;
+    Some((OpKind::WriteOp, rest))
+}
+
+/// The text that names the register. Its length is not judged here.
+#[inline(always)]
+fn register(text: &[u8]) -> Option<(&str, &[u8])>
+    ensures { IfSome result (λ r. Scalar text.now (string r.0.now) r.1.now) }
+{
+    plain_string(text)
+}
+
+/// The value, null or a whole number.
+#[inline(always)]
+fn value(text: &[u8]) -> Option<(Val, &[u8])>
+    ensures { IfSome result (λ r. Scalar text.now (value_data r.0) r.1.now) }
+{
+    if let Some(rest) = after(text, b"null") {
+        return Some((Val::Null, rest));
+    }
+    let (number, rest) = signed(text)?;
+    Some((Val::Int(number), rest))
+}
+
+/// The text of a member's value, if `name` is the member's name, in its quotes and with its colon.
+#[inline(always)]
+fn named<'a>(text: &'a [u8], name: &[u8]) -> Option<&'a [u8]>
+    ensures { IfSome result (λ rest. Named name.now text.now rest.now) }
+{
+    let behind = after(text, name)?;
+    Some(skip_spaces(behind))
+}
+
+/// One member more, in the place of an earlier one of its name.
+#[inline(always)]
+fn member<'a>(text: &'a [u8], found: Found<'a>) -> Option<(Found<'a>, &'a [u8])>
+    ensures { IfSome result (λ r. Adds text.now found.entry r.0 r.1.now) }
+{
+    let mut found = found;
+    if let Some(behind) = named(text, b"\"process\":") {
+        let (process, rest) = process(behind)?;
+        found.process = Some(process);
+        return Some((found, rest));
+    }
+    if let Some(behind) = named(text, b"\"event\":") {
+        let (is_call, rest) = is_call(behind)?;
+        found.is_call = Some(is_call);
+        return Some((found, rest));
+    }
+    if let Some(behind) = named(text, b"\"op\":") {
+        let (op, rest) = op(behind)?;
+        found.op = Some(op);
+        return Some((found, rest));
+    }
+    if let Some(behind) = named(text, b"\"register\":") {
+        let (register, rest) = register(behind)?;
+        found.register = Some(register);
+        return Some((found, rest));
+    }
+    let behind = named(text, b"\"value\":")?;
+    let (value, rest) = value(behind)?;
+    found.value = Some(value);
+    Some((found, rest))
+}
+
+/// The members, if the text is one flat object with nothing but spaces around it.
+#[inline(always)]
+pub(crate) fn flat_object(text: &[u8]) -> Option<Found<'_>>
+    ensures { IfSome result (λ found. IsFlat text.now found) }
+{
+    let mut rest = skip_spaces(after(skip_spaces(text), b"{")?);
+    let mut found = NOTHING;
+    for _ in 0..MOST_MEMBERS {
+        let (more, next) = member(rest, found)?;
+        found = more;
+        let (mark, behind) = next_byte(skip_spaces(next))?;
+        if mark == b'}' {
+            if !skip_spaces(behind).is_empty() {
+                return None;
+            }
+            return Some(found);
+        }
+        if mark != b',' {
+            return None;
+        }
+        rest = skip_spaces(behind);
+    }
+    None
+}
