@@ -43,7 +43,10 @@ fn memory_that_fails_at_a_flush(rt: HostRuntime) -> Result<(), Fail> {
     Ok(())
 }
 
-// Interrupts a hundred times before each read and write.
+// How often a read or a write is interrupted before it succeeds.
+const INTERRUPTS: u32 = 1000;
+
+// Interrupts each read and write so often.
 #[derive(Drop)]
 struct Interrupting<T: Drop> {
     inner: T,
@@ -52,7 +55,7 @@ struct Interrupting<T: Drop> {
 
 impl<R: Read + Drop> Read for Interrupting<R> {
     fn read(&mut self, buf: &mut [u8]) -> io::Result<usize> {
-        if self.interrupts < 100 {
+        if self.interrupts < INTERRUPTS {
             self.interrupts += 1;
             return Err(io::Error::from(ErrorKind::Interrupted));
         }
@@ -63,7 +66,7 @@ impl<R: Read + Drop> Read for Interrupting<R> {
 
 impl<W: Write + Drop> Write for Interrupting<W> {
     fn write(&mut self, buf: &[u8]) -> io::Result<usize> {
-        if self.interrupts < 100 {
+        if self.interrupts < INTERRUPTS {
             self.interrupts += 1;
             return Err(io::Error::from(ErrorKind::Interrupted));
         }
@@ -208,5 +211,94 @@ fn failing_writer(rt: HostRuntime) -> Result<(), Fail> {
         assert_eq!(rt; sink.flush(), flushed, "{takes} {flushes}");
         assert_eq!(rt; sink.failures(), failures, "{takes} {flushes}");
     }
+    Ok(())
+}
+
+// Answers each call with one kind of error, and counts the calls.
+#[derive(Drop)]
+struct Refusing {
+    kind: ErrorKind,
+    calls: u32,
+}
+
+impl Refusing {
+    fn refuse<T>(&mut self) -> io::Result<T> {
+        self.calls = self.calls.saturating_add(1);
+        Err(io::Error::from(self.kind))
+    }
+}
+
+impl Read for &mut Refusing {
+    fn read(&mut self, _buf: &mut [u8]) -> io::Result<usize> {
+        self.refuse()
+    }
+}
+
+impl Write for &mut Refusing {
+    fn write(&mut self, _buf: &[u8]) -> io::Result<usize> {
+        self.refuse()
+    }
+
+    fn flush(&mut self) -> io::Result<()> {
+        self.refuse()
+    }
+}
+
+// An end that would have to be waited for has failed: it is asked once, and not again.
+#[test]
+fn ends_that_would_wait(rt: HostRuntime) -> Result<(), Fail> {
+    let mut end = Refusing {
+        kind: ErrorKind::WouldBlock,
+        calls: 0,
+    };
+    let mut into = [0; 4];
+    assert_eq!(rt; FromReader::new(&mut end).pull(&mut into), Err(IoFail));
+    assert_eq!(rt; end.calls, 1);
+    assert_eq!(rt; FromWriter::new(&mut end).push("abc".as_bytes()), Err(IoFail));
+    assert_eq!(rt; end.calls, 2);
+    Ok(())
+}
+
+// A flush is passed on after an earlier failure too, and one that is interrupted is a failure.
+#[test]
+fn flushes_that_fail(rt: HostRuntime) -> Result<(), Fail> {
+    let mut end = Refusing {
+        kind: ErrorKind::Interrupted,
+        calls: 0,
+    };
+    let mut sink = FromWriter::new(&mut end);
+    assert_eq!(rt; sink.flush(), Err(IoFail));
+    assert_eq!(rt; sink.flush(), Err(IoFail));
+    assert_eq!(rt; sink.failures(), 2);
+    assert_eq!(rt; end.calls, 2);
+    Ok(())
+}
+
+// Takes nothing, and counts the writes.
+#[derive(Drop)]
+struct TakesNothing {
+    writes: u32,
+}
+
+impl Write for &mut TakesNothing {
+    fn write(&mut self, _buf: &[u8]) -> io::Result<usize> {
+        self.writes = self.writes.saturating_add(1);
+        Ok(0)
+    }
+
+    fn flush(&mut self) -> io::Result<()> {
+        Ok(())
+    }
+}
+
+// A write that takes nothing isn't tried again, after an earlier failure neither.
+#[test]
+fn writes_of_nothing(rt: HostRuntime) -> Result<(), Fail> {
+    let mut end = TakesNothing { writes: 0 };
+    let mut sink = FromWriter::new(&mut end);
+    assert_eq!(rt; sink.push("abc".as_bytes()), Err(IoFail));
+    assert_eq!(rt; sink.push("abc".as_bytes()), Err(IoFail));
+    assert_eq!(rt; sink.failures(), 2);
+    assert_eq!(rt; end.writes, 2);
     Ok(())
 }

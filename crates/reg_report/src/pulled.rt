@@ -8,8 +8,8 @@ use byte_ends::Source;
 use history_text::MAX_INPUT;
 use std::alloc::Global;
 
-/// How many bytes are asked for at once.
-const PIECE: usize = 65_536;
+/// How many bytes are asked for at once. They lie on the stack, of which a caller may have little.
+const PIECE: usize = 16_384;
 
 /// Whether all the bytes so far are kept, where they were before these.
 fn keep(kept: bool, all: &mut Vec<u8>, bytes: &[u8]) -> bool

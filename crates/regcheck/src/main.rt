@@ -12,7 +12,7 @@ use ended::{Ended, status};
 use reg_report::{
     FromReader, FromWriter, OpenGate, Outcome, Refusal, Settings, Source, message, run,
 };
-use std::alloc::AllocError;
+use std::alloc::{AllocError, Global};
 use std::io;
 use std::process::ExitCode;
 use std::random::RandomSource;
@@ -65,12 +65,31 @@ fn history(
     }
 }
 
+/// What is said of words that aren't UTF-8, as the parser would say it.
+const NO_TEXT: &str = "error: invalid UTF-8 was detected in one or more arguments
+
+Usage: regcheck [OPTIONS] [FILE]
+
+For more information, try '--help'.
+";
+
+/// Why the words couldn't be had: memory was refused, or they aren't UTF-8.
+fn no_words(alloc: Global, error: &io::Error) -> WordsFault {
+    if error.kind() == io::ErrorKind::OutOfMemory {
+        return WordsFault::Memory;
+    }
+    match String::from_str(alloc, NO_TEXT) {
+        Ok(text) => WordsFault::Bad(text),
+        Err(AllocError) => WordsFault::Memory,
+    }
+}
+
 /// The words after the program's name, read.
 fn asked(rt: &(impl Env + AllocGlobal)) -> Result<Words, WordsFault> {
     let alloc = rt.alloc();
     let given: Vec<String> = match std::env::args(rt) {
         Ok(args) => args.skip(1).collect(alloc)?,
-        Err(_) => return Err(WordsFault::Memory),
+        Err(error) => return Err(no_words(alloc, &error)),
     };
     read_words(alloc, given.as_slice())
 }

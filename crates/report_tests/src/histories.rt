@@ -75,12 +75,14 @@ fn refusals(rt: HostRuntime) -> Result<(), Fail> {
     Ok(())
 }
 
-// A byte that no UTF-8 has is no JSON.
+// A byte that no UTF-8 has is no JSON, and neither is the byte 0.
 #[test]
 fn bytes_of_no_text(rt: HostRuntime) -> Result<(), Fail> {
-    let (said, told) = answered(&rt, &[255])?;
-    assert_eq!(rt; said.as_slice(), "line 1: not JSON".as_bytes());
-    assert_eq!(rt; told, Err(2));
+    for byte in [255, 0] {
+        let (said, told) = answered(&rt, &[byte])?;
+        assert_eq!(rt; said.as_slice(), "line 1: not JSON".as_bytes(), "{byte}");
+        assert_eq!(rt; told, Err(2), "{byte}");
+    }
     Ok(())
 }
 

@@ -157,21 +157,21 @@ impl Gate for HoldsAll {
 // A worker draws a piece once it has done the one before: there is no thread for each piece.
 #[test]
 fn no_more_pieces_at_once_than_workers(rt: HostRuntime) -> Result<(), Fail> {
-    let (input, want, _) = row("two registers that are not atomic")?;
-    for workers in [1, 2] {
+    let input = reads_of_a_write(rt.alloc(), 15)?;
+    for workers in 1..=15u32 {
         let gate = HoldsAll {
             arrived: AtomicU64::new(0),
             let_go: AtomicU64::new(0),
             gave_up: AtomicBool::new(false),
         };
-        let (report, _) = answered_by(&rt, input.as_bytes(), settings(workers, 1)?, &gate)?;
+        let (_, told) = answered_by(&rt, input.as_bytes(), settings(workers, 1)?, &gate)?;
         let at_once = gate.let_go.load(Ordering::SeqCst);
         assert!(rt; !gate.gave_up.load(Ordering::SeqCst), "{workers}");
         assert!(rt;
             0 < at_once && at_once <= u64::from(workers),
             "{workers}: {at_once}"
         );
-        assert_eq!(rt; report.as_slice(), want.as_bytes(), "{workers}");
+        assert_eq!(rt; told, Ok(Outcome::Atomic), "{workers}");
     }
     Ok(())
 }
@@ -193,32 +193,15 @@ impl Gate for HoldsEach {
     }
 }
 
-// As many workers as were asked for are at work at once, as long as there are pieces for them.
-#[test]
-fn as_many_at_once_as_workers(rt: HostRuntime) -> Result<(), Fail> {
-    let (input, want, _) = row("two registers that are not atomic")?;
-    for workers in [1, 2, 3, 4] {
-        let gate = HoldsEach {
-            workers: u64::from(workers),
-            arrived: AtomicU64::new(0),
-            gave_up: AtomicBool::new(false),
-        };
-        let (report, _) = answered_by(&rt, input.as_bytes(), settings(workers, 1)?, &gate)?;
-        assert!(rt; !gate.gave_up.load(Ordering::SeqCst), "{workers}");
-        assert_eq!(rt; report.as_slice(), want.as_bytes(), "{workers}");
-    }
-    Ok(())
-}
-
-// A write and fifteen reads of it, one after another: sixteen pieces in cuts of one read.
-fn fifteen_reads(alloc: Global) -> Result<String, AllocError> {
+// A write and so many reads of it, one after another: in cuts of one read, a piece for each read and one more.
+fn reads_of_a_write(alloc: Global, count: u32) -> Result<String, AllocError> {
     let mut input = String::from_str(
         alloc,
         r#"{"process":1,"event":"call","op":"write","register":"x","value":1}
 {"process":1,"event":"reply"}
 "#,
     )?;
-    for _ in 0..15 {
+    for _ in 0..count {
         input.push_str(
             r#"{"process":2,"event":"call","op":"read","register":"x"}
 {"process":2,"event":"reply","value":1}
@@ -228,17 +211,38 @@ fn fifteen_reads(alloc: Global) -> Result<String, AllocError> {
     Ok(input)
 }
 
-// So are as many workers as may be asked for.
-#[test]
-fn sixteen_workers_at_once(rt: HostRuntime) -> Result<(), Fail> {
-    let input = fifteen_reads(rt.alloc())?;
+// So many workers are at work at once over a history of so many reads.
+fn expect_at_once(
+    rt: &(impl Threads + RandomSource + AllocGlobal + Abort + Sync),
+    workers: u32,
+    reads: u32,
+) -> Result<(), Fail> {
+    let input = reads_of_a_write(rt.alloc(), reads)?;
     let gate = HoldsEach {
-        workers: 16,
+        workers: u64::from(workers),
         arrived: AtomicU64::new(0),
         gave_up: AtomicBool::new(false),
     };
-    let (_, told) = answered_by(&rt, input.as_bytes(), settings(16, 1)?, &gate)?;
-    assert!(rt; !gate.gave_up.load(Ordering::SeqCst));
-    assert_eq!(rt; told, Ok(Outcome::Atomic));
+    let (_, told) = answered_by(rt, input.as_bytes(), settings(workers, 1)?, &gate)?;
+    assert!(rt; !gate.gave_up.load(Ordering::SeqCst), "{workers}, {reads}");
+    assert_eq!(rt; told, Ok(Outcome::Atomic), "{workers}, {reads}");
+    Ok(())
+}
+
+// As many workers as are asked for are at work at once, as long as there are pieces for them.
+#[test]
+fn as_many_at_once_as_workers(rt: HostRuntime) -> Result<(), Fail> {
+    for workers in 1..=16u32 {
+        expect_at_once(&rt, workers, 15)?;
+    }
+    Ok(())
+}
+
+// So they are where there are many pieces.
+#[test]
+fn many_pieces_at_once(rt: HostRuntime) -> Result<(), Fail> {
+    for (workers, reads) in [(2, 80), (16, 300)] {
+        expect_at_once(&rt, workers, reads)?;
+    }
     Ok(())
 }
