@@ -226,6 +226,10 @@ fn longest_history(rt: HostRuntime) -> Result<(), Fail> {
         other: None,
     };
     assert_eq!(rt;
+        message(alloc, &one_too_many)?.as_str(),
+        "line 1048577: more than 1048576 events"
+    );
+    assert_eq!(rt;
         run_on(&rt, input.as_slice(), 0, four, &OpenGate).err(),
         Some(one_too_many)
     );
