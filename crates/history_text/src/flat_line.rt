@@ -19,6 +19,8 @@ use crate::name::Name;
 use std::alloc::{AllocError, Global};
 
 /// The event of a flat line. `None` tells nothing of the line.
+///
+/// The error is the want of memory; nothing is kept then.
 pub(crate) fn flat_event(
     alloc: Global,
     bytes: &[u8],

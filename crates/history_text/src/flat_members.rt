@@ -2,7 +2,8 @@
 //!
 //! An object is flat here if it has one to five members, in any order, each with a name that the
 //! format knows and with a plain value of that member: a number, a word, a string or null. Spaces may
-//! stand wherever JSON takes them, but before a colon. As in `members`, the last of equal names counts.
+//! stand wherever JSON allows them, except before a colon: hardly a writer puts them there, and to look
+//! for them costs each line. As in `members`, the last of equal names counts.
 //!
 //! Each function gives what it read and the text behind that. `None` tells nothing of the text.
 ghost use Rattle.std.specs.Prelude.{◌≤◌, IfSome};
@@ -100,7 +101,7 @@ fn named<'a>(text: &'a [u8], name: &[u8]) -> Option<&'a [u8]>
     Some(skip_spaces(behind))
 }
 
-/// One member more, in the place of an earlier one of its name.
+/// One more member; it replaces an earlier one of the same name.
 #[inline(always)]
 fn member<'a>(text: &'a [u8], found: Found<'a>) -> Option<(Found<'a>, &'a [u8])>
     ensures { IfSome result (λ r. Adds text.now found.entry r.0 r.1.now) }

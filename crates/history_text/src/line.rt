@@ -1,8 +1,8 @@
 //! One line: its event, or the least fault that applies to it.
 //!
 //! `flat_line` reads the common form of a line with no tree. Every other line, and each one that has a
-//! fault, is read here as a JSON value.
-//! Faults are looked for by ascending number, so the first that is found is the least.
+//! fault, is read as a JSON value here. Faults are looked for by ascending number, so the first that is
+//! found is the least.
 ghost use Rattle.serde_json.specs.View.{view};
 ghost use Rattle.history_text.specs.Reading.{call_kind, reply_kind, kind_of, event_of, line_form, line_reading};
 ghost use Rattle.history_text.specs.Memory.{Gives, GivesLine};

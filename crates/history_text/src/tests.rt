@@ -161,180 +161,6 @@ fn faults_of_lines(rt: HostRuntime) -> Result<(), Fail> {
         2,
         "a byte that is no UTF-8"
     );
-    Ok(())
-}
-
-// What `WRITE` says, as `told_line` tells it.
-const WRITES_5: &str = "1 CallWrite(Name { text: \"x\" }, 5)";
-
-// A line, whether it is read with no tree, and what is read of it either way.
-const FORMS: [(&str, bool, &str); 28] = [
-    (WRITE, true, WRITES_5),
-    // Any order.
-    (
-        r#"{"value":5,"register":"x","op":"write","event":"call","process":1}"#,
-        true,
-        WRITES_5,
-    ),
-    // Spaces, tabs and carriage returns; before a colon they are rare.
-    (
-        r#"{"process": 1, "event": "call", "op": "write", "register": "x", "value": 5}"#,
-        true,
-        WRITES_5,
-    ),
-    (
-        "{\"process\":1,\"event\":\"call\",\"op\":\"write\",\"register\":\"x\",\"value\":5}\r",
-        true,
-        WRITES_5,
-    ),
-    (
-        " {\t\"process\": 1\t,\r\"event\":\t\"call\",\"op\":\r\"write\" , \"register\":\"x\",\"value\":5\t}\t\r",
-        true,
-        WRITES_5,
-    ),
-    (
-        r#"{"process" : 1, "event" : "call", "op" : "write", "register" : "x", "value" : 5}"#,
-        false,
-        WRITES_5,
-    ),
-    (
-        "{\"process\":1,\"event\":\"call\",\"op\":\"write\",\"register\":\"x\",\"value\":5\t5}",
-        false,
-        "fault 2",
-    ),
-    // Of equal names the last, among five members or more.
-    (
-        r#"{"process":1,"process":2,"event":"call","op":"read","register":"x"}"#,
-        true,
-        "2 CallRead(Name { text: \"x\" })",
-    ),
-    (
-        r#"{"value":4,"process":1,"event":"call","op":"write","register":"x","value":5}"#,
-        false,
-        WRITES_5,
-    ),
-    // Members that nobody knows.
-    (
-        r#"{"clock":{},"process":1,"event":"call","op":"write","register":"x","value":5}"#,
-        false,
-        WRITES_5,
-    ),
-    // Names: of many bytes a character, with an escape, with an escaped quote, with a tab.
-    (
-        r#"{"process":1,"event":"call","op":"read","register":"größe €😀"}"#,
-        true,
-        "1 CallRead(Name { text: \"größe €😀\" })",
-    ),
-    (
-        r#"{"process":1,"event":"call","op":"write","register":"\u0078","value":5}"#,
-        false,
-        WRITES_5,
-    ),
-    (
-        r#"{"process":1,"event":"call","op":"read","register":"x\",\"y"}"#,
-        false,
-        "1 CallRead(Name { text: \"x\\\",\\\"y\" })",
-    ),
-    (
-        "{\"process\":1,\"event\":\"call\",\"op\":\"read\",\"register\":\"x\ty\"}",
-        false,
-        "fault 2",
-    ),
-    (
-        r#"{"process":1,"event":"call","op":"read","register":""}"#,
-        false,
-        "fault 7",
-    ),
-    // Numbers of 18 and 19 digits, the limits of 64 bits with a sign, and no whole numbers.
-    (
-        r#"{"process":1,"event":"call","op":"write","register":"x","value":999999999999999999}"#,
-        true,
-        "1 CallWrite(Name { text: \"x\" }, 999999999999999999)",
-    ),
-    (
-        r#"{"process":1,"event":"call","op":"write","register":"x","value":-9223372036854775799}"#,
-        true,
-        "1 CallWrite(Name { text: \"x\" }, -9223372036854775799)",
-    ),
-    (
-        r#"{"process":1,"event":"call","op":"write","register":"x","value":9223372036854775800}"#,
-        false,
-        "1 CallWrite(Name { text: \"x\" }, 9223372036854775800)",
-    ),
-    (
-        r#"{"process":1,"event":"call","op":"write","register":"x","value":9223372036854775807}"#,
-        false,
-        "1 CallWrite(Name { text: \"x\" }, 9223372036854775807)",
-    ),
-    (
-        r#"{"process":1,"event":"call","op":"write","register":"x","value":-9223372036854775808}"#,
-        false,
-        "1 CallWrite(Name { text: \"x\" }, -9223372036854775808)",
-    ),
-    (
-        r#"{"process":1,"event":"call","op":"write","register":"x","value":92233720368547758070}"#,
-        false,
-        "fault 8",
-    ),
-    (
-        r#"{"process":1,"event":"call","op":"write","register":"x","value":-0}"#,
-        false,
-        "fault 8",
-    ),
-    (
-        r#"{"process":1,"event":"call","op":"write","register":"x","value":1.0}"#,
-        false,
-        "fault 8",
-    ),
-    (
-        r#"{"process":01,"event":"call","op":"read","register":"x"}"#,
-        false,
-        "fault 2",
-    ),
-    (
-        r#"{"process":4294967296,"event":"call","op":"read","register":"x"}"#,
-        false,
-        "fault 4",
-    ),
-    // Commas, and what stands behind the object.
-    (
-        r#"{"process":1,"event":"call","op":"read","register":"x",}"#,
-        false,
-        "fault 2",
-    ),
-    (
-        r#"{"process":1 "event":"call","op":"read","register":"x"}"#,
-        false,
-        "fault 2",
-    ),
-    (
-        r#"{"process":1,"event":"call","op":"read","register":"x"}}"#,
-        false,
-        "fault 2",
-    ),
-];
-
-// The process of a line and what happened, or the number of its fault.
-fn told_line(alloc: Global, line: &Result<LineEvent, LineFault>) -> Result<String, Fail> {
-    let mut told = String::new(alloc);
-    match line {
-        Ok(LineEvent { process, kind, .. }) => write!(told, "{process} {kind:?}")?,
-        Err(fault) => write!(told, "fault {}", fault.number())?,
-    }
-    Ok(told)
-}
-
-#[test]
-fn common_form_of_lines(rt: HostRuntime) -> Result<(), Fail> {
-    let alloc = rt.alloc();
-    for (text, flat, want) in FORMS {
-        let bytes = text.as_bytes();
-        assert!(rt; bytes.len() <= MAX_LINE);
-        let event = flat_event(alloc, bytes, 7)?;
-        assert!(rt; event.is_some() == flat, "{text}");
-        let got = told_line(alloc, &read(alloc, bytes, 7)?)?;
-        assert_eq!(rt; got.as_str(), want, "{text}");
-    }
     assert_eq!(rt;
         number(
             alloc,
@@ -343,6 +169,103 @@ fn common_form_of_lines(rt: HostRuntime) -> Result<(), Fail> {
         2,
         "a name that is no UTF-8"
     );
+    Ok(())
+}
+
+// What W stands for in the lines below.
+const PARTS: &str = r#""process":1,"event":"call","op":"write""#;
+
+// A line, whether it is read with no tree, and what is read of it either way, as `told_line` tells it.
+const FORMS: [(&str, bool, &str); 26] = [
+    (r#"{W,"register":"x","value":5}"#, true, "x 5"),
+    // Any order.
+    (r#"{"value":5,"register":"x",W}"#, true, "x 5"),
+    // Spaces, tabs and carriage returns, but none before a colon or inside a number.
+    ("{W, \"register\": \"x\", \"value\": 5}\r", true, "x 5"),
+    (
+        "\t{ W\r,\t\"register\":\r\"x\"\t,\"value\":\t5 }\t ",
+        true,
+        "x 5",
+    ),
+    (r#"{W,"register" :"x","value":5}"#, false, "x 5"),
+    ("{W,\"register\":\"x\",\"value\":5\t5}", false, "fault 2"),
+    // Of equal names the last, among five members or more.
+    (r#"{W,"op":"read","register":"x"}"#, true, "read x"),
+    (r#"{W,"value":4,"register":"x","value":5}"#, false, "x 5"),
+    // A member that nobody knows.
+    (r#"{W,"register":"x","value":5,"clock":{}}"#, false, "x 5"),
+    // Names: of more than ASCII, with escapes, with a tab, of no bytes.
+    (r#"{W,"register":"größe €😀","value":5}"#, true, "größe €😀 5"),
+    (r#"{W,"register":"\u0078","value":5}"#, false, "x 5"),
+    (r#"{W,"register":"x\",\"y","value":5}"#, false, r#"x","y 5"#),
+    ("{W,\"register\":\"x\ty\",\"value\":5}", false, "fault 2"),
+    (r#"{W,"register":"","value":5}"#, false, "fault 7"),
+    // Numbers of 18 and 19 digits, at the limits, and no whole numbers.
+    (
+        r#"{W,"register":"x","value":999999999999999999}"#,
+        true,
+        "x 999999999999999999",
+    ),
+    (
+        r#"{W,"register":"x","value":-9223372036854775799}"#,
+        true,
+        "x -9223372036854775799",
+    ),
+    (
+        r#"{W,"register":"x","value":9223372036854775800}"#,
+        false,
+        "x 9223372036854775800",
+    ),
+    (
+        r#"{W,"register":"x","value":9223372036854775807}"#,
+        false,
+        "x 9223372036854775807",
+    ),
+    (
+        r#"{W,"register":"x","value":-9223372036854775808}"#,
+        false,
+        "x -9223372036854775808",
+    ),
+    (
+        r#"{W,"register":"x","value":92233720368547758070}"#,
+        false,
+        "fault 8",
+    ),
+    (r#"{W,"register":"x","value":-0}"#, false, "fault 8"),
+    (r#"{W,"register":"x","value":1.0}"#, false, "fault 8"),
+    (r#"{W,"register":"x","value":01}"#, false, "fault 2"),
+    // Commas, and what stands behind the object.
+    (r#"{W,"register":"x","value":5,}"#, false, "fault 2"),
+    (r#"{W,"register":"x" "value":5}"#, false, "fault 2"),
+    (r#"{W,"register":"x","value":5}}"#, false, "fault 2"),
+];
+
+// What a line calls, or the number of its fault.
+fn told_line(alloc: Global, line: &Result<LineEvent, LineFault>) -> Result<String, Fail> {
+    let mut told = String::new(alloc);
+    match line {
+        Ok(event) => match &event.kind {
+            Kind::CallRead(name) => write!(told, "read {}", name.as_str())?,
+            Kind::CallWrite(name, value) => write!(told, "{} {value}", name.as_str())?,
+            Kind::Reply(_) => write!(told, "a reply")?,
+        },
+        Err(fault) => write!(told, "fault {}", fault.number())?,
+    }
+    Ok(told)
+}
+
+#[test]
+fn lines_with_no_tree(rt: HostRuntime) -> Result<(), Fail> {
+    let alloc = rt.alloc();
+    for (form, flat, want) in FORMS {
+        let text = form.replace(alloc, "W", PARTS)?;
+        let bytes = text.as_bytes();
+        assert!(rt; bytes.len() <= MAX_LINE);
+        let event = flat_event(alloc, bytes, 7)?;
+        assert!(rt; event.is_some() == flat, "{form}");
+        let got = told_line(alloc, &read(alloc, bytes, 7)?)?;
+        assert_eq!(rt; got.as_str(), want, "{form}");
+    }
     Ok(())
 }
 
