@@ -1,0 +1,76 @@
+"""Small histories that several test scripts use, and what the program has to answer to each by tests/reference.py.
+
+They are written in a short form: `p1 W x 5` calls a write, `p2 R x` a read, `p1 ok` and `p2 = 5` are replies."""
+import json
+from typing import List, NamedTuple, Tuple
+
+import reference
+
+CHECKER = reference.Options(fail=False)  # what the program of this tree knows
+
+WRITE_AND_READ = "p1 W x 5; p1 ok; p2 R x; p2 = 5"
+INVERSION = "p1 W x 1; p1 ok; p1 W x 2; p2 R x; p2 = 2; p2 R x; p2 = 1; p1 ok"
+MERGED = "p1 R x; p2 R y; p3 W x 1; p4 W y 2; p1 = 1; p2 = 2; p3 ok; p4 ok"
+WRITTEN_TWICE = "p1 W x 5; p1 ok; p1 W x 5"
+TWO_REGISTERS = INVERSION + "; p1 W y 1; p1 ok; p2 W y 2; p2 ok; p3 R y; p3 = 2; p3 R y; p3 = 1"
+
+
+def event(words: str) -> str:
+    """The line of one event in short form."""
+    process, what, *rest = words.split()
+    members = {"process": int(process[1:])}
+    if what == "W":
+        members.update(event="call", op="write", register=rest[0], value=int(rest[1]))
+    elif what == "R":
+        members.update(event="call", op="read", register=rest[0])
+    elif what == "=":
+        members.update(event="reply", value=json.loads(rest[0]))
+    else:
+        members.update(event={"ok": "reply"}.get(what, what))
+    return json.dumps(members, separators=(",", ":")) + "\n"
+
+
+def history(text: str) -> bytes:
+    return "".join(event(words) for words in text.split(";")).encode()
+
+
+def sixteen_registers() -> bytes:
+    """Each of 16 processes writes to its own register and reads its neighbour's, in turns."""
+    lines = [f"p{n} {what}" for turn in (1, 2) for what in (f"W r{{}} {turn}", "ok", "R s{}", "= 0")
+             for n in range(16)]
+    texts = []
+    for line in lines:
+        number = int(line.split()[0][1:])
+        texts.append(line.format(number).replace(f"R s{number}", f"R r{(number + 1) % 16}"))
+    latest, shown = {}, []
+    for text in texts:
+        process, what, *rest = text.split()
+        if what == "W":
+            latest[rest[0]] = rest[1]
+        register = f"r{(int(process[1:]) + 1) % 16}"
+        shown.append(f"{process} = {latest.get(register, 'null')}" if what == "=" else text)
+    return history("; ".join(shown))
+
+
+class Case(NamedTuple):
+    name: str
+    words: Tuple[str, ...]  # of the command line
+    history: bytes
+    answer: Tuple[int, bytes, bytes]  # exit status, standard output, standard error
+
+
+def case(name: str, words: Tuple[str, ...], given: bytes) -> Case:
+    status, report, refusal = reference.answer(given, CHECKER)
+    return Case(name, words, given, (status, report, (refusal + "\n").encode() if refusal else b""))
+
+
+def refused_cases() -> List[Case]:
+    """What is run while memory is refused."""
+    named = {"write_and_read": WRITE_AND_READ, "inversion": INVERSION, "merged": MERGED,
+             "written_twice": WRITTEN_TWICE, "two_registers": TWO_REGISTERS}
+    cases = [case(f"{name} --workers {workers}", ("--workers", workers), history(text))
+             for name, text in named.items() for workers in ("1", "2")]
+    cases.append(case("as it is", (), history(WRITE_AND_READ)))
+    cases.append(case("two_registers --cut 1", ("--workers", "4", "--cut", "1"), history(TWO_REGISTERS)))
+    cases.append(case("sixteen_registers", ("--workers", "4"), sixteen_registers()))
+    return cases
