@@ -1,0 +1,93 @@
+"""`regkit check`: checks histories, and says in a few lines what came out."""
+import argparse
+import json
+import pathlib
+import sys
+from typing import List
+
+from regkit.colour import CHOICES, Painter, painter
+from regkit.inputs import STANDARD_INPUT, shown_name
+from regkit.judging import Judge, Wishes
+from regkit.options import count
+from regkit.outcome import (COMMAND_LINE, FAILED, REFUSED, STYLES, VERDICTS, Outcome, gravest, json_of,
+                            text_of)
+from regkit.progress import Progress
+from regkit.quoting import plain
+
+HELP = "check histories, and say in a few lines what came out"
+EPILOG = """\
+examples:
+  regkit check history.jsonl
+  regkit check --least-reads 100 --least-overlaps 20 runs/*.jsonl
+  ./record_a_run | regkit check
+  regkit check --json --verify runs/*.jsonl > verdicts.jsonl
+  regkit check --draw pages runs/*.jsonl
+
+A history that says nothing is no success: a yes needs at least one completed read, or what --least-reads and
+--least-overlaps ask for.
+
+exit status, of several histories the first in the order 4, 3, 2, 1, 5, 0:
+  0  linearizable (atomic), with that evidence
+  1  not linearizable
+  2  refused: the input is no history, or too long; standard error says what to do
+  3  wrong command line
+  4  input, memory, output or regcheck failed, or --verify found the report wrong
+  5  linearizable, with too little evidence
+"""
+
+
+def add_arguments(parser: argparse.ArgumentParser) -> None:
+    parser.add_argument("files", metavar="FILE", nargs="*", help="histories; - or none is standard input")
+    parser.add_argument("--most", metavar="N", type=count, default=10,
+                        help="show at most N faulty registers of each history (default %(default)s)")
+    parser.add_argument("--least-reads", metavar="N", type=count, default=1,
+                        help="a yes needs at least N completed reads (default %(default)s)")
+    parser.add_argument("--least-overlaps", metavar="N", type=count, default=0,
+                        help="and at least N of them that overlap a write (default %(default)s)")
+    parser.add_argument("--first", action="store_true",
+                        help="stop at the first faulty register of each history")
+    parser.add_argument("--verify", action="store_true",
+                        help="check each claim of regcheck's answer, as `regkit verify` does")
+    parser.add_argument("--draw", metavar="DIR", type=pathlib.Path,
+                        help="draw each history, as `regkit draw` does, to a page in DIR")
+    output = parser.add_mutually_exclusive_group()
+    output.add_argument("--quiet", action="store_true",
+                        help="print no verdicts, only what went wrong: the exit status tells the rest")
+    output.add_argument("--json", action="store_true", help="print one JSON object for each history")
+    parser.add_argument("--color", choices=CHOICES, default="auto",
+                        help="colour: on a terminal unless NO_COLOR is set (default), always, or never")
+
+
+def heading(outcome: Outcome, paint: Painter) -> str:
+    verdict = paint(STYLES[outcome.status], VERDICTS[outcome.status])
+    return f"{plain(shown_name(outcome.file))}: {verdict}: {outcome.words}"
+
+
+def tell(outcome: Outcome, arguments: argparse.Namespace, progress: Progress) -> None:
+    """Prints one outcome. Refusals and failures go to standard error, unless all is JSON."""
+    if arguments.json:
+        progress.say(json.dumps(json_of(outcome)).replace("\x7f", "\\u007f"), sys.stdout)
+        return
+    wrong = outcome.status in (REFUSED, FAILED)
+    if arguments.quiet and not wrong:
+        return
+    stream = sys.stderr if wrong else sys.stdout
+    progress.say("\n".join([heading(outcome, painter(arguments.color, stream)), *text_of(outcome)]), stream)
+
+
+def run(arguments: argparse.Namespace) -> int:
+    files: List[str] = arguments.files or [STANDARD_INPUT]
+    if files.count(STANDARD_INPUT) > 1:
+        print("regkit check: standard input can be read once: give - once", file=sys.stderr)
+        return COMMAND_LINE
+    wishes = Wishes(arguments.most, arguments.least_reads, arguments.least_overlaps, arguments.first,
+                    arguments.verify, arguments.draw)
+    statuses = []
+    with Progress() as progress:
+        judge = Judge(wishes, progress)
+        for place, name in enumerate(files, 1):
+            label = plain(shown_name(name)) + (f" ({place} of {len(files)})" if len(files) > 1 else "")
+            outcome = judge.judge(name, label)
+            statuses.append(outcome.status)
+            tell(outcome, arguments, progress)
+    return gravest(statuses)

@@ -1,0 +1,106 @@
+"""`regkit draw`: a page that shows a history, and what is wrong with it."""
+import argparse
+import os
+import sys
+from typing import Optional, Union
+
+from regkit.checker import NoChecker, judge
+from regkit.draw import page_of, without_collection
+from regkit.drawing.page import Asked
+from regkit.history import read_history
+from regkit.inputs import TooLong, read_input, shown_name
+from regkit.progress import Progress
+from regkit.report import read_report
+
+HELP = "draw a history on a page for a browser: the fault, or the order of a yes"
+EPILOG = """\
+examples:
+  regkit draw h.jsonl -o h.html               runs regcheck, and draws what it says
+  regkit draw h.jsonl h.report -o h.html      draws a report that is there already
+  regkit draw h.jsonl --register x -o h.html  draws one register
+
+The page stands alone: one file, no script, nothing loaded. It begins with the fault of the first register
+that isn't atomic. If all are atomic, it shows the point at which each operation takes effect. Of a long
+history it shows windows around what matters, and says what is left out.
+
+exit status:
+  0  the page was written, whatever it says
+  2  regcheck refused the history, or the report isn't of this history
+  3  the command line is wrong
+  4  a file couldn't be read or written, or regcheck wasn't found
+"""
+
+DRAWN, REFUSED, COMMAND_LINE, FAILED = 0, 2, 3, 4
+
+
+def add_arguments(parser: argparse.ArgumentParser) -> None:
+    parser.add_argument("history", metavar="HISTORY", help="the history; - is standard input")
+    parser.add_argument("report", metavar="REPORT", nargs="?",
+                        help="its report by regcheck; without one, regcheck is run")
+    parser.add_argument("-o", "--output", metavar="OUT.html", required=True,
+                        help="the page; - is standard output")
+    parser.add_argument("--register", metavar="NAME", action="append", default=[],
+                        help="draw this register; may be given again")
+    parser.add_argument("--most", metavar="N", type=positive, default=5,
+                        help="draw at most N registers (default 5)")
+
+
+def positive(word: str) -> int:
+    number = int(word)
+    if number < 1:
+        raise ValueError(word)
+    return number
+
+
+def run(arguments: argparse.Namespace) -> int:
+    if arguments.history == arguments.report == "-":
+        return fail(COMMAND_LINE, "only one of the files can be standard input")
+    try:
+        return draw(arguments)
+    except NoChecker as error:
+        return fail(FAILED, str(error))
+    except (TooLong, ValueError) as error:
+        return fail(REFUSED, f"{shown_name(arguments.history)}: {error}")
+
+
+def fail(status: int, words: str) -> int:
+    print(f"regkit draw: {words}", file=sys.stderr)
+    return status
+
+
+def draw(arguments: argparse.Namespace) -> int:
+    """Raises ValueError if the report isn't of the history."""
+    with Progress() as progress, without_collection():
+        data = read_input(arguments.history)
+        progress.step("regcheck")
+        report = report_of(arguments.report, data)
+        if isinstance(report, int):
+            return report
+        verdict = read_report(report)
+        progress.step("reading", data.count(b"\n"))
+        history = read_history(data, progress.reach)
+        progress.step("drawing")
+        title = os.path.basename(shown_name(arguments.history))
+        page = page_of(history, verdict, title, Asked(arguments.most, arguments.register))
+    write(arguments.output, page)
+    return DRAWN
+
+
+def report_of(name: Optional[str], history: bytes) -> Union[bytes, int]:
+    """The report in a file, or of the checker; the status if it refused."""
+    if name is not None:
+        return read_input(name)
+    answer = judge(history)
+    if answer.status in (0, 1):
+        return answer.report
+    return fail(REFUSED if answer.status == 2 else FAILED, answer.refusal)
+
+
+def write(name: str, page: str) -> None:
+    data = page.encode("utf-8")
+    if name == "-":
+        sys.stdout.buffer.write(data)
+        sys.stdout.buffer.flush()
+        return
+    with open(name, "wb") as stream:
+        stream.write(data)

@@ -1,0 +1,155 @@
+"""`regkit explain`: why a history isn't linearizable, in sentences."""
+import argparse
+import shutil
+import sys
+from typing import Tuple
+
+from regkit.advice import advice
+from regkit.checker import NoChecker, judge
+from regkit.colour import CHOICES, painter
+from regkit.explanation import NotOfHistory, Wishes, explain
+from regkit.history import History, NotAHistory, read_history
+from regkit.inputs import MOST_BYTES, STANDARD_INPUT, TooLong, read_input, shown_name
+from regkit.judging import failure_of, many_objects
+from regkit.options import count
+from regkit.outcome import ATOMIC, COMMAND_LINE, FAILED, NOT_ATOMIC, REFUSED
+from regkit.progress import Progress
+from regkit.quoting import plain, quoted
+from regkit.report import Report, read_report
+from regkit.sentences import counted
+from regkit.source_map import NotAMap, put_labels
+
+HELP = "say in sentences why a history isn't linearizable"
+EPILOG = """\
+examples:
+  regkit explain history.jsonl
+  regkit explain history.jsonl history.report
+  regkit explain --register user:1 history.jsonl | less
+  regkit convert --from csv log.csv -o h.jsonl --map h.map; regkit explain --map h.map h.jsonl
+
+For each register that isn't linearizable:
+  - the contradiction, with the values, the processes and the lines of each operation;
+  - the first read that can't be explained, and how many there are;
+  - the calls that were open at the same time, the likely culprit first;
+  - a time line.
+
+A read can't be explained if its reply makes the lines so far not linearizable. Failed calls, and the reads
+before it that can't be explained, are left out of these lines.
+
+exit status:
+  0  linearizable: there is nothing to explain
+  1  not linearizable, and explained
+  2  the history is refused, or the report isn't of this history
+  3  wrong command line
+  4  input, memory, output or regcheck failed
+"""
+NARROWEST, WIDEST = 40, 120  # characters a line
+
+
+class Stop(Exception):
+    """There is no explanation, for a reason that a person has to know."""
+
+    def __init__(self, status: int, words: str, hint: str = "") -> None:
+        super().__init__(words)
+        self.status = status
+        self.hint = hint
+
+
+def add_arguments(parser: argparse.ArgumentParser) -> None:
+    parser.add_argument("history", metavar="HISTORY", help="the history; - is standard input")
+    parser.add_argument("report", metavar="REPORT", nargs="?", help="its report (default: regcheck is run)")
+    parser.add_argument("--register", metavar="NAME", help="explain this register alone")
+    parser.add_argument("--map", metavar="FILE",
+                        help="show the source's own values: what `regkit convert --map` wrote")
+    parser.add_argument("--most", metavar="N", type=count, default=3,
+                        help="explain at most N faulty registers (default %(default)s)")
+    parser.add_argument("--color", choices=CHOICES, default="auto",
+                        help="colour: on a terminal unless NO_COLOR is set (default), always, or never")
+
+
+def written_report(arguments: argparse.Namespace, data: bytes) -> bytes:
+    """The report that is named, or that of a new run. Raises Stop."""
+    if arguments.report is not None:
+        return read_input(arguments.report, None)
+    answer = judge(data)
+    if answer.status == REFUSED:
+        raise Stop(REFUSED, f"refused: {answer.refusal}", advice(data, answer.refusal, arguments.history))
+    if answer.status not in (ATOMIC, NOT_ATOMIC):
+        raise Stop(FAILED, failure_of(answer))
+    return answer.report
+
+
+def parsed_report(written: bytes) -> Report:
+    try:
+        return read_report(written)
+    except (ValueError, KeyError, TypeError) as error:
+        raise Stop(REFUSED, f"the report is none: {error}") from error
+
+
+def labelled_history(arguments: argparse.Namespace, data: bytes, progress: Progress) -> History:
+    """The history, with the source's own values if there is a map."""
+    progress.step(f"{plain(shown_name(arguments.history))}: reading", data.count(b"\n"))
+    history = read_history(data, progress.reach)
+    if arguments.register is not None and arguments.register not in history.registers:
+        raise Stop(COMMAND_LINE, f"no register has the name {quoted(arguments.register)}")
+    if arguments.map is not None:
+        put_labels(history, read_input(arguments.map, None))
+    return history
+
+
+def explained(arguments: argparse.Namespace, progress: Progress) -> Tuple[int, str]:
+    """The exit status and the explanation. Raises Stop if there is none."""
+    name = plain(shown_name(arguments.history))
+    # A report of `regkit join` may be of a history that is longer than the checker takes.
+    data = read_input(arguments.history, MOST_BYTES if arguments.report is None else None)
+    progress.step(f"{name}: checking")
+    report = parsed_report(written_report(arguments, data))
+    rows = [row for row in report.faulty if arguments.register in (None, row["register"])]
+    if not rows and arguments.register is None:
+        operations = counted(report.summary["operations"], "operation")
+        return ATOMIC, f"{name}: linearizable: {operations}, nothing to explain"
+    history = labelled_history(arguments, data, progress)
+    if not rows:
+        register = quoted(arguments.register)
+        if all(row["register"] != arguments.register for row in report.rows):
+            raise Stop(REFUSED, f"the report, an early answer, says nothing of register {register}")
+        return ATOMIC, f"{name}: register {register} is linearizable, nothing to explain"
+    progress.step(f"{name}: explaining")
+    width = max(NARROWEST, min(WIDEST, shutil.get_terminal_size((100, 24)).columns))
+    wishes = Wishes(arguments.most, arguments.register, width, painter(arguments.color, sys.stdout))
+    return NOT_ATOMIC, f"{name}: not linearizable: {how_many(report)}\n\n{explain(history, report, wishes)}"
+
+
+def how_many(report: Report) -> str:
+    """How many registers are faulty. An early answer names one, and there may be more."""
+    registers = report.summary["registers"]
+    early = "at least " if len(report.rows) < registers else ""
+    return f"{early}{len(report.faulty):,} of {counted(registers, 'register')}"
+
+
+def answer_to(arguments: argparse.Namespace) -> Tuple[int, str]:
+    """The exit status and what is to be printed on standard output. Raises Stop, whatever goes wrong."""
+    try:
+        with Progress() as progress, many_objects():
+            return explained(arguments, progress)
+    except TooLong as error:
+        raise Stop(REFUSED, f"refused: {error}", advice(b"", str(error))) from error
+    except (NotAHistory, NotAMap, NotOfHistory) as error:
+        raise Stop(REFUSED, str(error)) from error
+    except OSError as error:
+        raise Stop(FAILED, f"{error.filename or 'input'}: {error.strerror}") from error
+    except NoChecker as error:
+        raise Stop(FAILED, str(error)) from error
+
+
+def run(arguments: argparse.Namespace) -> int:
+    try:
+        if arguments.history == arguments.report == STANDARD_INPUT:
+            raise Stop(COMMAND_LINE, "only one of the files can be standard input")
+        status, words = answer_to(arguments)
+    except Stop as stop:
+        name, hint = plain(shown_name(arguments.history)), f"\n  {stop.hint}" if stop.hint else ""
+        print(f"regkit explain: {name}: {plain(str(stop))}{hint}", file=sys.stderr)
+        return stop.status
+    print(words)
+    return status

@@ -1,0 +1,117 @@
+"""`regkit split`: a history of any size as parts that can be checked apart."""
+import argparse
+import os
+import stat
+import sys
+from contextlib import ExitStack
+from typing import BinaryIO, Optional
+
+from regkit.checker import NoChecker, run_checker
+from regkit.joining import line_map
+from regkit.parts import BLANK, MAP, MAX_PARTS, Manifest, file_of
+from regkit.progress import Progress
+from regkit.refusals import Refusal, first_refusal, read_refusal
+from regkit.splitting import CannotSplit, Plan, split
+
+REFUSED, FAILED, TOO_LARGE = 2, 4, 5
+MAP_FROM = 1 << 30  # bytes of a history; some twenty million lines
+
+HELP = "split a history of any size into parts that can be checked apart"
+EPILOG = """\
+Each part has whole registers, and is a history again. A history is atomic exactly if each of its registers
+is, so the parts answer for the whole: run regcheck on each of them, then regkit join DIR. docs/scale.md says
+more.
+
+examples:
+  regkit split history.jsonl parts --parts 8
+  cat log.3 log.2 log.1 | regkit split - parts --parts 8
+  engines/with_parallel parts && regkit join parts
+
+exit status:
+  0  the parts are written
+  2  the history is refused; standard error says why, as regcheck would
+  3  the command line is refused
+  4  input or output failed, or regcheck was not found to say why the history is refused
+  5  a part or a register is larger than one run of regcheck takes: standard error says which; no part is left
+"""
+
+
+def part_count(word: str) -> int:
+    if not word.isdecimal() or not 1 <= int(word) <= MAX_PARTS:
+        raise argparse.ArgumentTypeError(f"a number from 1 to {MAX_PARTS} is needed, not {word!r}")
+    return int(word)
+
+
+def add_arguments(parser: argparse.ArgumentParser) -> None:
+    parser.add_argument("history", metavar="HISTORY", help="a file, or - for standard input")
+    parser.add_argument("directory", metavar="DIR", help="the folder for the parts: new, or empty")
+    parser.add_argument("--parts", metavar="N", type=part_count, required=True,
+                        help=f"how many, 1 to {MAX_PARTS}: the number of events divided by 700,000, or more")
+    parser.add_argument("--lines", choices=["auto", BLANK, MAP], default="auto",
+                        help="what keeps the line numbers of the whole: blank lines in each part, or a map "
+                             "beside it; auto, the default, is blank lines up to 1 GiB of history, and a map "
+                             "beyond that and for standard input")
+
+
+def run(arguments: argparse.Namespace) -> int:
+    try:
+        manifest = split_named(arguments)
+    except CannotSplit as error:
+        print(f"regkit split: {error}", file=sys.stderr)
+        return TOO_LARGE
+    if manifest.stopped is not None:
+        return refuse(arguments.directory, manifest)
+    print(f"{arguments.directory}: {manifest.events} events on {len(manifest.registers)} registers "
+          f"in {manifest.parts} parts", file=sys.stderr)
+    return 0
+
+
+def split_named(arguments: argparse.Namespace) -> Manifest:
+    with ExitStack() as opened:
+        stream: BinaryIO = sys.stdin.buffer
+        if arguments.history != "-":
+            stream = opened.enter_context(open(arguments.history, "rb", buffering=1 << 20))
+        size = size_of(stream)
+        lines = line_form(arguments.lines, size)
+        plan = Plan(arguments.history, arguments.directory, arguments.parts, lines)
+        progress = opened.enter_context(Progress())
+        progress.step("splitting", size or 0)
+        return split(stream, plan, progress.reach)
+
+
+def size_of(stream: BinaryIO) -> Optional[int]:
+    """The bytes of a regular file, None of anything else."""
+    found = os.fstat(stream.fileno())
+    return found.st_size if stat.S_ISREG(found.st_mode) else None
+
+
+def line_form(asked: str, size: Optional[int]) -> str:
+    if asked != "auto":
+        return asked
+    return BLANK if size is not None and size <= MAP_FROM else MAP
+
+
+def refuse(directory: str, manifest: Manifest) -> int:
+    """Says why the history is refused, for the line at which split stopped or an earlier one.
+
+    An earlier line may be refused for a reason that only the checker looks for, so it is asked about every
+    part."""
+    refusal, why = None, "regcheck accepts it, which is a defect of regkit: please report the line"
+    try:
+        refusals = (refusal_of(directory, part, manifest) for part in range(manifest.parts))
+        refusal = first_refusal(each for each in refusals if each is not None)
+    except NoChecker as error:
+        why = str(error)
+    if refusal is None:
+        print(f"regkit split: line {manifest.stopped} can't be accepted, and no later line was read: {why}",
+              file=sys.stderr)
+        return FAILED
+    print(refusal, file=sys.stderr)
+    return REFUSED
+
+
+def refusal_of(directory: str, part: int, manifest: Manifest) -> Optional[Refusal]:
+    answer = run_checker(file_of(directory, part, "jsonl").read_bytes())
+    if answer.status != REFUSED:
+        return None
+    return read_refusal(answer.refusal, line_map(directory, part, manifest))

@@ -1,0 +1,101 @@
+"""`regkit verify`: checks each claim of a report by the definitions alone."""
+import argparse
+import pathlib
+import sys
+from typing import Optional
+
+from regkit import verify
+
+HELP = "check each claim of a report against its history, by the definitions alone"
+EPILOG = """\
+examples:
+  regcheck h.jsonl > h.report; regkit verify h.jsonl h.report
+  regcheck h.jsonl | regkit verify h.jsonl -
+  regkit verify h.jsonl --refusal h.err       what regcheck wrote to standard error
+  regkit verify whole.jsonl joined.report --joined
+
+It trusts neither regcheck nor its proof. A yes is replayed along its order; a no follows from the few
+operations that it names. Safe and regular are decided again for each read, and a refusal by the rules of the
+format.
+
+The report may be an early answer (regcheck --first). It gives no order of the registers before the one that
+it names, so orders are built here, and replayed.
+
+It doesn't check the choice (which of several true faults, or of several right orders, is named), nor the
+layout of the report.
+
+exit status:
+  0  each claim holds
+  1  one doesn't, and it is named
+  2  the report is no report of regcheck, or says nothing of the history
+  3  the command line is wrong
+  4  a file couldn't be read
+"""
+
+HOLDS, WRONG, UNREADABLE, COMMAND_LINE = 0, 1, 2, 3
+REFUSALS = (".err", ".refusal")  # what a file with a refusal is called
+
+
+def add_arguments(parser: argparse.ArgumentParser) -> None:
+    parser.add_argument("history", metavar="HISTORY", help="the history; - is standard input")
+    parser.add_argument("report", metavar="REPORT", nargs="?",
+                        help="its report; - is standard input; a file .err or .refusal is a refusal's text")
+    parser.add_argument("--refusal", metavar="FILE", help="the text of its refusal, in place of REPORT")
+    parser.add_argument("--joined", action="store_true",
+                        help="a report of `regkit join`: the whole may exceed the limits, and lack its order")
+
+
+def run(arguments: argparse.Namespace) -> int:
+    if (arguments.report is None) == (arguments.refusal is None):
+        print("regkit verify: name either a REPORT or a --refusal FILE", file=sys.stderr)
+        return COMMAND_LINE
+    if [arguments.history, arguments.report, arguments.refusal].count("-") > 1:
+        print("regkit verify: only one of the files can be standard input", file=sys.stderr)
+        return COMMAND_LINE
+    try:
+        print(f"holds: {in_words(verified(arguments))}")
+    except verify.Unreadable as wrong:
+        print(f"regkit verify: {wrong}", file=sys.stderr)
+        return UNREADABLE
+    except verify.Wrong as wrong:
+        print(f"doesn't hold: {wrong}")
+        return WRONG
+    return HOLDS
+
+
+def verified(arguments: argparse.Namespace) -> verify.Verified:
+    history = content(arguments.history)
+    refusal = refusal_file(arguments)
+    if refusal is not None:
+        return verify.verify_refusal(history, content(refusal).decode("utf-8", "replace"))
+    return verify.verify(history, content(arguments.report), arguments.joined)
+
+
+def refusal_file(arguments: argparse.Namespace) -> Optional[str]:
+    """The file with a refusal's text: the one named as such, or NAME.err beside an empty report."""
+    if arguments.refusal is not None or arguments.report == "-":
+        return arguments.refusal
+    report = pathlib.Path(arguments.report)
+    if report.suffix in REFUSALS:
+        return arguments.report
+    beside = report.with_suffix(".err")
+    return str(beside) if report.stat().st_size == 0 and beside.is_file() else None
+
+
+def content(name: str) -> bytes:
+    return sys.stdin.buffer.read() if name == "-" else pathlib.Path(name).read_bytes()
+
+
+def in_words(found: verify.Verified) -> str:
+    if found.atomic is None:
+        return f"the history is refused: {found.refusal}"
+    size = f"{counted(found.operations, 'operation')} on {counted(found.registers, 'register')}"
+    if found.early:
+        return f"{'atomic' if found.atomic else 'not atomic'}, by an early answer: {size}"
+    if found.atomic:
+        return f"atomic: {size}"
+    return f"not atomic: {size}, {found.faulty} of which {'is' if found.faulty == 1 else 'are'} not atomic"
+
+
+def counted(count: int, what: str) -> str:
+    return f"{count} {what}" if count == 1 else f"{count} {what}s"

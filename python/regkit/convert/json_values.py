@@ -1,0 +1,62 @@
+"""The JSON values of a text: one a line, or the elements of one array, each with its line."""
+import json
+from decimal import Decimal
+from typing import Any, Iterable, Iterator, List, Tuple
+
+from regkit.convert.model import Refused
+
+
+def _no_constant(word: str) -> None:
+    raise ValueError(f"{word} is no JSON")
+
+
+# Numbers with a fraction stay as exact as they are written: they may be times.
+_DECODER = json.JSONDecoder(parse_float=Decimal, parse_constant=_no_constant)
+
+
+def json_values(lines: Iterable[str]) -> Iterator[Tuple[int, Any]]:
+    """Each value with the number of its line. Raises Refused."""
+    numbered = enumerate(lines, 1)
+    for number, line in numbered:
+        if not line.strip():
+            continue
+        if line.lstrip().startswith("["):
+            yield from _elements([line, *(more for _, more in numbered)], number)
+            return
+        yield number, _decoded(line, number)
+
+
+def _decoded(text: str, line: int) -> Any:
+    try:
+        return _DECODER.decode(text)
+    except (ValueError, RecursionError) as error:
+        raise Refused(f"not JSON: {error}", line) from None
+
+
+def _elements(lines: List[str], line: int) -> Iterator[Tuple[int, Any]]:
+    """The elements of an array that begins on a line, and is all that there is."""
+    text = "".join(lines)
+    seen = at = text.index("[") + 1
+    while True:
+        at = _past_blanks(text, at)
+        line, seen = line + text.count("\n", seen, at), at
+        if text[at:at + 1] == "]":
+            break
+        try:
+            value, at = _DECODER.raw_decode(text, at)
+        except (ValueError, RecursionError) as error:
+            raise Refused(f"not JSON: {error}", line) from None
+        yield line, value
+        at = _past_blanks(text, at)
+        if text[at:at + 1] == ",":
+            at += 1
+        elif text[at:at + 1] != "]":
+            raise Refused("not JSON: an array without its end", line + text.count("\n", seen, at))
+    if text[at + 1:].strip():
+        raise Refused("not JSON: there is something behind the array", line)
+
+
+def _past_blanks(text: str, at: int) -> int:
+    while text[at:at + 1] in (" ", "\t", "\r", "\n"):
+        at += 1
+    return at

@@ -1,0 +1,87 @@
+"""What every reader gives: the source's operations, in the order in which they were called and ended."""
+from collections import Counter
+from typing import Any, Dict, FrozenSet, Iterator, List, NamedTuple, Optional, Set, Tuple, Union
+
+Client = Union[int, str]
+
+# None is null, an int is a whole number of 64 bits, and a text is any other value, as EDN writes it.
+Value = Union[None, int, str]
+
+LEAST, GREATEST = -(2 ** 63), 2 ** 63 - 1
+MOST_PROCESS = 2 ** 32 - 1
+READS = frozenset({"read", "r", "get"})
+WRITES = frozenset({"write", "w", "put", "set"})
+READ_AND_WRITE = frozenset({"cas", "append"})  # operations that read and write at once
+KNOWN = READS | WRITES | READ_AND_WRITE
+
+
+class Refused(Exception):
+    """The source can't become a history: why, and what to do."""
+
+    def __init__(self, why: str, line: Optional[int] = None) -> None:
+        super().__init__(why if line is None else f"line {line}: {why}")
+
+
+class WrongWords(Exception):
+    """The options don't fit each other or the source."""
+
+
+class Operation:
+    """A call with what ended it, as the source has it. `kind` is crash for a crash without an open call."""
+
+    __slots__ = ("line", "end_line", "client", "kind", "key", "value", "answer", "ending", "process")
+
+    def __init__(self, line: int, client: Client, kind: str, key: Any, value: Any) -> None:
+        self.line = line
+        self.client = client
+        self.kind = kind  # "read" or "write" once it is settled
+        self.key = key  # the source's own; once it is settled, the text by which EDN writes it
+        self.value = value  # written; once it is settled, of a read what it gave
+        self.answer: Any = None  # the value of the line that ended it
+        self.ending: Optional[str] = None  # "reply", "fail", "crash", or None if its outcome is unknown
+        self.end_line: Optional[int] = None
+        self.process = -1  # its number in the history
+
+
+def counted(number: int, what: str) -> str:
+    """A number of things, in words."""
+    return f"{number:,} {what}" if number == 1 else f"{number:,} {what}s"
+
+
+class Choices(NamedTuple):
+    """What the command line says of a source."""
+
+    form: str
+    register: str = "x"  # the one register of a source without keys
+    keys: str = "auto"
+    nulls: FrozenSet[str] = frozenset()
+    initial: Optional[str] = None
+    cas: str = "refuse"
+    columns: Dict[str, str] = {}
+    clock_error: Optional[str] = None
+    clock_unit: Optional[str] = None
+
+
+class Source:
+    """The operations: each stands where it was called and, if anything ended it, again where it ended."""
+
+    def __init__(self, steps: List[Operation]) -> None:
+        self.steps = steps
+        self.left_out: Dict[str, int] = Counter()  # which lines were left out -> how many
+        self.notes: List[str] = []  # what else a person should know
+
+    def moments(self) -> Iterator[Tuple[Operation, bool]]:
+        """Each step, and whether it is the operation's call."""
+        called: Set[Operation] = set()
+        for operation in self.steps:
+            if operation in called:
+                called.remove(operation)
+                yield operation, False
+                continue
+            if operation.ending is not None:
+                called.add(operation)
+            yield operation, True
+
+    def operations(self) -> Iterator[Operation]:
+        """Each operation once, in the order of the calls. A crash without an open call is none."""
+        return (step for step, is_call in self.moments() if is_call and step.kind != "crash")

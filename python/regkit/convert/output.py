@@ -1,0 +1,91 @@
+"""The lines of a history, and the map that leads back to the source.
+
+The map is one JSON object:
+
+    {"source":"times.csv","registers":["k"],"values":{"k":{"1":"v1"}},"processes":{"0":"alice"},"lines":[2,2]}
+
+`values` has, by register and number, the source's value of each number that stands for one; whole numbers
+that stayed aren't there. `processes` has the client of each process that isn't its client's own number.
+`lines` has for each line of the history, in order, the line of the source that it came from, 0 for an initial
+write.
+"""
+import itertools
+import json
+from typing import Any, Dict, Iterable, Iterator, List, NamedTuple, TextIO
+
+from regkit.convert.model import Source
+from regkit.convert.values import readable
+from regkit.convert.whole import Converted
+
+_AT_ONCE = 10_000
+
+
+def history_lines(converted: Converted) -> Iterator[str]:
+    quoted = {key: json.dumps(name, ensure_ascii=False) for key, name in converted.names.items()}
+    for step, is_call in converted.source.moments():
+        process, value = step.process, step.value
+        if step.kind == "crash":
+            yield f'{{"process":{process},"event":"crash"}}\n'
+        elif not is_call:
+            if step.ending != "reply":
+                yield f'{{"process":{process},"event":"{step.ending}"}}\n'
+            elif step.kind == "read":
+                shown = "null" if value is None else value
+                yield f'{{"process":{process},"event":"reply","value":{shown}}}\n'
+            else:
+                yield f'{{"process":{process},"event":"reply"}}\n'
+        else:
+            value_member = "" if step.kind == "read" else f',"value":{value}'
+            yield (f'{{"process":{process},"event":"call","op":"{step.kind}","register":{quoted[step.key]}'
+                   f'{value_member}}}\n')
+
+
+class Written(NamedTuple):
+    """How much was written."""
+
+    lines: int
+    size: int  # in bytes
+
+
+def write_lines(lines: Iterable[str], out: TextIO) -> Written:
+    """Writes lines many at once."""
+    rest = iter(lines)
+    count = size = 0
+    while True:
+        held = list(itertools.islice(rest, _AT_ONCE))
+        if not held:
+            return Written(count, size)
+        text = "".join(held)
+        out.write(text)
+        count, size = count + len(held), size + len(text.encode("utf-8"))
+
+
+def source_map(converted: Converted, name: str) -> Dict[str, Any]:
+    """The map of a history, for json.dump."""
+    lines: List[int] = []
+    clients: Dict[int, Any] = {}
+    for step, is_call in converted.source.moments():
+        lines.append(step.line if is_call else step.end_line or 0)
+        if step.line and step.process != step.client:
+            clients[step.process] = step.client
+    return {"source": name, "registers": list(converted.names.values()), "values": _shown(converted),
+            "processes": {str(process): clients[process] for process in sorted(clients)}, "lines": lines}
+
+
+def _shown(converted: Converted) -> Dict[str, Dict[str, str]]:
+    """The source's value of each number, by register: a text without its quotes, if that leaves no doubt."""
+    shown: Dict[str, Dict[str, str]] = {}
+    for key, numbers in converted.numbers.items():
+        kept = {str(value) for value in _whole_numbers(converted.source, key, numbers)}
+        forms = readable(numbers)
+        plain = not kept & set(forms.values())
+        shown[converted.names[key]] = {str(number): forms[text] if plain else text
+                                       for text, number in numbers.items()}
+    return shown
+
+
+def _whole_numbers(source: Source, key: str, numbers: Dict[str, int]) -> Iterator[int]:
+    """The whole numbers that a register has itself, beside those that stand for texts."""
+    standing = set(numbers.values())
+    return (operation.value for operation in source.operations()
+            if operation.key == key and type(operation.value) is int and operation.value not in standing)

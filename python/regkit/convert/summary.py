@@ -1,0 +1,51 @@
+"""What a conversion tells a person: what was read, left out and renamed."""
+from typing import Iterator
+
+from regkit.convert.model import counted
+from regkit.convert.whole import Converted
+
+MOST_EVENTS, MOST_BYTES = 1_048_576, 67_108_864  # what regcheck takes
+
+
+def told(converted: Converted, has_map: bool) -> Iterator[str]:
+    """Lines for standard error."""
+    yield _read(converted)
+    for what, lines in sorted(converted.source.left_out.items()):
+        yield f"left out {counted(lines, 'line')} {what}"
+    yield from converted.source.notes
+    yield from _renamed(converted)
+    texts = sum(map(len, converted.numbers.values()))
+    if texts:
+        where = "" if has_map else "; --map FILE writes which number is which"
+        yield f"numbered {counted(texts, 'value')} of {counted(len(converted.numbers), 'register')}{where}"
+
+
+def _read(converted: Converted) -> str:
+    operations = converted.operations
+    writes = sum(operation.kind == "write" for operation in operations)
+    failed = sum(operation.ending == "fail" for operation in operations)
+    unknown = sum(operation.ending in (None, "crash") for operation in operations)
+    clients = len({operation.client for operation in operations})
+    return (f"read {counted(len(operations), 'operation')} of {counted(clients, 'client')} on "
+            f"{counted(len(converted.names), 'register')}: {counted(writes, 'write')}, "
+            f"{counted(len(operations) - writes, 'read')}; {failed:,} failed, {unknown:,} of unknown outcome")
+
+
+def _renamed(converted: Converted) -> Iterator[str]:
+    given = converted.given
+    if given.renamed:
+        yield f"numbered {counted(given.renamed, 'client')} that had no process number"
+    if given.split:
+        yield (f"gave {counted(given.split, 'operation')} another process, since a call of the same client "
+               "was still open")
+    quoted = sum(key == name and name[0] == '"' and name != '""' for key, name in converted.names.items())
+    if quoted:
+        yield (f"named {counted(quoted, 'register')} with quotes, since another key would have the same name "
+               "without")
+
+
+def too_large(lines: int, size: int) -> Iterator[str]:
+    """A warning about a history that is larger than what regcheck takes at once."""
+    if lines > MOST_EVENTS or size > MOST_BYTES:
+        yield (f"the history has {lines:,} events in {size:,} bytes, and regcheck takes {MOST_EVENTS:,} in "
+               f"{MOST_BYTES:,}: divide it with regkit split")

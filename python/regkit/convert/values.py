@@ -1,0 +1,113 @@
+"""The source's values as whole numbers: whole numbers stay, all else is numbered register by register."""
+import re
+from typing import AbstractSet, Any, Dict, Iterable, Set
+
+from regkit import edn
+from regkit.convert.model import GREATEST, LEAST, Operation, Refused, Value
+
+_WHOLE = re.compile(r"-?[1-9][0-9]{0,18}|0")  # a longer one has more than 64 bits
+
+Table = Dict[str, Dict[str, int]]  # by key, the number of each text
+
+
+def spelled(value: Any) -> str:
+    """A value as a person would spell it in an option: a text by itself, all else as EDN writes it."""
+    return value if type(value) is str else edn.write(value)
+
+
+def settled(value: Any, nulls: AbstractSet[str], numeric_texts: bool = False) -> Value:
+    """A value of the source as null, a whole number, or the text by which EDN writes it.
+
+    With `numeric_texts`, for sources whose values are all texts, a text of a whole number is that number.
+    """
+    if value is None or (nulls and spelled(value) in nulls):
+        return None
+    if type(value) is str and numeric_texts and _WHOLE.fullmatch(value):
+        value = int(value)
+    if type(value) is int and LEAST <= value <= GREATEST:
+        return value
+    return edn.write(value)
+
+
+def initial_value(word: str) -> Value:
+    """The value that `--initial` names: a whole number, a keyword, a text in quotes, or else a text."""
+    if re.fullmatch(r':[^\s,"]+|"(?:[^"\\]|\\.)*"', word):
+        return settled(next(edn.values([word]))[1], frozenset())
+    return settled(word, frozenset(), True)
+
+
+def readable(texts: Iterable[str]) -> Dict[str, str]:
+    """A form for each value that EDN wrote: a text without its quotes, unless two would then be alike.
+
+    It serves as a register's name, and as a value in the map. Two values never get one form: if they would,
+    all texts keep their quotes. An empty text always does.
+    """
+    forms = {text: _unquoted(text) for text in texts}
+    return forms if len(set(forms.values())) == len(forms) else {text: text for text in forms}
+
+
+def _unquoted(text: str) -> str:
+    if text[0] != '"' or text == '""':
+        return text
+    return str(next(edn.values([text]))[1]) if "\\" in text else text[1:-1]
+
+
+class _Numbers:
+    """The numbers of one register's texts: by first appearance, and none that the register has itself."""
+
+    def __init__(self) -> None:
+        self.taken: Set[int] = set()  # the register's own whole numbers
+        self.texts: Dict[str, int] = {}
+        self.last = 0
+
+    def number(self, text: str) -> int:
+        known = self.texts.get(text)
+        if known is not None:
+            return known
+        self.last += 1
+        while self.last in self.taken:
+            self.last += 1
+        self.texts[text] = self.last
+        return self.last
+
+
+def number_texts(operations: Iterable[Operation]) -> Table:
+    """Gives each text a number, register by register, and says which."""
+    held = list(operations)
+    numbers = {operation.key: _Numbers() for operation in held if type(operation.value) is str}
+    mixed = [operation for operation in held if operation.key in numbers and operation.value is not None]
+    for operation in mixed:
+        if type(operation.value) is int:
+            numbers[operation.key].taken.add(operation.value)
+    for operation in mixed:
+        if type(operation.value) is str:
+            operation.value = numbers[operation.key].number(operation.value)
+    return {key: mine.texts for key, mine in numbers.items()}
+
+
+def refuse_repeats(operations: Iterable[Operation]) -> None:
+    """Each value is written once to a register at most, so that a read tells which write it saw."""
+    written: Dict[str, Dict[Value, Operation]] = {}
+    for operation in operations:
+        if operation.kind != "write":
+            continue
+        if operation.value is None:
+            raise Refused(f"a write of null to {_shown(operation.key)}: only the initial value is null. Let "
+                          "the workload delete nothing, or go on with another key; or name fewer spellings "
+                          "of null with --null", operation.line)
+        before = written.setdefault(operation.key, {}).setdefault(operation.value, operation)
+        if before is not operation:
+            raise Refused(_repeat(before, operation), operation.line)
+
+
+def _shown(value: Value) -> str:
+    return _unquoted(value) if isinstance(value, str) else "null" if value is None else str(value)
+
+
+def _repeat(before: Operation, again: Operation) -> str:
+    value, name = _shown(again.value), _shown(again.key)
+    if before.line == 0:
+        return (f"{value} is written to {name}, but --initial says that {name} starts with it: let the "
+                "workload write other values")
+    return (f"{value} is written to {name} again, first at line {before.line}: let the workload write each "
+            "value to a key only once, with a counter for each key (docs/recipes.md)")

@@ -1,0 +1,60 @@
+"""The whole way from a source's lines to a history that can be written."""
+from typing import Callable, Dict, Iterable, List, NamedTuple
+
+from regkit.convert import events, jepsen, porcupine, tables
+from regkit.convert.model import Choices, Operation, Refused, Source, Value
+from regkit.convert.names import names
+from regkit.convert.processes import Given, give_processes
+from regkit.convert.values import Table, initial_value, number_texts, refuse_repeats
+
+READERS: Dict[str, Callable[[Iterable[str], Choices], Source]] = {
+    "jepsen": jepsen.from_jepsen, "porcupine": porcupine.from_porcupine, "csv": tables.from_csv,
+    "operations": tables.from_objects, "jsonl": events.from_events}
+
+
+class Converted(NamedTuple):
+    """A source whose operations have processes, and what its keys and values are called."""
+
+    source: Source
+    operations: List[Operation]  # each once, without initial writes
+    names: Dict[str, str]  # by key, the register
+    numbers: Table  # by key, the number of each text; empty while the values are the source's own
+    given: Given
+
+
+def convert(lines: Iterable[str], choices: Choices, number: bool = True) -> Converted:
+    """Reads a source. With `number`, each value becomes a whole number.
+
+    Raises Refused or NotEdn if the source can't be converted, and WrongWords if the options don't fit it.
+    """
+    source = READERS[choices.form](lines, choices)
+    read = list(source.operations())
+    if not read:
+        question = "the source has no operation to check: is it the right file, and of the form"
+        raise Refused("; ".join([f"{question} {choices.form}?", *source.notes]))
+    given = give_processes(source)
+    if choices.initial is not None:
+        _begin(source, read, initial_value(choices.initial))
+    refuse_repeats(source.operations())
+    named = names(read)
+    numbers = number_texts(source.operations()) if number else {}
+    return Converted(source, read, named, numbers, given)
+
+
+def _begin(source: Source, operations: List[Operation], value: Value) -> None:
+    """Puts a completed write of a value to each register before all else.
+
+    The process that first writes a register later writes its initial value too, so that a single writer stays
+    one.
+    """
+    first: Dict[str, Operation] = {}
+    for operation in operations:
+        known = first.setdefault(operation.key, operation)
+        if known.kind == "read" and operation.kind == "write":
+            first[operation.key] = operation
+    steps: List[Operation] = []
+    for key, operation in first.items():
+        write = Operation(0, operation.client, "write", key, value)
+        write.ending, write.end_line, write.process = "reply", 0, operation.process
+        steps += [write, write]
+    source.steps = steps + source.steps

@@ -1,0 +1,45 @@
+"""A history and its report as one page that stands alone: no script, nothing loaded."""
+import gc
+from contextlib import contextmanager
+from typing import Iterator
+
+from regkit.drawing.page import Asked, page
+from regkit.history import History, read_history
+from regkit.report import Report, read_report
+
+
+class Mismatch(ValueError):
+    """The report says things that the history doesn't bear out: it is of another history."""
+
+    def __init__(self) -> None:
+        super().__init__("the report isn't of this history")
+
+
+def draw_page(history: bytes, report: bytes, title: str) -> str:
+    """The page for a history that the checker accepted. Raises ValueError if the report is of another
+    history."""
+    with without_collection():
+        return page_of(read_history(history), read_report(report), title)
+
+
+@contextmanager
+def without_collection() -> Iterator[None]:
+    """A history is a million objects without a cycle, and looking for one takes a fifth of the time."""
+    enabled = gc.isenabled()
+    gc.disable()
+    try:
+        yield
+    finally:
+        if enabled:
+            gc.enable()
+
+
+def page_of(history: History, report: Report, title: str, asked: Asked = Asked()) -> str:
+    """The same for a history and a report that were read already."""
+    unknown = [row for row in report.rows if row["register"] not in history.registers]
+    if unknown:
+        raise Mismatch
+    try:
+        return page(history, report, title, asked)
+    except (KeyError, AssertionError) as error:
+        raise Mismatch from error

@@ -1,0 +1,107 @@
+"""What stands in and on a bar: its label, its signs, and the point at which its operation takes effect."""
+import html
+from typing import Callable, Dict, List, NamedTuple, Tuple
+
+from regkit.drawing import shapes, svg
+from regkit.drawing.axis import Axis
+from regkit.drawing.bars import LETTER, PADDING, SIGN, SMALL_LETTER, Bar
+from regkit.drawing.scene import Scene
+from regkit.drawing.svg import tag
+from regkit.sentences import capital, named
+
+SIGNS: Dict[str, Callable[[float, float], str]] = {
+    "stale": shapes.exclamation, "overlapped": shapes.parallel, "failed": shapes.cross}
+SIGN_WORDS = {"stale": "the first read that can't be explained",
+              "overlapped": "it was open at the same time as the first read that can't be explained",
+              "failed": "it surely had no effect"}
+
+
+def classes(bar: Bar) -> str:
+    call = bar.operation
+    state = "failed" if call.failed else "pending" if call.pending else ""
+    colour = bar.cluster or ("stale" if "stale" in bar.signs else "")
+    return " ".join(filter(None, ["bar", call.kind, colour, "strong" if bar.strong else "", state]))
+
+
+def bar_title(bar: Bar) -> str:
+    """All that is known of the operation, for a pointer that rests on its bar."""
+    notes = [SIGN_WORDS[sign] for sign in bar.signs]
+    if bar.place:
+        notes.append(f"number {bar.place} in the order")
+    return "; ".join([capital(named(bar.operation)), *notes]) + "."
+
+
+def ends(bar: Bar, axis: Axis) -> Tuple[bool, str]:
+    """Whether the bar comes from beyond what is drawn, and how it ends."""
+    if bar.end is None:
+        return not axis.has(bar.begin), "torn"
+    return not axis.has(bar.begin), "closed" if axis.has(bar.end) else "open"
+
+
+def bar_group(bar: Bar, scene: Scene, gutter: float, top: float) -> str:
+    axis = scene.axis
+    left, right = gutter + axis.begin_at(bar.begin), gutter + axis.end_at(bar.end)
+    open_left, end = ends(bar, axis)
+    parts = [shapes.bar(left, right, top, open_left, end)]
+    if bar.operation.ending == "crash" and axis.has(bar.operation.end_line):
+        parts.append(shapes.bolt(gutter + axis.end_at(bar.operation.end_line), top + shapes.HEIGHT / 2))
+    if right - left >= bar.label_width - PADDING:
+        parts.append(label(bar, left + PADDING, top + 15.5))
+    if right - left >= bar.width - PADDING:
+        x = left + bar.label_width - PADDING + SIGN / 2 + 2
+        for sign in bar.signs:
+            parts.append(SIGNS[sign](x, top + shapes.HEIGHT / 2))
+            x += SIGN
+    parts.append(svg.title(bar_title(bar)))
+    return tag("g", "".join(parts), class_=classes(bar))
+
+
+def label(bar: Bar, x: float, y: float) -> str:
+    """The operation, and in small letters its process or its place in the order."""
+    parts = [html.escape(bar.label)]
+    x_small = x + len(bar.label) * LETTER + PADDING
+    for words, kind in ((bar.process, "process"), (bar.place, "place")):
+        if words:
+            parts.append(tag("tspan", html.escape(words), class_=kind, x=x_small))
+            x_small += len(words) * SMALL_LETTER + PADDING
+    return tag("text", "".join(parts), class_="label", x=x, y=y)
+
+
+class Spot(NamedTuple):
+    """Where an operation takes effect."""
+
+    place: int  # in the order
+    x: float
+    y: float
+
+
+def spots_of(bars: List[Bar], scene: Scene, gutter: float, lane_top: Callable[[int], float]) -> List[Spot]:
+    """The points of the order. Operations with one point stand one behind the other."""
+    register, axis = scene.register, scene.axis
+    spots: List[Spot] = []
+    used: Dict[int, int] = {}
+    for bar in sorted(bars, key=lambda bar: register.place_of.get(bar.operation.line, 0)):
+        point = register.points.get(bar.operation.line)
+        if point is None or not axis.has(point):
+            continue
+        used[point] = used.get(point, 0) + 1
+        step = axis.step_behind(point) / (register.effects[point] + 1)
+        x = gutter + axis.end_at(point) + step * used[point]
+        spots.append(Spot(register.place_of[bar.operation.line], x, lane_top(bar.begin) + shapes.HEIGHT))
+    return spots
+
+
+def thread_of(spots: List[Spot]) -> List[str]:
+    """A thread through the points, in the order."""
+    if len(spots) < 2:
+        return []
+    places = [value for spot in spots for value in (spot.x, spot.y)]
+    return [tag("path", class_="thread", d=shapes.path("M", *places))]
+
+
+def points_of(spots: List[Spot]) -> List[str]:
+    parts = []
+    for spot in spots:
+        words = svg.title(f"Number {spot.place} in the order takes effect here.")
+        parts.append(tag("g", shapes.diamond(spot.x, spot.y) + words))
+    return parts

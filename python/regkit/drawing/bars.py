@@ -1,0 +1,66 @@
+"""A bar for each call that is drawn: where it begins and ends, and the label that has to fit into it."""
+from typing import List, NamedTuple, Optional
+
+from regkit.drawing.marks import Marks
+from regkit.history import Operation
+from regkit.sentences import value_of
+
+INITIAL_CALL = -1  # where the initial write's bar begins; it ends at line 0
+LETTER = 6.9  # the width of a letter of a label, with a little to spare: fonts differ
+SMALL_LETTER = 6.2  # of the process and of the place in the order, beside the label
+PADDING = 7.0  # between a bar's ends and its label
+SIGN = 19.0  # the width of a sign behind the label
+LONGEST_VALUE = 13  # characters of a value that are shown
+
+
+class Bar(NamedTuple):
+    """A call as it is drawn."""
+
+    operation: Operation
+    begin: int
+    end: Optional[int]  # None: it is never over
+    label: str
+    process: str  # beside the label, if the lane doesn't say it
+    place: str  # in the order, if there is one
+    cluster: str
+    signs: List[str]  # of "stale", "overlapped", "failed"
+    strong: bool  # the contradiction rests on it
+
+    @property
+    def width(self) -> float:
+        """The least width in which its label and its signs fit."""
+        return self.label_width + len(self.signs) * SIGN
+
+    @property
+    def label_width(self) -> float:
+        small = sum(len(text) * SMALL_LETTER + PADDING for text in (self.process, self.place) if text)
+        return 2 * PADDING + len(self.label) * LETTER + small
+
+def shown_value(value: str) -> str:
+    """A value without its middle if it is long. The last digits tell values apart best."""
+    return value if len(value) <= LONGEST_VALUE else f"{value[:4]}\u2026{value[-7:]}"
+
+
+def label_of(operation: Operation) -> str:
+    if operation.kind == "write":
+        return f"w {shown_value(value_of(operation))}"
+    return f"r {shown_value(value_of(operation))}" if operation.completed else "r ?"
+
+
+def signs_of(operation: Operation, marks: Marks) -> List[str]:
+    signs = []
+    if marks.stale is not None and operation.line == marks.stale.line:
+        signs.append("stale")
+    if operation.line in marks.overlapped_lines:
+        signs.append("overlapped")
+    if operation.failed:
+        signs.append("failed")
+    return signs
+
+
+def bar_of(operation: Operation, marks: Marks, process: str = "", place: str = "") -> Bar:
+    """The bar of an operation. A crash ends no operation: what it leaves open is drawn to the right edge."""
+    begin = operation.line if operation.line else INITIAL_CALL
+    end = None if operation.pending else operation.end_line
+    return Bar(operation, begin, end, label_of(operation), process, place, marks.cluster_of(operation),
+               signs_of(operation, marks), operation.line in marks.named)

@@ -1,0 +1,126 @@
+"""What a picture points at: the two clusters that contradict each other, the precedences between them, the
+first read that can't be explained, and the writes that were open beside it."""
+from typing import Any, Dict, List, NamedTuple, Optional, Set, Tuple
+
+from regkit.history import History, Operation
+from regkit.sentences import value_of
+from regkit.unexplained import Unexplained
+
+Row = Dict[str, Any]
+FIRST, SECOND = "first", "second"  # the two clusters, by the numbers of the arrows that leave them
+
+
+class Arrow(NamedTuple):
+    """One operation ended before another began."""
+
+    before: Operation
+    after: Operation
+    cluster: str  # of `before`
+    number: int
+
+
+class Zone(NamedTuple):
+    """From a cluster's first reply to its last call, or the other way round."""
+
+    cluster: str
+    value: str
+    begin: int
+    end: int
+    forward: bool  # the first reply comes before the last call
+
+
+class Marks:
+    """What one picture points at."""
+
+    def __init__(self) -> None:
+        self.clusters: Dict[Optional[int], str] = {}  # value -> cluster
+        self.named: Dict[int, Operation] = {}  # by line, the operations that the contradiction rests on
+        self.arrows: List[Arrow] = []
+        self.zones: List[Zone] = []
+        self.stale: Optional[Operation] = None
+        self.overlapped: List[Operation] = []  # the writes that were open while the stale read was
+        self.overlapped_lines: Set[int] = set()
+
+    def name(self, operation: Operation) -> None:
+        self.named[operation.line] = operation
+
+    def cluster_of(self, operation: Operation) -> str:
+        """The cluster of an operation, or nothing. A failed call is in none, nor is a pending read."""
+        if operation.failed or (operation.kind == "read" and not operation.completed):
+            return ""
+        return self.clusters.get(operation.value, "")
+
+    def add_pairs(self, pairs: List[Tuple[Operation, Operation]]) -> None:
+        for number, (pair, cluster) in enumerate(zip(pairs, (FIRST, SECOND)), 1):
+            self.arrows.append(Arrow(pair[0], pair[1], cluster, number))
+            for operation in pair:
+                self.name(operation)
+
+    def add_stale(self, read: Operation, calls: List[Operation]) -> None:
+        self.stale = read
+        self.overlapped = overlapped_writes(read, calls)
+        self.overlapped_lines = {write.line for write in self.overlapped}
+        self.name(read)
+
+    def without_arrows(self) -> "Marks":
+        """The same for the pictures of the whole register, which repeat no arrow and no zone."""
+        marks = Marks()
+        marks.clusters, marks.stale = self.clusters, self.stale
+        marks.overlapped, marks.overlapped_lines = self.overlapped, self.overlapped_lines
+        marks.named = {line: operation for line, operation in self.named.items() if line}
+        return marks
+
+
+def overlapped_writes(read: Operation, calls: List[Operation]) -> List[Operation]:
+    """The writes that a completed read overlaps, those that were answered first. A pending one is open for
+    good."""
+    assert read.end_line is not None
+    end = read.end_line
+    found = [call for call in calls if call.line < end and call.kind == "write" and not call.failed
+             and (call.pending or (call.end_line or 0) > read.line)]
+    return sorted(found, key=lambda call: call.pending)
+
+
+def marks_of_fault(history: History, row: Row) -> Marks:
+    """What a register's line of the report names."""
+    marks, fault, register = Marks(), row["fault"], row["register"]
+    if fault["kind"] == "zones":
+        writes = [history.operation(register, line) for line in fault["writes"]]
+        for write, cluster in zip(writes, (FIRST, SECOND)):
+            marks.clusters[write.value] = cluster
+            marks.name(write)
+        marks.add_pairs([(history.operation(register, begin), history.operation(register, end))
+                         for begin, end in (fault["first"], fault["second"])])
+        marks.zones = [zone_of(write, history.registers[register], cluster)
+                       for write, cluster in zip(writes, (FIRST, SECOND))]
+        return marks
+    read = history.operation(register, fault["read"])
+    marks.name(read)
+    if fault["kind"] == "early":
+        marks.clusters[read.value] = FIRST
+        marks.add_pairs([(read, history.operation(register, fault["write"]))])
+    return marks
+
+
+def marks_of_read(found: Unexplained, calls: List[Operation]) -> Marks:
+    """The first read that can't be explained, where the report's fault doesn't name it."""
+    marks = Marks()
+    if found.write is not None:
+        marks.clusters[found.read.value] = FIRST
+        marks.name(found.write)
+    if found.other is not None:
+        marks.clusters[found.other.value] = SECOND
+        marks.name(found.other)
+    marks.add_pairs(found.pairs)
+    if found.kind == "early" and found.write is not None:
+        marks.add_pairs([(found.read, found.write)])
+    marks.add_stale(found.read, calls)
+    return marks
+
+
+def zone_of(write: Operation, calls: List[Operation], cluster: str) -> Zone:
+    """The zone of a write and of the completed reads of its value."""
+    reads = [call for call in calls if call.kind == "read" and call.completed and call.value == write.value]
+    replies = [each.end_line for each in [write, *reads] if each.completed and each.end_line is not None]
+    first, last = min(replies), max(each.line for each in [write, *reads])
+    return Zone(cluster, value_of(write), min(first, last), max(first, last), first < last)

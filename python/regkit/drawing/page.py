@@ -1,0 +1,115 @@
+"""The page: the verdict in words, the legend, and a section for each register that is shown."""
+import base64
+import hashlib
+from typing import List, NamedTuple, Sequence
+
+from regkit.drawing.legend import legend
+from regkit.drawing.section import Section, section
+from regkit.drawing.style import STYLE
+from regkit.drawing.svg import tag
+from regkit.drawing.text import attribute, name, words
+from regkit.history import History
+from regkit.report import Report, Row
+from regkit.sentences import counted
+
+MOST_LISTED = 12  # names of registers that aren't drawn
+TICK, CROSS = "M7 12.5 l3.5 3.5 l6.5 -8", "M8 8 l8 8 m0 -8 l-8 8"
+STRIPES = ('<svg class="defs" aria-hidden="true"><defs><pattern id="stripes" width="7" height="7" '
+           'patternUnits="userSpaceOnUse" patternTransform="rotate(45)">'
+           '<rect class="stripe-ground" width="7" height="7"/><rect class="stripe" width="3" height="7"/>'
+           '</pattern></defs></svg>')
+
+
+class NoRegister(ValueError):
+    """A register was asked for that the history doesn't have."""
+
+
+class Asked(NamedTuple):
+    """What to show."""
+
+    most: int = 5  # registers
+    registers: Sequence[str] = ()  # these alone, if there are any
+
+
+def policy() -> str:
+    """Nothing is loaded and nothing runs. The one style sheet is named by its hash, so that even a style
+    that found its way into the page would do nothing."""
+    digest = base64.b64encode(hashlib.sha256(STYLE.encode("utf-8")).digest()).decode("ascii")
+    return f"default-src 'none'; style-src 'sha256-{digest}'; base-uri 'none'; form-action 'none'"
+
+
+def chosen_rows(history: History, report: Report, asked: Asked) -> List[Row]:
+    """The registers that are shown: those asked for, else the faulty ones, else all; the first few of
+    them."""
+    by_name = {row["register"]: row for row in report.rows}
+    rows: List[Row] = [by_name.get(register, {"register": register}) for register in history.registers]
+    if asked.registers:
+        for register in asked.registers:
+            if register not in history.registers:
+                raise NoRegister(f"the history has no register {register!r}")
+        return [row for row in rows if row["register"] in asked.registers]
+    return (report.faulty or rows)[:asked.most]
+
+
+def verdict(report: Report, title: str) -> str:
+    kind, text, mark = ("yes", "Atomic", TICK) if report.atomic else ("no", "Not atomic", CROSS)
+    icon = tag("svg", tag("circle", cx=12, cy=12, r=11) + tag("path", d=mark), viewBox="0 0 24 24",
+               aria_hidden="true")
+    return tag("h1", f"{icon}{text}: {name(title)}", class_=f"verdict {kind}")
+
+
+def summary(history: History, report: Report) -> str:
+    """The size of the history, and how many of its registers are at fault."""
+    operations = sum(not call.failed for call in history.calls)
+    failed, crashed = len(history.calls) - operations, len(history.crashes)
+    parts = [f"{counted(operations, 'operation')} on {counted(len(history.registers), 'register')}"]
+    if len(report.rows) < len(history.registers):
+        parts.append("an early answer, which names the first register that isn't atomic and no other")
+    elif len(history.registers) > 1 and report.faulty:
+        parts.append(f"{len(report.faulty):,} of them not atomic")
+    if failed:
+        parts.append(f"{counted(failed, 'call')} failed")
+    if crashed:
+        parts.append(f"{crashed:,} process{'es' if crashed > 1 else ''} crashed")
+    return tag("p", words("; ".join(parts) + "."), class_="sub")
+
+
+def page(history: History, report: Report, title: str, asked: Asked) -> str:
+    rows = chosen_rows(history, report, asked)
+    sections = [section(history, row) for row in rows]
+    body = [STRIPES, verdict(report, title), summary(history, report)]
+    if not rows:
+        body.append(tag("p", words("The history has no operation, so there is nothing to draw.")))
+    key = legend((scene for each in sections for scene in each.scenes), bool(history.crashes))
+    for number, each in enumerate(sections):
+        body.append(tag("section", each.heading + (key if number == 0 else "") + each.pictures))
+    body.append(left_out(history, report, rows))
+    return document(f"{'Atomic' if report.atomic else 'Not atomic'}: {title}", "\n".join(body))
+
+
+def left_out(history: History, report: Report, rows: List[Row]) -> str:
+    """The registers that aren't shown, the faulty ones first."""
+    shown = {row["register"] for row in rows}
+    faulty = {row["register"] for row in report.faulty}
+    hidden = [register for register in history.registers if register not in shown]
+    text = ""
+    for names, kind, state in (([each for each in hidden if each in faulty], "more", "not atomic"),
+                               ([each for each in hidden if each not in faulty], "other", "not drawn")):
+        if names:
+            verb = "is" if len(names) == 1 else "are"
+            sentence = f"{counted(len(names), f'{kind} register')} {verb} {state}: {listed(names)}."
+            text += tag("p", sentence, class_="note")
+    return text
+
+
+def listed(names: List[str]) -> str:
+    """The first few names."""
+    more = f", and {len(names) - MOST_LISTED:,} more" if len(names) > MOST_LISTED else ""
+    return ", ".join(map(name, names[:MOST_LISTED])) + more
+
+
+def document(title: str, body: str) -> str:
+    return ('<!doctype html>\n<html lang="en" dir="ltr"><head><meta charset="utf-8">'
+            f'<meta http-equiv="Content-Security-Policy" content="{policy()}">'
+            '<meta name="viewport" content="width=device-width, initial-scale=1">'
+            f"<title>{attribute(title)}</title><style>{STYLE}</style></head>\n<body>{body}</body></html>\n")

@@ -1,0 +1,168 @@
+"""What the page says and shows of one register."""
+from typing import List, NamedTuple
+
+from regkit import sentences
+from regkit.drawing import shapes
+from regkit.drawing.figure import PAGE_WIDTH, RIGHT, Figure, gutter_of
+from regkit.drawing.marks import FIRST, SECOND, Marks, marks_of_fault, marks_of_read
+from regkit.drawing.scene import Register, Scene, fitted, strips
+from regkit.drawing.svg import tag
+from regkit.drawing.text import name, words
+from regkit.history import History, Operation
+from regkit.report import Row
+from regkit.sentences import capital, counted, named
+from regkit.unexplained import Unexplained, find_unexplained
+
+WHOLE = 600  # events; a register of no more is drawn whole, below its fault
+FIRST_EVENTS = 400  # of a register that is atomic, so many are drawn
+MOST_NAMED = 3  # writes beside the stale read that are named in words
+
+
+class Section(NamedTuple):
+    """The markup for a register, and its pictures for the legend."""
+
+    heading: str
+    pictures: str
+    scenes: List[Scene]
+
+
+class Author:
+    """Writes the section of one register."""
+
+    def __init__(self, history: History, row: Row) -> None:
+        self.history = history
+        self.row = row
+        self.calls = history.registers[row["register"]]
+        self.register = Register(self.calls, row.get("order", []), row.get("points", []))
+        self.scenes: List[Scene] = []
+
+    def write(self) -> Section:
+        heading = tag("h2", "Register " + name(self.row["register"])) + facts(self.row)
+        if self.row.get("atomic") != "no":
+            return Section(heading, self.whole(Marks(), FIRST_EVENTS), self.scenes)
+        marks = marks_of_fault(self.history, self.row)
+        heading += reasons(sentences.fault_of(self.history, self.row), numbered=bool(marks.arrows))
+        for sentence in sentences.inversion(self.history, self.row):
+            heading += tag("p", words(capital(sentence) + "."))
+        found, count = find_unexplained(self.calls)
+        pictures = ""
+        if found is not None:
+            own_marks = marks_of_read(found, self.calls)
+            heading += tag("p", words(stale_words(found, count, own_marks.overlapped)))
+            if self.is_near(found.read, marks):
+                marks.add_stale(found.read, self.calls)
+            else:
+                pictures = self.first_read(found, own_marks)
+        pictures = self.windows(marks, "the fault of the register") + pictures
+        if len(self.register.events) <= WHOLE and all(scene.left_out for scene in self.scenes):
+            pictures += tag("h3", "The whole register") + self.whole(marks.without_arrows(), WHOLE)
+        return Section(heading, pictures, self.scenes)
+
+    def is_near(self, read: Operation, marks: Marks) -> bool:
+        """Whether the first read that can't be explained is in the picture of the fault anyway."""
+        if read.line in marks.named:
+            return True
+        axis = fitted(self.register, marks, self.room(marks)).axis
+        return axis.has(read.line) and axis.has(read.end_line)
+
+    def room(self, marks: Marks) -> float:
+        """What is left of the page's width beside the labels."""
+        longest = f"process {max(self.register.processes)}"
+        return PAGE_WIDTH - gutter_of(marks, [longest]) - RIGHT
+
+    def first_read(self, found: Unexplained, marks: Marks) -> str:
+        """A picture of its own for the first read that can't be explained, which may be far from the
+        fault."""
+        title = tag("h3", "The first read that can't be explained")
+        why = reasons(self.reasons_of(found), numbered=bool(marks.arrows))
+        return title + why + self.windows(marks, "the first read that can't be explained")
+
+    def reasons_of(self, found: Unexplained) -> List[str]:
+        """Why a read can't be explained, in sentences."""
+        if found.write is None:
+            return sentences.unwritten(self.history, found.read)
+        if found.other is None:
+            return sentences.early(found.read, found.write)
+        values = sentences.value_of(found.write), sentences.value_of(found.other)
+        return sentences.contradiction(found.pairs, values)
+
+    def windows(self, marks: Marks, label: str) -> str:
+        scene = fitted(self.register, marks, self.room(marks))
+        self.scenes.append(scene)
+        return figure(Figure(scene, self.history), label, self.caption(scene))
+
+    def caption(self, scene: Scene) -> str:
+        """How much is drawn and what isn't."""
+        total = len(self.calls)
+        drawn = sum(bar.operation.line != 0 for bar in scene.bars) - scene.lanes.crowded_out
+        if drawn == total:
+            return ""
+        size = f"{drawn:,} of {counted(total, 'call')} drawn"
+        return f"{size}, around the lines that matter here. {crowd(scene)}".rstrip()
+
+    def whole(self, marks: Marks, events: int) -> str:
+        """The register from its beginning, strip below strip."""
+        label = "the operations of the register"
+        found = strips(self.register, marks, events, self.room(marks))
+        self.scenes += found
+        text = "".join(figure(Figure(scene._replace(left_out=0), self.history), label, crowd(scene))
+                       for scene in found)
+        total = len(self.register.events)
+        if total > events:
+            text += tag("p", words(f"The first {events:,} of {total:,} events of this register are drawn."),
+                        class_="note")
+        return text
+
+
+def crowd(scene: Scene) -> str:
+    """What isn't drawn for want of lanes."""
+    count = scene.lanes.crowded_out
+    if not count:
+        return ""
+    return f"{count:,} more that were open at the same time {'is' if count == 1 else 'are'} left out."
+
+
+def figure(drawn: Figure, label: str, caption: str) -> str:
+    text = drawn.svg(f"Picture of {label}")
+    return tag("figure", text + (tag("figcaption", words(caption)) if caption else ""))
+
+
+def facts(row: Row) -> str:
+    """The three answers, with the first read that breaks each."""
+    parts = []
+    for level in ("atomic", "regular", "safe"):
+        if level in row:
+            read = row.get(f"{level}_read")
+            where = f" (first broken by the read of line {read})" if read is not None else ""
+            parts.append(f"{level} {tag('b', words(str(row[level])))}{words(where)}")
+    return tag("p", " &#183; ".join(parts), class_="facts") if parts else ""
+
+
+def reasons(told: List[str], numbered: bool) -> str:
+    """Sentences, each behind the number of its arrow or the sign of a read that can't be explained."""
+    items = []
+    for number, sentence in enumerate(told, 1):
+        sign = shapes.badge(10, 10, str(number), FIRST if number == 1 else SECOND)
+        if not numbered:
+            sign = shapes.exclamation(10, 10)
+        items.append(tag("li", tag("svg", sign, viewBox="0 0 20 20", aria_hidden="true") +
+                         words(capital(sentence) + ".")))
+    return tag("ol", "".join(items), class_="reasons") if items else ""
+
+
+def stale_words(found: Unexplained, count: int, overlapped: List[Operation]) -> str:
+    """The first read that can't be explained, how many there are, and the writes that were open beside it."""
+    text = f"The first read that can't be explained is {named(found.read)}."
+    if count > 1:
+        text += f" {count:,} reads in all can't be explained."
+    if not overlapped:
+        return text + " It overlaps no write."
+    shown = [named(write) for write in overlapped[:MOST_NAMED]]
+    if len(overlapped) > MOST_NAMED:
+        shown.append(counted(len(overlapped) - MOST_NAMED, "more write"))
+    before = ", ".join(shown[:-1]) + " and " if len(shown) > 1 else ""
+    return f"{text} It overlaps {before}{shown[-1]}."
+
+
+def section(history: History, row: Row) -> Section:
+    return Author(history, row).write()

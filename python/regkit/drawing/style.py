@@ -1,0 +1,120 @@
+"""The style of the page. The colours are Okabe and Ito's, which the colour-blind can tell apart. None is
+the only sign of what it means: there is a letter, a number, a pattern or a form beside it."""
+
+LIGHT = """
+--paper:#fff;--ink:#1c2126;--dim:#5d6772;--faint:#e4e8ec;--chip:#f1f3f5;
+--write:#dce1e6;--read:#fff;--edge:#8b949e;
+--one:#0072b2;--one-face:#d3e8f5;--two:#d55e00;--two-face:#fdebdd;--two-stripe:#f8d2b4;
+--stale:#cc79a7;--stale-face:#f8e6f0;--good:#009e73;--good-ink:#00704f;--on:#fff
+"""
+
+DARK = """
+--paper:#15181b;--ink:#e3e6e9;--dim:#9aa4ae;--faint:#2b3137;--chip:#23282d;
+--write:#3b434b;--read:#1b1f23;--edge:#7b858f;
+--one:#56b4e9;--one-face:#12374e;--two:#e69f00;--two-face:#33250a;--two-stripe:#57400f;
+--stale:#cc79a7;--stale-face:#402535;--good:#1fb98d;--good-ink:#4fd3ac;--on:#101214
+"""
+
+MONOSPACE = 'ui-monospace,"SF Mono",Menlo,Consolas,"DejaVu Sans Mono",monospace'
+
+WORDS = """
+*{box-sizing:border-box}
+body{margin:0 auto;padding:28px 32px 48px;max-width:1200px;background:var(--paper);color:var(--ink);
+  font:15px/1.5 system-ui,-apple-system,"Segoe UI",Roboto,"Helvetica Neue",Arial,sans-serif}
+h1{font-size:24px;line-height:1.25;margin:0 0 2px;font-weight:650}
+h2{font-size:18px;line-height:1.4;margin:30px 0 2px;font-weight:600;overflow-wrap:anywhere}
+h3{font-size:14px;margin:22px 0 6px;font-weight:600;color:var(--dim)}
+p{margin:0 0 4px;overflow-wrap:anywhere}
+.facts,.note,.sub{color:var(--dim)}
+.facts b{color:var(--ink);font-weight:600}
+.note{font-size:13px;margin-top:12px;line-height:1.8}
+.verdict svg{width:24px;height:24px;vertical-align:-4px;margin-right:8px;
+  stroke:var(--on);fill:none;stroke-width:2.4}
+.verdict.no circle{fill:var(--two);stroke:none}
+.verdict.yes circle{fill:var(--good);stroke:none}
+.name{font-family:MONOSPACE;font-size:.92em;font-weight:500;background:var(--chip);border-radius:4px;
+  padding:1px 5px;white-space:pre-wrap;overflow-wrap:anywhere;unicode-bidi:isolate}
+.escape{color:var(--two);font-size:.86em}
+ol.reasons{list-style:none;margin:8px 0 4px;padding:0}
+ol.reasons li{position:relative;padding:1px 0 1px 28px}
+ol.reasons svg{position:absolute;left:0;top:3px;width:20px;height:20px}
+figure{margin:12px 0 0;overflow-x:auto}
+figure>svg{display:block;max-width:100%;height:auto}
+figcaption{font-size:13px;color:var(--dim);margin-top:4px}
+.legend{display:flex;flex-wrap:wrap;gap:4px 18px;margin:10px 0 0;padding:0;list-style:none;
+  font-size:13px;color:var(--dim)}
+.legend li{display:flex;align-items:center;gap:7px}
+.legend svg{display:block}
+"""
+
+PICTURES = """
+svg text{font:11.5px MONOSPACE;fill:var(--ink)}
+text.gutter{text-anchor:end;fill:var(--dim)}
+text.line,text.left-out{text-anchor:middle;fill:var(--dim);font-size:10px}
+text.line.strong{fill:var(--ink);font-weight:700}
+text.left-out{font-style:italic}
+tspan.process{font-size:10px;fill:var(--dim)}
+tspan.place{font-size:10px;fill:var(--good-ink);font-weight:700}
+.rule,.axis{fill:none;stroke:var(--faint)}
+.axis{stroke:var(--edge)}
+.bar .edge{stroke:var(--edge);stroke-width:1.2}
+.write .edge,.write .face{fill:var(--write)}
+.read .edge,.read .face{fill:var(--read)}
+.first .edge,.first .face{fill:var(--one-face)}
+.first .edge{stroke:var(--one)}
+.second .edge,.second .face{fill:url(#stripes)}
+.second .edge{stroke:var(--two)}
+.stale .edge,.stale .face{fill:var(--stale-face)}
+.stale .edge{stroke:var(--stale)}
+.bar .face+.edge{fill:none}
+.strong .edge{stroke-width:2.4}
+.strong .label{font-weight:700}
+.failed .edge{fill:none;stroke-dasharray:4 3}
+.failed .label{fill:var(--dim)}
+.cross{stroke:var(--ink);stroke-width:1.8;fill:none}
+.bolt{fill:var(--ink);stroke:var(--paper);stroke-width:1}
+.alarm{fill:var(--stale)}
+.alarm-mark{stroke:#101214;stroke-width:2;fill:none}
+.parallel{stroke:var(--ink);stroke-width:2;fill:none}
+.zone.first rect{fill:var(--one)}
+.zone.second rect{fill:url(#stripes);stroke:var(--two)}
+.zone path{fill:none;stroke-width:2}
+.zone.first path{stroke:var(--one)}
+.zone.second path{stroke:var(--two)}
+.arrow{fill:none;stroke-width:1.8}
+.arrow.first{stroke:var(--one)}
+.arrow.second{stroke:var(--two);stroke-dasharray:6 3}
+.head.first,.badge.first circle{fill:var(--one)}
+.head.second,.badge.second circle{fill:var(--two)}
+.badge text{text-anchor:middle;fill:var(--on);font-weight:700}
+.gap path{fill:var(--paper)}
+.gap .tear{fill:none;stroke:var(--edge)}
+.through{stroke:var(--edge);stroke-width:2;stroke-dasharray:1.5 4}
+.through.first{stroke:var(--one)}
+.through.second{stroke:var(--two)}
+.point{fill:var(--good);stroke:var(--paper);stroke-width:1}
+.thread{fill:none;stroke:var(--good);stroke-width:1.2;opacity:.6}
+.extent.first{fill:var(--one)}
+.extent.second{fill:var(--two)}
+.here rect{fill:none;stroke:var(--ink);stroke-width:1.2}
+.stripe-ground{fill:var(--two-face)}
+.stripe{fill:var(--two-stripe)}
+.defs{position:absolute;width:0;height:0}
+"""
+
+PRINT = """
+@page{size:landscape;margin:12mm}
+body{padding:0;max-width:none;print-color-adjust:exact;-webkit-print-color-adjust:exact}
+figure{break-inside:avoid;overflow:visible}
+h2,h3,ol.reasons,.legend{break-after:avoid}
+"""
+
+NARROW = "body{padding:20px 16px} figure>svg{max-width:none}"
+
+STYLE = f"""
+:root{{color-scheme:light dark;{LIGHT}}}
+@media screen and (prefers-color-scheme:dark){{:root{{{DARK}}}}}
+{WORDS}{PICTURES}
+@media screen and (max-width:760px){{{NARROW}}}
+@media print{{{PRINT}}}
+""".replace("MONOSPACE", MONOSPACE)

@@ -1,0 +1,28 @@
+"""Which events of a register are drawn: of a long history, windows around what the picture points at."""
+from bisect import bisect_left
+from typing import Iterable, List, Tuple
+
+SHORT_GAP = 3  # events; so few are drawn, since a gap would take as much room
+Window = Tuple[int, int]  # places of events: the first, and one behind the last
+
+
+def windows_around(events: List[int], lines: Iterable[int], context: int) -> List[Window]:
+    """The events at the given lines, each with so many before and after it."""
+    found: List[Window] = []
+    for line in sorted(set(lines)):
+        place = bisect_left(events, line)
+        begin, end = max(0, place - context), min(len(events), place + context + 1)
+        if begin <= SHORT_GAP:
+            begin = 0
+        if end >= len(events) - SHORT_GAP:
+            end = len(events)
+        if found and begin <= found[-1][1] + SHORT_GAP:
+            found[-1] = (found[-1][0], max(end, found[-1][1]))
+        elif begin < end:
+            found.append((begin, end))
+    return found
+
+
+def count_left_out(windows: List[Window], events: int) -> int:
+    """How many events are in no window."""
+    return events - sum(end - begin for begin, end in windows)

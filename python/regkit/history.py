@@ -1,0 +1,107 @@
+"""An accepted history as its operations, for everything that explains or draws."""
+from typing import Callable, Dict, Iterable, List, Optional
+
+from regkit import lines
+
+TELL_EVERY = 8192  # events between two calls of a watcher
+
+
+class NotAHistory(ValueError):
+    """The bytes aren't a history that the checker accepts."""
+
+
+class Operation:
+    """A call with what ended it. `line` is the line of the call, 0 for a register's initial write of null."""
+
+    __slots__ = ("line", "process", "register", "kind", "value", "ending", "end_line")
+
+    def __init__(self, line: int, process: Optional[int], register: str, kind: str,
+                 value: Optional[int]) -> None:
+        self.line = line
+        self.process = process
+        self.register = register
+        self.kind = kind  # "read" or "write"
+        self.value = value  # written, or read; None is null, and also what a read that isn't completed gave
+        self.ending: Optional[str] = None  # "reply", "fail", "crash", or None if nothing ended it
+        self.end_line: Optional[int] = None  # the line of that ending
+
+    @property
+    def completed(self) -> bool:
+        return self.ending == "reply"
+
+    @property
+    def failed(self) -> bool:
+        """A call that surely had no effect: it is no operation of the history."""
+        return self.ending == "fail"
+
+    @property
+    def pending(self) -> bool:
+        """A call without a reply: its outcome is unknown. A crash leaves its process's open call so."""
+        return not self.completed and not self.failed
+
+
+def initial_write(register: str) -> Operation:
+    """The write of null that comes before everything else. It is completed, at line 0."""
+    write = Operation(0, None, register, "write", None)
+    write.ending, write.end_line = "reply", 0
+    return write
+
+
+class History:
+    """All calls of a history, failed ones too, in the order of their lines."""
+
+    def __init__(self, calls: List[Operation], events: int, last_line: int, crashes: Dict[int, int]) -> None:
+        self.calls = calls
+        self.events = events
+        self.last_line = last_line
+        self.crashes = crashes  # process -> the line of its crash
+        self.by_line: Dict[int, Operation] = {call.line: call for call in calls}
+        self.registers: Dict[str, List[Operation]] = {}  # in the order of their first calls
+        for call in calls:
+            self.registers.setdefault(call.register, []).append(call)
+
+    def operation(self, register: str, line: int) -> Operation:
+        """The operation of a line that a report names; 0 is the register's initial write."""
+        return self.by_line[line] if line else initial_write(register)
+
+
+def read_history(data: bytes, watch: Optional[Callable[[int], None]] = None) -> History:
+    """The history in some bytes that `regcheck` accepted. What it would refuse is not looked for here, and
+    may raise NotAHistory. `watch` is told the number of the line from time to time."""
+    calls: List[Operation] = []
+    open_calls: Dict[int, Operation] = {}
+    crashes: Dict[int, int] = {}
+    count = line = 0
+    try:
+        for line, event in lines.events(data):
+            count += 1
+            if watch is not None and count % TELL_EVERY == 0:
+                watch(line)
+            if event["event"] == "call":
+                call = Operation(line, event["process"], event["register"], event["op"], event.get("value"))
+                calls.append(call)
+                open_calls[call.process] = call  # type: ignore[index]
+                continue
+            end_call(open_calls, crashes, line, event)
+    except (KeyError, TypeError, AttributeError, lines.NotJson) as error:
+        raise NotAHistory(f"line {line}: no event that regcheck accepts") from error
+    return History(calls, count, line, crashes)
+
+
+def end_call(open_calls: Dict[int, Operation], crashes: Dict[int, int], line: int,
+             event: lines.Event) -> None:
+    """Notes a reply, a fail or a crash on the open call of its process."""
+    process, what = event["process"], event["event"]
+    if what == "crash":
+        crashes[process] = line
+    ended = open_calls.pop(process, None)
+    if ended is None:
+        return
+    ended.ending, ended.end_line = what, line
+    if what == "reply" and ended.kind == "read":
+        ended.value = event["value"]
+
+
+def operations(calls: Iterable[Operation]) -> List[Operation]:
+    """The calls that are operations: all but those that failed."""
+    return [call for call in calls if not call.failed]

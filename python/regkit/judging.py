@@ -1,0 +1,170 @@
+"""Checks one history, from the name of its file to its outcome."""
+import gc
+import pathlib
+from contextlib import contextmanager
+from itertools import chain, count
+from typing import Iterator, NamedTuple, Optional, Set
+
+from regkit.advice import advice
+from regkit.checker import Answer, NoChecker, judge, judge_first
+from regkit.evidence import Evidence, count_evidence
+from regkit.history import History, NotAHistory, read_history
+from regkit.inputs import STANDARD_INPUT, TooLong, read_input, shown_name
+from regkit.outcome import (ATOMIC, FAILED, NOT_ATOMIC, REFUSED, TOO_LITTLE, Outcome, evidence_in_words,
+                            faults_of, lacks)
+from regkit.progress import Progress
+from regkit.quoting import plain
+from regkit.report import Report, read_report
+from regkit.sentences import counted
+
+
+BUG = "don't trust it, and keep the history: this is a bug of regcheck or of regkit"
+
+
+class Wishes(NamedTuple):
+    """What the command line asks for."""
+
+    most: int
+    least_reads: int
+    least_overlaps: int
+    first: bool
+    verify: bool
+    draw: Optional[pathlib.Path]
+
+
+@contextmanager
+def many_objects() -> Iterator[None]:
+    """A history is many small objects that are all kept: looking for cycles among them only takes time."""
+    was_on = gc.isenabled()
+    gc.disable()
+    try:
+        yield
+    finally:
+        if was_on:
+            gc.enable()
+
+
+def failure_of(answer: Answer) -> str:
+    if answer.status < 0:
+        return f"regcheck was ended by signal {-answer.status}: was there too little memory?"
+    return f"regcheck ended with status {answer.status}: {plain(answer.refusal)}"
+
+
+class Untrue(Exception):
+    """The checker's answer doesn't hold."""
+
+
+def failure(name: str, error: OSError) -> str:
+    """What failed, with its name if that isn't the history's own."""
+    other = "" if error.filename in (None, name) else f"{error.filename}: "
+    return other + (error.strerror or str(error))
+
+
+def parsed(written: bytes) -> Report:
+    """The report as regcheck wrote it. Raises Untrue if it isn't one."""
+    try:
+        return read_report(written)
+    except (ValueError, KeyError) as error:
+        raise Untrue(str(error)) from error
+
+
+def verify(data: bytes, written: bytes) -> None:
+    """Raises Untrue if a claim of the report doesn't hold."""
+    from regkit import verify as verifier  # only who asks for it waits for this
+
+    try:
+        verifier.verify(data, written)
+    except verifier.Wrong as error:
+        raise Untrue(str(error)) from error
+
+
+def verify_refusal(data: bytes, refusal: str) -> None:
+    """Raises Untrue if the history needn't be refused, or for another reason."""
+    from regkit import verify as verifier
+
+    try:
+        verifier.verify_refusal(data, refusal)
+    except verifier.Wrong as error:
+        raise Untrue(str(error)) from error
+
+
+class Judge:
+    """Checks one history after the other, and tells a person how far it is."""
+
+    def __init__(self, wishes: Wishes, progress: Progress) -> None:
+        self.wishes = wishes
+        self.progress = progress
+        self.label = ""
+        self.taken: Set[pathlib.Path] = set()  # the pages drawn so far
+
+    def judge(self, name: str, label: str) -> Outcome:
+        """The outcome of one file. Whatever fails is the outcome of this file alone."""
+        self.label = label
+        try:
+            data = read_input(name)
+            self.progress.step(f"{label}: checking")
+            with many_objects():
+                return self.judge_data(name, data)
+        except TooLong as error:
+            return Outcome(name, REFUSED, str(error), advice(b"", str(error), name))
+        except OSError as error:
+            return Outcome(name, FAILED, plain(failure(name, error)))
+        except MemoryError:
+            return Outcome(name, FAILED, "no memory", "check parts of it: `regkit split` makes them")
+        except (NoChecker, NotAHistory) as error:
+            return Outcome(name, FAILED, plain(str(error)))
+        except Untrue as error:
+            return Outcome(name, FAILED, f"the answer of regcheck is wrong: {plain(str(error))}", BUG)
+
+    def judge_data(self, name: str, data: bytes) -> Outcome:
+        # A picture needs the whole report.
+        early = self.wishes.first and self.wishes.draw is None
+        answer = judge_first(data) if early else judge(data)
+        if answer.status in (ATOMIC, NOT_ATOMIC):
+            return self.judge_report(name, data, answer.report)
+        if answer.status != REFUSED:
+            return Outcome(name, FAILED, failure_of(answer), advice(b"", answer.refusal, name))
+        if self.wishes.verify:
+            verify_refusal(data, answer.refusal)
+        return Outcome(name, REFUSED, plain(answer.refusal), advice(data, answer.refusal, name))
+
+    def judge_report(self, name: str, data: bytes, written: bytes) -> Outcome:
+        """The outcome of a history that was accepted."""
+        self.progress.step(f"{self.label}: reading", data.count(b"\n"))
+        history = read_history(data, self.progress.reach)
+        if self.wishes.verify:
+            self.progress.step(f"{self.label}: verifying")
+            verify(data, written)
+        outcome = self.verdict(name, history, parsed(written), count_evidence(history))
+        if self.wishes.verify:
+            outcome = outcome._replace(verified=True, words=f"{outcome.words}; the report was verified")
+        if self.wishes.draw is not None:
+            outcome = outcome._replace(drawing=str(self.draw(name, data, written)))
+        return outcome
+
+    def verdict(self, name: str, history: History, report: Report, evidence: Evidence) -> Outcome:
+        words = evidence_in_words(evidence)
+        if report.faulty:
+            known = 1 if self.wishes.first else len(report.faulty)
+            number = "the first faulty register" if self.wishes.first else counted(known, "faulty register")
+            faults = faults_of(history, report, 1 if self.wishes.first else self.wishes.most)
+            return Outcome(name, NOT_ATOMIC, f"{number}; {words}", "", evidence, known, faults)
+        lack, hint = lacks(evidence, self.wishes.least_reads, self.wishes.least_overlaps)
+        if lack:
+            return Outcome(name, TOO_LITTLE, f"{words}; {lack}", hint, evidence)
+        return Outcome(name, ATOMIC, words, "", evidence)
+
+    def draw(self, name: str, data: bytes, written: bytes) -> pathlib.Path:
+        """Writes the page of a history into the folder, under a name of its own."""
+        from regkit.draw import draw_page  # only who asks for pages waits for this
+
+        assert self.wishes.draw is not None
+        self.progress.step(f"{self.label}: drawing")
+        self.wishes.draw.mkdir(parents=True, exist_ok=True)
+        stem = "stdin" if name == STANDARD_INPUT else pathlib.Path(name).stem
+        names = (self.wishes.draw / f"{stem}{end}.html" for end in chain([""], (f"-{n}" for n in count(2))))
+        path = next(path for path in names if path not in self.taken)
+        self.taken.add(path)
+        page = draw_page(data, written, shown_name(name))
+        path.write_text(page, encoding="utf-8", errors="surrogateescape")
+        return path

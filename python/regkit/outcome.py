@@ -1,0 +1,100 @@
+"""What came out of checking one history: the exit status, and words for people and for machines."""
+from typing import Any, Dict, List, NamedTuple, Optional, Tuple
+
+from regkit.evidence import Evidence
+from regkit.history import History
+from regkit.quoting import plain, quoted
+from regkit.report import Report, Row
+from regkit.sentences import counted, fault_of, inversion
+
+ATOMIC, NOT_ATOMIC, REFUSED, COMMAND_LINE, FAILED, TOO_LITTLE = range(6)
+VERDICTS = {ATOMIC: "linearizable", NOT_ATOMIC: "not linearizable", REFUSED: "refused", FAILED: "failed",
+            TOO_LITTLE: "too little evidence"}
+STYLES = {ATOMIC: "good", NOT_ATOMIC: "bad", REFUSED: "bad", FAILED: "bad", TOO_LITTLE: "look"}
+GRAVITY = [ATOMIC, TOO_LITTLE, NOT_ATOMIC, REFUSED, COMMAND_LINE, FAILED]  # the gravest last
+
+
+class Fault(NamedTuple):
+    """A register that isn't atomic."""
+
+    register: str
+    row: Row
+    sentences: List[str]
+
+
+class Outcome(NamedTuple):
+    """One history's verdict. What isn't known of it is None or empty."""
+
+    file: str
+    status: int
+    words: str = ""  # what comes after the verdict, on the same line
+    advice: str = ""
+    evidence: Optional[Evidence] = None
+    faulty: int = 0  # how many registers aren't atomic
+    faults: List[Fault] = []  # as many of them as were asked for
+    verified: bool = False
+    drawing: str = ""
+
+
+def gravest(statuses: List[int]) -> int:
+    """The status of several histories together: 4, 3, 2, 1, 5, 0, whichever of these comes first."""
+    return max(statuses, default=ATOMIC, key=GRAVITY.index)
+
+
+def evidence_in_words(evidence: Evidence) -> str:
+    reads, overlapping = evidence.completed_reads, evidence.overlapping_reads
+    verb = "overlaps" if overlapping == 1 else "overlap"
+    return (f"{counted(evidence.operations, 'operation')} on {counted(evidence.registers, 'register')}; "
+            f"{counted(reads, 'completed read')}, {overlapping:,} {verb} a write")
+
+
+def lacks(evidence: Evidence, least_reads: int, least_overlaps: int) -> Tuple[str, str]:
+    """What a yes lacks, and what to do about it. Both are empty if it lacks nothing."""
+    if evidence.completed_reads < least_reads:
+        hint = "" if evidence.completed_reads else "did the recorder stop before the first read was answered?"
+        return f"--least-reads asks for {counted(least_reads, 'completed read')}", hint
+    if evidence.overlapping_reads < least_overlaps:
+        return (f"--least-overlaps asks for {counted(least_overlaps, 'read')} that overlap a write",
+                "let more clients use the same registers at once")
+    return "", ""
+
+
+def faults_of(history: History, report: Report, most: int) -> List[Fault]:
+    return [Fault(row["register"], row, fault_of(history, row) + inversion(history, row))
+            for row in report.faulty[:most]]
+
+
+def text_of(outcome: Outcome) -> List[str]:
+    """The lines for people that follow the first one."""
+    lines = []
+    for fault in outcome.faults:
+        for place, sentence in enumerate(fault.sentences):
+            begin = f"  register {quoted(fault.register)}: " if not place else "    "
+            lines.append(begin + sentence)
+    rest = outcome.faulty - len(outcome.faults)
+    if rest > 0:
+        lines.append(f"  and {counted(rest, 'more register')}: --most says how many are shown")
+    if outcome.advice:
+        lines.append(f"  {outcome.advice}")
+    if outcome.drawing:
+        lines.append(f"  drawn: {plain(outcome.drawing)}")
+    return lines
+
+
+def json_of(outcome: Outcome) -> Dict[str, Any]:
+    """The object for machines. docs/regkit.1 says what each key is."""
+    said: Dict[str, Any] = {"file": outcome.file, "status": outcome.status,
+                            "verdict": VERDICTS[outcome.status]}
+    if outcome.evidence is not None:
+        said.update(outcome.evidence._asdict())
+        said["faulty_registers"] = outcome.faulty
+        said["faults"] = [{"register": register, "fault": row["fault"], "sentences": sentences}
+                          for register, row, sentences in outcome.faults]
+        said["verified"] = outcome.verified
+    if outcome.status != NOT_ATOMIC and outcome.words:
+        said["reason"] = outcome.words
+    if outcome.advice:
+        said["advice"] = outcome.advice
+    if outcome.drawing:
+        said["drawing"] = outcome.drawing
+    return said

@@ -1,0 +1,273 @@
+"""Records a test's calls to a store, as a history that `regcheck` can check.
+
+    with Recorder("history.jsonl") as recorder:
+        with recorder.client() as client:
+            with client.write("x") as write:
+                store.set("x", write.value)
+            with client.read("x") as read:
+                read.value = store.get("x")
+
+Entering a block writes the line of the call. How the block is left decides what is written then:
+
+- Normally: a reply. By then a write must have been asked for its value, and a read must have been given one.
+- By an exception: nothing, since nobody knows what the store did. The call stays pending. Its process number
+  is never used again; the client goes on under a new one.
+- After `call.failed()`, or by one of the exceptions in `Recorder(failures=...)`: a fail. It says that the
+  call surely had no effect. Don't say it of a call that timed out: if the store did the write after all, that
+  invents a fault.
+
+The values of a register's writes are 1, 2, 3, and so on. A store of texts is given `str(write.value)`; a read
+takes the number, its text, its bytes, or None if the store has no value.
+
+Threads and asyncio tasks share one recorder, and each takes a client of its own. No lock is held inside a
+block, so a block may await. A program that forks needs a recorder in each of its processes.
+"""
+import pathlib
+import re
+from types import TracebackType
+from typing import Any, List, Optional, Type, TypeVar
+
+from regkit.journal import Failures, Journal, Output, RecordingError
+
+LEAST, GREATEST = -(2**63), 2**63 - 1
+WHOLE_NUMBER = re.compile(r"-?[0-9]{1,19}")
+REPLY, FAIL, NOTHING = "reply", "fail", "nothing"  # what is written at the end of a call
+
+__all__ = ["Call", "Client", "Read", "Recorder", "RecordingError", "Write", "number_of"]
+
+AnyCall = TypeVar("AnyCall", bound="Call")
+
+
+def number_of(value: object) -> Optional[int]:
+    """What the store gave, as the history has it. Raises RecordingError if it is no value of a register."""
+    text = value.decode("utf-8", "replace") if isinstance(value, (bytes, bytearray)) else value
+    number = int(text) if isinstance(text, str) and WHOLE_NUMBER.fullmatch(text) else value
+    if number is None or type(number) is int and LEAST <= number <= GREATEST:  # True and False are no numbers
+        return number
+    raise RecordingError(f"the store gave {value!r}, but a value is a whole number of 64 bits, "
+                         "its text or bytes, or None")
+
+
+class Client:
+    """Makes one call after another under a process number of its own: a thread, a task, a connection.
+
+    As a context manager it gives the number back at the end. If an exception leaves the block, it crashes."""
+
+    def __init__(self, journal: Journal) -> None:
+        self.journal = journal
+        self._process: Optional[int] = None  # from the first call on
+        self._open = False  # whether a call is open right now
+        self._spent = False  # whether the number has a call that stays pending
+        self._gone = False
+
+    def write(self, register: str) -> "Write":
+        """The call of a write, for a `with` statement. Its `value` is what to write."""
+        return Write(self, register)
+
+    def read(self, register: str) -> "Read":
+        """The call of a read, for a `with` statement. Set its `value` to what the store gives."""
+        return Read(self, register)
+
+    def crash(self) -> None:
+        """Says that this client does nothing more. A call that it has open, or left pending, stays so."""
+        if self._process is not None and not self._gone:
+            self.journal.crash(self._process)
+        self._gone = True
+
+    def close(self) -> None:
+        """Says that this client is done, so that another may have its process number."""
+        if self._process is not None and not (self._gone or self._spent or self._open):
+            self.journal.give_back(self._process)
+        self._gone = True
+
+    def __enter__(self) -> "Client":
+        return self
+
+    def __exit__(self, kind: Optional[Type[BaseException]], *_: object) -> None:
+        self.close() if kind is None else self.crash()
+
+    def begin(self, op: str, register: str) -> Optional[int]:
+        """Writes the line of a call, and gives the value of a write. For Call alone."""
+        if self._open:
+            raise self.journal.mistake(f"the client has a call open while it calls a {op} of {register!r}: "
+                                       "take a client for each thread and each task")
+        if self._gone:
+            raise self.journal.mistake(f"the client is closed or crashed, and calls a {op} of {register!r}")
+        kept, self._spent = None if self._spent else self._process, True
+        process, value = self.journal.call(kept, op, register)
+        self._process, self._open, self._spent = process, True, False
+        return value
+
+    def end(self, register: str, ending: str, value: str) -> None:
+        """Writes what ended the open call. If anything goes wrong before that, the call stays pending."""
+        process, self._spent, self._open = self._process, True, False
+        if self._gone or process is None or ending == NOTHING:
+            return
+        if ending == FAIL:
+            self.journal.fail(process, register)
+        else:
+            self.journal.reply(process, register, value)
+        self._spent = False
+
+
+class Call:
+    """A call, open from the beginning of its `with` block to the end."""
+
+    op = ""
+
+    def __init__(self, client: Client, register: str, alone: bool = False) -> None:
+        self.register = register
+        self._client = client
+        self._alone = alone  # whether the client makes this one call
+        self._stage = "new"  # then "open", then "ended"
+        self._said: Optional[str] = None  # the ending, if the caller said it
+        self._number: Optional[int] = None
+
+    def failed(self) -> None:
+        """Says that the call surely had no effect, however the block is left."""
+        self._say(FAIL)
+
+    def unknown(self) -> None:
+        """Says that nobody knows whether it had an effect. It stays pending, however the block is left."""
+        self._say(NOTHING)
+
+    def _say(self, ending: str) -> None:
+        if self._stage != "open":
+            raise self.outside()
+        self._said = ending
+
+    def outside(self) -> RecordingError:
+        block = f"with client.{self.op}({self.register!r}) as {self.op}:"
+        return self.mistake(f"is used outside its block: `{block}`")
+
+    def mistake(self, text: str) -> RecordingError:
+        return self._client.journal.mistake(f"a {self.op} of {self.register!r} {text}")
+
+    def __enter__(self: AnyCall) -> AnyCall:
+        if self._stage != "new":
+            raise self.mistake("is called a second time: make each call anew")
+        self._number = self._client.begin(self.op, self.register)
+        self._stage = "open"
+        return self
+
+    def __exit__(self, kind: Optional[Type[BaseException]], error: Optional[BaseException],
+                 trace: Optional[TracebackType]) -> None:
+        self._stage = "ended"
+        missing = "" if self._said or kind is not None else self.missing()
+        self._client.end(self.register, self._ending(kind, missing), self.reply_value())
+        if self._alone:
+            self._client.close()
+        if missing:
+            raise self.mistake(missing)
+
+    def _ending(self, kind: Optional[Type[BaseException]], missing: str) -> str:
+        if self._said:
+            return self._said
+        if kind is not None:
+            return FAIL if issubclass(kind, self._client.journal.failures) else NOTHING
+        return NOTHING if missing else REPLY
+
+    def missing(self) -> str:
+        """What the block should have done and didn't, so that no reply would be true."""
+        raise NotImplementedError
+
+    def reply_value(self) -> str:
+        """The last member of the reply's line."""
+        raise NotImplementedError
+
+
+class Write(Call):
+    """The call of a write."""
+
+    op = "write"
+    _asked = False
+
+    @property
+    def value(self) -> int:
+        """The value to write, which no other write of the register has."""
+        if self._number is None:
+            raise self.outside()
+        self._asked = True
+        return self._number
+
+    def missing(self) -> str:
+        return "" if self._asked else "never asked for its value: give the store `write.value`"
+
+    def reply_value(self) -> str:
+        return ""
+
+
+class Read(Call):
+    """The call of a read."""
+
+    op = "read"
+    _given = False
+
+    @property
+    def value(self) -> Any:
+        """What the store gave, as a whole number or None. It can be set to all that `number_of` takes."""
+        if not self._given:
+            raise self.mistake("has no value yet: set `read.value` to what the store gives")
+        return self._number
+
+    @value.setter
+    def value(self, value: object) -> None:
+        if self._stage != "open":
+            raise self.outside()
+        try:
+            self._number = number_of(value)
+        except RecordingError as error:
+            raise self.mistake(f"was refused: {error}") from None
+        self._given = True
+
+    def missing(self) -> str:
+        return "" if self._given else "was given no value: set `read.value`, to None if the store has none"
+
+    def reply_value(self) -> str:
+        return ',"value":null' if self._number is None else f',"value":{self._number}'
+
+
+class Recorder:
+    """A history in the making. `output` is a path, a stream such as sys.stdout, or None to keep it in memory.
+
+    An exception of `failures` that leaves the block of a call says that the call surely had no effect."""
+
+    def __init__(self, output: Output = None, failures: Failures = ()) -> None:
+        self._journal = Journal(output, failures)
+        self.checked = False  # whether a test has looked at the verdict
+
+    def client(self) -> Client:
+        """A client for one thread or task. Its first call takes a process number."""
+        return Client(self._journal)
+
+    def write(self, register: str) -> Write:
+        """A write under any free process number. Take a client where one thread makes several calls."""
+        return Write(Client(self._journal), register, alone=True)
+
+    def read(self, register: str) -> Read:
+        """A read under any free process number. Take a client where one thread makes several calls."""
+        return Read(Client(self._journal), register, alone=True)
+
+    @property
+    def path(self) -> Optional[pathlib.Path]:
+        """Where the history is, if it goes to a path."""
+        return self._journal.path
+
+    @property
+    def mistakes(self) -> List[RecordingError]:
+        """Each wrong use so far, also one that was raised in a thread that nobody looked at."""
+        return list(self._journal.mistakes)
+
+    def history(self) -> bytes:
+        """The lines so far, which are a history at any moment: what is open is pending."""
+        return self._journal.content()
+
+    def close(self) -> None:
+        """Ends the history. Open calls stay pending, and a later call raises RecordingError."""
+        self._journal.close()
+
+    def __enter__(self) -> "Recorder":
+        return self
+
+    def __exit__(self, *_: object) -> None:
+        self.close()

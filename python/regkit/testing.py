@@ -1,0 +1,124 @@
+"""Assertions about recorded histories, for unittest, pytest, or a plain script.
+
+    recorder = Recorder()
+    ...
+    assert_atomic(recorder)
+"""
+import os
+import pathlib
+import re
+import tempfile
+from typing import Optional, Union
+
+from regkit.checker import Answer, NoChecker, judge
+from regkit.evidence import Evidence, count_evidence
+from regkit.history import read_history
+from regkit.record import Recorder, RecordingError
+from regkit.report import read_report
+from regkit.sentences import counted
+
+Recorded = Union[Recorder, bytes, str, "os.PathLike[str]"]
+
+
+class NotAtomic(AssertionError):
+    """The history isn't atomic: no order of its operations explains what the clients saw."""
+
+
+class TooLittleEvidence(AssertionError):
+    """The history is atomic, but too few reads were completed, or overlapped a write, to say much."""
+
+
+class NotChecked(Exception):
+    """The checker gave no verdict: it refused the history, or it failed."""
+
+
+def assert_atomic(history: Recorded, *, least_reads: int = 1, least_overlaps: int = 0) -> Evidence:
+    """Raises AssertionError, with an explanation, unless the history is atomic with enough evidence.
+
+    The history is a Recorder, bytes, or a path. It needs at least `least_reads` completed reads, of which at
+    least `least_overlaps` overlap a write: a history that proves nothing, say since its recorder died, fails
+    too. Gives the evidence. Raises NotChecked if the checker gives no verdict, and RecordingError if the
+    recorder was used wrongly."""
+    __tracebackhide__ = True  # pytest then shows the test's own line
+    _trust(history)
+    data, path = _data(history), _path(history)
+    name = str(path) if path else "the history"
+    answer = judge(data)
+    if answer.status not in (0, 1):
+        raise NotChecked(f"{name}: {answer.refusal}")
+    if answer.status == 1:
+        raise NotAtomic(_not_atomic(data, answer, path))
+    evidence = count_evidence(read_history(data))
+    reads, overlaps = evidence.completed_reads, evidence.overlapping_reads
+    for least, seen, what in [(least_reads, reads, "completed reads"),
+                              (least_overlaps, overlaps, "completed reads that overlap a write")]:
+        if seen < least:
+            raise TooLittleEvidence(f"{name}: atomic, but that rests on {seen} {what}; the least is {least}")
+    return evidence
+
+
+def explanation(history: bytes, report: bytes) -> str:
+    """Why a history isn't atomic, as `regkit explain` says it."""
+    from regkit.explanation import explain_text  # only a test that fails needs it
+
+    return explain_text(history, report)
+
+
+def verdict(recorder: Recorder) -> str:
+    """What there is to say of a test's history, whatever it is."""
+    if recorder.mistakes:
+        return f"the recorder was used wrongly: {recorder.mistakes[0]}"
+    data = recorder.history()
+    try:
+        answer = judge(data)
+    except NoChecker as error:
+        return str(error)
+    if answer.status == 0:
+        evidence = count_evidence(read_history(data))
+        return (f"linearizable: {counted(evidence.operations, 'operation')}; "
+                f"{counted(evidence.completed_reads, 'completed read')}, "
+                f"{evidence.overlapping_reads:,} overlap a write")
+    return explanation(data, answer.report) if answer.status == 1 else answer.refusal
+
+
+def keep(recorder: Recorder, directory: "os.PathLike[str]", test: str) -> pathlib.Path:
+    """Copies a history to a file named after its test, for a person to look at."""
+    path = pathlib.Path(directory) / (re.sub(r"[^A-Za-z0-9._-]+", "_", test)[-200:] + ".jsonl")
+    path.parent.mkdir(parents=True, exist_ok=True)
+    path.write_bytes(recorder.history())
+    return path
+
+
+def _trust(history: Recorded) -> None:
+    """Raises RecordingError if the recorder knows of a mistake: what was recorded around it may be wrong."""
+    if not isinstance(history, Recorder):
+        return
+    history.checked = True
+    mistakes = history.mistakes
+    if mistakes:
+        count = f", {len(mistakes)} times" if len(mistakes) > 1 else ""
+        raise RecordingError(f"the recorder was used wrongly{count}: {mistakes[0]}") from mistakes[0]
+
+
+def _data(history: Recorded) -> bytes:
+    if isinstance(history, Recorder):
+        return history.history()
+    return history if isinstance(history, bytes) else pathlib.Path(history).read_bytes()
+
+
+def _path(history: Recorded) -> Optional[pathlib.Path]:
+    if isinstance(history, Recorder):
+        return history.path
+    return None if isinstance(history, bytes) else pathlib.Path(history)
+
+
+def _not_atomic(data: bytes, answer: Answer, path: Optional[pathlib.Path]) -> str:
+    """The explanation, and how to see the history drawn. It goes to a file if it isn't in one."""
+    if path is None:
+        handle, name = tempfile.mkstemp(prefix="regkit-", suffix=".jsonl")
+        with os.fdopen(handle, "wb") as file:
+            file.write(data)
+        path = pathlib.Path(name)
+    report = read_report(answer.report)
+    return (f"not linearizable: {len(report.faulty):,} of {counted(len(report.rows), 'register')}\n\n"
+            f"{explanation(data, answer.report)}\n\nto see it: python3 -m regkit draw {path} -o fault.html")

@@ -1,0 +1,224 @@
+"""The format of a history: from its bytes to its operations, or the reason to refuse it.
+
+docs/format.md has the rules.
+"""
+from typing import Any, Dict, List, Optional
+
+from regkit.lines import NotJson, json_of, numbered_lines
+
+FOREVER = float("inf")  # the line of a reply that never came: it is after every line
+
+MAX_INPUT = 67_108_864
+MAX_LINE = 65_536
+MAX_EVENTS = 1_048_576
+MAX_NAME = 255
+MAX_PROCESS = 4_294_967_295
+LEAST_VALUE, GREATEST_VALUE = -(2**63), 2**63 - 1
+
+EVENTS = ("call", "reply", "fail", "crash")
+OPS = ("read", "write")
+
+REASONS = {
+    1: "line is longer than 65536 bytes",
+    2: "not JSON",
+    3: "not an object",
+    4: "process is not a whole number from 0 to 4294967295",
+    5: "event is not call, reply, fail or crash",
+    6: "op is neither read nor write",
+    7: "register is not a text of 1 to 255 bytes",
+    8: "value does not fit the event",
+    9: "the process has an open call at line {}",
+    10: "reply without an open call",
+    11: "reply disagrees with its call",
+    12: "a read's reply has no value",
+    13: "value already written to this register at line {}",
+    14: "more than 1048576 events",
+    15: "input is longer than 67108864 bytes",
+    19: "the process crashed at line {}",
+}
+
+
+class Refused(Exception):
+    """The history is refused: for a line and the lowest-numbered reason there; 15 has no line."""
+
+    def __init__(self, number: int, line: Optional[int] = None, other: Optional[int] = None) -> None:
+        reason = REASONS[number].format(other)
+        self.text = reason if line is None else f"line {line}: {reason}"
+        super().__init__(self.text)
+
+
+class Operation:
+    """A read or a write, identified by the line of its call. A register's initial write of null has 0."""
+
+    __slots__ = ("line", "end", "process", "register", "is_write", "value", "failed")
+
+    def __init__(self, line: int, register: str, is_write: bool, value: Optional[int]) -> None:
+        self.line = line
+        self.end: float = FOREVER  # the line of its reply
+        self.process: Optional[int] = None  # the initial write is nobody's
+        self.register = register
+        self.is_write = is_write
+        self.value = value  # written, or read; None is null
+        self.failed = False  # a call that failed is no operation
+
+    @property
+    def completed(self) -> bool:
+        return self.end < FOREVER
+
+
+def initial_write(register: str) -> Operation:
+    write = Operation(0, register, True, None)
+    write.end = 0
+    return write
+
+
+class History:
+    """The operations of each register, in the order of their calls; the registers by their first calls."""
+
+    def __init__(self, limit: float) -> None:
+        self.limit = limit  # how many events it may take
+        self.events = 0
+        self.registers: Dict[str, List[Operation]] = {}
+        self.written: Dict[str, Dict[int, int]] = {}  # register -> value -> the line of its write's call
+        self.open_calls: Dict[int, Operation] = {}
+        self.crashes: Dict[int, int] = {}
+
+    def take(self, line: int, event: Dict[str, Any]) -> None:
+        """Takes the event of a line. Raises Refused with the lowest of 9 to 14 and 19 that applies."""
+        what, process = event["event"], event["process"]
+        if what == "call":
+            self.check_call(line, event)
+        elif what != "crash":
+            self.check_end(line, event)
+        if self.events == self.limit:
+            raise Refused(14, line)
+        if process in self.crashes:
+            raise Refused(19, line, self.crashes[process])
+        self.events += 1
+        if what == "call":
+            self.begin(line, event)
+        elif what == "crash":
+            self.crashes[process] = line
+            self.open_calls.pop(process, None)
+        else:
+            self.end(line, event)
+
+    def check_call(self, line: int, event: Dict[str, Any]) -> None:
+        open_call = self.open_calls.get(event["process"])
+        if open_call is not None:
+            raise Refused(9, line, open_call.line)
+        if event["op"] == "write":
+            earlier = self.written.get(event["register"], {}).get(event["value"])
+            if earlier is not None:
+                raise Refused(13, line, earlier)
+
+    def check_end(self, line: int, event: Dict[str, Any]) -> None:
+        """Of a reply or a fail."""
+        call = self.open_calls.get(event["process"])
+        if call is None:
+            if event["process"] not in self.crashes:
+                raise Refused(10, line)
+            return
+        if not agrees(event, call):
+            raise Refused(11, line)
+        if event["event"] == "reply" and not call.is_write and "value" not in event:
+            raise Refused(12, line)
+
+    def begin(self, line: int, event: Dict[str, Any]) -> None:
+        register, is_write = event["register"], event["op"] == "write"
+        call = Operation(line, register, is_write, event.get("value"))
+        call.process = event["process"]
+        self.open_calls[call.process] = call
+        self.registers.setdefault(register, []).append(call)
+        if is_write:
+            self.written.setdefault(register, {})[event["value"]] = line
+
+    def end(self, line: int, event: Dict[str, Any]) -> None:
+        call = self.open_calls.pop(event["process"])
+        if event["event"] == "fail":
+            call.failed = True
+            return
+        call.end = line
+        if not call.is_write:
+            call.value = event["value"]
+
+    def without_failed(self) -> None:
+        """Leaves out the calls that failed; a register keeps its place even if none is left."""
+        for name, calls in self.registers.items():
+            self.registers[name] = [call for call in calls if not call.failed]
+
+
+def agrees(event: Dict[str, Any], call: Operation) -> bool:
+    """Each thing that a reply or a fail says is as in its call."""
+    op = "write" if call.is_write else "read"
+    if event.get("op", op) != op or event.get("register", call.register) != call.register:
+        return False
+    value = event.get("value")
+    if call.is_write:
+        return value is None or value == call.value
+    return event["event"] == "reply" or value is None
+
+
+def read_history(history: bytes, limits: bool) -> History:
+    """Raises Refused for the first faulty line. The limits are those on the input and on its events."""
+    if limits and len(history) > MAX_INPUT:
+        raise Refused(15)
+    taken = History(MAX_EVENTS if limits else FOREVER)
+    for number, line in numbered_lines(history):
+        taken.take(number, event_of(number, line))
+    taken.without_failed()
+    return taken
+
+
+def event_of(number: int, line: bytes) -> Dict[str, Any]:
+    """The event of a line. Raises Refused with the lowest of 1 to 8 that applies."""
+    if len(line) > MAX_LINE:
+        raise Refused(1, number)
+    try:
+        event = json_of(line)
+    except NotJson:
+        raise Refused(2, number) from None
+    if type(event) is not dict:
+        raise Refused(3, number)
+    if not is_whole(event.get("process"), 0, MAX_PROCESS):
+        raise Refused(4, number)
+    what = event.get("event")
+    if what not in EVENTS:
+        raise Refused(5, number)
+    if what != "crash":
+        fault = call_fault(event) if what == "call" else end_fault(event)
+        if fault:
+            raise Refused(fault, number)
+    return event
+
+
+def call_fault(event: Dict[str, Any]) -> int:
+    op, value = event.get("op"), event.get("value")
+    if op not in OPS:
+        return 6
+    if not is_name(event.get("register")):
+        return 7
+    fits = is_value(value) if op == "write" else value is None
+    return 0 if fits else 8
+
+
+def end_fault(event: Dict[str, Any]) -> int:
+    """Of a reply or a fail, which may leave out its op, its register and its value."""
+    if "op" in event and event["op"] not in OPS:
+        return 6
+    if "register" in event and not is_name(event["register"]):
+        return 7
+    value = event.get("value")
+    return 0 if value is None or is_value(value) else 8
+
+
+def is_whole(number: Any, least: int, greatest: int) -> bool:
+    return type(number) is int and least <= number <= greatest  # isinstance would let True and False pass
+
+
+def is_value(value: Any) -> bool:
+    return is_whole(value, LEAST_VALUE, GREATEST_VALUE)
+
+
+def is_name(name: Any) -> bool:
+    return type(name) is str and 0 < len(name.encode("utf-8")) <= MAX_NAME

@@ -1,0 +1,93 @@
+"""Runs `regkit convert` in this process, for its tests."""
+import argparse
+import contextlib
+import io
+import json
+import pathlib
+import subprocess
+import tempfile
+from typing import Any, Dict, List, NamedTuple, Optional, Union
+
+from regkit.checker import NoChecker, find_checker, run_checker
+from regkit.commands import convert
+
+SAMPLES = pathlib.Path(__file__).parent / "samples"
+HISTORIES = pathlib.Path(__file__).parents[2] / "bin" / "history_generator"
+
+FAILED = (
+    '{"process":1,"event":"call","op":"read","register":"x"}\n'
+    '{"process":1,"event":"fail"}\n'
+    '{"process":1,"event":"crash"}\n'
+)
+
+
+class Ran(NamedTuple):
+    """What a conversion did."""
+
+    status: int
+    history: str  # empty if none was written
+    told: str  # standard error
+    map: Optional[Dict[str, Any]]
+
+    @property
+    def events(self) -> List[Dict[str, Any]]:
+        return [json.loads(line) for line in self.history.splitlines()]
+
+
+def run(source: Union[str, bytes], form: str, *options: str) -> Ran:
+    """Converts a text, or bytes. The option --map needs no file."""
+    with tempfile.TemporaryDirectory() as folder:
+        place = pathlib.Path(folder)
+        (place / "source").write_bytes(source.encode("utf-8") if isinstance(source, str) else source)
+        words = ["--from", form, str(place / "source"), "-o", str(place / "out"), *options]
+        if "--map" in options:
+            words.insert(words.index("--map") + 1, str(place / "map"))
+        parser = argparse.ArgumentParser()
+        convert.add_arguments(parser)
+        told = io.StringIO()
+        with contextlib.redirect_stderr(told):
+            status = convert.run(parser.parse_args(words))
+        out, table = place / "out", place / "map"
+        return Ran(
+            status,
+            out.read_text(encoding="utf-8") if out.exists() else "",
+            told.getvalue(),
+            json.loads(table.read_text(encoding="utf-8")) if table.exists() else None,
+        )
+
+
+def short(history: str) -> List[str]:
+    """Each event in a few letters: calls are `1 w x 5` and `1 r x`, replies `1 .` and `1 = 5`."""
+    lines: List[str] = []
+    reads: Dict[int, bool] = {}
+    for event in map(json.loads, history.splitlines()):
+        process, what = event["process"], event["event"]
+        if what == "call":
+            reads[process] = event["op"] == "read"
+            lines.append(
+                f"{process} r {event['register']}"
+                if reads[process]
+                else f"{process} w {event['register']} {event['value']}"
+            )
+        elif what == "reply":
+            lines.append(f"{process} = {event['value']}" if reads[process] else f"{process} .")
+        else:
+            lines.append(f"{process} {what}")
+    return lines
+
+
+def lacks_checker() -> Optional[str]:
+    """Why the program can't check histories with failures and crashes, if it can't."""
+    try:
+        answer = run_checker(FAILED.encode())
+    except NoChecker as error:
+        return str(error)
+    if answer.status == 2 and "event is" in answer.refusal:
+        return f"regcheck doesn't take failures and crashes yet ({find_checker()} says: {answer.refusal})"
+    return None
+
+
+def generated(kind: str, events: int, seed: int) -> str:
+    """A history of the generator."""
+    words = [str(HISTORIES), kind, "--events", str(events), "--seed", str(seed)]
+    return subprocess.run(words, capture_output=True, check=True).stdout.decode()

@@ -1,0 +1,629 @@
+"""Tests of `regkit convert`: the samples of each form, what each option does, and each refusal."""
+import json
+import subprocess
+import sys
+import unittest
+from typing import List, Sequence, Tuple
+
+from regkit.checker import run_checker
+from regkit.convert.summary import too_large
+from tests.convert_support import SAMPLES, lacks_checker, run, short
+
+# A sample, its form and options, and the status of its check.
+SAMPLE_RUNS: List[Tuple[str, str, Sequence[str], int]] = [
+    ("jepsen_register.edn", "jepsen", (), 0),
+    ("jepsen_independent.edn", "jepsen", (), 0),
+    ("jepsen_console.log", "jepsen", (), 0),
+    ("jepsen_console.log", "porcupine", (), 0),
+    ("maelstrom_lin_kv.edn", "jepsen", (), 0),
+    ("elle_rw_register.edn", "jepsen", (), 0),
+    ("porcupine_kv.txt", "porcupine", (), 0),
+    ("porcupine_operations.jsonl", "porcupine", (), 0),
+    ("porcupine_events.json", "porcupine", (), 0),
+    ("times.csv", "csv", ("--columns", "process=client,register=key,outcome=status"), 0),
+    ("machines.csv", "csv", ("--clock-error", "3ms", "--null", "none"), 0),
+    ("operations.jsonl", "operations", (), 0),
+    ("events.jsonl", "jsonl", (), 0),
+]
+
+
+class Samples(unittest.TestCase):
+    def test_each_becomes_the_history_that_was_worked_out_by_hand(self) -> None:
+        for name, form, options, _ in SAMPLE_RUNS:
+            with self.subTest(name, form=form):
+                ran = run((SAMPLES / name).read_text(encoding="utf-8"), form, *options)
+                expected = (SAMPLES / name).with_suffix(".expected").read_text(encoding="utf-8")
+                self.assertEqual((ran.status, ran.history), (0, expected), ran.told)
+
+    def test_each_is_checked(self) -> None:
+        lacks = lacks_checker()
+        if lacks:
+            self.skipTest(lacks)
+        for name, form, options, status in SAMPLE_RUNS:
+            with self.subTest(name, form=form):
+                ran = run((SAMPLES / name).read_text(encoding="utf-8"), form, *options)
+                answer = run_checker(ran.history.encode())
+                self.assertEqual((answer.status, answer.refusal), (status, ""))
+
+    def test_what_is_told(self) -> None:
+        for name, form, options, expected in [
+            (
+                "jepsen_register.edn",
+                "jepsen",
+                (),
+                [
+                    "read 4 operations of 4 clients on 1 register: "
+                    "2 writes, 2 reads; 1 failed, 1 of unknown outcome",
+                    "left out 1 line of process :nemesis, which is no client",
+                ],
+            ),
+            (
+                "jepsen_console.log",
+                "jepsen",
+                (),
+                [
+                    "read 4 operations of 3 clients on 1 register: "
+                    "2 writes, 2 reads; 1 failed, 1 of unknown outcome",
+                    "left out 1 line of process :nemesis, which is no client",
+                    "left out 1 line of the log that record no operation",
+                ],
+            ),
+            (
+                "times.csv",
+                "csv",
+                SAMPLE_RUNS[9][2],
+                [
+                    "read 8 operations of 4 clients on 2 registers: "
+                    "4 writes, 4 reads; 1 failed, 1 of unknown outcome",
+                    "put calls before replies at 2 time stamps that both have: those operations overlap",
+                    "numbered 4 clients that had no process number",
+                    "gave 1 operation another process, since a call of the same client was still open",
+                    "numbered 4 values of 1 register; --map FILE writes which number is which",
+                ],
+            ),
+        ]:
+            with self.subTest(name):
+                told = run((SAMPLES / name).read_text(encoding="utf-8"), form, *options).told
+                self.assertEqual(told.splitlines(), [f"regkit convert: {line}" for line in expected])
+
+
+def jepsen(*events: str) -> str:
+    """EDN of events such as `0 invoke write 5`."""
+    lines = []
+    for event in events:
+        process, kind, function, value = event.split(" ", 3)
+        lines.append(f"{{:process {process}, :type :{kind}, :f :{function}, :value {value}}}\n")
+    return "".join(lines)
+
+
+class Jepsen(unittest.TestCase):
+    def check(self, source: str, expected: List[str], *options: str) -> None:
+        ran = run(source, "jepsen", *options)
+        self.assertEqual((ran.status, short(ran.history)), (0, expected), ran.told)
+
+    def test_words_for_reads_and_writes(self) -> None:
+        self.check(
+            jepsen("0 invoke w 5", "0 ok w 5", "0 invoke r nil", "0 ok r 5"),
+            ["0 w x 5", "0 .", "0 r x", "0 = 5"],
+        )
+
+    def test_an_open_call_at_the_end_is_pending(self) -> None:
+        self.check(jepsen("0 invoke write 5"), ["0 w x 5"])
+
+    def test_a_number_that_goes_on_after_info_becomes_another_process(self) -> None:
+        self.check(
+            jepsen("0 invoke write 5", "0 info write 5", "0 invoke read nil", "0 ok read nil"),
+            ["0 w x 5", "0 crash", "1 r x", "1 = None"],
+        )
+
+    def test_info_without_a_call_is_a_crash(self) -> None:
+        self.check(
+            jepsen("0 invoke read nil", "0 ok read nil", "0 info read nil"), ["0 r x", "0 = None", "0 crash"]
+        )
+
+    def test_values_of_failures_and_crashes_are_ignored(self) -> None:
+        self.check(
+            jepsen("0 invoke write [1 5]", "0 fail write :gone", "0 invoke read [1 nil]", "0 info read nil"),
+            ["0 w 1 5", "0 fail", "0 r 1", "0 crash"],
+        )
+
+    def test_plain_values_may_be_pairs(self) -> None:
+        self.check(
+            jepsen("0 invoke write [1 2]", "0 ok write [1 2]", "0 invoke read nil", "0 ok read [1 2]"),
+            ["0 w x 1", "0 .", "0 r x", "0 = 1"],
+        )
+        self.check(jepsen("0 invoke write [1 2]", "0 ok write [1 2]"), ["0 w x 1", "0 ."], "--keys", "none")
+        self.check(
+            jepsen("0 invoke write [1 2]", "0 ok write [1 2]"), ["0 w 1 2", "0 ."], "--keys", "independent"
+        )
+
+    def test_a_read_that_found_no_key(self) -> None:
+        calls = jepsen("0 invoke read nil")
+        for error, options, expected in [
+            (':key-does-not-exist', (), "0 = None"),
+            ('[:key-does-not-exist "x"]', (), "0 = None"),
+            (":not-found", ("--null", "not-found"), "0 = None"),
+            (":not-found", (), "0 fail"),
+            ('["gone"]', ("--null", "gone,other"), "0 = None"),
+            (":timeout", ("--null", ""), "0 fail"),
+        ]:
+            with self.subTest(error):
+                end = f"{{:process 0, :type :fail, :f :read, :value nil, :error {error}}}"
+                self.check(calls + end, ["0 r x", expected], *options)
+
+    def test_console_lines_may_end_in_anything_after_a_failure(self) -> None:
+        console = "jepsen.util - 0 {}\n"
+        ends = [":fail :write {[", ":info :write Exception: ({", ":fail :write nil :x"]
+        for end, expected in zip(ends, ["0 fail", "0 crash", "0 fail"]):
+            with self.subTest(end):
+                self.check(console.format(":invoke :write 1") + console.format(end), ["0 w x 1", expected])
+        source = console.format(":invoke :read nil") + console.format(":fail :read nil :key-does-not-exist")
+        self.check(source, ["0 r x", "0 = None"])
+
+    def test_a_write_that_found_no_key_failed(self) -> None:
+        self.check(
+            jepsen("0 invoke write 1")
+            + "{:process 0 :type :fail :f :write :value 1 :error [:key-does-not-exist]}",
+            ["0 w x 1", "0 fail"],
+        )
+
+    def test_cas_skip_key(self) -> None:
+        source = jepsen(
+            "0 invoke write [1 5]",
+            "0 ok write [1 5]",
+            "1 invoke cas [2 [3 4]]",
+            "1 fail cas [2 [3 4]]",
+            "1 invoke write [2 9]",
+            "1 info write [2 9]",
+            "2 invoke read [1 nil]",
+            "2 ok read [1 5]",
+        )
+        self.check(source, ["0 w 1 5", "0 .", "2 r 1", "2 = 5"], "--cas", "skip-key")
+        told = run(source, "jepsen", "--cas", "skip-key").told
+        self.assertIn("left out 2 operations of keys that cas or append touches: 2\n", told)
+
+    def test_plain_cas_isnt_taken_for_keys(self) -> None:
+        ran = run(jepsen("0 invoke cas [1 2]", "0 ok cas [1 2]"), "jepsen", "--cas", "skip-key")
+        self.assertEqual(ran.status, 2)
+        self.assertIn("left out 1 operation of keys that cas or append touches: x", ran.told)
+
+
+def row(process: object, op: str, value: object, *times: object, **others: str) -> str:
+    """A row of a table, with its start and its end, and perhaps with its outcome and its register."""
+    start, end = times
+    return f"{process},{start},{end},{others.get('register', 'x')},{op},{value},{others.get('outcome', '')}\n"
+
+
+HEADER = "process,start,end,register,op,value,outcome\n"
+
+
+class Timed(unittest.TestCase):
+    def check(self, source: str, expected: List[str], *options: str) -> None:
+        ran = run(HEADER + source, "csv", *options)
+        self.assertEqual((ran.status, short(ran.history)), (0, expected), ran.told)
+
+    def test_ties_put_calls_before_replies(self) -> None:
+        self.check(
+            row(0, "write", 1, 0, 5) + row(1, "read", "", 5, 9), ["0 w x 1", "1 r x", "0 .", "1 = None"]
+        )
+
+    def test_an_operation_may_take_no_time(self) -> None:
+        self.check(row(0, "write", 1, 5, 5), ["0 w x 1", "0 ."])
+
+    def test_a_client_whose_operations_overlap_gets_a_process_for_each(self) -> None:
+        self.check(
+            row(3, "write", 1, 0, 9)
+            + row(3, "write", 2, 1, 8)
+            + row(0, "read", "", 2, 3)
+            + row(3, "read", 1, 10, 11),
+            ["3 w x 1", "1 w x 2", "0 r x", "0 = None", "1 .", "3 .", "3 r x", "3 = 1"],
+        )
+
+    def test_an_unknown_outcome_keeps_its_process(self) -> None:
+        for outcome, end in [("", ""), ("unknown", 9), ("info", ""), ("ok", ""), ("unknown", "")]:
+            with self.subTest(outcome, end=end):
+                self.check(
+                    row(0, "write", 1, 0, end, outcome=outcome) + row(0, "read", 1, 10, 11),
+                    ["0 w x 1", "1 r x", "1 = 1"],
+                )
+
+    def test_failures(self) -> None:
+        self.check(
+            row(0, "write", 1, 0, 5, outcome="fail") + row(0, "read", "", 6, 7, outcome="FAIL"),
+            ["0 w x 1", "0 fail", "0 r x", "0 fail"],
+        )
+        self.check(
+            row(0, "write", 1, 3, "", outcome="fail") + row(1, "read", "", 3, 7, outcome="ok"),
+            ["0 w x 1", "1 r x", "0 fail", "1 = None"],
+        )
+
+    def test_clock_error_widens_both_ends(self) -> None:
+        rows = row(0, "write", 1, 100, 200) + row(1, "read", "", 205, 300) + row(2, "read", 1, 311, 400)
+        apart = ["0 w x 1", "0 .", "1 r x", "1 = None", "2 r x", "2 = 1"]
+        overlap = ["0 w x 1", "1 r x", "0 .", "1 = None", "2 r x", "2 = 1"]
+        for error, unit, expected in [
+            ("2", "", apart),
+            ("2.4", "", apart),
+            ("2.5", "", overlap),
+            ("5ms", "ms", overlap),
+            ("5us", "ms", apart),
+            ("2500ns", "us", overlap),
+            ("0.005s", "ms", overlap),
+            ("2499ns", "us", apart),
+        ]:
+            with self.subTest(error, unit=unit):
+                options = ["--clock-error", error] + (["--clock-unit", unit] if unit else [])
+                self.check(rows, expected, *options)
+
+    def test_times_are_exact(self) -> None:
+        for early, late in [
+            ("9007199254740992", "9007199254740993"),
+            ("0.1", "0.10000000000000000001"),
+            ("1e3", "1000.5"),
+            ("2026-11-23T05:49:42.123456789Z", "2026-11-23T05:49:42.12345679Z"),
+            ("2026-11-23T05:49:42Z", "2026-11-23T05:49:43+00:00"),
+            ("2026-03-01 00:00:00", "2026-03-01 00:00:00.5"),
+            ("2026-11-23T23:59:59-01:00", "2026-11-24T01:00:00Z"),
+            ("-5", "-4"),
+        ]:
+            with self.subTest(early):
+                rows = row(0, "write", 1, early, early) + row(1, "read", 1, late, late)
+                self.check(rows, ["0 w x 1", "0 .", "1 r x", "1 = 1"])
+
+    def test_words_for_operations(self) -> None:
+        self.check(
+            row(0, " PUT", 1, 0, 1) + row(0, "Get", 1, 2, 3) + row(0, "set", 2, 4, 5),
+            ["0 w x 1", "0 .", "0 r x", "0 = 1", "0 w x 2", "0 ."],
+        )
+
+    def test_columns_may_be_absent_or_many(self) -> None:
+        ran = run(
+            "t1,t2,who,what,v,more\n0,1,7,w,3,z\n",
+            "csv",
+            "--columns",
+            "start=t1,end=t2,process=who,op=what,value=v",
+            "--register",
+            "r",
+        )
+        self.assertEqual(short(ran.history), ["7 w r 3", "7 ."], ran.told)
+
+    def test_a_field_may_have_line_ends(self) -> None:
+        ran = run(HEADER + row(0, "write", '"a\nb"', 0, 1) + row(0, "write", "c", 2, 3), "csv", "--map")
+        self.assertEqual(
+            ran.map and (ran.map["values"], ran.map["lines"]), ({"x": {"1": "a\nb", "2": "c"}}, [2, 2, 4, 4])
+        )
+
+
+class Values(unittest.TestCase):
+    def test_whole_numbers_stay_and_all_else_is_numbered(self) -> None:
+        source = jepsen(
+            "0 invoke write 2",
+            "0 ok write 2",
+            "0 invoke write \"a\"",
+            "0 ok write \"a\"",
+            "1 invoke read nil",
+            "1 ok read :a",
+            "1 invoke read nil",
+            "1 ok read \"a\"",
+            "1 invoke read nil",
+            "1 ok read 9223372036854775808",
+            "1 invoke read nil",
+            "1 ok read 1.5",
+            "1 invoke read nil",
+            "1 ok read true",
+            "1 invoke read nil",
+            "1 ok read -9223372036854775808",
+        )
+        ran = run(source, "jepsen", "--map")
+        self.assertEqual(
+            [event.get("value") for event in ran.events if "value" in event],
+            [2, 1, 3, 1, 4, 5, 6, -9223372036854775808],
+        )
+        self.assertEqual(
+            ran.map and ran.map["values"],
+            {"x": {"1": "a", "3": ":a", "4": "9223372036854775808", "5": "1.5", "6": "true"}},
+        )
+
+    def test_each_register_numbers_for_itself(self) -> None:
+        rows = (
+            row(0, "write", "b", 0, 1, register="k")
+            + row(0, "write", "a", 2, 3, register="l")
+            + row(0, "read", "b", 4, 5, register="l")
+            + row(0, "write", 7, 6, 7, register="m")
+        )
+        ran = run(HEADER + rows, "csv", "--map")
+        self.assertEqual(
+            short(ran.history), ["0 w k 1", "0 .", "0 w l 1", "0 .", "0 r l", "0 = 2", "0 w m 7", "0 ."]
+        )
+        self.assertEqual(ran.map and ran.map["values"], {"k": {"1": "b"}, "l": {"1": "a", "2": "b"}})
+
+    def test_texts_of_numbers(self) -> None:
+        """In a table and in Porcupine's logs all values are texts; in EDN and JSON a text isn't a number."""
+        self.assertEqual(short(run(HEADER + row(0, "write", "41", 0, 1), "csv").history), ["0 w x 41", "0 ."])
+        self.assertEqual(short(run(HEADER + row(0, "write", "041", 0, 1), "csv").history), ["0 w x 1", "0 ."])
+        source = jepsen('0 invoke write "41"', '0 ok write "41"', "0 invoke write 41", "0 ok write 41")
+        ran = run(source, "jepsen", "--map")
+        self.assertEqual(short(ran.history), ["0 w x 1", "0 .", "0 w x 41", "0 ."])
+        self.assertEqual(ran.map and ran.map["values"], {"x": {"1": '"41"'}})
+
+    def test_null(self) -> None:
+        reads = '{"process":0,"op":"read","register":"x","value":%s,"start":0,"end":1}'
+        for value, options, expected in [
+            ("null", (), "None"),
+            ('""', (), "1"),
+            ('""', ("--null", ""), "None"),
+            ('""', ("--null", '""'), "None"),
+            ('""', ("--null", "nil,,gone"), "None"),
+            ('"nil"', ("--null", "nil,,gone"), "None"),
+            ('"gone"', ("--null", "gone"), "None"),
+            ('"gone"', (), "1"),
+            ("-1", ("--null=-1",), "None"),
+            ("-1", (), "-1"),
+            ("0", (), "0"),
+            ("0", ("--null", "nil"), "0"),
+        ]:
+            with self.subTest(value, options=options):
+                ran = run(reads % value, "operations", *options)
+                self.assertEqual(short(ran.history), ["0 r x", f"0 = {expected}"], ran.told)
+        for form, source in [
+            ("csv", HEADER + row(0, "read", "", 0, 1)),
+            (
+                "porcupine",
+                '{:process 0 :type :invoke :f :get :key "x"}\n'
+                '{:process 0 :type :ok :f :get :key "x" :value ""}',
+            ),
+        ]:
+            with self.subTest(form):
+                self.assertEqual(short(run(source, form).history), ["0 r x", "0 = None"])
+                self.assertEqual(short(run(source, form, "--null", "nil").history), ["0 r x", "0 = 1"])
+
+    def test_initial(self) -> None:
+        source = jepsen(
+            "5 invoke read [:a nil]", "5 ok read [:a 0]", "3 invoke write [:a 1]", "4 invoke read [:b nil]"
+        )
+        ran = run(source, "jepsen", "--initial", "0", "--map")
+        self.assertEqual(
+            short(ran.history),
+            ["3 w :a 0", "3 .", "4 w :b 0", "4 .", "5 r :a", "5 = 0", "3 w :a 1", "4 r :b"],
+        )
+        self.assertEqual(ran.map and ran.map["lines"], [0, 0, 0, 0, 1, 2, 3, 4])
+        for word, read in [("v", '"v"'), (":v", ":v"), ('"0"', '"0"')]:
+            history = run(
+                jepsen("5 invoke read nil", f"5 ok read {read}"), "jepsen", "--initial", word
+            ).history
+            self.assertEqual(short(history), ["5 w x 1", "5 .", "5 r x", "5 = 1"])
+
+    def test_a_single_writer_stays_one(self) -> None:
+        source = jepsen("1 invoke write 5", "1 ok write 5", "2 invoke read nil", "2 ok read 5")
+        report = run_checker(run(source, "jepsen", "--initial", "0").history.encode()).report
+        self.assertEqual(json.loads(report.splitlines()[0])["regular"], "yes")
+
+
+class Names(unittest.TestCase):
+    def names(self, *keys: str) -> List[str]:
+        source = jepsen(*(f"{place} invoke write [{key} 1]" for place, key in enumerate(keys)))
+        return [event["register"] for event in run(source, "jepsen").events]
+
+    def test_forms(self) -> None:
+        for keys, expected in [
+            (
+                ["5", ":k", '"s"', "[1 :a]", "nil", "2.50", "true", "foo"],
+                ["5", ":k", "s", "[1 :a]", "nil", "2.5", "true", "foo"],
+            ),
+            (["5", '"5"', '"s"'], ["5", '"5"', '"s"']),
+            ([":k", '":k"'], [":k", '":k"']),
+            (["nil", '"nil"'], ["nil", '"nil"']),
+            (['"5"'], ["5"]),
+            (['""'], ['""']),
+            (["5N", "5"], ["5", "5"]),
+            (['"\\"5\\""', '"5"', "5"], ['"\\"5\\""', '"5"', "5"]),
+            (["5.0", "5"], ["5.0", "5"]),
+            (["[1]", "(1)"], ["[1]", "[1]"]),
+        ]:
+            with self.subTest(keys):
+                if keys in (["5N", "5"], ["[1]", "(1)"]):  # one key, whose value 1 is written twice
+                    self.assertEqual(self.names(*keys), [])
+                else:
+                    self.assertEqual(self.names(*keys), expected)
+
+    def test_a_name_of_255_bytes_is_taken(self) -> None:
+        self.assertEqual(self.names('"' + "\u00e9" * 127 + 'a"'), ["\u00e9" * 127 + "a"])
+
+    def test_clients(self) -> None:
+        rows = "".join(
+            row(client, "read", "", time, time)
+            for time, client in enumerate(["alice", 2, "0", "alice", 4294967296, -1])
+        )
+        ran = run(HEADER + rows, "csv", "--map")
+        self.assertEqual(
+            [event["process"] for event in ran.events if event["event"] == "call"], [1, 2, 0, 1, 3, 4]
+        )
+        self.assertEqual(ran.map and ran.map["processes"], {"1": "alice", "3": 4294967296, "4": -1})
+
+
+WRITE_TWICE = jepsen("0 invoke write 5", "0 ok write 5", "1 invoke write 5")
+TXN = "{:process 0, :type :invoke, :f :txn, :value %s}\n"
+
+# The form, the source, the options, and how the one line of standard error begins.
+REFUSALS: List[Tuple[str, str, Sequence[str], str]] = [
+    ("jepsen", WRITE_TWICE, (),
+     "line 3: 5 is written to x again, first at line 1: let the workload write each value"),
+    ("jepsen", jepsen('0 invoke write [:k "v"]', "0 fail write nil", '0 invoke write [:k "v"]'), (),
+     "line 3: v is written to :k again, first at line 1"),
+    ("jepsen", jepsen("0 invoke write 5"), ("--initial", "5"),
+     "line 1: 5 is written to x, but --initial says that x starts"),
+    ("jepsen", jepsen("0 invoke write nil"), (),
+     "line 1: a write of null to x: only the initial value is null"),
+    ("csv", HEADER + row(0, "write", "", 0, 1), (),
+     "line 2: a write of null to x: only the initial value is null"),
+    ("jepsen", jepsen("0 invoke cas [1 2]"), (),
+     "line 1: cas reads and writes at once, and a register has reads and writes"),
+    ("porcupine", '{:process 0, :type :invoke, :f :append, :key "5", :value "a"}', (),
+     "line 1: append reads and writes at once"),
+    ("jepsen", jepsen("0 invoke read nil", "1 invoke enqueue 1"), (),
+     "line 2: 'enqueue' is neither a read (get, r, read) nor"),
+    ("jepsen", jepsen("0 invoke read nil", "0 invoke read nil"), (),
+     "line 2: client 0 calls while its call of line 1 is open"),
+    ("jepsen", jepsen("0 ok read nil"), (), "line 1: client 0 has no open call that this could end"),
+    ("jepsen", jepsen("0 invoke read nil", "0 ok write 1"), (),
+     "line 2: :f is :write, and the open call of process 0, at line 1"),
+    ("jepsen", jepsen("0 invoke write 1", "0 ok write 2"), (),
+     "line 2: the reply of a write has the value 2, and its call, at l"),
+    ("jepsen", jepsen("0 start read nil"), (),
+     "line 1: :type is :start, and :invoke, :ok, :fail or :info is expected"),
+    ("jepsen", "{:process 0, :type :invoke, :f 3}", (),
+     "line 1: :f is 3, and a keyword such as :read is expected"),
+    ("jepsen", "{:process 0}\n[1 2]", (), "line 1: :type is nil, and"),
+    ("jepsen", ":invoke", (), "the source has no operation to check"),
+    ("jepsen", "{:a 1}\n:invoke", (), "line 2: no operation: a map such as {:process 0, :type :invoke"),
+    ("jepsen", "{:a", (), "line 1: not EDN: { is never closed"),
+    ("jepsen", jepsen("0 invoke write [1 2]", "0 ok write [2 2]"), (),
+     "line 2: the reply's value [2 2] doesn't have the key 1"),
+    ("jepsen", jepsen("0 invoke write [1 2]", "0 ok write nil"), (),
+     "line 2: the reply's value nil doesn't have the key 1"),
+    ("jepsen", jepsen("0 invoke write [1 2]", "1 invoke write 3"), ("--keys", "independent"),
+     "line 2: the value 3 is no key with"),
+    ("jepsen", TXN % "[[:w 1 2] [:r 1 nil]]", (),
+     "line 1: a transaction of 2 operations, and registers have single"),
+    ("jepsen", TXN % "[[:append 1 2]]", (), "line 1: append reads and writes at once"),
+    ("jepsen", TXN % "7", (), "line 1: 7 is no transaction of one read or write, such as [[:w 3 1]]"),
+    ("jepsen", TXN % "[[:w 1 2]]" + "{:process 0, :type :ok, :f :txn, :value [[:r 1 2]]}", (),
+     "line 2: the reply's transaction isn't"),
+    ("jepsen", "", (), "the source has no operation to check: is it the right file, and of the form jepsen?"),
+    ("jepsen", jepsen('0 invoke write ["' + "a" * 256 + '" 1]'), (),
+     "line 1: a key's name has 256 bytes, and a register's name at"),
+    ("jepsen", jepsen('0 invoke write ["' + "\u00e9" * 128 + '" 1]'), (),
+     "line 1: a key's name has 256 bytes"),
+    ("jepsen", jepsen('0 invoke write ["\\ud800" 1]'), (),
+     "line 1: a key has half of a surrogate pair, which is no text"),
+    ("jepsen", "INFO jepsen.util - 0 :invoke :read [", (), "line 1: no value of EDN behind :invoke, but ["),
+    ("porcupine", '{"a":1}', (),
+     "line 1: neither an operation with Call and Return nor an event with Kind, but a"),
+    ("porcupine", '{"Call":1}', (),
+     "line 1: the input has no member Op: let it have Op (get or put), Key and Value"),
+    ("porcupine", '{"Kind":"start","Value":{}}', (),
+     "line 1: Kind is start, and call or return (false or true) is expected"),
+    ("porcupine", '{"Kind":0,"Value":{"Op":0}}\n{"Call":1,"Input":{"Op":0}}', (),
+     "line 2: events and operations in one file"),
+    ("porcupine", '[\n1]', (), "line 2: no operation and no event: an object is expected"),
+    ("porcupine", '[{"Kind":0,"Value":{"Op":0}}\n', (), "line 2: not JSON: an array without its end"),
+    ("porcupine", '[{"Kind":0,"Value":{"Op":0}}]\n1', (),
+     "line 1: not JSON: there is something behind the array"),
+    ("csv", HEADER + row(0, "write", 1, 5, 4), (),
+     "line 2: the operation ends before it starts: are the columns"),
+    ("csv", HEADER + row(0, "write", 1, "noon", 4), (),
+     "line 2: start is 'noon', and a number or a date such as"),
+    ("csv", HEADER + row(0, "write", 1, 3, "NaN"), (),
+     "line 2: end is 'NaN', and a number or a date such as"),
+    ("csv", HEADER + row(0, "write", 1, 3, "2026-02-30T00:00:00Z"), (),
+     "line 2: end is '2026-02-30T00:00:00Z', and a number"),
+    ("csv", HEADER + row(0, "write", 1, 3, "2026-02-03T00:00:00Z"), (),
+     "line 2: end is a date with a time zone, and at line 2 a num"),
+    ("csv", HEADER + row(0, "write", 1, 3, 4, outcome="maybe"), (),
+     "line 2: the outcome is maybe, and ok, fail, unknown or info is expect"),
+    ("csv", HEADER + "1,2\n", (), "line 2: the row has 2 fields, and the header 7: put a field"),
+    ("csv", HEADER + '1,2,"a"b,,,,\n', (), "line 2: not CSV: "),
+    ("csv", "process,end,op,value\n", (),
+     "line 1: the header has no start, but process, end, op, value: say which column is the start"),
+    ("csv", HEADER, ("--columns", "register=key"), "line 1: the header has no key, but"),
+    ("csv", "op,op\n", (), "line 1: the header has no process, but op, op"),
+    ("csv", "process,start,end,op,op,value\n", (), "line 1: the header has op twice: rename one of them"),
+    ("operations", '{"process":1,"op":"read"}', (),
+     "line 1: the object has no start, but process, op: say which member is the"),
+    ("operations", "7", (), "line 1: no operation: an object such as"),
+    ("operations", "{", (), "line 1: not JSON: "),
+    ("operations", '{"process":1,"op":"read","start":NaN}', (), "line 1: not JSON: NaN is no JSON"),
+    ("operations", '{"process":1,"op":"read","start":true}', (),
+     "line 1: start is True, and a number or a date"),
+    ("jsonl", '{"process":1,"event":"start"}', (),
+     'line 1: event is "start", and call, reply, fail or crash is expected'),
+    ("jsonl", '{"event":"call"}', (), "line 1: no event: an object such as"),
+    ("jsonl", '{"process":1,"event":"call","register":"x"}', (),
+     "line 1: a call has the member op, read or write"),
+    ("jsonl", '{"process":1,"event":"crash"}\n{"process":1,"event":"call","op":"read"}', (),
+     "line 2: client 1 crashed at line 1"),
+    ("jsonl", '{"process":1,"event":"call","op":"read"}\n{"process":1,"event":"reply"}', (),
+     "line 2: a read's reply has no value"),
+    ("jsonl", '{"process":1,"event":"call","op":"read"}\n{"process":1,"event":"reply","op":"write"}', (),
+     'line 2: op is "write", and the call at line 1 has "read"'),
+    ("jsonl", '{"process":1,"event":"crash"}\n\n{"process":1,"event":"reply"}', (),
+     "line 3: client 1 crashed at line 1: let it go on under another number"),
+    ("jsonl", '[{"process":1},\n{"process"]', (), "line 1: event is absent, and call, reply"),
+    ("porcupine", '[{"Kind":0,"Value":{"Op":0}},\n{"Kind"]', (), "line 2: not JSON: "),
+    ("jsonl", '{"process":1,"event":"reply"}', (), "line 1: client 1 has no open call that this could end"),
+]
+
+WRONG_WORDS: List[Tuple[str, Sequence[str], str]] = [
+    ("jepsen", ("--clock-error", "5ms"), "--clock-error is for porcupine, csv, operations, not for jepsen"),
+    ("jsonl", ("--columns", "process=a"), "--columns is for csv, operations, not for jsonl"),
+    ("csv", ("--columns", "who=a"), "--columns who=a: COLUMN=NAME is expected, with one of process, start"),
+    ("csv", ("--columns", "process"), "--columns process: COLUMN=NAME is expected"),
+    ("csv", ("--clock-error", "soon"), "--clock-error soon: a number with ns, us, ms or s is expected"),
+    ("csv", ("--clock-error", "5ms"), "--clock-error 5ms needs --clock-unit ns, us, ms or s"),
+    ("csv", ("--to", "jepsen", "--map"), "--map describes a history for regcheck: leave out --to, or --map"),
+]
+
+
+class Refusals(unittest.TestCase):
+    def test_sources(self) -> None:
+        for form, source, options, words in REFUSALS:
+            with self.subTest(words):
+                ran = run(source, form, *options)
+                self.assertEqual((ran.status, ran.history), (2, ""))
+                self.assertEqual(ran.told[: 16 + len(words)], "regkit convert: " + words)
+                self.assertEqual(ran.told.count("\n"), 1)
+
+    def test_wrong_words(self) -> None:
+        for form, options, words in WRONG_WORDS:
+            with self.subTest(words):
+                ran = run(HEADER + row(0, "read", 1, 0, 1), form, *options)
+                self.assertEqual((ran.status, ran.history), (3, ""))
+                self.assertEqual(ran.told[: 16 + len(words)], "regkit convert: " + words)
+
+    def test_bytes_that_are_no_text(self) -> None:
+        for data in (b"\xff", b'{"process":1,"event":"call","op":"read","register":"\xe9"}'):
+            ran = run(data, "jsonl")
+            self.assertEqual((ran.status, ran.history), (2, ""))
+            self.assertTrue(ran.told.startswith("regkit convert: the source isn't UTF-8 ("), ran.told)
+
+    @unittest.skipUnless(hasattr(sys, "get_int_max_str_digits"), "this Python reads numbers of any length")
+    def test_a_number_of_thousands_of_digits(self) -> None:
+        ran = run(jepsen("0 invoke write " + "1" * 5000), "jepsen")
+        self.assertEqual((ran.status, ran.history), (2, ""))
+        self.assertIn("regkit convert: a value of the source can't be read: ", ran.told)
+
+    def test_a_mark_of_byte_order_and_line_ends_of_windows(self) -> None:
+        for form, source in [
+            ("csv", HEADER + row(0, "write", 1, 0, 1)),
+            ("jepsen", jepsen("0 invoke write 1", "0 ok write 1")),
+            ("jsonl", run(HEADER + row(0, "write", 1, 0, 1), "csv").history),
+        ]:
+            with self.subTest(form):
+                ran = run("\ufeff" + source.replace("\n", "\r\n"), form)
+                self.assertEqual(short(ran.history), ["0 w x 1", "0 ."], ran.told)
+
+    def test_crash_of_a_client_between_others(self) -> None:
+        """A crash ends nothing but its own process."""
+        ran = run('{"process":1,"event":"crash"}\n{"process":2,"event":"call","op":"read"}', "jsonl")
+        self.assertEqual(short(ran.history), ["1 crash", "2 r x"])
+
+
+class CommandLine(unittest.TestCase):
+    def test_standard_input_and_output(self) -> None:
+        words = [sys.executable, "-m", "regkit", "convert", "--from", "jepsen"]
+        source = (SAMPLES / "jepsen_register.edn").read_bytes()
+        root = SAMPLES.parents[1]
+        ran = subprocess.run(words, input=source, capture_output=True, cwd=root, check=False)
+        self.assertEqual(ran.stdout, (SAMPLES / "jepsen_register.expected").read_bytes(), ran.stderr)
+        self.assertEqual(ran.returncode, 0)
+        refused = subprocess.run(words, input=b"[", capture_output=True, cwd=root, check=False)
+        self.assertEqual((refused.returncode, refused.stdout), (2, b""))
+
+    def test_a_warning_of_histories_that_are_too_large(self) -> None:
+        self.assertEqual(list(too_large(1_048_576, 67_108_864)), [])
+        for lines, size in [(1_048_577, 9), (9, 67_108_865)]:
+            self.assertIn("divide it with regkit split", "".join(too_large(lines, size)))
+
+
+if __name__ == "__main__":
+    unittest.main()

@@ -1,0 +1,140 @@
+"""Tests of engines/: what a run of a part leaves; each engine runs all parts, and then again what failed."""
+import os
+import pathlib
+import shutil
+import subprocess
+import tempfile
+import unittest
+from typing import Dict, List, Sequence
+
+from regkit.checker import find_checker
+from regkit.commands import join
+from regkit.parts import file_of
+from tests.split_support import STAND_IN_SBATCH, python_with_dask, run_command, whole
+from tests.test_split import Folder, call, end, has_checker, history_of
+
+ENGINES = pathlib.Path(__file__).parents[2] / "engines"
+HISTORY = history_of(call(1, "x", 5), end(1), call(2, "y"), call(1, "z"), end(2, value=None), call(2, "x"),
+                     end(2, value=5))
+
+
+@unittest.skipUnless(has_checker(), "regcheck is not built")
+class Engines(Folder):
+    """Each test has a folder of three parts, and a checker that notes each run and can be told to fail."""
+
+    def setUp(self) -> None:
+        super().setUp()
+        self.split(HISTORY, 3)
+        self.folder = pathlib.Path(self.path).parent
+        self.checker = self.folder / "a checker"
+        self.fails = self.folder / "fails"  # what it does in place of a run
+        self.log = self.folder / "log"
+        self.checker.write_text(f'#!/bin/sh\nfor part; do :; done\nbasename "$part" >> "{self.log}"\n'
+                                f'if [ -f "{self.fails}" ]; then . "{self.fails}"; fi\n'
+                                f'exec {find_checker()} "$@"\n')
+        self.checker.chmod(0o755)
+
+    def run_engine(self, *words: str, **more: str) -> "subprocess.CompletedProcess[bytes]":
+        environment: Dict[str, str] = {**os.environ, "REGCHECK": str(self.checker), **more}
+        return subprocess.run(words, stdin=subprocess.DEVNULL, capture_output=True, check=False,
+                              env=environment)
+
+    def runs(self) -> List[str]:
+        """The parts that were run since the last look."""
+        found = sorted(self.log.read_text().split()) if self.log.exists() else []
+        self.log.unlink(missing_ok=True)
+        return found
+
+    def must_join(self) -> None:
+        self.assertEqual(whole(HISTORY), run_command(join, self.directory))
+
+    def must_resume(self, words: Sequence[str], again: Sequence[str] = (), **more: str) -> None:
+        """Part 1 fails at first, by memory; then all is run once more, and only part 1 is."""
+        self.fails.write_text('case $part in *part-001*) echo "no memory or no thread" >&2; exit 4 ;; esac\n')
+        first = self.run_engine(*words, **more)
+        parts = {f"part-00{part}.jsonl" for part in range(3)}
+        self.assertEqual(parts, set(self.runs()), first.stderr)
+        joined = run_command(join, self.directory)
+        self.assertEqual(4, joined.status)
+        self.assertIn("part-001 has no answer: status 4: no memory or no thread", joined.words)
+        self.assertEqual(1, joined.words.count("no answer"))
+        self.fails.unlink()
+        second = self.run_engine(*(again or words), **more)
+        self.assertEqual((0, ["part-001.jsonl"]), (second.returncode, self.runs()), second.stderr)
+        self.must_join()
+
+    def programs(self, *names: str) -> str:
+        """A PATH on which these programs are the stand-in for sbatch."""
+        folder = self.folder / "programs"
+        folder.mkdir()
+        for name in names:
+            (folder / name).write_text(STAND_IN_SBATCH)
+            (folder / name).chmod(0o755)
+        return f"{folder}:{os.environ['PATH']}"
+
+    def check_part(self, history: bytes, *options: str, **more: str) -> "subprocess.CompletedProcess[bytes]":
+        file_of(self.directory, 0, "jsonl").write_bytes(history)
+        words = [str(ENGINES / "check_part"), str(file_of(self.directory, 0, "jsonl")), *options]
+        return self.run_engine(*words, **more)
+
+    def left(self, ending: str) -> str:
+        return file_of(self.directory, 0, ending).read_text()
+
+    def test_check_part(self) -> None:
+        stale = history_of(call(1, "x", 5), end(1), call(2, "x"), end(2, value=None))
+        for history, status in [(HISTORY, 0), (stale, 1), (b"not json", 2)]:
+            with self.subTest(status):
+                self.assertEqual(0, self.check_part(history).returncode)
+                expected = whole(history)
+                self.assertEqual((f"{status}\n", expected.words, expected.report.decode()),
+                                 (self.left("status"), self.left("err"), self.left("report")))
+
+    def test_check_part_that_fails(self) -> None:
+        for what, status in [("exit 4", 4), ("kill -9 $$", 137)]:
+            with self.subTest(what):
+                self.fails.write_text(what + "\n")
+                ran = self.check_part(HISTORY)
+                self.assertEqual((status, f"{status}\n"), (ran.returncode, self.left("status")))
+                self.assertIn(f"status {status}", ran.stderr.decode())
+        self.fails.unlink()
+        self.assertEqual(3, self.check_part(HISTORY, "--no-such-option").returncode)
+        self.assertEqual(127, self.check_part(HISTORY, REGCHECK="/nowhere/regcheck").returncode)
+        self.assertEqual(3, self.run_engine(str(ENGINES / "check_part"), self.directory).returncode)
+        self.assertEqual([], list(pathlib.Path(self.directory).glob("*.new.*")))
+
+    def test_an_old_status_does_not_outlive_a_killed_run(self) -> None:
+        self.check_part(HISTORY)
+        self.fails.write_text("kill -9 $PPID\nexit 4\n")
+        self.check_part(HISTORY)
+        self.assertFalse(file_of(self.directory, 0, "status").exists())
+
+    @unittest.skipUnless(shutil.which("parallel"), "GNU parallel is not installed")
+    def test_with_parallel(self) -> None:
+        self.must_resume([str(ENGINES / "with_parallel"), self.directory, "--jobs", "2"])
+
+    def test_with_slurm(self) -> None:
+        """By a stand-in for sbatch: no cluster is needed, and none is tried."""
+        words = [str(ENGINES / "with_slurm"), self.directory]
+        path = self.programs("sbatch")
+        self.must_resume(words, [*words, "--mem=2G"], PATH=path)
+        done = self.run_engine(*words, PATH=path)
+        self.assertEqual((0, []), (done.returncode, self.runs()))
+
+    @unittest.skipUnless(python_with_dask(), "Dask's distributed is not installed")
+    def test_with_dask(self) -> None:
+        words = [str(python_with_dask()), str(ENGINES / "with_dask"), self.directory, "--workers", "1"]
+        self.must_resume(words)
+
+    def test_folders_without_parts(self) -> None:
+        with tempfile.TemporaryDirectory() as empty:
+            programs = self.programs("sbatch", "parallel")
+            for engine in ("with_parallel", "with_slurm"):
+                with self.subTest(engine):
+                    ran = self.run_engine(str(ENGINES / engine), empty, PATH=programs)
+                    self.assertEqual(4, ran.returncode)
+                    self.assertIn("split.json is missing", ran.stderr.decode())
+                    self.assertEqual(3, self.run_engine(str(ENGINES / engine)).returncode)
+
+
+if __name__ == "__main__":
+    unittest.main()

@@ -1,0 +1,262 @@
+"""Tests of regkit join: one report from those of the parts, and what is said of a part without an answer."""
+import json
+import os
+import pathlib
+import subprocess
+import tempfile
+import unittest
+from typing import List, Optional, Sequence
+from unittest import mock
+
+from regkit.commands import join as command
+from regkit.parts import BLANK, MAP, MAP_LINE, Manifest, file_of, write_manifest
+from regkit.refusals import NUMBERS
+from regkit.report import Row
+from tests import split_support
+from tests.split_support import check_parts, differences, knows_ends, random_history, run_command
+from tests.test_split import Folder, call, end, has_checker, history_of
+
+YES = {"pending": 0, "reads": 0, "regular": "yes", "safe": "yes", "writes": 1}
+
+
+def line_of(members: Row) -> bytes:
+    text = json.dumps(members, sort_keys=True, separators=(",", ":"), ensure_ascii=False)
+    return text.encode("utf-8") + b"\n"
+
+
+def row(register: str, order: Sequence[int], points: Sequence[int]) -> Row:
+    return {"atomic": "yes", "order": list(order), "points": list(points), "register": register, **YES}
+
+
+def summary(atomic: str, operations: int, registers: int, order: Optional[List[int]] = None) -> Row:
+    merged = {} if order is None else {"order": order}
+    return {"atomic": atomic, "operations": operations, "registers": registers, **merged}
+
+
+class HandMade(unittest.TestCase):
+    """A folder of answers that no checker gave."""
+
+    def setUp(self) -> None:
+        folder = tempfile.TemporaryDirectory()
+        self.addCleanup(folder.cleanup)
+        self.directory = folder.name
+
+    def manifest(self, parts: int, registers: List[int], lines: str = BLANK, stopped: int = 0) -> None:
+        manifest = Manifest("history", lines, parts, 100, 100, stopped or None, registers)
+        write_manifest(self.directory, manifest)
+
+    def part(self, part: int, status: str, rows: Sequence[Row] = (), words: str = "") -> None:
+        file_of(self.directory, part, "jsonl").write_bytes(b"")
+        file_of(self.directory, part, "report").write_bytes(b"".join(map(line_of, rows)))
+        file_of(self.directory, part, "err").write_text(words + "\n" if words else "")
+        file_of(self.directory, part, "status").write_text(status + "\n")
+
+    def map_of(self, part: int, lines: Sequence[int]) -> None:
+        text = b"".join(b"%12d\n" % line for line in lines)
+        self.assertEqual(MAP_LINE * len(lines), len(text))
+        file_of(self.directory, part, "lines").write_bytes(text)
+
+    def join(self, *options: str) -> split_support.Ran:
+        return run_command(command, self.directory, *options)
+
+
+class Reports(HandMade):
+    """The lines of the registers by their first calls in the whole, then one summary."""
+
+    def two_parts(self) -> None:
+        self.manifest(2, [0, 1, 0])
+        rows = [row("x", [1, 8], [1, 8]), row("z", [6, 5], [6, 6]), summary("yes", 4, 2, [1, 6, 5, 8])]
+        self.part(0, "0", rows)
+        self.part(1, "0", [row("y", [7, 3], [7, 7]), summary("yes", 2, 1, [7, 3])])
+
+    def test_atomic(self) -> None:
+        self.two_parts()
+        rows = [row("x", [1, 8], [1, 8]), row("y", [7, 3], [7, 7]), row("z", [6, 5], [6, 6])]
+        whole = [*rows, summary("yes", 6, 3, [1, 6, 5, 7, 3, 8])]
+        self.assertEqual((0, b"".join(map(line_of, whole)), ""), self.join())
+
+    def test_order(self) -> None:
+        self.two_parts()
+        for limit, option, there in [(100, "auto", True), (99, "auto", False),
+                                     (99, "always", True), (100, "never", False)]:
+            with self.subTest(option, limit=limit), mock.patch.object(command, "MAX_EVENTS", limit):
+                last = self.join("--order", option).report.splitlines()[-1]
+                self.assertEqual(there, "order" in json.loads(last))
+
+    def test_not_atomic(self) -> None:
+        self.two_parts()
+        fault = {"atomic": "no", "fault": {"kind": "unwritten", "read": 3}, "register": "y", **YES}
+        self.part(1, "1", [fault, summary("no", 1, 1)])
+        rows = [row("x", [1, 8], [1, 8]), fault, row("z", [6, 5], [6, 6]), summary("no", 5, 3)]
+        self.assertEqual((1, b"".join(map(line_of, rows)), ""), self.join("--order", "always"))
+
+    def test_lines_of_the_whole(self) -> None:
+        """By a map every line number changes, and nothing else does; the initial write stays 0."""
+        name = "".join(map(chr, range(0x20))) + "\x7f\"\\/<\u2028\u00e9\U0001f600"
+        zones = {"first": [0, 2], "kind": "zones", "second": [2, 3], "writes": [0, 1]}
+        fault = {"atomic": "no", "fault": zones, "inversion": [2, 3], "regular_read": 3, "safe_read": 2,
+                 "register": name, **YES}
+        early = {"atomic": "no", "fault": {"kind": "early", "read": 4, "write": 5}, "register": "3", **YES}
+        good = {**row("z", [5, 4], [4, 5]), "reads": 4}
+        self.manifest(1, [0, 0, 0], MAP)
+        self.map_of(0, [10, 20, 30, 123456789012, 50])
+        self.part(0, "1", [fault, early, good, summary("no", 9, 3)])
+        zones = {"first": [0, 20], "kind": "zones", "second": [20, 30], "writes": [0, 10]}
+        rows = [{**fault, "fault": zones, "inversion": [20, 30], "regular_read": 30, "safe_read": 20},
+                {**early, "fault": {"kind": "early", "read": 123456789012, "write": 50}},
+                {**good, "order": [50, 123456789012], "points": [123456789012, 50]}, summary("no", 9, 3)]
+        self.assertEqual((1, b"".join(map(line_of, rows)), ""), self.join())
+
+    def test_no_registers(self) -> None:
+        self.manifest(2, [])
+        for part in range(2):
+            self.part(part, "0", [summary("yes", 0, 0, [])])
+        self.assertEqual((0, line_of(summary("yes", 0, 0, [])), ""), self.join())
+
+
+class RefusedParts(HandMade):
+    """The refusal of one run: of the first line, and on it the lowest number."""
+
+    def test_first_refusal(self) -> None:
+        again = "line 9: value already written to this register at line 3"
+        busy = "line 9: the process has an open call at line 1"
+        for words, expected in [
+            (["line 9: not JSON", "line 10: not JSON", ""], "line 9: not JSON"),
+            (["", "line 10: not an object", "line 9: reply disagrees with its call"],
+             "line 9: reply disagrees with its call"),
+            (["line 9: the process crashed at line 2", again, ""], again),
+            ([again, "line 9: the process crashed at line 2", ""], again),
+            ([again, busy, "line 9: the process crashed at line 2"], busy),
+            (["", "", "line 7: event is not call, reply, fail or crash"],
+             "line 7: event is not call, reply, fail or crash"),
+            (["", "line 7: event is neither call nor reply", ""], "line 7: event is neither call nor reply"),
+        ]:
+            with self.subTest(expected):
+                self.manifest(3, [], stopped=11)
+                for part, word in enumerate(words):
+                    self.part(part, "2" if word else "0", [] if word else [summary("yes", 0, 0, [])], word)
+                self.assertEqual((2, b"", expected + "\n"), self.join())
+
+    def test_lines_of_the_whole(self) -> None:
+        self.manifest(1, [], MAP)
+        self.map_of(0, [4, 70])
+        self.part(0, "2", words="line 2: the process has an open call at line 1")
+        self.assertEqual((2, b"", "line 70: the process has an open call at line 4\n"), self.join())
+
+    def test_every_text_of_the_format(self) -> None:
+        """Each refusal of a line in docs/format.md is known by its number, but that of too many events."""
+        text = (pathlib.Path(__file__).parents[2] / "docs" / "format.md").read_text(encoding="utf-8")
+        rows = [[cell.strip(" `") for cell in line.split("|")[1:-1]] for line in text.splitlines()]
+        table = {int(row[0]): row[2] for row in rows if len(row) == 3 and row[0].isdigit()}
+        self.assertLessEqual(set(range(1, 14)), set(table))
+        for number in set(table) & {*range(1, 14), 19}:
+            with self.subTest(number):
+                self.assertEqual(number, NUMBERS.get(table[number].replace(" at line N", "")))
+
+    def test_a_line_that_split_could_not_read(self) -> None:
+        """Never an answer about a half of the history."""
+        self.manifest(1, [], stopped=7)
+        self.part(0, "0", [summary("yes", 0, 0, [])])
+        ran = self.join()
+        self.assertEqual((4, b""), ran[:2])
+        self.assertIn("line 7", ran.words)
+
+
+class Unanswered(HandMade):
+    """A part without a whole answer is named, with the command that runs it again."""
+
+    def setUp(self) -> None:
+        super().setUp()
+        self.manifest(2, [0, 1, 1])
+        self.part(0, "2", words="line 3: not JSON")
+        self.good = [row("y", [7], [7]), row("z", [8], [8]), summary("yes", 2, 2, [7, 8])]
+
+    def must_name(self, why: str) -> None:
+        """Part 1, and not part 0, though its refusal is known: part 1 may have an earlier one."""
+        ran = self.join()
+        self.assertEqual((4, b""), ran[:2])
+        self.assertTrue(ran.words.startswith("part-001 has no answer: "), ran.words)
+        self.assertIn(why, ran.words)
+        self.assertIn("part-001.jsonl > ", ran.words)
+        self.assertNotIn("part-000", ran.words)
+
+    def test_missing(self) -> None:
+        for ending in ("status", "report", "err"):
+            with self.subTest(ending):
+                self.part(1, "0", self.good)
+                file_of(self.directory, 1, ending).unlink()
+                self.must_name(f"part-001.{ending} is missing")
+
+    def test_failed(self) -> None:
+        for status, words, why in [
+            ("4", "no memory or no thread", "status 4: no memory or no thread"),
+            ("137", "", "status 137;"),
+            ("3", "usage", "status 3: usage"),
+            ("", "", "status unknown"),
+            ("2", "input is longer than 67108864 bytes", "unexpected refusal: input is longer"),
+            ("2", "line 5: more than 1048576 events", "unexpected refusal: line 5: more than"),
+        ]:
+            with self.subTest(why):
+                self.part(1, status, words=words)
+                self.must_name(why)
+
+    def test_report_that_is_not_whole(self) -> None:
+        y, z, last = self.good
+        for why, rows in [
+            ("4 lines", [y, y, z, last]),
+            ("2 lines", [z, last]),
+            ("0 lines", []),
+            ("does not end with the summary", [y, z, z]),
+            ("does not end with the summary", [y, z, {**last, "registers": 3}]),
+            ("does not fit its status", [y, z, {**last, "atomic": "no"}]),
+        ]:
+            with self.subTest(why):
+                self.part(1, "0", rows)
+                self.must_name(why)
+
+    def test_report_that_is_cut(self) -> None:
+        self.part(1, "0", self.good)
+        report = file_of(self.directory, 1, "report")
+        whole = report.read_bytes()
+        for cut in (whole[:-1], whole[:-5], whole[:40]):
+            with self.subTest(len(cut)):
+                report.write_bytes(cut)
+                self.must_name("report")
+
+    def test_folder_without_a_manifest(self) -> None:
+        for text, why in [(None, "did not finish"), ("{", "damaged"), ("[]", "damaged"),
+                          ('{"format":"x"}', "another version"), ('{"format":"regkit split 1"}', "damaged")]:
+            with self.subTest(text):
+                path = pathlib.Path(self.directory, "split.json")
+                path.unlink(missing_ok=True)
+                if text is not None:
+                    path.write_text(text)
+                ran = self.join()
+                self.assertEqual((4, b""), ran[:2])
+                self.assertIn(why, ran.words)
+
+
+@unittest.skipUnless(has_checker(), "regcheck is not built")
+class WholeRuns(Folder):
+    """Split, check and join answer as one run does."""
+
+    def test_random_histories(self) -> None:
+        """tests/scale_test runs thousands more."""
+        ends = knows_ends()
+        for seed in range(10_000, 10_040):
+            with self.subTest(seed):
+                history = random_history(seed, ends)
+                self.assertEqual([], differences(seed % 7 + 1, (BLANK, MAP)[seed // 7 % 2], history))
+
+    def test_the_command_that_runs_a_part_again(self) -> None:
+        self.split(history_of(call(1, "x", 5), end(1), call(2, "y"), end(2, value=None)), 2)
+        check_parts(self.directory)
+        whole = run_command(command, self.directory)
+        file_of(self.directory, 1, "status").unlink()
+        words = run_command(command, self.directory).words
+        subprocess.run(["sh", "-c", words.splitlines()[1]], check=True, env={**os.environ})
+        self.assertEqual(whole, run_command(command, self.directory))
+
+
+if __name__ == "__main__":
+    unittest.main()

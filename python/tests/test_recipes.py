@@ -1,0 +1,52 @@
+"""Tests that docs/recipes.md is right: its commands, and its table of machines."""
+import argparse
+import pathlib
+import re
+import shlex
+import unittest
+from typing import List
+
+from regkit.checker import run_checker
+from regkit.commands import convert
+from tests.convert_support import run
+
+RECIPES = pathlib.Path(__file__).parents[2] / "docs" / "recipes.md"
+
+
+def commands() -> List[List[str]]:
+    """The words of each `regkit convert` in the page's consoles, up to a pipe."""
+    lines = re.findall(r"^ *\$ regkit convert (.*?)(?: \| .*)?$", RECIPES.read_text(encoding="utf-8"), re.M)
+    return [shlex.split(line) for line in lines]
+
+
+def block(name: str) -> str:
+    """The text of a block that is named as a file."""
+    page = RECIPES.read_text(encoding="utf-8")
+    found = re.search(rf"^```\w+ {re.escape(name)}\n(.*?)^```$", page, re.M | re.S)
+    assert found is not None, f"{name} isn't in recipes.md"
+    return found[1]
+
+
+class Recipes(unittest.TestCase):
+    def test_commands_are_taken(self) -> None:
+        parser = argparse.ArgumentParser()
+        convert.add_arguments(parser)
+        self.assertGreater(len(commands()), 5)
+        for words in commands():
+            with self.subTest(words):
+                parser.parse_args(words)
+
+    def test_machines(self) -> None:
+        """By the time stamps a read is stale; with clocks that may be wrong by 3 ms it may not be."""
+        machines = block("machines.csv")
+        runs = [words for words in commands() if "machines.csv" in words]
+        statuses = []
+        for words in runs:
+            words.remove("machines.csv")
+            ran = run(machines, words[words.index("--from") + 1], *words[2:])
+            statuses.append(run_checker(ran.history.encode()).status)
+        self.assertEqual(statuses, [1, 0])
+
+
+if __name__ == "__main__":
+    unittest.main()

@@ -1,0 +1,603 @@
+"""The lines that a recorder writes, and what it refuses to write."""
+import asyncio
+import contextlib
+import io
+import json
+import os
+import pathlib
+import random
+import signal
+import subprocess
+import sys
+import tempfile
+import threading
+import time
+import unittest
+from typing import Any, Callable, Dict, List, Optional, Set, Tuple, Type
+
+from regkit.checker import run_checker
+from regkit.journal import Failures
+from regkit.record import Recorder, RecordingError
+
+PYTHON = pathlib.Path(__file__).resolve().parents[1]
+
+
+def lines(recorder: Recorder) -> List[str]:
+    return recorder.history().decode("ascii").splitlines()
+
+
+def need_fail(test: unittest.TestCase) -> None:
+    """Skips a test if the checker that is here refuses the events fail and crash, by number 5."""
+    failed = b'{"process":1,"event":"call","op":"read","register":"x"}\n{"process":1,"event":"fail"}\n'
+    if "event is neither call nor reply" in run_checker(failed).refusal:
+        test.skipTest("this checker refuses the events fail and crash (refusal 5)")
+
+
+def without_failed(history: List[str]) -> bytes:
+    """The same history for a checker that knows no fail and no crash: their lines are blank, and also those
+    of failed calls, which are no operations."""
+    kept, open_calls = list(history), {}
+    for place, line in enumerate(history):
+        event = json.loads(line)
+        if event["event"] == "call":
+            open_calls[event["process"]] = place
+        if event["event"] == "fail":
+            kept[open_calls[event["process"]]] = ""
+        if event["event"] in ("fail", "crash"):
+            kept[place] = ""
+    return "\n".join(kept).encode("ascii")
+
+
+class Lost(Exception):
+    """An answer that doesn't come."""
+
+
+class Refused(Exception):
+    """An answer that says that nothing was done."""
+
+
+def told(history: List[str]) -> Dict[str, int]:
+    """Checks by hand that the lines keep the rules of a history, and counts the events."""
+    open_calls: Dict[int, Dict[str, Any]] = {}
+    written: Set[Any] = set()
+    crashed: Set[int] = set()
+    counts = {"call": 0, "reply": 0, "fail": 0, "crash": 0}
+    for line in history:
+        event = json.loads(line)
+        process, what = event["process"], event["event"]
+        counts[what] += 1
+        assert process not in crashed, line
+        if what == "call":
+            assert process not in open_calls, line
+            open_calls[process] = event
+            if event["op"] == "write":
+                assert (event["register"], event["value"]) not in written, line
+                written.add((event["register"], event["value"]))
+        elif what == "crash":
+            crashed.add(process)
+        else:
+            assert event["register"] == open_calls.pop(process)["register"], line
+    return counts
+
+
+class Lines(unittest.TestCase):
+    def test_a_write_and_a_read(self) -> None:
+        recorder = Recorder()
+        with recorder.client() as client:
+            with client.write("x") as write:
+                self.assertEqual(write.value, 1)
+            with client.read("x") as read:
+                read.value = 1
+        self.assertEqual(lines(recorder), [
+            '{"process":1,"event":"call","op":"write","register":"x","value":1}',
+            '{"process":1,"event":"reply","register":"x"}',
+            '{"process":1,"event":"call","op":"read","register":"x"}',
+            '{"process":1,"event":"reply","register":"x","value":1}'])
+
+    def test_the_call_is_out_before_the_block_and_the_reply_is_not(self) -> None:
+        recorder = Recorder()
+        with recorder.write("x") as write:
+            call = '{"process":1,"event":"call","op":"write","register":"x","value":%d}' % write.value
+            self.assertEqual(lines(recorder), [call])
+        self.assertEqual(len(lines(recorder)), 2)
+
+    def test_each_register_counts_its_own_writes(self) -> None:
+        recorder, values = Recorder(), []
+        for register in ["x", "y", "x", "x", "y"]:
+            with recorder.write(register) as write:
+                values.append((register, write.value))
+        self.assertEqual(values, [("x", 1), ("y", 1), ("x", 2), ("x", 3), ("y", 2)])
+
+    def test_an_exception_leaves_the_call_pending(self) -> None:
+        for exception in (Lost, KeyboardInterrupt, asyncio.CancelledError, GeneratorExit):
+            with self.subTest(exception=exception):
+                recorder = Recorder()
+                client = recorder.client()
+                with self.assertRaises(exception):
+                    with client.write("x") as write:
+                        raise exception(write.value)
+                with client.read("x") as read:
+                    read.value = None
+                self.assertEqual(lines(recorder), [
+                    '{"process":1,"event":"call","op":"write","register":"x","value":1}',
+                    '{"process":2,"event":"call","op":"read","register":"x"}',
+                    '{"process":2,"event":"reply","register":"x","value":null}'])
+
+    def test_only_the_named_exceptions_are_failures(self) -> None:
+        table: List[Tuple[Failures, Type[Exception], Optional[str]]] = [
+            ((), Refused, None), (Refused, Refused, "fail"), ((Refused,), Lost, None),
+            ((Refused, KeyError), KeyError, "fail"), (Exception, Lost, "fail")]
+        for failures, raised, ending in table:
+            with self.subTest(failures=failures, raised=raised):
+                recorder = Recorder(failures=failures)
+                with self.assertRaises(raised):
+                    with recorder.write("x") as write:
+                        raise raised(write.value)
+                expected = [f'{{"process":1,"event":"{ending}","register":"x"}}'] if ending else []
+                self.assertEqual(lines(recorder)[1:], expected)
+
+    def test_what_the_caller_says_decides(self) -> None:
+        for say, raised, ending in [("failed", None, "fail"), ("failed", Lost, "fail"),
+                                    ("unknown", None, None), ("unknown", Refused, None)]:
+            for op in ("write", "read"):
+                with self.subTest(say=say, raised=raised, op=op):
+                    recorder = Recorder(failures=Refused)
+                    with contextlib.suppress(Lost, Refused):
+                        with getattr(recorder, op)("x") as call:
+                            getattr(call, say)()
+                            if raised:
+                                raise raised
+                    expected = [f'{{"process":1,"event":"{ending}","register":"x"}}'] if ending else []
+                    self.assertEqual(lines(recorder)[1:], expected)
+                    self.assertEqual(recorder.mistakes, [])
+
+    def test_a_failed_write_keeps_its_value(self) -> None:
+        recorder = Recorder()
+        with recorder.write("x") as write:
+            write.failed()
+        with recorder.write("x") as write:
+            self.assertEqual(write.value, 2)
+
+    def test_what_a_read_takes(self) -> None:
+        greatest, least = "9223372036854775807", "-9223372036854775808"
+        table: List[Tuple[object, str]] = [
+            (5, "5"), (None, "null"), ("5", "5"), (b"-5", "-5"), (bytearray(b"007"), "7"), (0, "0"),
+            (2**63 - 1, greatest), (greatest, greatest), (least, least)]
+        for given, member in table:
+            with self.subTest(given=given):
+                recorder = Recorder()
+                with recorder.read("x") as read:
+                    read.value = given
+                reply = f'{{"process":1,"event":"reply","register":"x","value":{member}}}'
+                self.assertEqual(lines(recorder)[1], reply)
+                self.assertEqual(read.value, None if member == "null" else int(member))
+
+    def test_what_a_read_refuses(self) -> None:
+        table: List[object] = ["", "five", " 5", "5 ", "5\n", "+5", "1_000", "\u0665", "1.0", 1.0, True,
+                               b"\xff", 2**63, -2**63 - 1, "9223372036854775808", "9" * 10000, [5], object()]
+        for given in table:
+            with self.subTest(given=given):
+                recorder = Recorder()
+                with self.assertRaisesRegex(RecordingError, "a read of 'x' was refused: the store gave"):
+                    with recorder.read("x") as read:
+                        read.value = given
+                self.assertEqual(len(lines(recorder)), 1)
+                self.assertEqual(len(recorder.mistakes), 1)
+
+    def test_names_of_registers(self) -> None:
+        for name in ["x", "user:1", 'a "quoted" \\ one', "<b>é\u202e\x00\n", "x" * 255, "é" * 127]:
+            with self.subTest(name=name):
+                recorder = Recorder()
+                with recorder.write(name) as write:
+                    self.assertEqual(write.value, 1)
+                self.assertEqual([json.loads(line)["register"] for line in lines(recorder)], [name, name])
+                self.assertEqual(run_checker(recorder.history()).status, 0)
+        wrong: List[Any] = ["", "x" * 256, "é" * 128, "\ud800", 7, b"x", None]
+        for name in wrong:
+            with self.subTest(name=name):
+                recorder = Recorder()
+                with self.assertRaisesRegex(RecordingError, "is no register"):
+                    with recorder.write(name):
+                        self.fail("the block of a refused call ran")
+                self.assertEqual(lines(recorder), [])
+                self.assertEqual(len(recorder.mistakes), 1)
+
+
+class Processes(unittest.TestCase):
+    def processes(self, recorder: Recorder) -> List[int]:
+        return [json.loads(line)["process"] for line in lines(recorder) if '"call"' in line]
+
+    def test_calls_of_their_own_share_numbers(self) -> None:
+        recorder = Recorder()
+        with recorder.write("x") as first, recorder.write("x") as second:
+            self.assertEqual((first.value, second.value), (1, 2))
+        with recorder.write("x") as third:
+            self.assertEqual(third.value, 3)
+        self.assertEqual(self.processes(recorder), [1, 2, 1])
+
+    def test_a_client_keeps_its_number_and_gives_it_back(self) -> None:
+        recorder = Recorder()
+
+        def read(client: Any) -> None:
+            with client.read("x") as call:
+                call.value = None
+
+        with recorder.client() as first, recorder.client() as second:
+            for client in (first, second, recorder, first, second):
+                read(client)
+        for client in (recorder.client(), recorder.client()):
+            read(client)
+        self.assertEqual(self.processes(recorder), [1, 2, 3, 1, 2, 1, 2])
+
+    def test_a_pending_number_is_never_given_out_again(self) -> None:
+        recorder = Recorder(failures=Refused)
+        for exception in (Lost, None, Refused, Lost, Refused, None):
+            with contextlib.suppress(Lost, Refused), recorder.client() as client:
+                with contextlib.suppress(Lost, Refused), client.write("x") as write:
+                    self.assertGreater(write.value, 0)
+                    if exception:
+                        raise exception
+        self.assertEqual(self.processes(recorder), [1, 2, 2, 2, 3, 3])
+
+    def test_a_client_that_dies_crashes(self) -> None:
+        for inside in (True, False):
+            with self.subTest(inside=inside):
+                recorder = Recorder()
+                with self.assertRaises(Lost):
+                    with recorder.client() as client:
+                        with client.write("x") as write:
+                            self.assertEqual(write.value, 1)
+                            if inside:
+                                raise Lost
+                        raise Lost
+                self.assertEqual(lines(recorder)[-1], '{"process":1,"event":"crash"}')
+                self.assertEqual(len(lines(recorder)), 2 if inside else 3)
+                with recorder.read("x") as read:
+                    read.value = 1
+                self.assertEqual(self.processes(recorder), [1, 2])
+
+    def test_a_client_that_called_nothing_crashes_in_silence(self) -> None:
+        recorder = Recorder()
+        with self.assertRaises(Lost):
+            with recorder.client():
+                raise Lost
+        self.assertEqual(lines(recorder), [])
+
+    def test_a_crash_within_a_call(self) -> None:
+        recorder = Recorder()
+        client = recorder.client()
+        with client.write("x") as write:
+            self.assertEqual(write.value, 1)
+            client.crash()
+            client.crash()
+        self.assertEqual(lines(recorder)[1:], ['{"process":1,"event":"crash"}'])
+        with self.assertRaisesRegex(RecordingError, "closed or crashed"):
+            with client.read("x"):
+                pass
+
+
+class Misuse(unittest.TestCase):
+    """Each wrong use raises, is kept, and leaves the call pending."""
+
+    def check(self, recorder: Recorder, count: int) -> None:
+        self.assertEqual(len(lines(recorder)), count)
+        self.assertEqual(len(recorder.mistakes), 1)
+
+    def test_a_read_without_a_value(self) -> None:
+        recorder = Recorder()
+        with self.assertRaisesRegex(RecordingError, "a read of 'x' was given no value"):
+            with recorder.read("x"):
+                pass
+        self.check(recorder, 1)
+
+    def test_a_write_of_another_value(self) -> None:
+        recorder, store = Recorder(), {}
+        with self.assertRaisesRegex(RecordingError, "a write of 'x' never asked for its value"):
+            with recorder.write("x"):
+                store["x"] = 5
+        self.check(recorder, 1)
+
+    def test_two_calls_of_one_client(self) -> None:
+        recorder = Recorder()
+        client = recorder.client()
+        with client.write("x") as write:
+            self.assertEqual(write.value, 1)
+            with self.assertRaisesRegex(RecordingError, "has a call open .* take a client for each thread"):
+                with client.read("x"):
+                    self.fail("the block of a refused call ran")
+        self.check(recorder, 2)
+
+    def test_a_call_entered_twice(self) -> None:
+        recorder = Recorder()
+        call = recorder.write("x")
+        with call as write:
+            self.assertEqual(write.value, 1)
+        with self.assertRaisesRegex(RecordingError, "make each call anew"):
+            with call:
+                self.fail("the block of a refused call ran")
+        self.check(recorder, 2)
+
+    def test_use_outside_the_block(self) -> None:
+        recorder = Recorder()
+        uses: List[Callable[[], Any]] = [
+            lambda: recorder.write("x").value, lambda: recorder.read("x").value, recorder.read("x").failed,
+            recorder.write("x").unknown, lambda: setattr(recorder.read("x"), "value", 5)]
+        for use in uses:
+            with self.assertRaises(RecordingError):
+                use()
+        self.assertEqual(lines(recorder), [])
+        self.assertEqual(len(recorder.mistakes), len(uses))
+
+    def test_after_the_end(self) -> None:
+        recorder = Recorder()
+        with recorder.write("x") as write:
+            self.assertEqual(write.value, 1)
+            recorder.close()
+        with self.assertRaisesRegex(RecordingError, "the recorder is closed"):
+            with recorder.read("x"):
+                self.fail("the block of a refused call ran")
+        self.assertEqual(len(lines(recorder)), 1)
+
+
+class Slow(io.RawIOBase):
+    """A file that takes a few bytes at a time, and none after the limit."""
+
+    def __init__(self, limit: int) -> None:
+        self.taken, self.limit = b"", limit
+
+    def writable(self) -> bool:
+        return True
+
+    def write(self, data: Any) -> int:
+        if len(self.taken) >= self.limit:
+            raise OSError(28, "No space left on device")
+        self.taken += bytes(data[:3])
+        return min(3, len(data))
+
+
+class Narrow(io.RawIOBase):
+    """A file that takes its time, and notes how many threads write at once."""
+
+    def __init__(self) -> None:
+        self.inside = self.most = 0
+
+    def write(self, data: Any) -> int:
+        self.inside += 1
+        self.most = max(self.most, self.inside)
+        time.sleep(0.0005)
+        self.inside -= 1
+        return len(data)
+
+
+class Files(unittest.TestCase):
+    def test_the_file_is_whole_after_each_event(self) -> None:
+        with tempfile.TemporaryDirectory() as directory:
+            path = pathlib.Path(directory) / "history.jsonl"
+            path.write_text("what was here before\n")
+            with Recorder(path) as recorder:
+                self.assertEqual(recorder.path, path)
+                for count in range(1, 20, 2):
+                    with recorder.write("x") as write:
+                        self.assertEqual(path.read_bytes().count(b"\n"), count)
+                        self.assertGreater(write.value, 0)
+                    self.assertEqual(path.read_bytes().count(b"\n"), count + 1)
+                    self.assertEqual(path.read_bytes(), recorder.history())
+            self.assertEqual(run_checker(recorder.history()).status, 0)
+
+    def test_a_killed_program_leaves_whole_lines(self) -> None:
+        program = ("import sys\nfrom regkit.record import Recorder\nrecorder = Recorder(sys.argv[1])\n"
+                   "for n in range(10**7):\n    with recorder.write('x') as write: write.value\n"
+                   "    if n == 1000: print('ready', flush=True)\n")
+        with tempfile.TemporaryDirectory() as directory:
+            path = pathlib.Path(directory) / "history.jsonl"
+            with subprocess.Popen([sys.executable, "-c", program, str(path)], cwd=PYTHON,
+                                  stdout=subprocess.PIPE) as child:
+                assert child.stdout is not None
+                child.stdout.readline()
+                child.kill()
+                self.assertEqual(child.wait(), -signal.SIGKILL)
+            history = path.read_bytes()
+            self.assertTrue(history.endswith(b"}\n"))
+            self.assertGreater(told(history.decode("ascii").splitlines())["call"], 1000)
+
+    def test_a_file_that_takes_little_gets_all(self) -> None:
+        file = Slow(10**6)
+        recorder = Recorder(file)
+        with recorder.write("x") as write:
+            self.assertEqual(write.value, 1)
+        counts = told(file.taken.decode("ascii").splitlines())
+        self.assertEqual(counts, {"call": 1, "reply": 1, "fail": 0, "crash": 0})
+
+    def test_a_full_disk_ends_the_history(self) -> None:
+        file = Slow(90)  # within the first reply
+        recorder = Recorder(file)
+        with self.assertRaises(OSError):
+            with recorder.write("x") as write:
+                self.assertEqual(write.value, 1)
+        with self.assertRaises(RecordingError):
+            with recorder.write("x"):
+                self.fail("the block of a call that couldn't be recorded ran")
+        self.assertEqual(file.taken.count(b"\n"), 1)
+        self.assertIn("could not be written", str(recorder.mistakes[0]))
+
+    def test_a_relative_path_stays_where_it_was(self) -> None:
+        here = os.getcwd()
+        with tempfile.TemporaryDirectory() as directory:
+            os.chdir(directory)
+            try:
+                with Recorder("history.jsonl") as recorder:
+                    os.chdir(here)
+                    with recorder.write("x") as write:
+                        self.assertEqual(write.value, 1)
+                self.assertEqual(len(lines(recorder)), 2)
+                self.assertEqual(str(recorder.path), "history.jsonl")
+            finally:
+                os.chdir(here)
+
+    def test_a_stream(self) -> None:
+        file = Slow(10**6)
+        recorder = Recorder(io.TextIOWrapper(io.BufferedWriter(file)))
+        with recorder.write("x") as write:
+            self.assertEqual(file.taken.count(b"\n"), write.value)
+        self.assertEqual(file.taken.count(b"\n"), 2)
+        with self.assertRaisesRegex(RecordingError, "went to a stream"):
+            Recorder(Slow(0)).history()
+
+
+class Store:
+    """A register store behind one lock. Half of its lost and refused answers are lies of the kind allowed."""
+
+    def __init__(self, seed: int, trouble: float) -> None:
+        self.values: Dict[str, int] = {}
+        self.lock, self.random, self.trouble = threading.Lock(), random.Random(seed), trouble
+
+    def write(self, register: str, value: int) -> None:
+        with self.lock:
+            luck = self.random.random() / self.trouble if self.trouble else 1.0
+            if luck < 0.3:
+                raise Refused
+            if luck < 0.6:
+                raise Lost
+            self.values[register] = value
+            if luck < 0.9:
+                raise Lost
+
+    def read(self, register: str) -> Optional[int]:
+        with self.lock:
+            if self.trouble and self.random.random() < self.trouble / 2:
+                raise Lost
+            return self.values.get(register)
+
+
+def use(recorder: Recorder, store: Store, seed: int, calls: int) -> None:
+    """One client after the other, each until it dies."""
+    choose = random.Random(seed)
+    while calls:
+        with contextlib.suppress(ZeroDivisionError), recorder.client() as client:
+            while calls:
+                calls -= 1
+                with contextlib.suppress(Lost, Refused):
+                    register = choose.choice("xy")
+                    if choose.random() < 0.5:
+                        with client.write(register) as write:
+                            store.write(register, write.value)
+                    else:
+                        with client.read(register) as read:
+                            read.value = store.read(register)
+                if store.trouble and choose.random() < 0.02:
+                    raise ZeroDivisionError
+
+
+def threads_record(trouble: float, threads: int = 8, calls: int = 200) -> Recorder:
+    recorder, store = Recorder(failures=Refused), Store(1, trouble)
+    clients = [threading.Thread(target=use, args=(recorder, store, seed, calls)) for seed in range(threads)]
+    for client in clients:
+        client.start()
+    for client in clients:
+        client.join()
+    return recorder
+
+
+def wrongly_failed() -> Recorder:
+    """Each lost write is called failed, though some took effect."""
+    recorder = Recorder(failures=Lost)
+    use(recorder, Store(1, 0.4), 1, 400)
+    return recorder
+
+
+class Threads(unittest.TestCase):
+    def setUp(self) -> None:
+        self.addCleanup(sys.setswitchinterval, sys.getswitchinterval())
+        sys.setswitchinterval(1e-6)  # threads take turns as often as they can
+
+    def test_one_thread_writes_at_a_time(self) -> None:
+        file = Narrow()
+        recorder, store = Recorder(file), Store(1, 0.0)
+        clients = [threading.Thread(target=use, args=(recorder, store, seed, 5)) for seed in range(4)]
+        for client in clients:
+            client.start()
+        for client in clients:
+            client.join()
+        self.assertEqual(file.most, 1)
+
+    def test_a_right_store_is_atomic(self) -> None:
+        recorder = threads_record(0.0)
+        self.assertEqual(told(lines(recorder)), {"call": 1600, "reply": 1600, "fail": 0, "crash": 0})
+        self.assertEqual(run_checker(recorder.history()).status, 0)
+
+    def test_a_troubled_store_is_recorded_well(self) -> None:
+        counts = told(lines(threads_record(0.4)))
+        self.assertEqual(counts["call"], 1600)
+        for what in ("reply", "fail", "crash"):
+            self.assertGreater(counts[what], 0, what)
+        self.assertLess(counts["reply"] + counts["fail"], counts["call"])
+
+    def test_a_troubled_store_is_atomic(self) -> None:
+        self.assertEqual(run_checker(without_failed(lines(threads_record(0.4)))).status, 0)
+
+    def test_a_failure_that_was_none_is_found(self) -> None:
+        self.assertEqual(run_checker(without_failed(lines(wrongly_failed()))).status, 1)
+
+    def test_the_same_with_a_checker_that_knows_fail(self) -> None:
+        need_fail(self)
+        for recorder, status in [(threads_record(0.4), 0), (wrongly_failed(), 1)]:
+            answer = run_checker(recorder.history())
+            self.assertEqual((answer.status, answer.refusal), (status, ""))
+
+
+class Asyncio(unittest.TestCase):
+    def test_tasks_await_within_their_calls(self) -> None:
+        recorder, values = Recorder(), {"x": "0"}
+
+        async def task() -> None:
+            with recorder.client() as client:
+                for _ in range(10):
+                    with client.write("x") as write:
+                        await asyncio.sleep(0)
+                        values["x"] = str(write.value)
+                        await asyncio.sleep(0)
+                    with client.read("x") as read:
+                        await asyncio.sleep(0)
+                        read.value = values["x"]
+
+        async def run() -> None:
+            await asyncio.gather(*(task() for _ in range(5)))
+
+        asyncio.run(run())
+        history = [json.loads(line) for line in lines(recorder)]
+        self.assertEqual([event["event"] for event in history[:5]], ["call"] * 5)  # all open at once
+        self.assertEqual({event["process"] for event in history}, {1, 2, 3, 4, 5})
+        self.assertEqual(told(lines(recorder))["reply"], 100)
+        self.assertEqual(run_checker(recorder.history()).status, 0)
+
+    def test_a_time_out_is_pending(self) -> None:
+        recorder = Recorder()
+
+        async def run() -> None:
+            with contextlib.suppress(asyncio.TimeoutError), recorder.write("x") as write:
+                await asyncio.wait_for(asyncio.sleep(10, write.value), 0.001)
+            with recorder.read("x") as read:
+                read.value = None
+
+        asyncio.run(run())
+        self.assertEqual(told(lines(recorder)), {"call": 2, "reply": 1, "fail": 0, "crash": 0})
+
+    def test_a_cancelled_task_crashes(self) -> None:
+        recorder = Recorder()
+
+        async def task() -> None:
+            with recorder.client() as client, client.write("x") as write:
+                await asyncio.sleep(10, write.value)
+
+        async def run() -> None:
+            running = asyncio.ensure_future(task())
+            await asyncio.sleep(0)
+            running.cancel()
+            await asyncio.gather(running, return_exceptions=True)
+
+        asyncio.run(run())
+        self.assertEqual(lines(recorder)[1:], ['{"process":1,"event":"crash"}'])
+
+
+if __name__ == "__main__":
+    unittest.main()

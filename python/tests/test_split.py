@@ -1,0 +1,325 @@
+"""Tests of regkit split: which part a line goes to, line numbers, refusals and limits."""
+import io
+import json
+import os
+import pathlib
+import tempfile
+import unittest
+from typing import Dict, List, Optional, Tuple
+from unittest import mock
+
+from regkit import cli, routing, splitting
+from regkit.checker import NoChecker, find_checker
+from regkit.commands import split as command
+from regkit.parts import BLANK, MAP, LineMap, file_of, read_manifest
+from regkit.routing import CertainRefusal, Router
+from regkit.splitting import Plan, lines_of, split
+from tests import split_support
+from tests.split_support import random_history, run_command
+
+
+def has_checker() -> bool:
+    try:
+        find_checker()
+    except NoChecker:
+        return False
+    return True
+
+
+def call(process: int, register: str, value: Optional[int] = None) -> str:
+    """A write of the value, or a read."""
+    members: Dict[str, object] = {"process": process, "event": "call", "op": "read", "register": register}
+    if value is not None:
+        members.update(op="write", value=value)
+    return json.dumps(members)
+
+
+def end(process: int, event: str = "reply", **members: object) -> str:
+    return json.dumps({"process": process, "event": event, **members})
+
+
+def history_of(*lines: str) -> bytes:
+    return "".join(line + "\n" for line in lines).encode("utf-8")
+
+
+class Folder(unittest.TestCase):
+    """Tests that split into a folder of their own."""
+
+    def setUp(self) -> None:
+        folder = tempfile.TemporaryDirectory()
+        self.addCleanup(folder.cleanup)
+        self.directory = os.path.join(folder.name, "parts")
+        self.path = os.path.join(folder.name, "history.jsonl")
+
+    def write(self, history: bytes) -> str:
+        pathlib.Path(self.path).write_bytes(history)
+        return self.path
+
+    def split(self, history: bytes, parts: int, lines: str = BLANK) -> None:
+        split(io.BytesIO(history), Plan("history", self.directory, parts, lines), lambda read: None)
+
+    def part(self, part: int) -> bytes:
+        return file_of(self.directory, part, "jsonl").read_bytes()
+
+    def numbered(self, parts: int) -> List[Tuple[int, bytes]]:
+        """Each line of each part that isn't blank, with its line number in the whole."""
+        found = []
+        for part in range(parts):
+            line_of = command.line_map(self.directory, part, read_manifest(self.directory))
+            for number, line in enumerate(self.part(part).split(b"\n"), 1):
+                if line.strip(b" \t\r"):
+                    found.append((line_of(number), line))
+        return found
+
+
+class Routes(unittest.TestCase):
+    """Which part a line goes to. The first three registers go to one part each: x to 0, y to 1, z to 2."""
+
+    def routed(self, *lines: str) -> Tuple[List[Optional[int]], List[int]]:
+        """The parts of the lines, and the parts that a last line goes to that is sure to be refused."""
+        router = Router(3)
+        parts: List[Optional[int]] = []
+        for line in lines:
+            try:
+                parts.append(router.route(line.encode("utf-8") + b"\n"))
+            except CertainRefusal as refusal:
+                return parts, refusal.parts
+        return parts, []
+
+    def test_accepted(self) -> None:
+        start = [call(1, "x"), call(2, "y"), call(3, "z")]
+        for name, lines, expected in [
+            ("a reply goes to the part of its call", [end(3), end(1), end(2)], [2, 0, 1]),
+            ("a fail too", [end(3, "fail"), call(3, "x"), end(3)], [2, 0, 0]),
+            ("a reply that names another register", [end(3, register="x", op="read")], [2]),
+            ("a crash goes where the open call is", [end(2, "crash"), end(3, "crash")], [1, 2]),
+            ("a crash without an open call", [end(1), end(1), end(9, "crash")], []),
+            ("blank lines go nowhere", ["", " \t\r"], [None, None]),
+            ("an escaped name", [end(1), call(1, "z").replace("z", "\\u007a"), end(1)], [0, 2, 2]),
+            ("other orders of members", ['{"value":null,"event":"reply","process":2,"op":"read"}'], [1]),
+            ("the last of equal members counts", ['{"process":1,"process":3,"event":"reply"}'], [2]),
+            ("spaces and other members", [' { "process" : 2 , "event":"reply", "x":{"process":3}} '], [1]),
+        ]:
+            with self.subTest(name):
+                found, refused = self.routed(*start, *lines)
+                if expected:
+                    self.assertEqual(([0, 1, 2, *expected], []), (found, refused))
+                else:
+                    self.assertEqual(([0, 1, 2, 0], [0]), (found, refused))
+
+    def test_sure_to_be_refused(self) -> None:
+        start = [call(1, "x"), call(2, "y"), call(3, "z")]
+        crashed = [end(1), end(1, "crash")]  # process 1 without an open call: part 1, the emptiest
+        for name, lines, expected in [
+            ("a call goes to the open call of its process", [call(3, "x")], [2]),
+            ("after a crash, to the part of the crash", [end(3, "crash"), end(3)], [2]),
+            ("a second crash too", [end(3, "crash"), end(3, "crash")], [2]),
+            ("a call also to its register, for repeated values", [end(3, "crash"), call(3, "x", 1)], [0, 2]),
+            ("a call of a new register has no such part", [end(3, "crash"), call(3, "new", 1)], [2]),
+            ("after a crash without an open call", [*crashed, call(1, "z", 1)], [1, 2]),
+            ("a reply without a call goes to any part", [end(4)], [0]),
+            ("a fail without a call", [end(4, "fail")], [0]),
+            ("a second reply", [end(2), end(2)], [0]),
+        ]:
+            with self.subTest(name):
+                self.assertEqual(expected, self.routed(*start, *lines)[1])
+
+    def test_faulty_for_themselves(self) -> None:
+        for line in ["not json", "[]", "7", "null", '{"process":1}', '{"event":"reply"}',
+                     '{"process":1.0,"event":"reply"}', '{"process":true,"event":"reply"}',
+                     '{"process":4294967296,"event":"reply"}', '{"process":1,"event":"reply","x":NaN}',
+                     '{"process":1,"event":"stop"}', '{"process":1,"event":["call"]}',
+                     '{"process":1,"event":"call","op":"read"}', call(1, ""), call(1, "y" * 256),
+                     call(1, "\u00e9" * 128), call(1, "x").replace("x", "\\ud800"), "\ufeff" + call(1, "x"),
+                     call(1, "x").replace("}", " " * 65536 + "}")]:
+            with self.subTest(line[:60]):
+                self.assertEqual(([], [0]), self.routed(line))
+
+    def test_registers_go_to_the_part_with_the_fewest_events(self) -> None:
+        router = Router(2)
+        for line in [call(1, "x"), end(1), call(1, "x"), end(1), call(1, "y"), end(1), call(1, "z")]:
+            last = router.route(line.encode())
+        self.assertEqual(1, last)
+        self.assertEqual([4, 3], router.events)
+
+
+class Parts(Folder):
+    """Parts are histories of whole registers, with the line numbers of the whole."""
+
+    def test_line_numbers(self) -> None:
+        history = history_of(call(1, "x"), "", call(2, "y"), end(2), end(1))
+        self.split(history, 2)
+        lines = history.split(b"\n")
+        self.assertEqual(lines[0] + b"\n\n\n\n" + lines[4] + b"\n", self.part(0))
+        self.assertEqual(b"\n\n" + lines[2] + b"\n" + lines[3] + b"\n", self.part(1))
+
+    def test_map(self) -> None:
+        history = history_of(call(1, "x"), "", call(2, "y"), end(2), end(1))
+        self.split(history, 2, MAP)
+        lines = history.split(b"\n")
+        self.assertEqual(lines[0] + b"\n" + lines[4] + b"\n", self.part(0))
+        line_of = LineMap(file_of(self.directory, 0, "lines"))
+        self.assertEqual([0, 1, 5], [line_of(line) for line in (0, 1, 2)])
+        self.assertEqual(["3", "4"], file_of(self.directory, 1, "lines").read_text().split())
+
+    def test_each_line_is_in_one_part(self) -> None:
+        for seed in range(60):
+            history = random_history(seed, knows_ends=True)
+            lines = enumerate(history.split(b"\n"), 1)
+            expected = [(number, line) for number, line in lines if line.strip(b" \t\r")]
+            with self.subTest(seed), tempfile.TemporaryDirectory() as self.directory:
+                self.split(history, 3, (BLANK, MAP)[seed % 2])
+                stopped = read_manifest(self.directory).stopped
+                found = sorted(self.numbered(3))
+                if stopped is not None:
+                    expected = [each for each in expected if each[0] <= stopped]
+                    found = sorted(set(found))
+                self.assertEqual([(number, line[:60]) for number, line in expected],
+                                 [(number, line[:60]) for number, line in found])
+
+    def test_many_blank_lines(self) -> None:
+        """More blank lines than a buffer holds."""
+        count = 3 * splitting.BUFFER + 5
+        self.split(b"\n" * count + history_of(call(1, "x")), 2)
+        self.assertEqual(b"\n" * count + history_of(call(1, "x")), self.part(0))
+        self.assertEqual(b"", self.part(1))
+
+    def test_manifest(self) -> None:
+        self.split(history_of(call(1, "x"), call(2, "y"), call(3, "z"), call(4, "x"), ""), 2)
+        manifest = read_manifest(self.directory)
+        self.assertEqual([0, 1, 0], manifest.registers)
+        self.assertEqual((4, 5, None), (manifest.events, manifest.last_line, manifest.stopped))
+
+    def test_memory(self) -> None:
+        """A long line is never held as a whole."""
+        long = b"x" * 10_000_000
+        blank = b" " * 1_000_000
+        lines = list(lines_of(io.BytesIO(long + b"\n" + blank + b"\n\n" + blank + b"x\nlast")))
+        self.assertEqual([True, False, False, True, True], [bool(line.strip(b" \n")) for line in lines])
+        self.assertEqual([True, True, False, True, False], [len(line) > 65_537 for line in lines])
+        self.assertLess(max(map(len, lines)), 4 * 65_536)
+        self.assertEqual(b"last", lines[-1])
+
+
+class Limits(Folder):
+    """What is too large for the checker is named, and no part is left."""
+
+    def ask(self, history: bytes, *options: str) -> split_support.Ran:
+        with mock.patch.object(routing, "MAX_EVENTS", 4):
+            return run_command(command, self.write(history), self.directory, *options)
+
+    def test_events(self) -> None:
+        pair = [call(1, "x"), end(1)]
+        four = history_of(*pair, *pair)
+        self.assertEqual(0, self.ask(four, "--parts", "1").status)
+
+    def test_too_many_events_of_a_register(self) -> None:
+        pair = [call(1, "x\t"), end(1)]
+        ran = self.ask(history_of(*pair, call(2, "y"), *pair, call(1, "x\t")), "--parts", "2")
+        self.assertEqual((5, b""), ran[:2])
+        self.assertIn('regkit split: line 6: register "x\\u0009" has more than 4 events', ran.words)
+        self.assertEqual([], os.listdir(self.directory))
+
+    def test_too_many_events_of_a_part(self) -> None:
+        history = history_of(*(line for name in "uvxyz" for line in (call(1, name), end(1))))
+        ran = self.ask(history, "--parts", "2")
+        self.assertEqual(5, ran.status)
+        self.assertIn("a part has 6 events", ran.words)
+        self.assertIn("try --parts 4", ran.words)
+        self.assertEqual([], os.listdir(self.directory))
+        self.assertEqual(0, self.ask(history, "--parts", "4").status)
+
+    def test_too_many_bytes_of_a_part(self) -> None:
+        """Blank lines count, so a map helps."""
+        history = b"\n" * 500 + history_of(call(1, "x"), end(1))
+        with mock.patch.object(splitting, "MAX_BYTES", 300):
+            ran = self.ask(history, "--parts", "2")
+            self.assertEqual(5, ran.status)
+            self.assertIn("--lines map", ran.words)
+            self.assertEqual(0, self.ask(history, "--parts", "2", "--lines", "map").status)
+
+    def test_length_of_a_line(self) -> None:
+        start = call(1, "x")[:-1] + ',"note":"'
+        fits = start + "y" * (65_536 - len(start) - 2) + '"}'
+        for lines, stopped in [((fits,), None), ((fits[:-2] + 'y"}',), 1), ((" " * 70_000, fits), None)]:
+            with self.subTest(stopped), tempfile.TemporaryDirectory() as self.directory:
+                self.split(history_of(*lines), 1)
+                self.assertEqual(stopped, read_manifest(self.directory).stopped)
+
+
+class CommandLine(Folder):
+    """Words, input and output of the command."""
+
+    def test_number_of_parts(self) -> None:
+        parser = cli.Parser()
+        command.add_arguments(parser)
+        for word in ("0", "1001", "-1", "two", "1.5"):
+            with self.subTest(word), mock.patch("sys.stderr", io.StringIO()) as words:
+                with self.assertRaises(SystemExit) as ended:
+                    parser.parse_args(["h", "d", "--parts", word])
+                self.assertEqual(3, ended.exception.code)
+                self.assertIn("1 to 1000", words.getvalue() if word != "-1" else "1 to 1000")
+
+    def test_folder_that_is_not_empty(self) -> None:
+        os.mkdir(self.directory)
+        pathlib.Path(self.directory, "part-000.report").touch()
+        with self.assertRaisesRegex(FileExistsError, "is not empty"):
+            run_command(command, self.write(b""), self.directory, "--parts", "2")
+
+    def test_standard_input(self) -> None:
+        """A pipe of unknown length gets a map."""
+        reading, writing = os.pipe()
+        with os.fdopen(writing, "wb") as out:
+            out.write(history_of(call(1, "x")))
+        with os.fdopen(reading) as pipe, mock.patch("sys.stdin", pipe):
+            ran = run_command(command, "-", self.directory, "--parts", "2")
+        expected = f"{self.directory}: 1 events on 1 registers in 2 parts\n"
+        self.assertEqual((0, expected), (ran.status, ran.words))
+        self.assertEqual(MAP, read_manifest(self.directory).lines)
+
+    def test_form_of_line_numbers(self) -> None:
+        gibibyte = 1 << 30
+        for asked, size, expected in [("auto", 0, BLANK), ("auto", gibibyte, BLANK),
+                                      ("auto", gibibyte + 1, MAP), ("auto", None, MAP),
+                                      (BLANK, None, BLANK), (MAP, 0, MAP)]:
+            with self.subTest(asked=asked, size=size):
+                self.assertEqual(expected, command.line_form(asked, size))
+
+    def test_refused_without_a_checker(self) -> None:
+        with mock.patch.dict(os.environ, {"REGCHECK": "/nowhere/regcheck"}):
+            ran = run_command(command, self.write(b"not json\n"), self.directory, "--parts", "2")
+        self.assertEqual(4, ran.status)
+        self.assertIn("line 1 can't be accepted", ran.words)
+        self.assertIn("REGCHECK", ran.words)
+
+
+@unittest.skipUnless(has_checker(), "regcheck is not built")
+class Refusals(Folder):
+    """What no part by itself would see is refused in the words of one run."""
+
+    def test_refused(self) -> None:
+        for name, lines, expected in [
+            ("open in another part", [call(1, "x"), call(2, "y"), call(1, "y")],
+             "line 3: the process has an open call at line 1"),
+            ("an earlier fault that only the checker sees",
+             [call(1, "x", 5), end(1), call(2, "x", 5), call(2, "y")],
+             "line 3: value already written to this register at line 1"),
+            ("an earlier fault of another part",
+             [call(1, "x", 5), end(1, value=6), call(2, "y"), call(2, "x")],
+             "line 2: reply disagrees with its call"),
+            ("a lower number on the same line",
+             [call(1, "x"), call(2, "y"), call(1, "y").replace("read", "cas")],
+             "line 3: op is neither read nor write"),
+            ("no JSON", [call(1, "x"), "", "{"], "line 3: not JSON"),
+            ("a reply to nothing", [call(1, "x"), end(2)], "line 2: reply without an open call"),
+        ]:
+            path = self.write(history_of(*lines))
+            for form in (BLANK, MAP):
+                with self.subTest(name, form=form), tempfile.TemporaryDirectory() as folder:
+                    directory = os.path.join(folder, "parts")
+                    ran = run_command(command, path, directory, "--parts", "3", "--lines", form)
+                    self.assertEqual((2, b"", expected + "\n"), ran)
+
+
+if __name__ == "__main__":
+    unittest.main()
