@@ -147,6 +147,13 @@ class Sentences(unittest.TestCase):
                   "2 comes before 1. 2 of 3 completed reads can't be explained, each left out before the "
                   "next is looked at.")
 
+    def test_its_own_contradiction_if_the_report_names_another_read_of_the_time(self) -> None:
+        events = [write(1, 1), reply(1), write(1, 2), reply(1), read(2), read(3), gave(2, 1), gave(3, 1)]
+        page = explained(events, row(zones([1, 3], [1, 3], [3, 6])))
+        self.says(page, "with line 7 they fit none. The write of 1 by",
+                  "The write of 2 by process 1 (lines 3 to 4) ended before the read of 1 by process 2 "
+                  "(lines 5 to 7) began, so 2 comes before 1.")
+
     def test_its_own_contradiction_if_the_report_names_a_later_call(self) -> None:
         events = [write(1, 1), read(2), gave(2, 1), read(2), gave(2, None), reply(1), read(3), gave(3, 1)]
         page = explained(events, row(zones([0, 1], [0, 7], [2, 4])))

@@ -78,9 +78,9 @@ HOLDING: List[Tuple[str, str, List[str]]] = [
       '{"atomic":"yes","order":[4,2],"pending":0,"points":[4,4],"reads":1,"register":"y",'
       f'{FINE},"writes":1}}',
       '{"atomic":"yes","operations":4,"order":[3,1,4,2],"registers":2}']),
-    ("a pending read after a write", "1 W x 5; 1 ok; 2 R x",
-     [f'{{"atomic":"yes","order":[1],"pending":1,"points":[1],"reads":1,{X},{FINE},"writes":1}}',
-      '{"atomic":"yes","operations":2,"order":[1],"registers":1}']),
+    ("a pending read after two writers", "1 W x 5; 1 ok; 2 W x 6; 2 ok; 3 R x",
+     [f'{{"atomic":"yes","order":[1,3],"pending":1,"points":[1,3],"reads":1,{X},{SEVERAL},"writes":2}}',
+      '{"atomic":"yes","operations":3,"order":[1,3],"registers":1}']),
     ("several writers", "1 W x 1; 2 W x 2; 1 ok; 2 ok; 1 R x; 1 = 1",
      [f'{{"atomic":"yes","order":[2,1,5],"pending":0,"points":[2,2,5],"reads":1,{X},{SEVERAL},"writes":2}}',
       '{"atomic":"yes","operations":3,"order":[2,1,5],"registers":1}']),
@@ -345,7 +345,7 @@ class Claims(unittest.TestCase):
 
     def test_a_yes_is_never_a_no(self) -> None:
         """Of an atomic register, no operations pass as a fault."""
-        for name in ("three writes that overlap", "several writers", "a pending read after a write"):
+        for name in ("three writes that overlap", "several writers", "a pending read after two writers"):
             events, rows = CASES[name]
             row, summary = json.loads(rows[0]), json.loads(rows[-1])
             lines = [0, *calls_of(events)]

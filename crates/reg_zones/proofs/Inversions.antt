@@ -1,14 +1,14 @@
 -- Where the writes come one after another, a register is atomic exactly where it is regular and has no inversion, and the fault of one that is regular names an inversion.
-use Rattle.std.proofs.Common.{◌≡◌, ◌<◌, List, Some, ◌⊎◌, ◌↔◌, inl, inr, refl, sym, ap, subst, ◌∙◌, arith}
+use Rattle.std.proofs.Common.{◌≡◌, ◌<◌, List, Some, ◌⊎◌, ◌↔◌, inl, inr, sym, ap, subst, ◌∙◌, arith}
 use Rattle.std.proofs.lemmas.Bool.{cases_Bool, cases_lt, false≢true}
-use Rattle.reg_arena.specs.Lamport.{IsOldWrite, IsOverlappedWrite, KeepsRegular}
+use Rattle.reg_arena.specs.Lamport.{IsOldWrite, IsOverlappedWrite}
 use Rattle.reg_arena.specs.Legal.{IsAtomic, IsLegal}
 use Rattle.reg_arena.specs.Lists.{In, Before}
-use Rattle.reg_arena.specs.Operations.{Operation, Overlaps, Precedes, IsCompletedRead, IsHistory, IsReadOf, IsWrite, is_write}
+use Rattle.reg_arena.specs.Operations.{Operation, Precedes, IsCompletedRead, IsHistory, IsReadOf, IsWrite, is_write}
 use Rattle.reg_arena.specs.Shown.{name_of}
 use Rattle.reg_zones.specs.Clusters.{IsConflict, IsInCluster, IsKept, HasFirstReply, HasLastCall, low_end}
 use Rattle.reg_zones.specs.Faults.{HasNoFault, IsFault}
-use Rattle.reg_zones.specs.Inversions.{IsRegular, IsReadWrite, IsInversion, HasInversion, inversion_named}
+use Rattle.reg_zones.specs.Inversions.{IsRegular, IsInversion, HasInversion, inversion_named}
 use Rattle.reg_zones.specs.declared.fault.Fault.{Fault}
 use Rattle.reg_zones.specs.declared.fault.Fault.TheVariants.{Unwritten, Early, Zones}
 use Rattle.reg_zones.proofs.Ends.{first_reply-at, first_reply-le, kept-member, last_call-at}
@@ -45,13 +45,22 @@ module _ (ops order : List Operation) (y : IsHistory ops) (turns : TakeTurns ops
       let j = l.completion.only w within in
       elim (cases_lt w.reply r.call) [
         | inr late ↦ inr (w, record { within = j; write = near.write; overlaps = (λ p. omega arith, λ p. l.keeps w r near.before p) }, n.2)
-        | inl before ↦ inl (w, record { within = j; write = near.write; before = before; last = λ v k u q. elim (turns v w k j u near.write) [
-          | inl e ↦ omega (arith, ap (λ (o : Operation). o.call) e)
-          | inr c ↦ elim c [
-            | inl vw ↦ let lives = y.life v k in omega arith
-            | inr wv ↦ let there = placed v r k i q in absurd (near.nearest v u (y.one v r k i) (ordered w v within there wv) (ordered v r there here q))
-          ]
-        ] }, n.2)
+        | inl before ↦ inl (
+          w,
+          record {
+            within = j;
+            write = near.write;
+            before = before;
+            last = λ v k u q. elim (turns v w k j u near.write) [
+              | inl e ↦ omega (arith, ap (λ (o : Operation). o.call) e)
+              | inr c ↦ elim c [
+                | inl vw ↦ let lives = y.life v k in omega arith
+                | inr wv ↦ let there = placed v r k i q in absurd (near.nearest v u (y.one v r k i) (ordered w v within there wv) (ordered v r there here q))
+              ]
+            ];
+          },
+          n.2,
+        )
       ]
 
   pub no_inversion : HasInversion ops → ⊥

@@ -14,8 +14,8 @@ returns c regular =
     let h = c.args.arena.now in
     record {
       atomicity =
-      order-atomicity h c.told.ensures c.args.register.0 c.args.order.now c.requires.1 c.requires _ _
-      (c.in_ok-lines.ensures ∙ ap (lines_by (call_line h.events)) c.as_slice.ensures)
-      (c.in_ok-points.ensures ∙ ap (lines_by (point_line h.events)) c.as_slice-2.ensures);
+          order-atomicity h c.told.ensures c.args.register.0 c.args.order.now c.requires.1 c.requires _ _
+          (c.in_ok-lines.ensures ∙ ap (lines_by (call_line h.events)) c.as_slice.ensures)
+          (c.in_ok-points.ensures ∙ ap (lines_by (point_line h.events)) c.as_slice-2.ensures);
       inversion = refl;
     }
