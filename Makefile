@@ -29,7 +29,7 @@ bin/history_generator: $(SOURCES) crates.txt
 run: bin/regcheck
 	bin/regcheck < $(FILE); status=$$?; test $$status -le 1
 
-# What the gate built is what is tested; its own last line comes before the tests' own, which are silent if all is well.
+# What the gate built is what is tested. The scripts print only differences, but for a seed and some counts.
 test:
 	rt ci
 	@mkdir -p bin
@@ -52,7 +52,7 @@ picture-test: bin/regcheck bin/history_generator
 bench: bin/regcheck bin/history_generator
 	bench/run
 
-bin/regkit: $(PYTHON)
+bin/regkit: $(PYTHON) python/make_archive
 	mkdir -p bin
 	python3 python/make_archive bin/regkit
 

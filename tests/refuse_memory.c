@@ -1,7 +1,8 @@
 /* Refuses chosen requests for memory of a program: preloaded by tests/refused_memory.
 
    REFUSE_FROM and REFUSE_TO are numbers of requests, counted from 1 once the program's own code begins. A byte is written
-   to the descriptor REFUSE_TOLD at each refusal. With REFUSE_THREADS each start of a thread is a request too. */
+   to the descriptor REFUSE_TOLD at each refusal: m for memory, t for a thread. With REFUSE_THREADS each start of a thread is
+   a request too. It needs glibc, and knows malloc, calloc and realloc, the ones that the program and the C library call. */
 #define _GNU_SOURCE
 #include <dlfcn.h>
 #include <errno.h>
@@ -30,21 +31,21 @@ __attribute__((constructor)) static void begin(void)
     from = number("REFUSE_FROM", 0);
 }
 
-static int refused(void)
+static int refused(char kind)
 {
     if (from == 0)
         return 0;
     unsigned long request = __atomic_add_fetch(&requests, 1, __ATOMIC_SEQ_CST);
     if (request < from || request > to)
         return 0;
-    if (write(told, "r", 1) != 1)
+    if (write(told, &kind, 1) != 1)
         abort();
     return 1;
 }
 
 void *malloc(size_t size)
 {
-    if (refused()) {
+    if (refused('m')) {
         errno = ENOMEM;
         return NULL;
     }
@@ -53,7 +54,7 @@ void *malloc(size_t size)
 
 void *calloc(size_t count, size_t size)
 {
-    if (refused()) {
+    if (refused('m')) {
         errno = ENOMEM;
         return NULL;
     }
@@ -62,7 +63,7 @@ void *calloc(size_t count, size_t size)
 
 void *realloc(void *old, size_t size)
 {
-    if (refused()) {
+    if (refused('m')) {
         errno = ENOMEM;
         return NULL;
     }
@@ -72,7 +73,7 @@ void *realloc(void *old, size_t size)
 int pthread_create(pthread_t *thread, const pthread_attr_t *attributes, void *(*start)(void *), void *argument)
 {
     int (*create)(pthread_t *, const pthread_attr_t *, void *(*)(void *), void *) = dlsym(RTLD_NEXT, "pthread_create");
-    if (threads && refused())
+    if (threads && refused('t'))
         return EAGAIN;
     return create(thread, attributes, start, argument);
 }

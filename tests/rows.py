@@ -57,6 +57,7 @@ class Case(NamedTuple):
     words: Tuple[str, ...]  # of the command line
     history: bytes
     answer: Tuple[int, bytes, bytes]  # exit status, standard output, standard error
+    threaded: bool = False  # whether a run starts a thread for sure
 
 
 def case(name: str, words: Tuple[str, ...], given: bytes) -> Case:
@@ -71,6 +72,6 @@ def refused_cases() -> List[Case]:
     cases = [case(f"{name} --workers {workers}", ("--workers", workers), history(text))
              for name, text in named.items() for workers in ("1", "2")]
     cases.append(case("as it is", (), history(WRITE_AND_READ)))
-    cases.append(case("two_registers --cut 1", ("--workers", "4", "--cut", "1"), history(TWO_REGISTERS)))
-    cases.append(case("sixteen_registers", ("--workers", "4"), sixteen_registers()))
+    cases.append(case("two_registers --cut 1", ("--workers", "4", "--cut", "1"), history(TWO_REGISTERS))._replace(threaded=True))
+    cases.append(case("sixteen_registers", ("--workers", "4"), sixteen_registers())._replace(threaded=True))
     return cases

@@ -78,7 +78,7 @@ pub record IsInversionShown (h : History) (ops : List Operation) (lines : ℕ ×
   pub named : inversion_named fault ≡ Some (name_of first, name_of second)
   pub shown : HaveLines h (name_of first, name_of second) lines
 
--- an inversion is shown of a register with a single writer that is regular and not atomic, and of no other (Lamport, On Interprocess Communication, Part II, 1986)
+-- an inversion is shown for a register with a single writer that is regular and not atomic, and for no other (Lamport, On Interprocess Communication, Part II, 1986)
 abbrev pub IsInversionAnswer : History → List Operation → Bool → Verdict → Option (ℕ × ℕ) → Type 0
 IsInversionAnswer h ops true regular inversion = inversion ≡ None
 IsInversionAnswer h ops false Yes inversion = (lines : ℕ × ℕ) × IsInversionShown h ops lines × (inversion ≡ Some lines)

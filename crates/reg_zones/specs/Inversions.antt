@@ -30,7 +30,7 @@ pub record IsInversion (ops : List Operation) (r s : Operation) : Type 0 where
 abbrev pub HasInversion : List Operation → Type 0
 HasInversion ops = (r : Operation) × (s : Operation) × IsInversion ops r s
 
--- the operations of a conflict that can be an inversion: one of the second write's cluster precedes one of the first's
+-- the pair of a conflict that may be an inversion: an operation of the second write's cluster, which precedes one of the first's
 abbrev pub inversion_named : Fault → Option (Oper × Oper)
 inversion_named (Unwritten read) = None
 inversion_named (Early read write) = None
