@@ -26,6 +26,7 @@ class Answer(NamedTuple):
     status: int  # 0 atomic, 1 not atomic, 2 refused, 3 command line, 4 input, memory or output failed
     report: bytes  # standard output; empty unless status is 0 or 1
     refusal: str  # standard error, without its line feed
+    judged: bytes = b""  # the history that it was given
 
 
 def beside() -> List[pathlib.Path]:
@@ -61,11 +62,12 @@ def run_checker(history: bytes, options: Sequence[str] = (), program: Optional[s
         ran = subprocess.run([path, *options], input=history, capture_output=True, check=False)
     except OSError as error:
         raise NoChecker(f"{path} could not be started: {error.strerror}. Is REGCHECK right?") from error
-    return Answer(ran.returncode, ran.stdout, ran.stderr.decode("utf-8", "replace").rstrip("\n"))
+    refusal = ran.stderr.decode("utf-8", "replace").rstrip("\n")
+    return Answer(ran.returncode, ran.stdout, refusal, history)
 
 
 def judge(history: bytes, options: Sequence[str] = ()) -> Answer:
-    """The checker's answer. One that doesn't know the events `fail` and `crash` is given the history without them."""
+    """The checker's answer. One without the events `fail` and `crash` is given the history without them."""
     answer = run_checker(history, options)
     known = without_failures(history) if UNKNOWN_EVENT in answer.refusal else history
     return answer if known == history else run_checker(known, options)

@@ -121,20 +121,21 @@ class Judge:
         early = self.wishes.first and self.wishes.draw is None
         answer = judge_first(data) if early else judge(data)
         if answer.status in (ATOMIC, NOT_ATOMIC):
-            return self.judge_report(name, data, answer.report)
+            return self.judge_report(name, data, answer)
         if answer.status != REFUSED:
             return Outcome(name, FAILED, failure_of(answer), advice(b"", answer.refusal, name))
         if self.wishes.verify:
-            verify_refusal(data, answer.refusal)
+            verify_refusal(answer.judged, answer.refusal)
         return Outcome(name, REFUSED, plain(answer.refusal), advice(data, answer.refusal, name))
 
-    def judge_report(self, name: str, data: bytes, written: bytes) -> Outcome:
+    def judge_report(self, name: str, data: bytes, answer: Answer) -> Outcome:
         """The outcome of a history that was accepted."""
+        written = answer.report
         self.progress.step(f"{self.label}: reading", data.count(b"\n"))
         history = read_history(data, self.progress.reach)
         if self.wishes.verify:
             self.progress.step(f"{self.label}: verifying")
-            verify(data, written)
+            verify(answer.judged, written)
         outcome = self.verdict(name, history, parsed(written), count_evidence(history))
         if self.wishes.verify:
             outcome = outcome._replace(verified=True, words=f"{outcome.words}; the report was verified")

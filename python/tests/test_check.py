@@ -378,6 +378,12 @@ exit 1"""
         self.assertEqual(run("check", "--verify", given=b"no\n").status, 2)
         self.assertTrue(json.loads(run("check", "--verify", "--json", given=text(*FINE)).out)["verified"])
 
+    def test_verify_takes_what_the_checker_was_given(self) -> None:
+        failed = [b'{"process":1,"event":"call","op":"write","register":"y","value":5}', b'{"process":1,"event":"fail"}']
+        read = [b'{"process":1,"event":"call","op":"read","register":"x"}', b'{"process":1,"event":"reply","value":null}']
+        self.assertEqual(run("check", "--verify", given=b"\n".join([*failed, *read])).status, 0)
+        self.assertEqual(run("check", "--verify", given=b'{"process":1,"event":"info"}\n').status, 2)
+
     def test_verify_finds_a_wrong_answer(self) -> None:
         false = '{"atomic":"yes","operations":2,"order":[1,3],"registers":1}'
         table = [(f"cat > /dev/null; echo '{false}'", text(*STALE)),
