@@ -44,6 +44,7 @@ test:
 	@tests/limits bin/regcheck
 	@tests/spoiled_bytes bin/regcheck
 	@tests/compare_random --count 2000 --without-fail
+	@tests/compare_random --count 1000 --without-fail --options=--first
 	@tests/installed
 	@cd python && REGCHECK=$(CURDIR)/bin/regcheck python3 -B -m unittest discover -q -s tests -t .
 

@@ -362,6 +362,12 @@ exit 1"""
         self.assertIn('register "a"', ran.out)
         self.assertNotIn("more register", ran.out)
 
+    def test_first(self) -> None:
+        """The program's own early answer: one register of two is named, and the answer is verified."""
+        ran = run("check", "--first", "--verify", given=text(*stale("a", "b")))
+        self.assertEqual((ran.status, ran.out.count('register "')), (1, 1))
+        self.assertEqual(run("check", "--first", "--verify", given=text(*FINE)).status, 0)
+
     def test_first_with_a_checker_that_does_not_know_it(self) -> None:
         events = stale("a", "b")
         with self.checker(f'[ "$1" != --first ] || exit 3\nexec {find_checker()} "$@"'):

@@ -406,6 +406,12 @@ class EarlyAnswers(unittest.TestCase):
         self.assertIn("there is no register", self.wrong(text, d, summary))
         self.assertIn("an early answer has at most one", self.wrong(text, b, c, summary))
 
+    def test_no_registers(self) -> None:
+        summary = '{"atomic":"yes","operations":0,"registers":0}'
+        found = verify.verify(b"", report(summary))
+        self.assertEqual((found.atomic, found.early, found.registers), (True, True, 0))
+        self.assertIn("there are 0 registers", self.wrong("", '{"atomic":"yes","operations":0,"registers":1}'))
+
     def test_a_line_of_an_atomic_register(self) -> None:
         """Its line says nothing of the registers that have none."""
         line = '{"atomic":"yes","order":[1],"pending":0,"points":[1],"reads":0,"register":"a",'

@@ -26,7 +26,7 @@ fn checked(
     alloc: Global,
     text: &str,
 ) -> Result<Report, Fail> {
-    let by_one = reg_report::Settings::new(1, 4096).ok_or("settings beyond their limits")?;
+    let by_one = reg_report::Settings::new(1, 4096, false).ok_or("settings beyond their limits")?;
     Ok(check(rt, alloc, text.as_bytes(), by_one, &OpenGate)?)
 }
 

@@ -8,8 +8,9 @@ use Rattle.reg_lamport.specs.Reads.{ListedReads}
 use Rattle.reg_arena.specs.Operations.{register_of}
 use Rattle.reg_pieces.specs.Plan.{IsListOf, IsPieceAt, IsPieceOf, IsPlan, PlanShown}
 use Rattle.reg_pieces.specs.declared.piece.Piece.{Piece}
+use Rattle.reg_pieces.specs.declared.piece.Piece.TheVariants.{Skipped}
 use Rattle.reg_pieces.specs.declared.tasks.Task.{Task}
-use Rattle.reg_pieces.specs.declared.tasks.Task.TheVariants.{Judge, Reads}
+use Rattle.reg_pieces.specs.declared.tasks.Task.TheVariants.{Judge, Reads, First}
 use Rattle.reg_pieces.proofs.Numbering.{IsFit, tasks-fit}
 
 -- the list of a register with a single writer, and a part of it
@@ -52,6 +53,17 @@ module _ (h : History) (plan : PlanShown) (p : (cut : ℕ) × IsPlan h cut plan)
   pub no-none : (register : RegId) (from to : ℕ) → t ≡ Reads register from to → (o : Option ListedReads) → slice_get plan.lists register.0 ≡ Some o → o ≡ None → ⊥
   no-none register from to e o there s =
       let f = named register from to e in none-some f.0 (sym s ∙ same_Some _ _ (sym there ∙ f.1))
+
+  pub no-first : (register : RegId) → t ≡ First register → ⊥
+  no-first register e = subst (IsFit 0 plan.lists) e fit
+
+  pub not-skipped : (x : Piece) → IsPieceOf h t x → x ≡ Skipped → ⊥
+  not-skipped x f s = go t fit f
+    where
+      go : (u : Task) → IsFit 0 plan.lists u → IsPieceOf h u x → ⊥
+      go (Judge k) i j = subst (IsPieceOf h (Judge k)) s j
+      go (Reads k from to) i j = subst (IsPieceOf h (Reads k from to)) s j
+      go (First k) i j = i
 
   pub piece-done : (u : Task) (x : Piece) → t ≡ u → IsPieceOf h u x → IsPieceAt h plan.tasks number x
   piece-done u x e f = (t, at, subst (λ y. IsPieceOf h y x) (sym e) f)

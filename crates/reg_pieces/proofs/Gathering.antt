@@ -10,15 +10,16 @@ use Rattle.job_board.specs.declared.view.View.{View}
 use Rattle.job_board.proofs.Times.{times-append}
 use Rattle.reg_arena.specs.History.{History}
 use Rattle.reg_arena.proofs.Links.{slice_get-push}
-use Rattle.reg_pieces.specs.Plan.{IsPieceOf}
+use Rattle.reg_pieces.specs.Plan.{IsFirstPlan, IsPieceOf, PlanShown}
 use Rattle.reg_pieces.specs.Slots.{AreDone, AreSlots, AreWithin, IsFull, with_pieces}
-use Rattle.reg_pieces.specs.Work.{HasWorked, numbers_of}
+use Rattle.reg_pieces.specs.Work.{Flags, HasWorked, faulty_numbers, numbers_of}
 use Rattle.reg_pieces.specs.Workers.{IsHandedBack, IsJoined, IsNewSeat, view_with, weight_back, weight_of_all, weight_so_far}
 use Rattle.reg_pieces.specs.declared.piece.Piece.{Piece}
 use Rattle.reg_pieces.specs.declared.tasks.Task.{Task}
 use Rattle.reg_pieces.specs.declared.worker.Worked.{Worked}
 use Rattle.reg_pieces.proofs.Pushed.{length-push}
 use Rattle.reg_pieces.proofs.Putting.{with-full}
+use Rattle.reg_pieces.proofs.Searching.{searched-seat}
 
 pub weight-push : (seats : List SeatValue) (seat : SeatValue) → weight_of_all (seats ++ seat ∷ []) ≡ weight_of_all seats + seat.view.weight
 weight-push [] seat = omega arith
@@ -38,16 +39,25 @@ same-weights (s ∷ seats) (w ∷ back) l e =
     omega (arith, r, here)
 
 -- what is handed back for a new seat
-pub back-of : (h : History) (tasks : List Task) (board : BoardValue) (seat : SeatValue) (w : Worked) → IsNewSeat tasks board seat → HasWorked h tasks seat w → IsHandedBack h tasks board w
-back-of h tasks board seat w s worked = record {
+pub back-of : (h : History) (plan : PlanShown) (board : BoardValue) (seat : SeatValue) (w : Worked) → IsNewSeat plan.tasks board seat → HasWorked h plan seat w → IsHandedBack h plan board w
+back-of h plan board seat w s worked = record {
   here = worked.board ∙ s.fits.here;
-  drawn = λ f. elim worked.drawn [
-    | inl e ↦ e ∙ ap (λ (xs : List ℕ). xs ++ numbers_of w.done.items) s.new
-    | inr k ↦ absurd (false≢true (sym f ∙ k.0))
-  ];
+  drawn = drawn;
   told = worked.told;
   pieces = worked.pieces;
+  searched = λ f p. searched-seat h plan p w.seat.view w.done.items worked.pieces worked.skipped (flagged p) (drawn f);
 }
+  where
+    drawn : w.refused ≡ false → w.seat.view.drawn ≡ numbers_of w.done.items
+    drawn f = elim worked.drawn [
+      | inl e ↦ e ∙ ap (λ (xs : List ℕ). xs ++ numbers_of w.done.items) s.new
+      | inr k ↦ absurd (false≢true (sym f ∙ k.0))
+    ]
+
+    flagged : IsFirstPlan h plan → w.seat.view.flagged ≡ faulty_numbers w.done.items
+    flagged p =
+        subst (λ b. Flags b w.done.items seat.view.flagged w.seat.view.flagged) p.early worked.flagged
+        ∙ ap (λ (xs : List ℕ). xs ++ faulty_numbers w.done.items) s.unflagged
 
 -- what is said twice of success
 pub ok-both : {T E : Type 0} (P Q R : T → Type 0) (r : Result T E) → ((x : T) → P x → Q x → R x) → IfOk r P → IfOk r Q → IfOk r R
@@ -96,9 +106,9 @@ drawn-with board slots refused (Some one) seat n j f l = go (times n one.view.dr
     go (suc k) e p = inr (j.full f n (omega (arith, e)))
 
 -- a worker's seat and what it did are put to those before
-pub one-joined : (h : History) (tasks : List Task) (board : BoardValue) (slots : List (Option Piece)) (refused : Bool) (before : Option SeatValue) (w : Worked) (joined : SeatValue) (flag : Bool) → IsHandedBack h tasks board w → AreWithin (length slots) w.done.items → IfSome before (IsJoined board slots refused)
+pub one-joined : (h : History) (plan : PlanShown) (board : BoardValue) (slots : List (Option Piece)) (refused : Bool) (before : Option SeatValue) (w : Worked) (joined : SeatValue) (flag : Bool) → IsHandedBack h plan board w → AreWithin (length slots) w.done.items → IfSome before (IsJoined board slots refused)
     → joined.board ≡ board.id → joined.view ≡ view_with before w.seat → (flag ≡ false → (refused ≡ false) × (w.refused ≡ false)) → IsJoined board (with_pieces slots w.done.items) flag joined
-one-joined h tasks board slots refused before w joined flag back within j here view both = record {
+one-joined h plan board slots refused before w joined flag back within j here view both = record {
   here = here;
   told = λ f. ap (λ v. v.told) view ∙ told-with board slots refused before w.seat j (both f).0 (back.told (both f).1);
   full = λ f n l. with-full slots w.done.items n within

@@ -3,4 +3,6 @@ mod Numbering
 mod Fitness
 mod Fewness
 mod Putting
+mod Working
+mod Searching
 mod Gathering

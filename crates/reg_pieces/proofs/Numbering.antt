@@ -3,7 +3,7 @@ use Rattle.std.proofs.Common.{◌≡◌, ℕ, zero, suc, ◌+◌, ◌-◌, ◌<�
 use Rattle.reg_lamport.specs.Reads.{ListedReads}
 use Rattle.reg_pieces.specs.Plan.{AreCuts, AreCutsOf, AreTasks}
 use Rattle.reg_pieces.specs.declared.tasks.Task.{Task}
-use Rattle.reg_pieces.specs.declared.tasks.Task.TheVariants.{Judge, Reads}
+use Rattle.reg_pieces.specs.declared.tasks.Task.TheVariants.{Judge, Reads, First}
 
 -- the cuts so far, behind the tasks that were there, up to read number `from`
 pub record IsCutting (cut r len from : ℕ) (old new : List Task) : Type 0 where
@@ -48,10 +48,11 @@ one-register-more cut r n (l ∷ lists) list tasks cuts e a k =
 
 -- ---- each task is fit
 
--- the reads that a task names are there
+-- a task of a whole plan: the reads that it names are there
 abbrev pub IsFit : ℕ → List (Option ListedReads) → Task → Type 0
 IsFit r lists (Judge k) = (r ≤ k.0) × (k.0 < r + length lists)
 IsFit r lists (Reads k from to) = (i : ℕ) × (list : ListedReads) × (k.0 ≡ r + i) × (slice_get lists i ≡ Some (Some list)) × (from ≤ to) × (to ≤ length list.entries)
+IsFit r lists (First k) = ⊥
 
 append-cases : {X : Type 0} (xs ys : List X) (i : ℕ) (z : X) → slice_get (xs ++ ys) i ≡ Some z → (slice_get xs i ≡ Some z) ⊎ ((j : ℕ) × (slice_get ys j ≡ Some z))
 append-cases [] ys i z e = inr (i, e)
@@ -70,6 +71,7 @@ none_some e = cc e
 later-fit : (r : ℕ) (l : Option ListedReads) (lists : List (Option ListedReads)) (t : Task) → IsFit (suc r) lists t → IsFit r (l ∷ lists) t
 later-fit r l lists (Judge k) f = (omega (arith, f.0), omega (arith, f.1))
 later-fit r l lists (Reads k from to) f = (suc f.0, f.1, omega (arith, f.2), f.3, f.4, f.5)
+later-fit r l lists (First k) f = f
 
 first-fit : (cut r : ℕ) (o : Option ListedReads) (lists : List (Option ListedReads)) (cuts : List Task) (j : ℕ) (t : Task) → AreCutsOf cut r o cuts → slice_get cuts j ≡ Some t → IsFit r (o ∷ lists) t
 first-fit cut r None lists cuts j t c s = absurd (none_some (sym (ap (λ ts. slice_get ts j) c) ∙ s))

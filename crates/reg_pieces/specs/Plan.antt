@@ -1,22 +1,23 @@
 -- The pieces of work of a history, and what is done for each (this project's own design).
-use Rattle.std.specs.Prelude.{◌≡◌, ℕ, suc, ◌<◌, ◌≤◌, ◌+◌, ◌-◌, min, List, [], ◌∷◌, ◌++◌, length, slice_get, Option, Some, None}
+use Rattle.std.specs.Prelude.{◌≡◌, ℕ, suc, ◌<◌, ◌≤◌, ◌+◌, ◌-◌, min, List, [], ◌∷◌, ◌++◌, length, slice_get, Option, Some, None, Bool, true, false, ◌⊎◌, MatchBool}
 use Rattle.job_board.specs.declared.limits.TheConstants.{MAX_JOBS}
 use Rattle.reg_arena.specs.History.{History}
 use Rattle.reg_arena.specs.Lamport.{HasSingleWriter}
 use Rattle.reg_lamport.specs.Levels.{IsFirstBadRead}
 use Rattle.reg_lamport.specs.Reads.{IsReadList, ListedReads}
 use Rattle.reg_lamport.specs.declared.level.Level.TheVariants.{Safe, Regular}
-use Rattle.reg_pieces.specs.Judged.{IsJudged}
+use Rattle.reg_pieces.specs.Judged.{IsJudged, IsLookedAt}
 use Rattle.reg_arena.specs.Operations.{register_of}
 use Rattle.reg_pieces.specs.declared.piece.Piece.{Piece}
 use Rattle.reg_pieces.specs.declared.piece.Piece.TheVariants as piece
 use Rattle.reg_pieces.specs.declared.tasks.Task.{Task}
-use Rattle.reg_pieces.specs.declared.tasks.Task.TheVariants.{Judge, Reads}
+use Rattle.reg_pieces.specs.declared.tasks.Task.TheVariants.{Judge, Reads, First}
 
--- what contracts see of a plan: its tasks by number, and the completed reads of each register with a single writer
+-- what contracts see of a plan: its tasks by number, the completed reads of each register with a single writer, and whether the first register that isn't atomic is all that is asked for
 pub record PlanShown : Type 0 where
   pub tasks : List Task
   pub lists : List (Option ListedReads)
+  pub first : Bool
 
 -- the completed reads of register r, where it has a single writer
 abbrev pub IsListOf : History → ℕ → Option ListedReads → Type 0
@@ -48,6 +49,22 @@ pub record IsPlan (h : History) (cut : ℕ) (plan : PlanShown) : Type 0 where
   pub lists : (r : ℕ) (list : Option ListedReads) → slice_get plan.lists r ≡ Some list → IsListOf h r list
   pub numbered : AreTasks cut 0 plan.lists plan.tasks
   pub few : length plan.tasks ≤ MAX_JOBS
+  pub whole : plan.first ≡ false
+
+-- the plan to find the first register that isn't atomic: a task for each register, of its number
+pub record IsFirstPlan (h : History) (plan : PlanShown) : Type 0 where
+  pub registers : length plan.tasks ≡ length h.names
+  pub each : (r : ℕ) (t : Task) → slice_get plan.tasks r ≡ Some t → t ≡ First (record { 0 = r })
+  pub few : length plan.tasks ≤ MAX_JOBS
+  pub early : plan.first ≡ true
+
+-- the plan of a history by its settings
+abbrev pub IsPlanBy : History → ℕ → Bool → PlanShown → Type 0
+IsPlanBy h cut first plan = MatchBool first (IsFirstPlan h plan) (IsPlan h cut plan)
+
+-- the plan of a history, whatever the settings
+abbrev pub IsSomePlan : History → PlanShown → Type 0
+IsSomePlan h plan = IsFirstPlan h plan ⊎ ((cut : ℕ) × IsPlan h cut plan)
 
 -- what is done for a task
 abbrev pub IsPieceOf : History → Task → Piece → Type 0
@@ -55,6 +72,9 @@ IsPieceOf h (Judge r) p = IsJudged (register_of h r.0) p
 IsPieceOf h (Reads r from to) (piece.Order order) = ⊥
 IsPieceOf h (Reads r from to) (piece.Faulty fault) = ⊥
 IsPieceOf h (Reads r from to) (piece.Reads safe regular) = IsFirstBadRead h r.0 Safe from to safe × IsFirstBadRead h r.0 Regular from to regular
+IsPieceOf h (Reads r from to) piece.Clean = ⊥
+IsPieceOf h (Reads r from to) piece.Skipped = ⊥
+IsPieceOf h (First r) p = IsLookedAt (register_of h r.0) p
 
 -- there is a task of this number, and this is done for it
 abbrev pub IsPieceAt : History → List Task → ℕ → Piece → Type 0

@@ -1,9 +1,13 @@
 -- What all workers are given and hand back.
-use Rattle.std.specs.Prelude.{◌≡◌, ◌+◌, ◌<◌, ℕ, Bool, false, true, List, [], ◌∷◌, Option, Some, None}
+use Rattle.std.specs.Prelude.{◌≡◌, ◌+◌, ◌<◌, ◌≤◌, ◌⊎◌, ℕ, length, Bool, false, true, List, [], ◌∷◌, Option, Some, None}
 use Rattle.job_board.specs.Numbers.{times}
 use Rattle.job_board.specs.Seats.{BoardValue, SeatValue, joint_view}
 use Rattle.job_board.specs.declared.view.View.{View}
 use Rattle.reg_arena.specs.History.{History}
+use Rattle.reg_arena.specs.Legal.{IsAtomic}
+use Rattle.reg_arena.specs.Operations.{register_of}
+use Rattle.reg_arena.specs.declared.ids.RegId.{RegId}
+use Rattle.reg_pieces.specs.Plan.{IsFirstPlan, PlanShown}
 use Rattle.reg_pieces.specs.Slots.{IsFull}
 use Rattle.reg_pieces.specs.Work.{ArePieces, IsSeatFor, numbers_of}
 use Rattle.reg_pieces.specs.declared.piece.Piece.{Piece}
@@ -12,10 +16,11 @@ use Rattle.reg_pieces.specs.declared.worker.Worked.{Worked}
 
 -- ---- before
 
--- a seat of this board that has drawn nothing
+-- a seat of this board that has drawn and flagged nothing
 pub record IsNewSeat (tasks : List Task) (board : BoardValue) (seat : SeatValue) : Type 0 where
   pub fits : IsSeatFor tasks board seat
   pub new : seat.view.drawn ≡ []
+  pub unflagged : seat.view.flagged ≡ []
 
 -- the weights of all seats
 abbrev pub weight_of_all : List SeatValue → ℕ
@@ -24,12 +29,18 @@ weight_of_all (s ∷ ss) = s.view.weight + weight_of_all ss
 
 -- ---- after
 
+-- what is known of the registers by a seat: each one that it drew is atomic, or flagged, or above the number that was seen; and no flagged one is atomic
+pub record IsSearched (h : History) (v : View) : Type 0 where
+  pub passed : (n : ℕ) → 0 < times n v.drawn → IsAtomic (register_of h n) ⊎ ((0 < times n v.flagged) ⊎ (v.seen < n))
+  pub flagged : (n : ℕ) → 0 < times n v.flagged → IsAtomic (register_of h n) → ⊥
+
 -- What a worker hands back that was given a new seat: where memory wasn't refused, the seat drew what is done and no more, and no number was left.
-pub record IsHandedBack (h : History) (tasks : List Task) (board : BoardValue) (w : Worked) : Type 0 where
+pub record IsHandedBack (h : History) (plan : PlanShown) (board : BoardValue) (w : Worked) : Type 0 where
   pub here : w.seat.board ≡ board.id
   pub drawn : w.refused ≡ false → w.seat.view.drawn ≡ numbers_of w.done.items
   pub told : w.refused ≡ false → w.seat.view.told ≡ true
-  pub pieces : ArePieces h tasks w.done.items
+  pub pieces : ArePieces h plan.tasks w.done.items
+  pub searched : w.refused ≡ false → IsFirstPlan h plan → IsSearched h w.seat.view
 
 -- the weights of the seats that are handed back
 abbrev pub weight_back : List Worked → ℕ
@@ -53,3 +64,28 @@ pub record IsJoined (board : BoardValue) (slots : List (Option Piece)) (refused 
   pub here : seat.board ≡ board.id
   pub told : refused ≡ false → seat.view.told ≡ true
   pub full : refused ≡ false → (n : ℕ) → 0 < times n seat.view.drawn → IsFull slots n
+
+-- Seats of this board that were made into one: where no worker was refused memory, no number was left, and this is known of all that they drew.
+pub record IsJoinedSearch (h : History) (board : BoardValue) (refused : Bool) (seat : SeatValue) : Type 0 where
+  pub here : seat.board ≡ board.id
+  pub told : refused ≡ false → seat.view.told ≡ true
+  pub searched : refused ≡ false → IsSearched h seat.view
+
+-- ---- the first register that isn't atomic
+
+-- the registers below n are atomic, and n is one that isn't or the number of registers
+pub record IsFoundAt (h : History) (registers n : ℕ) : Type 0 where
+  pub within : n ≤ registers
+  pub below : (r : ℕ) → r < n → IsAtomic (register_of h r)
+  pub at : n < registers → IsAtomic (register_of h n) → ⊥
+
+-- register r isn't atomic, and those below it are
+pub record IsFirstFaulty (h : History) (r : ℕ) : Type 0 where
+  pub within : r < length h.names
+  pub below : (k : ℕ) → k < r → IsAtomic (register_of h k)
+  pub faulty : IsAtomic (register_of h r) → ⊥
+
+-- the first register that isn't atomic, or none where each is
+abbrev pub IsFirstFound : History → Option RegId → Type 0
+IsFirstFound h None = (r : ℕ) → r < length h.names → IsAtomic (register_of h r)
+IsFirstFound h (Some r) = IsFirstFaulty h r.0

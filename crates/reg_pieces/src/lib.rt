@@ -3,12 +3,14 @@
 //! What the floor above may rely on: [`plan`] numbers the pieces of a history: register by register its verdict, then its
 //! reads in cuts. [`work`] is one worker, which draws numbers from a board and does their pieces. [`do_pieces`] has as many
 //! workers as the [`Settings`] say do all of them at once, and gives what is done by number, each piece the one that its
-//! task asks for: neither the number of workers nor the [`Gate`] that they pass changes it.
+//! task asks for; [`first_faulty`] has them find the first register that isn't atomic, with one piece a register. Neither
+//! the number of workers nor the [`Gate`] that they pass changes what is given.
 //!
 //! Read it in this order: `settings`; `tasks` and `planning`, which number the work; `order` and `piece`, what is done for
-//! one number; `gate` and `worker`; `pieces`, where what is done is kept; `workers`, all of it at once.
+//! one number; `gate` and `worker`; `pieces`, where what is done is kept; `workers`, all of it at once; `finding`.
 #![tactic(auto)]
 
+mod finding;
 mod gate;
 mod order;
 mod piece;
@@ -21,11 +23,12 @@ mod tests;
 mod worker;
 mod workers;
 
+pub use finding::first_faulty;
 pub use gate::{Gate, OpenGate};
 pub use order::Order;
-pub use piece::Piece;
+pub use piece::{Piece, judge};
 pub use pieces::Pieces;
-pub use planning::plan;
+pub use planning::{list_of, plan};
 pub use settings::{MAX_CUT, MAX_WORKERS, Settings};
 pub use tasks::{Plan, Task};
 pub use worker::{Worked, work};

@@ -1,6 +1,6 @@
 //! What is done for one piece of work.
-ghost use Rattle.std.specs.Prelude.{◌<◌, ◌≤◌, ℕ, length, IfOk, Some};
-ghost use Rattle.reg_pieces.specs.Judged.{IsJudged};
+ghost use Rattle.std.specs.Prelude.{◌≡◌, ◌<◌, ◌≤◌, ℕ, length, IfOk, Some};
+ghost use Rattle.reg_pieces.specs.Judged.{IsJudged, IsLookedAt, is_faulty};
 ghost use Rattle.reg_arena.specs.Operations.{register_of};
 ghost use Rattle.reg_pieces.specs.Plan.{IsListOf, IsPieceAt, IsPieceOf, IsPlan};
 
@@ -23,10 +23,41 @@ pub enum Piece {
         safe: Option<EvId>,
         regular: Option<EvId>,
     },
+    /// Where only the first register that isn't atomic is asked for: this one is atomic.
+    Clean,
+    /// Where only that one is asked for: a lower register than this one isn't atomic.
+    Skipped,
+}
+
+impl Piece {
+    /// Whether it is a fault.
+    pub(crate) fn is_faulty(&self) -> bool
+        ensures { result ≡ is_faulty self.now }
+    {
+        matches!(self, Piece::Faulty(_))
+    }
+}
+
+/// Whether a register is atomic, where `least` is the lowest number that a look found.
+pub(crate) fn look_at(arena: &Arena, register: RegId, least: u64) -> Piece
+    requires { register.0 < length arena.now.names }
+    ensures looked { IsLookedAt (register_of arena.now register.0) result }
+    ensures skipped { result ≡ Piece.Skipped → least < register.0 }
+{
+    if least < u64::from(register.0) {
+        return Piece::Skipped;
+    }
+    match sweep(arena, register) {
+        Ok(()) => Piece::Clean,
+        Err(fault) => Piece::Faulty(fault),
+    }
 }
 
 /// The canonical order of a register that is atomic, and else its fault.
-fn judge(alloc: Global, arena: &Arena, register: RegId) -> Result<Piece, AllocError>
+///
+/// # Errors
+/// Where a growth was refused; the arena is as before.
+pub fn judge(alloc: Global, arena: &Arena, register: RegId) -> Result<Piece, AllocError>
     requires { register.0 < length arena.now.names }
     ensures { IfOk result (IsJudged (register_of arena.now register.0)) }
 {
@@ -65,5 +96,6 @@ pub(crate) fn piece_at(
             Some(list) => Ok(bad_reads(arena, list, from, to)),
             None => unreachable!(),
         },
+        Task::First(_) => unreachable!(),
     }
 }

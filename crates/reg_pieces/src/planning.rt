@@ -1,6 +1,6 @@
 //! How the work of a history is cut into pieces.
 ghost use Rattle.std.specs.Prelude.{◌<◌, ◌≤◌, ◌^◌, length, IfOk, OnOk};
-ghost use Rattle.reg_pieces.specs.Plan.{AddsCuts, IsListOf, IsPlan};
+ghost use Rattle.reg_pieces.specs.Plan.{AddsCuts, IsFirstPlan, IsListOf, IsPlan, IsPlanBy};
 
 use crate::settings::Settings;
 use crate::tasks::{Plan, Task};
@@ -9,7 +9,14 @@ use reg_lamport::{ReadList, reads, single_writer};
 use std::alloc::{AllocError, Global};
 
 /// The completed reads of a register, where it has a single writer.
-fn list_of(alloc: Global, arena: &Arena, register: RegId) -> Result<Option<ReadList>, AllocError>
+///
+/// # Errors
+/// Where a growth was refused; the arena is as before.
+pub fn list_of(
+    alloc: Global,
+    arena: &Arena,
+    register: RegId,
+) -> Result<Option<ReadList>, AllocError>
     ensures { IfOk result (IsListOf arena.now register.0) }
 {
     if single_writer(arena, register) {
@@ -49,15 +56,12 @@ fn few_events(arena: &Arena)
     let _count = arena.event_count();
 }
 
-/// The pieces of work of a history.
-///
-/// # Errors
-/// Where a growth was refused; the arena is as before.
-pub fn plan(alloc: Global, arena: &Arena, settings: Settings) -> Result<Plan, AllocError>
-    ensures { IfOk result (IsPlan arena.now settings.cut) }
+/// The pieces of work of a whole report, in cuts of so many reads.
+fn whole_plan(alloc: Global, arena: &Arena, cut: u32) -> Result<Plan, AllocError>
+    requires { 0 < cut }
+    ensures { IfOk result (IsPlan arena.now cut) }
 {
     few_events(arena);
-    let cut = settings.cut();
     let mut tasks = Vec::new(alloc);
     let mut lists = Vec::new(alloc);
     for number in 0..arena.register_count() {
@@ -67,5 +71,39 @@ pub fn plan(alloc: Global, arena: &Arena, settings: Settings) -> Result<Plan, Al
         add_cuts(&mut tasks, register, &list, cut)?;
         lists.push(list)?;
     }
-    Ok(Plan { tasks, lists })
+    Ok(Plan {
+        tasks,
+        lists,
+        first: false,
+    })
+}
+
+/// A piece for each register, to find the first one that isn't atomic.
+fn first_plan(alloc: Global, arena: &Arena) -> Result<Plan, AllocError>
+    ensures { IfOk result (IsFirstPlan arena.now) }
+{
+    let count = arena.register_count();
+    let mut tasks = Vec::with_capacity(alloc, count as usize)?;
+    for number in 0..count {
+        tasks.push(Task::First(RegId(number)))?;
+    }
+    Ok(Plan {
+        tasks,
+        lists: Vec::new(alloc),
+        first: true,
+    })
+}
+
+/// The pieces of work of a history.
+///
+/// # Errors
+/// Where a growth was refused; the arena is as before.
+pub fn plan(alloc: Global, arena: &Arena, settings: Settings) -> Result<Plan, AllocError>
+    ensures { IfOk result (IsPlanBy arena.now settings.cut settings.first) }
+{
+    if settings.first() {
+        first_plan(alloc, arena)
+    } else {
+        whole_plan(alloc, arena, settings.cut())
+    }
 }

@@ -1,4 +1,5 @@
-//! The pieces of work of a history, numbered from 0: register by register, its verdict, then its reads in cuts.
+//! The pieces of work of a history, numbered from 0: register by register, its verdict, then its reads in cuts; or one a
+//! register, to find the first that isn't atomic.
 ghost use Rattle.std.specs.Prelude.{◌≡◌, ◌<◌, length, slice_get, Some};
 
 use reg_arena::RegId;
@@ -16,13 +17,17 @@ pub enum Task {
         from: usize,
         to: usize,
     },
+    /// Whether a register is atomic, where no lower one is known that isn't.
+    First(RegId),
 }
 
-/// The pieces of work of a history, with the completed reads of each register that has a single writer.
+/// The pieces of work of a history, with the completed reads of each register that has a single writer. Where the first
+/// register that isn't atomic is all that is asked for, they have no reads.
 #[derive(Drop)]
 pub struct Plan {
     pub(crate) tasks: Vec<Task>,
     pub(crate) lists: Vec<Option<ReadList>>,
+    pub(crate) first: bool,
 }
 
 impl Model for Plan {
@@ -30,7 +35,7 @@ impl Model for Plan {
 
     ghost Value = { PlanShown };
 
-    ghost view = { λ p. record { tasks = p.tasks.items; lists = p.lists.items } };
+    ghost view = { λ p. record { tasks = p.tasks.items; lists = p.lists.items; first = p.first } };
 }
 
 impl Plan {
@@ -39,6 +44,13 @@ impl Plan {
         ensures { result ≡ length self.now.tasks }
     {
         self.tasks.len() as u64
+    }
+
+    /// Whether the first register that isn't atomic is all that is asked for.
+    pub(crate) fn is_first(&self) -> bool
+        ensures { result ≡ self.now.first }
+    {
+        self.first
     }
 
     /// The task of this number.

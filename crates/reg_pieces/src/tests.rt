@@ -1,6 +1,6 @@
 //! The pieces of a history, done by workers at once and by threads of the callers' own.
-ghost use Rattle.std.specs.Prelude.{ℕ, All};
-ghost use Rattle.reg_pieces.specs.Plan.{IsPlan};
+ghost use Rattle.std.specs.Prelude.{All};
+ghost use Rattle.reg_pieces.specs.Plan.{IsSomePlan};
 ghost use Rattle.reg_pieces.specs.Workers.{IsNewSeat};
 
 use super::*;
@@ -39,7 +39,7 @@ const COUNTS: [(u32, u64); 3] = [(1, 4), (2, 3), (4096, 3)];
 
 // So many workers, and so many reads to a piece.
 fn settings(workers: u32, cut: u32) -> Result<Settings, Fail> {
-    Ok(Settings::new(workers, cut).ok_or("a number beyond its limit")?)
+    Ok(Settings::new(workers, cut, false).ok_or("a number beyond its limit")?)
 }
 
 // The numbers within their limits are settings, and no others.
@@ -54,7 +54,7 @@ fn limits_of_settings(rt: HostRuntime) -> Result<(), Fail> {
         (1, 1_048_577, false),
     ] {
         assert_eq!(rt;
-            Settings::new(workers, cut).is_some(),
+            Settings::new(workers, cut, false).is_some(),
             fits,
             "{workers} {cut}"
         );
@@ -81,6 +81,33 @@ fn counts_of_pieces(rt: HostRuntime) -> Result<(), Fail> {
             "{cut}"
         );
     }
+    Ok(())
+}
+
+// Where the first register that isn't atomic is all that is asked for, each register has one piece.
+#[test]
+fn counts_of_registers(rt: HostRuntime) -> Result<(), Fail> {
+    let arena = two_registers(&rt)?;
+    for cut in [1, 2, 4096] {
+        let by = Settings::new(2, cut, true).ok_or("a number beyond its limit")?;
+        assert_eq!(rt; plan(rt.alloc(), &arena, by)?.len(), 2, "{cut}");
+    }
+    Ok(())
+}
+
+// A worker that found the first register not to be atomic skips the second, and makes no order.
+#[test]
+fn registers_above_a_fault_are_skipped(rt: HostRuntime) -> Result<(), Fail> {
+    let alloc = rt.alloc();
+    let arena = two_registers(&rt)?;
+    let by = Settings::new(1, 1, true).ok_or("a number beyond its limit")?;
+    let plan = plan(alloc, &arena, by)?;
+    let (board, seat) = Board::open(alloc, plan.len())?;
+    let worked = work(alloc, &arena, &plan, &board, seat, &OpenGate);
+    let done = worked.done.as_slice();
+    assert_eq!(rt; done.len(), 2);
+    assert!(rt; matches!(done[0], (0, Piece::Faulty(_))));
+    assert!(rt; matches!(done[1], (1, Piece::Skipped)));
     Ok(())
 }
 
@@ -148,21 +175,21 @@ fn all_worked<R: Threads + Wait + Sync>(
     board: &Board<Global>,
     seats: Vec<Seat>,
 ) -> Result<Vec<Worked>, AllocError>
-    requires plan { (cut : ℕ) × IsPlan arena.now cut plan.now }
+    requires plan { IsSomePlan arena.now plan.now }
     requires seats { All (IsNewSeat plan.now.tasks board.now) seats.items }
 {
     thread::scope(
         thread::scope_env(),
         rt,
         |scope| -> Result<Vec<Worked>, AllocError>
-            requires plan { (cut : ℕ) × IsPlan arena.now cut plan.now }
+            requires plan { IsSomePlan arena.now plan.now }
             requires seats { All (IsNewSeat plan.now.tasks board.now) seats.items }
         {
             let mut handles = Vec::new(alloc);
             for seat in seats {
                 let started = scope.spawn(
                     move || -> Worked
-                        requires plan { (cut : ℕ) × IsPlan arena.now cut plan.now }
+                        requires plan { IsSomePlan arena.now plan.now }
                         requires seat { IsNewSeat plan.now.tasks board.now seat }
                     { work(alloc, arena, plan, board, seat, &OpenGate) },
                 )?;

@@ -1,13 +1,15 @@
 //! One worker: it draws pieces from a board and does them.
-ghost use Rattle.std.specs.Prelude.{◌≡◌, ◌<◌, ℕ, length, IsErr, OnOk};
-ghost use Rattle.reg_pieces.specs.Plan.{IsPlan};
-ghost use Rattle.reg_pieces.specs.Work.{AddsPiece, HasWorked, IsSeatFor};
+ghost use Rattle.std.specs.Prelude.{◌≡◌, ◌<◌, ◌≤◌, ℕ, length, IsErr, OnOk};
+ghost use Rattle.job_board.specs.Numbers.{times};
+ghost use Rattle.job_board.specs.declared.limits.TheConstants.{MAX_JOBS};
+ghost use Rattle.reg_pieces.specs.Plan.{IsPlan, IsSomePlan};
+ghost use Rattle.reg_pieces.specs.Work.{AddsPiece, AddsRegister, HasWorked, IsSeatFor, KeepsSeat};
 
 use crate::gate::Gate;
-use crate::piece::{Piece, piece_at};
+use crate::piece::{Piece, look_at, piece_at};
 use crate::tasks::Plan;
 use job_board::{Board, Seat};
-use reg_arena::Arena;
+use reg_arena::{Arena, RegId};
 use std::alloc::{AllocError, Global};
 
 /// What a worker hands back.
@@ -39,6 +41,32 @@ fn do_piece(
     Ok(())
 }
 
+/// Looks for a lower register that isn't atomic, and does the piece of this one where there is none; flags its number
+/// where it isn't atomic.
+fn do_register(
+    arena: &Arena,
+    board: &Board<Global>,
+    seat: &mut Seat,
+    number: u64,
+    done: &mut Vec<(u64, Piece)>,
+) -> Result<(), AllocError>
+    requires board { seat.old.board ≡ board.now.id }
+    requires drawn { 0 < times number seat.old.view.drawn }
+    requires number { (number < length arena.now.names) × (number ≤ MAX_JOBS) }
+    ensures seat { KeepsSeat seat.old seat.new }
+    ensures ok { OnOk result (AddsRegister arena.now number seat.old seat.new done.old.items done.new.items) }
+    ensures err { IsErr result → (done.new.items ≡ done.old.items) × (seat.new.view.flagged ≡ seat.old.view.flagged) }
+{
+    let least = board.look(seat);
+    let looked = look_at(arena, RegId(number as u32), least);
+    let faulty = looked.is_faulty();
+    done.push((number, looked))?;
+    if faulty {
+        board.flag(seat, number);
+    }
+    Ok(())
+}
+
 /// One worker: it draws a piece, passes the gate with its number and does it, until no piece is left or memory is refused.
 /// It takes no right to start threads or to wait.
 pub fn work<G: Gate>(
@@ -49,14 +77,19 @@ pub fn work<G: Gate>(
     mut seat: Seat,
     gate: &G,
 ) -> Worked
-    requires plan { (cut : ℕ) × IsPlan arena.now cut plan.now }
+    requires plan { IsSomePlan arena.now plan.now }
     requires seat { IsSeatFor plan.now.tasks board.now seat }
-    ensures { HasWorked arena.now plan.now.tasks seat result }
+    ensures { HasWorked arena.now plan.now seat result }
 {
     let mut done = Vec::new(alloc);
     while let Some(number) = board.draw(&mut seat) {
         gate.arrive(number);
-        if do_piece(alloc, arena, plan, number, &mut done).is_err() {
+        let added = if plan.is_first() {
+            do_register(arena, board, &mut seat, number, &mut done)
+        } else {
+            do_piece(alloc, arena, plan, number, &mut done)
+        };
+        if added.is_err() {
             return Worked {
                 seat,
                 done,

@@ -1,8 +1,9 @@
 //! All workers at once.
 ghost use Rattle.std.specs.Prelude.{◌≡◌, ◌<◌, ◌≤◌, ℕ, All, IfOk, IfSome, true, length};
 ghost use Rattle.job_board.specs.Numbers.{times};
+ghost use Rattle.job_board.specs.Steps.{ClosesWith};
 ghost use Rattle.job_board.specs.declared.limits.TheConstants.{FULL_WEIGHT};
-ghost use Rattle.reg_pieces.specs.Plan.{IsPlan};
+ghost use Rattle.reg_pieces.specs.Plan.{IsPlan, IsSomePlan};
 ghost use Rattle.reg_pieces.specs.Slots.{AreDone, AreEmpty};
 ghost use Rattle.reg_pieces.specs.Work.{HasWorked};
 ghost use Rattle.reg_pieces.specs.Workers.{IsHandedBack, IsNewSeat, view_with, weight_back, weight_of_all};
@@ -43,7 +44,7 @@ pub(crate) fn seats_of(
 }
 
 /// A worker for each seat, all of them at once.
-fn all_work<R: Threads + Sync, G: Gate + Sync>(
+pub(crate) fn all_work<R: Threads + Sync, G: Gate + Sync>(
     rt: &R,
     alloc: Global,
     arena: &Arena,
@@ -52,24 +53,24 @@ fn all_work<R: Threads + Sync, G: Gate + Sync>(
     seats: Vec<Seat>,
     gate: &G,
 ) -> Result<Vec<Worked>, AllocError>
-    requires plan { (cut : ℕ) × IsPlan arena.now cut plan.now }
+    requires plan { IsSomePlan arena.now plan.now }
     requires seats { All (IsNewSeat plan.now.tasks board.now) seats.items }
-    ensures back { IfOk result (λ back. All (IsHandedBack arena.now plan.now.tasks board.now) back.items) }
+    ensures back { IfOk result (λ back. All (IsHandedBack arena.now plan.now board.now) back.items) }
     ensures weight { IfOk result (λ back. weight_back back.items ≡ weight_of_all seats.items) }
 {
     thread::map_vec(
         rt,
         seats,
         &|seat| -> Worked
-            requires plan { (cut : ℕ) × IsPlan arena.now cut plan.now }
+            requires plan { IsSomePlan arena.now plan.now }
             requires seat { IsNewSeat plan.now.tasks board.now seat }
-            ensures { HasWorked arena.entry.now plan.entry.now.tasks seat result }
+            ensures { HasWorked arena.entry.now plan.entry.now seat result }
         { work(alloc, arena, plan, board, seat, gate) },
     )
 }
 
 /// One seat more, made one with those before it.
-fn joined(board: &Board<Global>, before: Option<Seat>, seat: Seat) -> Seat
+pub(crate) fn joined(board: &Board<Global>, before: Option<Seat>, seat: Seat) -> Seat
     requires seat { seat.board ≡ board.now.id }
     requires before { IfSome before (λ one. one.board ≡ board.now.id) }
     ensures board { result.board ≡ board.now.id }
@@ -81,14 +82,16 @@ fn joined(board: &Board<Global>, before: Option<Seat>, seat: Seat) -> Seat
     }
 }
 
-/// Closes the board with the one seat that all others were made into.
-fn closed(board: Board<Global>, seat: Seat)
+/// Closes the board with the one seat that all others were made into; the least number that was flagged, or the number of
+/// pieces.
+pub(crate) fn closed(board: Board<Global>, seat: Seat) -> u64
     requires board { seat.board ≡ board.id }
     requires weight { seat.view.weight ≡ FULL_WEIGHT }
-    ensures { seat.view.told ≡ true → (n : ℕ) → n < board.jobs → 0 < times n seat.view.drawn }
+    ensures drawn { seat.view.told ≡ true → (n : ℕ) → n < board.jobs → 0 < times n seat.view.drawn }
+    ensures least { ClosesWith board.jobs seat.view result }
 {
     match board.close(seat) {
-        Ok(_least) => {}
+        Ok(least) => least,
         Err(_) => unreachable!(),
     }
 }
@@ -108,7 +111,7 @@ fn gathered(
     requires jobs { board.jobs ≡ length plan.now.tasks }
     requires count { length pieces ≡ length plan.now.tasks }
     requires empty { AreEmpty pieces }
-    requires back { All (IsHandedBack arena.now plan.now.tasks board) back.items }
+    requires back { All (IsHandedBack arena.now plan.now board) back.items }
     requires weight { weight_back back.items ≡ FULL_WEIGHT }
     ensures { IfOk result (AreDone arena.now plan.now.tasks) }
 {

@@ -59,6 +59,8 @@ together-starts h tasks r cut len start slots a = record {
 cut-piece : (h : History) (r from to : ℕ) (first : FirstBad) (p : Piece) → from ≤ to → IsPieceOf h (Reads (record { 0 = r }) from to) p → AreFirstBad h r 0 from first → IsCut p × AreFirstBad h r 0 to (with_cut first p)
 cut-piece h r from to first (piece.Order order) l f b = absurd f
 cut-piece h r from to first (piece.Faulty fault) l f b = absurd f
+cut-piece h r from to first piece.Clean l f b = absurd f
+cut-piece h r from to first piece.Skipped l f b = absurd f
 cut-piece h r from to first (piece.Reads safe regular) l f b = (
   tt,
   (

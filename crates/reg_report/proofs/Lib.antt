@@ -13,5 +13,6 @@ mod OneReport
 mod Cutting
 mod Assembly
 mod ListedLevels
+mod FoundLines
 pub mod Pulling
 mod Pushing

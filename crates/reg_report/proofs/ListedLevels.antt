@@ -1,7 +1,9 @@
--- What a plan has of one register's reads.
-use Rattle.std.proofs.Common.{◌≡◌, ℕ, List, ◌++◌, length, slice_get, Option, Some, None, sym, ap, subst, ◌∙◌}
+-- What a plan has of one register's reads, and what a list of them has.
+use Rattle.std.proofs.Common.{◌≡◌, ℕ, List, ◌++◌, length, slice_get, Option, Some, None, refl, sym, ap, subst, ◌∙◌}
 use Rattle.std.proofs.lemmas.Option.{same_Some}
 use Rattle.reg_arena.specs.History.{History}
+use Rattle.reg_arena.specs.Lamport.{HasSingleWriter}
+use Rattle.reg_arena.specs.Operations.{register_of}
 use Rattle.reg_lamport.specs.Reads.{ListedReads}
 use Rattle.reg_report.specs.Cuts.{HasCuts, HasCutsOf, Leaves, LeavesOf}
 use Rattle.reg_pieces.specs.Plan.{AreCutsOf, IsListOf, IsPlan, PlanShown}
@@ -24,3 +26,7 @@ module _ (h : History) (cut r : ℕ) (plan : PlanShown) (p : IsPlan h cut plan) 
   none-leaves tasks s x cuts rest there c q =
       let same : x ≡ None = same_Some _ _ (sym there ∙ at) ∙ s in
       q ∙ ap (λ ts. ts ++ rest) (subst (λ y. AreCutsOf cut r y cuts) same c)
+
+-- the list of a register is that of its own one
+pub own-list : (h : History) (r : ℕ) (list : ListedReads) → IsListOf h r (Some list) → IsListOf h list.register (Some list)
+own-list h r list l = (subst (λ n. HasSingleWriter (register_of h n)) (sym l.1) l.0, refl, l.2)

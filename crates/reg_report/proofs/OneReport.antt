@@ -17,6 +17,7 @@ use Rattle.reg_zones.proofs.OneFault.{one_fault}
 use Rattle.reg_zones.proofs.Unique.{ascending_one, one_canonical, sooner_one_way}
 use Rattle.reg_zones.proofs.Places.{Before-map}
 use Rattle.reg_zones.proofs.Points.{operations_of-placed}
+use Rattle.reg_report.specs.First.{AreFoundLines, IsFirstReport}
 use Rattle.reg_report.specs.Meaning.{IsVerdict, HasLine, HaveLines, ShowsFault, IsAtomicity, IsInversionShown, IsInversionAnswer, IsWholeAtomicity, IsRegisterReport, IsReport, lines_of, points_of}
 use Rattle.reg_report.specs.Merged.{MergesBefore, IsWholeOrder}
 use Rattle.reg_report.specs.declared.report.Verdict.{Verdict}
@@ -207,5 +208,32 @@ module _ (h : History) (named : (name : Oper) (o p : Operation) → IsNamed h na
       let whole = one_whole a.atomic b.atomic a.order b.order p.atomic q.atomic in
       let atomic = whole.0 in
       let order = whole.1 in
+      let same : report_with a.regs a.operations a.registers a.atomic a.order ≡ report_with b.regs b.operations b.registers b.atomic b.order = cc in
+      sym (report_fields a) ∙ (same ∙ report_fields b)
+
+  -- ---- the report of the first register that isn't atomic
+
+  one_found : ((r : ℕ) → IsHistory (register_of h r)) → (x y : Bool) (s t : List RegReport) → AreFoundLines h x s → AreFoundLines h y t → (x ≡ y) × (s ≡ t)
+  one_found is true true s t a b = (refl, a.1 ∙ sym b.1)
+  one_found is true false s t a b = absurd (b.0 a.0)
+  one_found is false true s t a b = absurd (a.0 b.0)
+  one_found is false false s t a b =
+      let r = a.1.0 in
+      let q = b.1.0 in
+      let same : q ≡ r = elim (cases_order q r) [
+        | inl e ↦ e
+        | inr c ↦ elim c [ inl l ↦ absurd (b.1.2.faulty (a.1.2.below q l)) | inr l ↦ absurd (a.1.2.faulty (b.1.2.below r l)) ]
+      ] in
+      let line = one_register r (is r) a.1.1 b.1.1 a.1.3 (subst (λ n. IsRegisterReport h n b.1.1) same b.1.3) in
+      (refl, a.1.4 ∙ (ap (λ (reg : RegReport). reg ∷ []) line ∙ sym b.1.4))
+
+  pub one_first_report : ((r : ℕ) → IsHistory (register_of h r)) → (a b : Report) → IsFirstReport h a → IsFirstReport h b → a ≡ b
+  one_first_report y a b p q =
+      let found = one_found y a.atomic b.atomic a.regs b.regs p.lines q.lines in
+      let atomic = found.0 in
+      let regs = found.1 in
+      let operations = p.called ∙ sym q.called in
+      let registers = p.named ∙ sym q.named in
+      let order = p.unordered ∙ sym q.unordered in
       let same : report_with a.regs a.operations a.registers a.atomic a.order ≡ report_with b.regs b.operations b.registers b.atomic b.order = cc in
       sym (report_fields a) ∙ (same ∙ report_fields b)

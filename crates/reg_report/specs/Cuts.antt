@@ -20,12 +20,16 @@ abbrev pub IsCut : Piece → Type 0
 IsCut (piece.Order order) = ⊥
 IsCut (piece.Faulty fault) = ⊥
 IsCut (piece.Reads safe regular) = Unit {0}
+IsCut piece.Clean = ⊥
+IsCut piece.Skipped = ⊥
 
 -- a cut besides: what came before goes first
 abbrev pub with_cut : FirstBad → Piece → FirstBad
 with_cut first (piece.Order order) = first
 with_cut first (piece.Faulty fault) = first
 with_cut first (piece.Reads safe regular) = record { safe = option_or first.safe safe; regular = option_or first.regular regular }
+with_cut first piece.Clean = first
+with_cut first piece.Skipped = first
 
 -- the tasks begin with the cuts of so many reads of register r
 abbrev pub HasCuts : ℕ → ℕ → ℕ → List Task → Type 0

@@ -4,6 +4,7 @@ pub mod Sends
 pub mod Merged
 pub mod Merging
 pub mod Meaning
+pub mod First
 pub mod Told
 pub mod Lines
 pub mod Tally

@@ -1,5 +1,5 @@
 -- What a run of the whole does.
-use Rattle.std.specs.Prelude.{ℕ, List, Err, Option}
+use Rattle.std.specs.Prelude.{ℕ, Bool, List, Err, Option}
 use Rattle.std.specs.Io.KnownBytes.{Appends}
 use Rattle.history_text.specs.Reading.{history_lines}
 use Rattle.reg_arena.specs.History.{history_of}
@@ -30,9 +30,9 @@ IsOfPull NoRoom = Unit {0}
 IsOfPull OutputFailed = ⊥
 
 -- the answer to all the bytes that were left is a report: its bytes were taken, and it has this outcome
-abbrev pub Reports : Option (List ℕ) → Option (List ℕ) → Option (List ℕ) → Outcome → Type 0
-Reports left old new outcome =
-    (input : List ℕ) × IsAll left input × (bytes : List ℕ) × IsAnswerText input bytes outcome × Appends old new bytes
+abbrev pub Reports : Bool → Option (List ℕ) → Option (List ℕ) → Option (List ℕ) → Outcome → Type 0
+Reports first left old new outcome =
+    (input : List ℕ) × IsAll left input × (bytes : List ℕ) × IsAnswerText first input bytes outcome × Appends old new bytes
 
 -- the history in these bytes is atomic, or it isn't (Herlihy and Wing, Linearizability: A Correctness Condition for Concurrent Objects, 1990)
 abbrev pub IsOutcome : List ℕ → Outcome → Type 0
@@ -44,10 +44,10 @@ abbrev pub TellsAtomic : Option (List ℕ) → Outcome → Type 0
 TellsAtomic left outcome = (input : List ℕ) × IsAll left input × IsOutcome input outcome
 
 -- the answer to all the bytes that were left is a report, of which a beginning was taken
-abbrev pub ReportsBeginning : Option (List ℕ) → Option (List ℕ) → Option (List ℕ) → Type 0
-ReportsBeginning left old new =
-    (input : List ℕ) × IsAll left input × (bytes : List ℕ) × (outcome : Outcome) × IsAnswerText input bytes outcome × AppendsBeginning old new bytes
+abbrev pub ReportsBeginning : Bool → Option (List ℕ) → Option (List ℕ) → Option (List ℕ) → Type 0
+ReportsBeginning first left old new =
+    (input : List ℕ) × IsAll left input × (bytes : List ℕ) × (outcome : Outcome) × IsAnswerText first input bytes outcome × AppendsBeginning old new bytes
 
 -- the answer to all the bytes that were left is this refusal
-abbrev pub IsRefusedWhole : Option (List ℕ) → Refusal → Type 0
-IsRefusedWhole left refusal = (input : List ℕ) × IsAll left input × IsAnswer input (Err refusal)
+abbrev pub IsRefusedWhole : Bool → Option (List ℕ) → Refusal → Type 0
+IsRefusedWhole first left refusal = (input : List ℕ) × IsAll left input × IsAnswer first input (Err refusal)

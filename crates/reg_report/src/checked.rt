@@ -1,19 +1,41 @@
 //! From the bytes of a history to its report.
 ghost use Rattle.std.specs.Prelude.{◌≡◌, ◌<◌, length, Ok, Err, IfOk, IfErr};
 ghost use Rattle.reg_report.specs.Answer.{IsAnswer, IsRefused};
+ghost use Rattle.reg_report.specs.First.{IsReportBy};
 
+use crate::first::first_report;
 use crate::history::history_report;
 use crate::refusal::Refusal;
 use crate::report::Report;
 use history_text::{MAX_INPUT, read_lines};
 use reg_arena::{Arena, HashKey};
-use reg_pieces::{Gate, Settings, do_pieces, plan};
-use std::alloc::Global;
+use reg_pieces::{Gate, Settings, do_pieces, first_faulty, plan};
+use std::alloc::{AllocError, Global};
 use std::random::RandomSource;
 use std::thread::Threads;
 
-/// The report of the history in the input. Workers do its pieces, past the gate; neither their number, nor the cut, nor
-/// the gate changes the report.
+/// The report of an accepted history that the settings ask for.
+fn report_by<R: Threads + Sync, G: Gate + Sync>(
+    rt: &R,
+    alloc: Global,
+    arena: &Arena,
+    settings: Settings,
+    gate: &G,
+) -> Result<Report, AllocError>
+    ensures { IfOk result (IsReportBy settings.first arena.now) }
+{
+    let plan = plan(alloc, arena, settings)?;
+    if settings.first() {
+        let found = first_faulty(rt, alloc, arena, &plan, settings, gate)?;
+        first_report(alloc, arena, found)
+    } else {
+        let pieces = do_pieces(rt, alloc, arena, &plan, settings, gate)?;
+        history_report(alloc, arena, &plan, settings.cut(), pieces)
+    }
+}
+
+/// The report of the history in the input: of the whole of it, or of its first register that isn't atomic, as the settings
+/// ask. Workers do its pieces, past the gate; neither their number, nor the cut, nor the gate changes the report.
 ///
 /// # Errors
 /// `TooLong` where the input has more than [`MAX_INPUT`] bytes, whatever memory there is; `At` for the least faulty
@@ -25,8 +47,8 @@ pub fn check<R: Threads + RandomSource + Sync, G: Gate + Sync>(
     settings: Settings,
     gate: &G,
 ) -> Result<Report, Refusal>
-    ensures ok { IfOk result (λ report. IsAnswer input.now (Ok report)) }
-    ensures err { IfErr result (IsRefused input.now) }
+    ensures ok { IfOk result (λ report. IsAnswer settings.first input.now (Ok report)) }
+    ensures err { IfErr result (IsRefused settings.first input.now) }
     ensures long { MAX_INPUT < length input.now → result ≡ Err Refusal.TooLong }
 {
     if input.len() > MAX_INPUT {
@@ -35,7 +57,5 @@ pub fn check<R: Threads + RandomSource + Sync, G: Gate + Sync>(
     let lines = read_lines(rt, alloc, input)?;
     let key = HashKey::drawn(rt, &lines);
     let arena = Arena::build_keyed(alloc, key, lines)?;
-    let plan = plan(alloc, &arena, settings)?;
-    let pieces = do_pieces(rt, alloc, &arena, &plan, settings, gate)?;
-    Ok(history_report(alloc, &arena, &plan, settings.cut(), pieces)?)
+    Ok(report_by(rt, alloc, &arena, settings, gate)?)
 }

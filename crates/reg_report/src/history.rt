@@ -28,7 +28,7 @@ pub(crate) struct Reported {
 }
 
 /// The number of calls.
-fn count_operations(arena: &Arena) -> u32
+pub(crate) fn count_operations(arena: &Arena) -> u32
     ensures { result ≡ length (calls arena.now.events) }
 {
     let mut count = 0;
@@ -53,7 +53,7 @@ fn with_order(
 {
     match judged {
         Piece::Faulty(_) => Ok(None),
-        Piece::Reads { .. } => unreachable!(),
+        Piece::Reads { .. } | Piece::Clean | Piece::Skipped => unreachable!(),
         Piece::Order(order) => match orders {
             None => Ok(None),
             Some(orders) => Ok(Some(orders.with(order)?)),

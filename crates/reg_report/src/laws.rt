@@ -5,6 +5,7 @@ ghost use Rattle.reg_arena.specs.History.{History, IsRecorded};
 ghost use Rattle.reg_arena.specs.Legal.{IsLegal, IsAtomic};
 ghost use Rattle.reg_arena.specs.Operations.{Operation, IsHistory, of_register, operations};
 ghost use Rattle.reg_zones.specs.Order.{PlacedOperation, operations_of};
+ghost use Rattle.reg_report.specs.First.{IsFirstReport};
 ghost use Rattle.reg_report.specs.Meaning.{IsEachAtomic, IsReport};
 ghost use Rattle.reg_report.specs.Merged.{IsMerged};
 ghost use Rattle.reg_report.specs.declared.report.Report.{Report as AReport};
@@ -35,6 +36,14 @@ pub fn registers_decide()
 /// A history has one report.
 pub fn one_report()
     ensures { (h : History) (a b : AReport) → IsRecorded h → IsReport h a → IsReport h b → a ≡ b }
+{
+    accepted_is_history();
+    names_are_unique();
+}
+
+/// A history has one report of its first register that isn't atomic.
+pub fn one_first_report()
+    ensures { (h : History) (a b : AReport) → IsRecorded h → IsFirstReport h a → IsFirstReport h b → a ≡ b }
 {
     accepted_is_history();
     names_are_unique();

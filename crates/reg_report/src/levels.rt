@@ -72,7 +72,7 @@ fn level_answer(arena: &Arena, list: &ReadList, level: Level, first: Option<EvId
 }
 
 /// Both levels of a register with a single writer, by the first of its listed reads that break them.
-fn listed_levels(arena: &Arena, list: &ReadList, first: FirstBad) -> Levels
+pub(crate) fn listed_levels(arena: &Arena, list: &ReadList, first: FirstBad) -> Levels
     requires list { IsListOf arena.now list.now.register (Some list.now) }
     requires first { AreFirstBad arena.now list.now.register 0 (length list.now.entries) first }
     ensures { AreLevels (register_of arena.now list.now.register) result }
@@ -84,7 +84,7 @@ fn listed_levels(arena: &Arena, list: &ReadList, first: FirstBad) -> Levels
 }
 
 /// Both levels of a register that several processes write.
-fn several_writers() -> Levels
+pub(crate) fn several_writers() -> Levels
     ensures { (r : _) → (HasSingleWriter r → ⊥) → AreLevels r result }
 {
     let several = LevelAnswer {

@@ -8,13 +8,14 @@
 //! of its registers is, and that a history has one report.
 //!
 //! To read, from the input on: `pulled`; `checked`, which asks all others, and below it `reg_pieces`; `history`, which
-//! puts what is done together: there `tally` counts the calls, `register` makes the line of one register, with `levels`,
+//! puts what is done together, or `first`, where the first register that isn't atomic is all that is asked for: there `tally` counts the calls, `register` makes the line of one register, with `levels`,
 //! `fault` and `order`, and `merged` the order of all; then `report` with `lists`, `send` and `written`; `pushed`, `outcome` and `whole` at last.
 //! `refusal` and `wording` say why there is no report, and `told` asks the arena for what its laws say.
 #![tactic(auto)]
 
 mod checked;
 mod fault;
+mod first;
 mod history;
 pub mod laws;
 mod levels;

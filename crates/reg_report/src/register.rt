@@ -118,7 +118,7 @@ fn atomicity_of(
     match judged {
         Piece::Order(order) => ordered(alloc, arena, register, order),
         Piece::Faulty(fault) => Ok(faulty(arena, register, *fault, regular)),
-        Piece::Reads { .. } => unreachable!(),
+        Piece::Reads { .. } | Piece::Clean | Piece::Skipped => unreachable!(),
     }
 }
 

@@ -33,15 +33,15 @@ pub fn run<T: Threads + RandomSource + Sync, R: Source, W: Sink, G: Gate + Sync>
     requires source { R.failed source.old < 2 ^ 64 - 1 }
     requires sink { W.failed sink.old < 2 ^ 64 - 1 }
 
-    // The bytes that the sink took are the report of all the bytes that the source had left.
-    ensures report { IfOk result (λ outcome. Reports (R.left source.old) (W.taken sink.old) (W.taken sink.new) outcome) }
+    // The bytes that the sink took are the report, as the settings ask for it, of all the bytes that the source had left.
+    ensures report { IfOk result (λ outcome. Reports settings.first (R.left source.old) (W.taken sink.old) (W.taken sink.new) outcome) }
 
     // It says whether that history is atomic.
     ensures atomic { IfOk result (TellsAtomic (R.left source.old)) }
     ensures flushed { OnOk result (W.is_flushed sink.new) }
 
     // An input that is refused is refused for all those bytes.
-    ensures refused { IfErr result (λ refusal. IsOfInput refusal → IsRefusedWhole (R.left source.old) refusal) }
+    ensures refused { IfErr result (λ refusal. IsOfInput refusal → IsRefusedWhole settings.first (R.left source.old) refusal) }
     ensures too_long { IfSome (R.left source.old) (λ input. MAX_INPUT < length input → (result ≡ Err Refusal.TooLong) ⊎ (result ≡ Err Refusal.InputFailed)) }
 
     // A failure is answered exactly where there was one.
@@ -49,7 +49,7 @@ pub fn run<T: Threads + RandomSource + Sync, R: Source, W: Sink, G: Gate + Sync>
     ensures output_failed { (result ≡ Err Refusal.OutputFailed) ↔ (W.failed sink.old < W.failed sink.new) }
 
     // After a failure of the sink a beginning of the report is out, and after any other refusal nothing was pushed.
-    ensures beginning { result ≡ Err Refusal.OutputFailed → ReportsBeginning (R.left source.old) (W.taken sink.old) (W.taken sink.new) }
+    ensures beginning { result ≡ Err Refusal.OutputFailed → ReportsBeginning settings.first (R.left source.old) (W.taken sink.old) (W.taken sink.new) }
     ensures nothing { IfErr result (λ refusal. refusal ≢ Refusal.OutputFailed → sink.new ≡ sink.old) }
 {
     let input = pull_all(alloc, source)?;

@@ -38,24 +38,24 @@ module _ (old : Command) (m : ArgMatches) (p : IsParsedFrom old m) (ours : app_o
   all_rules : map rule_of (args_of old) ≡ rules_here
   all_rules = ap (λ (a : App). a.top.rules) ours
 
-  three : length (args_of old) ≡ 3
-  three = sym (length-map (args_of old) rule_of) ∙ ap length all_rules
+  four : length (args_of old) ≡ 4
+  four = sym (length-map (args_of old) rule_of) ∙ ap length all_rules
 
   simple : IsSimple old
   simple = ready_simple old (ap (λ (a : App). is_ready a.top) ours) (ap (λ (a : App). list_all is_ready_leaf a.subs) ours)
 
-  rule_at : (k : ℕ) (d : Arg) → k < 3 → rule_of (slice_index_or (args_of old) k d) ≡ slice_index_or rules_here k (rule_of d)
+  rule_at : (k : ℕ) (d : Arg) → k < 4 → rule_of (slice_index_or (args_of old) k d) ≡ slice_index_or rules_here k (rule_of d)
   rule_at k d lt =
-      let in_args : k < length (args_of old) = rw three lt in
+      let in_args : k < length (args_of old) = rw four lt in
       sym (get_or-map rule_of (args_of old) k d (rule_of d) in_args) ∙ ap (λ l. slice_index_or l k (rule_of d)) all_rules
 
   -- the option at place k has the text of a number
-  number_at : (k : ℕ) (name : Text) (most : ℕ) (default : Text) → k < 3 → ((d : Rule) → slice_index_or rules_here k d ≡ number_rule name most default)
-      → ((j : ℕ) (d : Rule) → j < 3 → bytes_eq (slice_index_or rules_here j d).id name ≡ true → j ≡ k)
+  number_at : (k : ℕ) (name : Text) (most : ℕ) (default : Text) → k < 4 → ((d : Rule) → slice_index_or rules_here k d ≡ number_rule name most default)
+      → ((j : ℕ) (d : Rule) → j < 4 → bytes_eq (slice_index_or rules_here j d).id name ≡ true → j ≡ k)
       → bytes_eq name [] ≡ false → bytes_eq name (codes "help") ≡ false → bytes_eq name (codes "version") ≡ false
       → (text : Text) × (one_text (found_of m) name ≡ Some (without_minus text)) × IsSignedIn (pos 1) (pos most) text
   number_at k name most default lt is only named no_help no_version =
-      let in_args : k < length (args_of old) = rw three lt in
+      let in_args : k < length (args_of old) = rw four lt in
       let d = some_arg (args_of old) (omega arith) in
       let arg = slice_index_or (args_of old) k d in
       let rule : rule_of arg ≡ number_rule name most default = rule_at k d lt ∙ is (rule_of d) in
@@ -64,7 +64,7 @@ module _ (old : Command) (m : ArgMatches) (p : IsParsedFrom old m) (ours : app_o
       let defaults : length (items_of arg.default_vals) ≡ 1 = sym (length-map (items_of arg.default_vals) (λ s. s.now)) ∙ ap (λ (r : Rule). length r.defaults) rule in
       let unique : (j : ℕ) (x : Arg) → j < length (args_of old) → bytes_eq (slice_index_or (args_of old) j x).id.now arg.id.now ≡ true → j ≡ k =
       λ j x low same.
-      let under : j < 3 = rw three at low in
+      let under : j < 4 = rw four at low in
       let at : (slice_index_or (args_of old) j x).id.now ≡ (slice_index_or rules_here j (rule_of x)).id = ap (λ (r : Rule). r.id) (rule_at j x under) in
       only j (rule_of x) under (rw (at, id) at same) in
       let read = default_reads old m p simple (simple_groups old (ap (λ (a : App). list_all (λ r. r.is_simple) a.top.rules) ours)) k d in_args unique
@@ -87,11 +87,12 @@ module _ (old : Command) (m : ArgMatches) (p : IsParsedFrom old m) (ours : app_o
   workers_has words rows = number_has words (codes "workers") MAX_WORKERS rows
       (number_at 1 (codes "workers") MAX_WORKERS (codes "4") (omega arith) (λ d. refl) only refl refl refl)
     where
-      only : (j : ℕ) (d : Rule) → j < 3 → bytes_eq (slice_index_or rules_here j d).id (codes "workers") ≡ true → j ≡ 1
+      only : (j : ℕ) (d : Rule) → j < 4 → bytes_eq (slice_index_or rules_here j d).id (codes "workers") ≡ true → j ≡ 1
       only zero d lt e = absurd (true≢false (sym e))
       only (suc zero) d lt e = refl
       only (suc (suc zero)) d lt e = absurd (true≢false (sym e))
-      only (suc (suc (suc j))) d lt e = absurd (omega arith)
+      only (suc (suc (suc zero))) d lt e = absurd (true≢false (sym e))
+      only (suc (suc (suc (suc j)))) d lt e = absurd (omega arith)
 
   pub cut_has : (words : List Text) → rows_of (found_of m) ≡ matches_of command_line words
       → HasNumber (found_of m) (codes "cut") MAX_CUT (cut_named words)
@@ -99,11 +100,12 @@ module _ (old : Command) (m : ArgMatches) (p : IsParsedFrom old m) (ours : app_o
   cut_has words rows = number_has words (codes "cut") MAX_CUT rows
       (number_at 2 (codes "cut") MAX_CUT (codes "4096") (omega arith) (λ d. refl) only refl refl refl)
     where
-      only : (j : ℕ) (d : Rule) → j < 3 → bytes_eq (slice_index_or rules_here j d).id (codes "cut") ≡ true → j ≡ 2
+      only : (j : ℕ) (d : Rule) → j < 4 → bytes_eq (slice_index_or rules_here j d).id (codes "cut") ≡ true → j ≡ 2
       only zero d lt e = absurd (true≢false (sym e))
       only (suc zero) d lt e = absurd (true≢false (sym e))
       only (suc (suc zero)) d lt e = refl
-      only (suc (suc (suc j))) d lt e = absurd (omega arith)
+      only (suc (suc (suc zero))) d lt e = absurd (true≢false (sym e))
+      only (suc (suc (suc (suc j)))) d lt e = absurd (omega arith)
 
 -- the results that `u32` may read from a text
 abbrev reads_u32 : List ℕ → Result ℕ ParseIntError → Type 0

@@ -3,7 +3,7 @@ use Rattle.std.proofs.Common.{◌≡◌, [], ◌∷◌, codes, length, refl, Non
 use Rattle.clap.specs.Words.{fault_of}
 use Rattle.clap.specs.declared.error.kind.ErrorKind.TheVariants.{DisplayHelp, DisplayVersion}
 use Rattle.clap.proofs.OnLiterals.{clap_on_literals}
-use Rattle.regcheck.specs.Words.{IsTaken, command_line, cut_named, file_named, workers_named}
+use Rattle.regcheck.specs.Words.{IsTaken, command_line, cut_named, file_named, first_given, workers_named}
 
 -- no word is standard input
 no_word : IsTaken [] × (file_named [] ≡ None)
@@ -34,6 +34,16 @@ defaults : (workers_named [] ≡ Some 4) × (cut_named [] ≡ Some 4096)
 unfolding clap_on_literals workers_named cut_named
 defaults = (refl, refl)
 
+-- the flag is set where a word says so, and not set where none does
+flag : let words = codes "--first" ∷ codes "h.jsonl" ∷ [] in
+    IsTaken words × (first_given words ≡ Some (codes "true")) × (file_named words ≡ Some (codes "h.jsonl"))
+unfolding clap_on_literals IsTaken first_given file_named
+flag = (refl, refl, refl)
+
+no_flag : first_given (codes "h.jsonl" ∷ []) ≡ Some (codes "false")
+unfolding clap_on_literals first_given
+no_flag = refl
+
 -- the least numbers
 least : let words = codes "--workers" ∷ codes "1" ∷ codes "--cut" ∷ codes "1" ∷ [] in
     IsTaken words × (workers_named words ≡ Some 1) × (cut_named words ≡ Some 1) × (file_named words ≡ None)
@@ -62,6 +72,15 @@ no_cut = refl
 great_cut : length (fault_of command_line (codes "--cut" ∷ codes "1048577" ∷ [])) ≡ 1
 unfolding clap_on_literals
 great_cut = refl
+
+-- the flag has no value, and stands once at most
+flag_with_value : length (fault_of command_line (codes "--first=yes" ∷ [])) ≡ 1
+unfolding clap_on_literals
+flag_with_value = refl
+
+flag_twice : length (fault_of command_line (codes "--first" ∷ codes "--first" ∷ [])) ≡ 1
+unfolding clap_on_literals
+flag_twice = refl
 
 -- two words are a fault
 two_words : length (fault_of command_line (codes "h.jsonl" ∷ codes "g.jsonl" ∷ [])) ≡ 1

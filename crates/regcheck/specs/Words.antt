@@ -1,9 +1,9 @@
 -- What the words of the command line name (the reading of words is `clap`'s).
-use Rattle.std.specs.Prelude.{◌≡◌, [], ◌∷◌, ℕ, codes, if◌then◌else◌, option_map, pos, true, List, Option, None, Some}
+use Rattle.std.specs.Prelude.{◌≡◌, [], ◌∷◌, ℕ, codes, if◌then◌else◌, option_map, pos, true, false, Bool, List, Option, None, Some}
 use Rattle.std.specs.Str.{bytes_eq}
 use Rattle.std.specs.Str.Parse.{digits_value, without_leading_plus}
 use Rattle.clap.specs.Words.{App, Rule, Text, fault_of, first_of, matches_of, new_app, new_rule, one_of, takes, with_rule}
-use Rattle.clap.specs.declared.builder.action.ArgAction.TheVariants.{Set}
+use Rattle.clap.specs.declared.builder.action.ArgAction.TheVariants.{Set, SetTrue}
 use Rattle.clap.specs.declared.builder.value_parser.ValueParser.TheVariants.{Signed}
 use Rattle.reg_pieces.specs.declared.settings.TheConstants.{MAX_CUT, MAX_WORKERS}
 
@@ -29,13 +29,17 @@ workers_rule = number_rule (codes "workers") MAX_WORKERS (codes "4")
 abbrev pub cut_rule : Rule
 cut_rule = number_rule (codes "cut") MAX_CUT (codes "4096")
 
+-- a flag that asks for the first register that isn't atomic alone
+abbrev pub first_rule : Rule
+first_rule = record (new_rule (codes "first")) { long = Some (codes "first"); action = Some SetTrue }
+
 -- the program, whose own name isn't among the words, and which tells its version
 abbrev pub program : App
 program = record (new_app (codes "regcheck")) { top = record (new_app (codes "regcheck")).top { no_binary_name = true; has_version = true } }
 
 -- the command line that the program takes
 abbrev pub command_line : App
-command_line = with_rule (with_rule (with_rule program file_rule) workers_rule) cut_rule
+command_line = with_rule (with_rule (with_rule (with_rule program file_rule) workers_rule) cut_rule) first_rule
 
 -- the word `-` stands for standard input, any other for the file of that name
 abbrev pub file_of : Option Text → Option Text
@@ -57,6 +61,14 @@ workers_named words = option_map number_in (one_of (codes "workers") (matches_of
 -- the cut that the words name, or the default
 unfoldable pub cut_named : List Text → Option ℕ
 cut_named words = option_map number_in (one_of (codes "cut") (matches_of command_line words))
+
+-- what the parser says of the flag: `true` where the words have it, and else `false`
+unfoldable pub first_given : List Text → Option Text
+first_given words = one_of (codes "first") (matches_of command_line words)
+
+-- a flag is set where the parser says so, and not set where it says not or nothing
+abbrev pub IsFlag : Option Text → Bool → Type 0
+IsFlag given flag = (given ≡ Some (codes "true") → flag ≡ true) × (given ≡ Some (codes "false") → flag ≡ false) × (given ≡ None → flag ≡ false)
 
 -- the command line takes the words, and they ask for neither help nor the version
 unfoldable pub IsTaken : List Text → Type 0

@@ -82,6 +82,26 @@ fn numbers(rt: HostRuntime) -> Result<(), Fail> {
     Ok(())
 }
 
+// Whether the first register that isn't atomic is all that is asked for: only where a word says so.
+#[test]
+fn flags(rt: HostRuntime) -> Result<(), Fail> {
+    let alloc = rt.alloc();
+    let none: &[&str] = &[];
+    for (words, want) in [
+        (none, false),
+        (&["h.jsonl"], false),
+        (&["--", "--first"], false),
+        (&["--first"], true),
+        (&["h.jsonl", "--first"], true),
+        (&["--workers", "2", "--first", "--cut", "7"], true),
+    ] {
+        let read = read(alloc, words)?;
+        let first = read.ok().map(|read| read.first);
+        assert_eq!(rt; first, Some(want), "{words:?}");
+    }
+    Ok(())
+}
+
 // Other words are refused, and so is a call for help or the version, each with the parser's text.
 #[test]
 fn bad_words(rt: HostRuntime) -> Result<(), Fail> {
@@ -101,6 +121,14 @@ fn bad_words(rt: HostRuntime) -> Result<(), Fail> {
         (
             &["--workers", "2", "--workers", "2"],
             "error: the argument '--workers <N>' cannot be used multiple times\n",
+        ),
+        (
+            &["--first", "--first"],
+            "error: the argument '--first' cannot be used multiple times\n",
+        ),
+        (
+            &["--first=yes"],
+            "error: unexpected value 'yes' for '--first' found; no more were expected\n",
         ),
         (
             &["--workers"],

@@ -1,10 +1,10 @@
 //! The words of the command line.
 ghost use Rattle.std.specs.Prelude.{◌≡◌, ◌≤◌, codes, false, map, option_map, string_bytes, IfOk, IfErr, Some};
-ghost use Rattle.clap.specs.Words.{app_of, first_value, found_of, rule_of};
+ghost use Rattle.clap.specs.Words.{app_of, first_value, found_of, one_text, rule_of};
 ghost use Rattle.clap.specs.Values.{kind_of};
 ghost use Rattle.reg_pieces.specs.declared.settings.TheConstants.{MAX_CUT, MAX_WORKERS};
 ghost use Rattle.regcheck.specs.Numbers.{HasNumber};
-ghost use Rattle.regcheck.specs.Words.{command_line, cut_named, file_named, file_of, number_rule, workers_named, IsFaultless, IsTaken};
+ghost use Rattle.regcheck.specs.Words.{command_line, cut_named, file_named, file_of, file_rule, first_given, first_rule, number_rule, workers_named, IsFaultless, IsFlag, IsTaken};
 
 use clap::error::ErrorKind;
 use clap::{Arg, ArgAction, ArgMatches, Command, Error, value_parser};
@@ -26,6 +26,9 @@ const WORKERS: &str = "Workers, 1 to 16; the report is the same with any number"
 const CUT: &str =
     "Most reads of a worker's piece, 1 to 1048576; the report is the same with any number";
 
+const FIRST: &str =
+    "Reports the first register that isn't atomic alone, if there is one, and no order";
+
 const STATUSES: &str = "The report goes to standard output. Exit status:
   0  the history is atomic
   1  it isn't
@@ -42,6 +45,8 @@ pub struct Words {
     pub workers: u32,
     /// How many reads a worker's piece has at most, from 1 to [`MAX_CUT`].
     pub cut: u32,
+    /// Whether the first register that isn't atomic is all that is asked for.
+    pub first: bool,
     ghost some_workers: { 1 ≤ workers },
     ghost few_workers: { workers ≤ MAX_WORKERS },
     ghost some_reads: { 1 ≤ cut },
@@ -49,11 +54,11 @@ pub struct Words {
 }
 
 impl Words {
-    /// The settings with these numbers.
+    /// The settings that they ask for.
     pub fn settings(&self) -> Settings
-        ensures { result ≡ record { workers = self.now.workers; cut = self.now.cut } }
+        ensures { result ≡ record { workers = self.now.workers; cut = self.now.cut; first = self.now.first } }
     {
-        Settings::new(self.workers, self.cut).unwrap()
+        Settings::new(self.workers, self.cut, self.first).unwrap()
     }
 }
 
@@ -89,18 +94,37 @@ fn number<'a>(alloc: Global, name: &'a str, most: u32, default: &'a str) -> Arg<
         .default_value(default)
 }
 
+/// The one argument: the name of the file.
+fn file<'a>(alloc: Global) -> Arg<'a>
+    ensures rule { rule_of result ≡ file_rule }
+    ensures local { result.global ≡ false }
+{
+    Arg::new(alloc, "file").value_name("FILE").help(FILE)
+}
+
+/// The flag that asks for the first register that isn't atomic alone.
+fn first<'a>(alloc: Global) -> Arg<'a>
+    ensures rule { rule_of result ≡ first_rule }
+    ensures local { result.global ≡ false }
+{
+    Arg::new(alloc, "first")
+        .long("first")
+        .action(ArgAction::SetTrue)
+        .help(FIRST)
+}
+
 fn command<'a>(alloc: Global) -> Result<Command<'a>, AllocError>
     ensures { IfOk result (λ command. app_of command ≡ command_line) }
 {
-    let file = Arg::new(alloc, "file").value_name("FILE").help(FILE);
     Command::new(alloc, "regcheck")
         .no_binary_name(true)
         .version(VERSION)
         .about(ABOUT)
         .after_help(STATUSES)
-        .arg(file)?
+        .arg(file(alloc))?
         .arg(number(alloc, "workers", MAX_WORKERS, "4").help(WORKERS))?
-        .arg(number(alloc, "cut", MAX_CUT, "4096").help(CUT))
+        .arg(number(alloc, "cut", MAX_CUT, "4096").help(CUT))?
+        .arg(first(alloc))
 }
 
 fn fault(alloc: Global, error: &Error) -> WordsFault
@@ -119,6 +143,7 @@ fn parsed<'a>(alloc: Global, words: &'a [String]) -> Result<ArgMatches<'a>, Word
     ensures file { IfOk result (λ matches. file_of (first_value (found_of matches) (codes "file")) ≡ file_named (map string_bytes words.entry.now)) }
     ensures workers { IfOk result (λ matches. HasNumber (found_of matches) (codes "workers") MAX_WORKERS (workers_named (map string_bytes words.entry.now))) }
     ensures cut { IfOk result (λ matches. HasNumber (found_of matches) (codes "cut") MAX_CUT (cut_named (map string_bytes words.entry.now))) }
+    ensures first { IfOk result (λ matches. one_text (found_of matches) (codes "first") ≡ first_given (map string_bytes words.entry.now)) }
     ensures faultless { IfOk result (λ _. IsFaultless (map string_bytes words.entry.now)) }
     ensures taken { IfErr result (λ fault. IsTaken (map string_bytes words.entry.now) → fault ≡ WordsFault.Memory) }
 {
@@ -128,8 +153,8 @@ fn parsed<'a>(alloc: Global, words: &'a [String]) -> Result<ArgMatches<'a>, Word
     }
 }
 
-/// Reads the words after the program's name: one file at most, `--workers N` and `--cut N`. Where they don't say, there
-/// are 4 workers, and the cut is 4096. The word `-` is standard input, as no word is.
+/// Reads the words after the program's name: one file at most, `--workers N`, `--cut N` and `--first`. Where they don't
+/// say, there are 4 workers, and the cut is 4096. The word `-` is standard input, as no word is.
 ///
 /// # Errors
 /// `Bad` where the words are others, or ask for help or the version; `Memory` where memory was refused.
@@ -137,6 +162,7 @@ pub fn read_words(alloc: Global, words: &[String]) -> Result<Words, WordsFault>
     ensures file { IfOk result (λ read. option_map string_bytes read.file ≡ file_named (map string_bytes words.now)) }
     ensures workers { IfOk result (λ read. Some read.workers ≡ workers_named (map string_bytes words.now)) }
     ensures cut { IfOk result (λ read. Some read.cut ≡ cut_named (map string_bytes words.now)) }
+    ensures first { IfOk result (λ read. IsFlag (first_given (map string_bytes words.now)) read.first) }
     ensures limits { IfOk result (λ read. (1 ≤ read.workers) × (read.workers ≤ MAX_WORKERS) × (1 ≤ read.cut) × (read.cut ≤ MAX_CUT)) }
     ensures faultless { IfOk result (λ _. IsFaultless (map string_bytes words.now)) }
     ensures taken { IfErr result (λ fault. IsTaken (map string_bytes words.now) → fault ≡ WordsFault.Memory) }
@@ -150,5 +176,6 @@ pub fn read_words(alloc: Global, words: &[String]) -> Result<Words, WordsFault>
         file,
         workers: matches.get_one("workers").unwrap(),
         cut: matches.get_one("cut").unwrap(),
+        first: matches.get_flag("first"),
     })
 }

@@ -11,7 +11,12 @@ type Answer = (Vec<u8>, Result<Outcome, u8>);
 
 // So many workers, and so many reads to a piece.
 pub(crate) fn settings(workers: u32, cut: u32) -> Result<Settings, Fail> {
-    Ok(Settings::new(workers, cut).ok_or("a number beyond its limit")?)
+    Ok(Settings::new(workers, cut, false).ok_or("a number beyond its limit")?)
+}
+
+// The same, of a run that asks for the first register that isn't atomic alone.
+pub(crate) fn first_settings(workers: u32, cut: u32) -> Result<Settings, Fail> {
+    Ok(Settings::new(workers, cut, true).ok_or("a number beyond its limit")?)
 }
 
 // A run from memory to so much memory: the bytes that the sink took, and the outcome.

@@ -3,11 +3,14 @@
 //! They are a crate of their own, so that `reg_report` isn't proved once more with them.
 //!
 //! Read it in this order: `rows`, the histories with their answers; `histories`, what is answered to each; `ends`, where little
-//! comes at a time or something fails; `workers`, where several work at once.
+//! comes at a time or something fails; `workers`, where several work at once; `first`, where the first register that isn't
+//! atomic is all that is asked for.
 #![tactic(auto)]
 
 #[cfg(test)]
 mod ends;
+#[cfg(test)]
+mod first;
 #[cfg(test)]
 mod histories;
 #[cfg(test)]

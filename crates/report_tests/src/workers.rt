@@ -1,7 +1,7 @@
 //! Runs by several workers: by all settings, and past gates that hold pieces back.
 use crate::histories::{answered_by, settings};
 use crate::rows::REPORTS;
-use reg_report::{Gate, OpenGate, Outcome};
+use reg_report::{Gate, OpenGate, Outcome, Settings};
 use std::alloc::{AllocError, Global};
 use std::process::Abort;
 use std::random::RandomSource;
@@ -98,13 +98,14 @@ impl Gate for HoldsOne {
     }
 }
 
-// Two workers do all other pieces while any one of them is held.
-fn expect_past_each(
+// The workers of these settings do all other pieces of a history while any one of them is held.
+pub(crate) fn expect_past_each(
     rt: &(impl Threads + RandomSource + AllocGlobal + Abort + Sync),
-    name: &str,
+    row: (&str, &str, Outcome),
     pieces: u64,
+    by: Settings,
 ) -> Result<(), Fail> {
-    let (input, want, outcome) = row(name)?;
+    let (input, want, outcome) = row;
     for held in 0..pieces {
         let gate = HoldsOne {
             held,
@@ -112,10 +113,10 @@ fn expect_past_each(
             arrived: AtomicU64::new(0),
             gave_up: AtomicBool::new(false),
         };
-        let (report, told) = answered_by(rt, input.as_bytes(), settings(2, 1)?, &gate)?;
-        assert!(rt; !gate.gave_up.load(Ordering::SeqCst), "{name}, {held}");
-        assert_eq!(rt; report.as_slice(), want.as_bytes(), "{name}, {held}");
-        assert_eq!(rt; told, Ok(outcome), "{name}, {held}");
+        let (report, told) = answered_by(rt, input.as_bytes(), by, &gate)?;
+        assert!(rt; !gate.gave_up.load(Ordering::SeqCst), "{held} of {pieces}");
+        assert_eq!(rt; report.as_slice(), want.as_bytes(), "{held} of {pieces}");
+        assert_eq!(rt; told, Ok(outcome), "{held} of {pieces}");
     }
     Ok(())
 }
@@ -124,7 +125,7 @@ fn expect_past_each(
 #[test]
 fn a_held_piece_holds_no_other(rt: HostRuntime) -> Result<(), Fail> {
     for (name, pieces) in TWO_REGISTERS {
-        expect_past_each(&rt, name, pieces)?;
+        expect_past_each(&rt, row(name)?, pieces, settings(2, 1)?)?;
     }
     Ok(())
 }

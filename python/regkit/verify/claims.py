@@ -81,7 +81,7 @@ def check_report(history: History, rows: Sequence[Row], joined: bool) -> bool:
     """Checks each claim of a report. Returns whether it is an early answer."""
     *lines, summary = rows
     names = list(history.registers)
-    early = "order" not in summary and len(lines) < len(names)
+    early = "order" not in summary and (len(lines) < len(names) or not names)
     if early:
         check_early(history, lines)
     else:

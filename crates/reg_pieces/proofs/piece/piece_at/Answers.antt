@@ -4,7 +4,7 @@ use Rattle.reg_pieces.specs.Judged.{IsJudged}
 use Rattle.reg_arena.specs.Operations.{register_of}
 use Rattle.reg_pieces.specs.Plan.{IsPieceAt, IsPieceOf}
 use Rattle.reg_pieces.specs.declared.tasks.Task.TheVariants.{Judge, Reads}
-use Rattle.reg_pieces.proofs.Fitness.{has-part, judge-fits, no-none, piece-done, reads-fit}
+use Rattle.reg_pieces.proofs.Fitness.{has-part, judge-fits, no-first, no-none, piece-done, reads-fit}
 use Rattle.reg_pieces.proofs.piece.piece_at.Goals as goal
 
 pub judge-requires : goal.judge-requires
@@ -28,6 +28,10 @@ bad_reads-requires-clause-part c =
 pub unreachable-requires : goal.unreachable-requires
 unreachable-requires c =
     no-none c.args.arena.now c.args.plan.now c.requires.plan c.args.number c.task.result c.task.ensures c.in-Reads.register c.in-Reads.from c.in-Reads.to c.in-Reads.is c.list.result.now c.list.ensures c.in-None.is
+
+pub unreachable-requires-in-First : goal.unreachable-requires-in-First
+unreachable-requires-in-First c =
+    no-first c.args.arena.now c.args.plan.now c.requires.plan c.args.number c.task.result c.task.ensures c.in-First.field-0 c.in-First.is
 
 pub returns-in-Judge : goal.returns-in-Judge
 returns-in-Judge c =

@@ -1,28 +1,51 @@
-use Rattle.std.proofs.Common.{◌<◌, ◌++◌, ◌∷◌, [], ◌∙◌, ℕ, List, sym, ap, subst, append_assoc}
-use Rattle.job_board.proofs.Lacking.{lacking, lacks_less}
-use Rattle.reg_pieces.proofs.Putting.{on_success, one-piece-more, numbers-more}
-use Rattle.reg_pieces.specs.Work.{numbers_of}
+use Rattle.std.proofs.Common.{◌≡◌, ◌<◌, ◌∙◌, ℕ, false, Vec, Global, sym, ap, subst, arith}
+use Rattle.std.specs.Result.{is_err}
+use Rattle.job_board.specs.Numbers.{times}
+use Rattle.job_board.specs.Seats.{SeatValue}
+use Rattle.job_board.specs.declared.view.View.{View}
+use Rattle.reg_pieces.specs.declared.piece.Piece.{Piece}
+use Rattle.reg_pieces.proofs.Putting.{on_success}
+use Rattle.reg_pieces.proofs.Working.{IsWorking, first-plan, just-drawn, lacks-drawn, whole-plan, working-done, working-looked}
 use Rattle.reg_pieces.proofs.worker.work.Goals as goal
+use Rattle.reg_pieces.proofs.worker.work.Goals.{then-is_first, else-is_first}
+
+pub do_register-added-requires-clause-drawn : goal.do_register-added-requires-clause-drawn
+do_register-added-requires-clause-drawn g c =
+    let n = c.in-Some.number in
+    subst (λ (v : View). 0 < times n v.drawn) (sym c.in-Some.ensures.some.3) (just-drawn n c.loop-number.seat.view.drawn)
 
 pub loop-number-smaller : goal.loop-number-smaller
 loop-number-smaller g c =
     let old = c.loop-number.seat.view in
     let some = c.in-Some.ensures.some in
-    subst (λ v. lacking v.jobs v.drawn < lacking old.jobs old.drawn) (sym some.3) (lacks_less old.jobs c.in-Some.number old.drawn some.1 some.2)
+    let lacks = lacks-drawn old c.if-is_first.seat.view c.in-Some.number some.1 some.2 in
+    elim c.if-is_first.branch [
+      | then-is_first w ↦
+          let kept = w.do_register-added.ensures.seat in
+          lacks (ap (λ (s : SeatValue). s.view.jobs) w.seat-is ∙ (kept.jobs ∙ ap (λ (v : View). v.jobs) some.3)) (ap (λ (s : SeatValue). s.view.drawn) w.seat-is ∙ (kept.drawn ∙ ap (λ (v : View). v.drawn) some.3))
+      | else-is_first w ↦ lacks (ap (λ (s : SeatValue). s.view.jobs) w.seat-is ∙ ap (λ (v : View). v.jobs) some.3) (ap (λ (s : SeatValue). s.view.drawn) w.seat-is ∙ ap (λ (v : View). v.drawn) some.3)
+    ]
 
 pub loop-number-preserved : goal.loop-number-preserved
 loop-number-preserved g c =
     let h = c.args.arena.now in
-    let tasks = c.args.plan.now.tasks in
+    let plan = c.args.plan.now in
+    let given = c.args.seat in
     let l = c.loop-number in
     let n = c.in-Some.number in
     let some = c.in-Some.ensures.some in
-    let added = on_success c.do_piece.result c.do_piece.ensures.ok (sym c.is_err.ensures.value ∙ c.if-is_err.false) in
-    record {
-      here = c.in-Some.ensures.board ∙ l.invariant.here;
-      weight = ap (λ v. v.weight) some.3 ∙ l.invariant.weight;
-      jobs = ap (λ v. v.jobs) some.3 ∙ l.invariant.jobs;
-      flagged = ap (λ v. v.flagged) some.3 ∙ l.invariant.flagged;
-      drawn = ap (λ v. v.drawn) some.3 ∙ (ap (λ (xs : List ℕ). xs ++ n ∷ []) l.invariant.drawn ∙ (append_assoc c.args.seat.view.drawn (numbers_of l.done.items) (n ∷ []) ∙ ap (λ (xs : List ℕ). c.args.seat.view.drawn ++ xs) (sym (numbers-more h tasks n l.done.items c.do_piece.new.done.items added))));
-      pieces = one-piece-more h tasks n l.done.items c.do_piece.new.done.items added l.invariant.pieces;
-    }
+    let succeeded : is_err c.if-is_first.added ≡ false = sym c.is_err.ensures.value ∙ c.if-is_err.false in
+    elim c.if-is_first.branch [
+      | then-is_first w ↦
+          let call = w.do_register-added in
+          let added = on_success call.result call.ensures.ok (ap is_err (sym w.added-is) ∙ succeeded) in
+          let first = first-plan h plan c.requires.plan (sym c.is_first.ensures ∙ w.if-is_first.true) in
+          let working = working-looked h plan given l.seat c.draw.new.seat n l.done.items call.new.done.items l.invariant c.in-Some.ensures.board some.3 call.new.seat first (omega (arith, some.1, l.invariant.jobs, c.requires.seat.jobs)) call.ensures.seat added in
+          subst (λ (s : SeatValue). IsWorking h plan given s c.if-is_first.done.items) (sym w.seat-is) (subst (λ (v : Vec (ℕ × Piece) Global). IsWorking h plan given call.new.seat v.items) (sym w.done-is) working)
+      | else-is_first w ↦
+          let call = w.do_piece-added in
+          let added = on_success call.result call.ensures.ok (ap is_err (sym w.added-is) ∙ succeeded) in
+          let whole = sym c.is_first.ensures ∙ w.if-is_first.false in
+          let working = working-done h plan given l.seat c.draw.new.seat n l.done.items call.new.done.items l.invariant c.in-Some.ensures.board some.3 (whole-plan h plan c.requires.plan whole) whole added in
+          subst (λ (s : SeatValue). IsWorking h plan given s c.if-is_first.done.items) (sym w.seat-is) (subst (λ (v : Vec (ℕ × Piece) Global). IsWorking h plan given c.draw.new.seat v.items) (sym w.done-is) working)
+    ]

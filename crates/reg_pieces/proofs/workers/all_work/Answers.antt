@@ -10,13 +10,13 @@ use Rattle.reg_pieces.proofs.workers.all_work.Goals as goal
 pub returns-clause-back : goal.returns-clause-back
 returns-clause-back g c =
     let h = c.args.arena.now in
-    let tasks = c.args.plan.now.tasks in
+    let plan = c.args.plan.now in
     let board = c.args.board.now in
-    ok-both (λ v. vec_len v ≡ vec_len c.args.seats) _ (λ back. All (IsHandedBack h tasks board) back.items) c.map_vec.result
+    ok-both (λ v. vec_len v ≡ vec_len c.args.seats) _ (λ back. All (IsHandedBack h plan board) back.items) c.map_vec.result
     (λ back len each. λ k d l.
     let inside : k < length c.args.seats.items = omega (arith, l, back.ok.0, c.args.seats.ok.0, len) in
     let j = (each k d inside).1 in
-    back-of h tasks board j.job (slice_index_or back.items k d) (subst (IsNewSeat tasks board) (j.job_is j.job) (c.requires.seats k j.job inside)) j.call.met)
+    back-of h plan board j.job (slice_index_or back.items k d) (subst (IsNewSeat plan.tasks board) (j.job_is j.job) (c.requires.seats k j.job inside)) j.call.met)
     c.map_vec.ensures.len c.map_vec.ensures.each
 
 pub returns-clause-weight : goal.returns-clause-weight

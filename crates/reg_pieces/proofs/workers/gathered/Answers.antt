@@ -14,7 +14,7 @@ put_all-requires c =
     let tasks = c.args.plan.now.tasks in
     let l = c.loop-worked in
     let w = c.in-Some.worked in
-    let one = last-one (IsHandedBack h tasks c.args.board) l.back.items c.pop.new.self.items w c.in-Some.ensures.items l.invariant.back in
+    let one = last-one (IsHandedBack h c.args.plan.now c.args.board) l.back.items c.pop.new.self.items w c.in-Some.ensures.items l.invariant.back in
     subst (λ n. AreWithin n w.done.items) (sym l.invariant.count) (pieces-within h tasks w.done.items one.pieces)
 
 pub loop-worked-preserved : goal.loop-worked-preserved
@@ -28,19 +28,19 @@ loop-worked-preserved c =
     let popped = c.in-Some.ensures.items in
     let put = c.put_all.ensures in
     let seat = c.joined.result in
-    let one = last-one (IsHandedBack h tasks board) l.back.items rest w popped l.invariant.back in
+    let one = last-one (IsHandedBack h c.args.plan.now board) l.back.items rest w popped l.invariant.back in
     let within = subst (λ n. AreWithin n w.done.items) (sym l.invariant.count) (pieces-within h tasks w.done.items one.pieces) in
     let both : c.if-refused.refused ≡ false → (l.refused ≡ false) × (w.refused ≡ false) = λ f. elim c.if-refused.branch [
       | then-refused k ↦ absurd (false≢true (sym f ∙ (k.refused-is ∙ k.if-refused.true)))
       | else-refused k ↦ (k.if-refused.false, sym k.refused-is ∙ f)
     ] in
     record {
-      back = first-ones (IsHandedBack h tasks board) l.back.items rest w popped l.invariant.back;
+      back = first-ones (IsHandedBack h c.args.plan.now board) l.back.items rest w popped l.invariant.back;
       weight = omega (arith, ap (λ v. v.weight) c.joined.ensures.view, weight-with l.whole w.seat, ap weight_back popped, back-push rest w, l.invariant.weight);
       slots = subst (AreSlots h tasks) (sym put) (with-slots h tasks l.pieces w.done.items one.pieces l.invariant.slots);
       count = ap length put ∙ (length-with l.pieces w.done.items ∙ l.invariant.count);
       whole = subst (λ slots. IsJoined board slots c.if-refused.refused seat) (sym put)
-          (one-joined h tasks board l.pieces l.refused l.whole w seat c.if-refused.refused one within l.invariant.whole c.joined.ensures.board c.joined.ensures.view both);
+          (one-joined h c.args.plan.now board l.pieces l.refused l.whole w seat c.if-refused.refused one within l.invariant.whole c.joined.ensures.board c.joined.ensures.view both);
     }
 
 pub returns-else-refused-2 : goal.returns-else-refused-2
@@ -48,5 +48,5 @@ returns-else-refused-2 c =
     let l = c.loop-worked in
     let seat = c.in-Some-whole.seat in
     let joined : IsJoined c.args.board l.pieces l.refused seat = subst (λ o. IfSome o (IsJoined c.args.board l.pieces l.refused)) c.in-Some-whole.is l.invariant.whole in
-    let drawn = c.closed.ensures (joined.told c.if-refused-2.false) in
+    let drawn = c.closed.ensures.drawn (joined.told c.if-refused-2.false) in
     all-done c.args.arena.now c.args.plan.now.tasks l.pieces l.invariant.slots (λ n inside. joined.full c.if-refused-2.false n (drawn n (omega (arith, inside, c.requires.jobs))))

@@ -7,7 +7,7 @@ use Rattle.reg_pieces.proofs.workers.gathered.Given as goal
 
 abbrev pub invariant-loop-worked : goal.invariant-loop-worked
 invariant-loop-worked l = record {
-  back : All (IsHandedBack l.arena l.plan.tasks l.board) l.back.items;
+  back : All (IsHandedBack l.arena l.plan l.board) l.back.items;
   weight : weight_so_far l.whole + weight_back l.back.items ≡ FULL_WEIGHT;
   slots : AreSlots l.arena l.plan.tasks l.pieces;
   count : length l.pieces ≡ length l.plan.tasks;

@@ -1,9 +1,9 @@
 -- The command is the one of the definitions, so that what `clap` promises of it is what they say.
 use Rattle.std.proofs.Common.{◌≡◌, ◌∙◌, ap, codes, map, refl, string_bytes, sym, true}
-use Rattle.clap.specs.Words.{fault_of, first_of, found_of, is_simple, is_simple_and_free, matches_of, takes}
+use Rattle.clap.specs.Words.{fault_of, first_of, found_of, is_simple, is_simple_and_free, matches_of, one_of, takes}
 use Rattle.clap.proofs.OnLiterals.{clap_on_literals}
-use Rattle.clap.proofs.WalkLemmas.{first_value-rows}
-use Rattle.regcheck.specs.Words.{IsFaultless, IsTaken, command_line, file_named, file_of}
+use Rattle.clap.proofs.WalkLemmas.{first_value-rows, one_text-rows}
+use Rattle.regcheck.specs.Words.{IsFaultless, IsTaken, command_line, file_named, file_of, first_given}
 use Rattle.regcheck.proofs.Numbers.{cut_has, workers_has}
 use Rattle.regcheck.proofs.words.parsed.Goals as goal
 
@@ -36,6 +36,14 @@ returns-in-Ok-clause-cut c =
     let words = map string_bytes c.args.words.now in
     let rows = (c.in-Ok.ensures.matches (ap is_simple ours ∙ simple)).0 in
     cut_has c.in_ok-command.field-0 c.in-Ok.matches c.in-Ok.ensures.parsed ours words (rows ∙ ap (λ app. matches_of app words) ours)
+
+pub returns-in-Ok-clause-first : goal.returns-in-Ok-clause-first
+unfolding first_given
+returns-in-Ok-clause-first c =
+    let ours = c.in_ok-command.ensures in
+    let words = map string_bytes c.args.words.now in
+    let rows = (c.in-Ok.ensures.matches (ap is_simple ours ∙ simple)).0 in
+    one_text-rows (found_of c.in-Ok.matches) (codes "first") ∙ ap (one_of (codes "first")) (rows ∙ ap (λ app. matches_of app words) ours)
 
 pub returns-in-Ok-clause-faultless : goal.returns-in-Ok-clause-faultless
 unfolding IsFaultless

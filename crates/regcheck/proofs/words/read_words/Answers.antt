@@ -1,5 +1,5 @@
--- The numbers that the getters read are those that the parser promises.
-use Rattle.std.proofs.Common.{arith}
+-- The numbers and the flag that the getters read are those that the parser promises.
+use Rattle.std.proofs.Common.{◌∙◌, arith}
 use Rattle.regcheck.proofs.Numbers.{number_is, number_is_some}
 use Rattle.regcheck.proofs.words.read_words.Goals as goal
 
@@ -20,3 +20,9 @@ returns-clause-workers c = (number_is c.in_ok-matches.ensures.workers (omega ari
 
 pub returns-clause-cut : goal.returns-clause-cut
 returns-clause-cut c = (number_is c.in_ok-matches.ensures.cut (omega arith) c.get_one-2.result c.get_one-2.ensures.value c.unwrap-2.result c.unwrap-2.ensures).0
+
+pub returns-clause-first : goal.returns-clause-first
+returns-clause-first c =
+    let given = c.in_ok-matches.ensures.first in
+    let flag = c.get_flag.ensures in
+    (λ e. flag.value (given ∙ e), λ e. flag.other (given ∙ e), λ e. flag.none (given ∙ e))

@@ -1,4 +1,4 @@
-use Rattle.std.proofs.Common.{◌≡◌, ◌+◌, ◌∙◌, List, Option, length, slice_get, ap, sym, subst, arith, inl, inr, append_assoc, ◌++◌, ◌∷◌, []}
+use Rattle.std.proofs.Common.{◌≡◌, ◌+◌, ◌∙◌, List, Option, length, slice_get, refl, ap, sym, subst, arith, inl, inr, append_assoc, ◌++◌, ◌∷◌, [], false}
 use Rattle.reg_lamport.specs.Reads.{ListedReads}
 use Rattle.reg_pieces.specs.Plan.{AreTasks, IsListOf}
 use Rattle.reg_pieces.specs.declared.tasks.Task.{Task}
@@ -6,14 +6,14 @@ use Rattle.reg_pieces.specs.declared.tasks.Task.TheVariants.{Judge}
 use Rattle.reg_pieces.proofs.Fewness.{plan-few}
 use Rattle.reg_pieces.proofs.Pushed.{length-push, push-cases}
 use Rattle.reg_pieces.proofs.Numbering.{one-register-more}
-use Rattle.reg_pieces.proofs.planning.plan.Goals as goal
+use Rattle.reg_pieces.proofs.planning.whole_plan.Goals as goal
 
 pub loop-number-preserved : goal.loop-number-preserved
 loop-number-preserved c =
     let h = c.args.arena.now in
     let l = c.loop-number in
     let n = l.number in
-    let cut = c.cut-cut.result in
+    let cut = c.args.cut in
     let list = c.in_ok-list.list in
     let lists : c.push-in-loop-number.new.self.items ≡ l.lists.items ++ list ∷ [] = c.in_ok-push-2.ensures.items in
     let added = c.in_ok-add_cuts.ensures in
@@ -33,12 +33,13 @@ pub returns : goal.returns
 returns c =
     let h = c.args.arena.now in
     let l = c.loop-number in
-    let cut = c.cut-cut.result in
+    let cut = c.args.cut in
     let names : length l.lists.items ≡ length h.names = omega (arith, l.invariant.count, l.auto.number-end, c.loop-number-test.false, c.register_count-number-end.ensures.count) in
-    let few = plan-few h cut (record { tasks = l.tasks.items; lists = l.lists.items }) (omega (arith, c.cut-cut.ensures.limits)) names l.invariant.lists l.invariant.tasks in
+    let few = plan-few h cut (record { tasks = l.tasks.items; lists = l.lists.items; first = false }) c.requires names l.invariant.lists l.invariant.tasks in
     record {
       registers = names;
       lists = l.invariant.lists;
-      numbered = subst (λ k. AreTasks k 0 l.lists.items l.tasks.items) c.cut-cut.ensures.value l.invariant.tasks;
+      numbered = l.invariant.tasks;
       few = omega (arith, few, c.few_events.ensures, c.register_count-number-end.ensures.count, c.register_count-number-end.ensures.bound);
+      whole = refl;
     }

@@ -1,7 +1,7 @@
 use Rattle.std.proofs.Common.{◌≡◌, ℕ, length, slice_get, Option, Some}
 use Rattle.reg_lamport.specs.Reads.{ListedReads}
 use Rattle.reg_pieces.specs.Plan.{AreTasks, IsListOf}
-use Rattle.reg_pieces.proofs.planning.plan.Given as goal
+use Rattle.reg_pieces.proofs.planning.whole_plan.Given as goal
 
 abbrev pub invariant-loop-number : goal.invariant-loop-number
 invariant-loop-number l = record {

@@ -1,0 +1,93 @@
+//! The report of the first register that isn't atomic.
+ghost use Rattle.std.specs.Prelude.{◌≡◌, ◌<◌, length, slice_get, is_none, Some, IfOk};
+ghost use Rattle.reg_arena.specs.Operations.{register_of};
+ghost use Rattle.reg_pieces.specs.Plan.{IsListOf};
+ghost use Rattle.reg_pieces.specs.Workers.{IsFirstFound};
+ghost use Rattle.reg_report.specs.Cuts.{AreFirstBad};
+ghost use Rattle.reg_report.specs.First.{AreFoundLines, IsFirstReport};
+ghost use Rattle.reg_report.specs.Levels.{AreLevels};
+ghost use Rattle.reg_report.specs.Meaning.{IsRegisterReport};
+
+use crate::history::count_operations;
+use crate::levels::{FirstBad, Levels, listed_levels, several_writers};
+use crate::lists::Registers;
+use crate::register::register_report;
+use crate::report::{RegReport, Report};
+use crate::tally::count_calls;
+use crate::told::told;
+use reg_arena::{Arena, RegId};
+use reg_lamport::{Level, ReadList, first_bad};
+use reg_pieces::{judge, list_of};
+use std::alloc::{AllocError, Global};
+
+/// The first of all reads of a register that isn't safe, and the first that isn't regular.
+fn bad_reads(arena: &Arena, list: &ReadList) -> FirstBad
+    requires { IsListOf arena.now list.now.register (Some list.now) }
+    ensures { AreFirstBad arena.now list.now.register 0 (length list.now.entries) result }
+{
+    let len = list.len();
+    FirstBad {
+        safe: first_bad(arena, list, 0, len, Level::Safe),
+        regular: first_bad(arena, list, 0, len, Level::Regular),
+    }
+}
+
+/// Both levels of a register, from all its reads.
+fn whole_levels(alloc: Global, arena: &Arena, register: RegId) -> Result<Levels, AllocError>
+    ensures { IfOk result (AreLevels (register_of arena.now register.0)) }
+{
+    match list_of(alloc, arena, register)? {
+        Some(list) => {
+            let first = bad_reads(arena, &list);
+            Ok(listed_levels(arena, &list, first))
+        }
+        None => Ok(several_writers()),
+    }
+}
+
+/// The line of one register, with nothing made for the others.
+fn whole_line(alloc: Global, arena: &Arena, register: RegId) -> Result<RegReport, AllocError>
+    requires { register.0 < length arena.now.names }
+    ensures { IfOk result (IsRegisterReport arena.now register.0) }
+{
+    let levels = whole_levels(alloc, arena, register)?;
+    let tallies = count_calls(alloc, arena)?;
+    let judged = judge(alloc, arena, register)?;
+    let tally = tallies[register.0 as usize];
+    register_report(alloc, arena, register, &judged, levels, tally)
+}
+
+/// The line of the register found, if any.
+fn first_lines(alloc: Global, arena: &Arena, found: Option<RegId>) -> Result<Registers, AllocError>
+    requires { IsFirstFound arena.now found }
+    ensures { IfOk result (AreFoundLines arena.now (is_none found)) }
+{
+    told(arena);
+    let mut regs = Vec::new(alloc);
+    match found {
+        Some(register) => {
+            regs.push(whole_line(alloc, arena, register)?)?;
+            Ok(Registers::new(regs))
+        }
+        None => Ok(Registers::new(regs)),
+    }
+}
+
+/// The report of a history whose first register that isn't atomic is `found`: its line, if there is one, and the summary
+/// without an order.
+pub(crate) fn first_report(
+    alloc: Global,
+    arena: &Arena,
+    found: Option<RegId>,
+) -> Result<Report, AllocError>
+    requires { IsFirstFound arena.now found }
+    ensures { IfOk result (IsFirstReport arena.now) }
+{
+    Ok(Report {
+        regs: first_lines(alloc, arena, found)?,
+        operations: count_operations(arena),
+        registers: arena.register_count(),
+        atomic: found.is_none(),
+        order: None,
+    })
+}
