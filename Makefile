@@ -1,6 +1,9 @@
 # make: prove and build bin/regcheck. make run: run it on a shipped example, or on FILE=...
 # make test: the merge gate; then, by the programs that it built, the examples, hostile runs, and the tests of regkit.
 # make fuzz: compare the program with the reference on spoiled histories for SECONDS=...
+# make library: bin/libregcheck.a, bin/libregcheck.so and bin/regcheck.pc, to call the checker from C and other languages.
+# make embed-test: compare the library with the program from C, Python, Go and Rust, on COUNT=... histories; under valgrind too.
+# make bench-library: time small calls, and 2^20 events against the program with one worker.
 # make picture-test: look at pages of `regkit draw` in a headless browser, and keep the screenshots in SHOTS=...
 # make bench: time it on generated histories, in three to fifteen minutes.
 # make install: bin/regcheck, regkit and their man pages below PREFIX, within DESTDIR.
@@ -8,10 +11,14 @@ FILE ?= examples/new_old_inversion.jsonl
 PREFIX ?= /usr/local
 SECONDS ?= 600
 SHOTS ?= /tmp/regkit-shots
+COUNT ?= 10000
+VERSION := $(shell cat VERSION)
+# The number behind .so is that of the interface.
+SONAME := libregcheck.so.1
 SOURCES := $(shell find crates -name out -prune -o -type f \( -name '*.rt' -o -name '*.antt' \) -print)
 PYTHON := $(shell find python/regkit -name '*.py')
 
-.PHONY: all run test fuzz picture-test bench install clean
+.PHONY: all run test fuzz picture-test bench library embed-test bench-library install clean
 
 all: bin/regcheck
 
@@ -25,6 +32,32 @@ bin/history_generator: $(SOURCES) crates.txt
 	cd crates/history_generator && rt run -- sequential > /dev/null
 	mkdir -p bin
 	cp crates/history_generator/out/history_generator bin/history_generator
+
+library: bin/libregcheck.a bin/libregcheck.so bin/regcheck.pc
+
+# The archive of a static library leaves out the C part of the toolchain's allocator; here it is put in, and its names are
+# hidden, so that nothing but the one call can clash with a name of the program that links it.
+bin/libregcheck.a: $(SOURCES) crates.txt
+	cd crates/regcheck_c && rt lib > /dev/null
+	mkdir -p bin
+	ld -r -u regcheck_report -o bin/regcheck.o crates/regcheck_c/out/libregcheck_c.a "$$(dirname "$$(rt doc)")/c/liblibc_c.a"
+	objcopy --keep-global-symbol=regcheck_report bin/regcheck.o
+	rm -f $@
+	ar rcsD $@ bin/regcheck.o
+
+bin/libregcheck.so: bin/libregcheck.a library/regcheck.map
+	$(CC) -shared -o bin/$(SONAME) -Wl,-soname,$(SONAME),--version-script=library/regcheck.map,--no-undefined,-z,noexecstack,-z,now bin/regcheck.o
+	ln -sf $(SONAME) $@
+
+bin/regcheck.pc: library/regcheck.pc.in VERSION
+	mkdir -p bin
+	sed -e 's|@PREFIX@|$(PREFIX)|' -e 's|@VERSION@|$(VERSION)|' library/regcheck.pc.in > $@
+
+embed-test: library bin/regcheck bin/history_generator
+	tests/embed --count $(COUNT)
+
+bench-library: library bin/regcheck bin/history_generator
+	bench/library
 
 run: bin/regcheck
 	bin/regcheck < $(FILE); status=$$?; test $$status -le 1

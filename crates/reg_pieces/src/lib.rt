@@ -3,7 +3,8 @@
 //! What the floor above may rely on: [`plan`] numbers the pieces of a history: register by register its verdict, then its
 //! reads in cuts. [`work`] is one worker, which draws numbers from a board and does their pieces. [`do_pieces`] has as many
 //! workers as the [`Settings`] say do all of them at once, and gives what is done by number, each piece the one that its
-//! task asks for: neither the number of workers nor the [`Gate`] that they pass changes it.
+//! task asks for: neither the number of workers nor the [`Gate`] that they pass changes it. [`do_pieces_alone`] starts no
+//! thread.
 //!
 //! Read it in this order: `settings`; `tasks` and `planning`, which number the work; `order` and `piece`, what is done for
 //! one number; `gate` and `worker`; `pieces`, where what is done is kept; `workers`, all of it at once.
@@ -29,4 +30,4 @@ pub use planning::plan;
 pub use settings::{MAX_CUT, MAX_WORKERS, Settings};
 pub use tasks::{Plan, Task};
 pub use worker::{Worked, work};
-pub use workers::do_pieces;
+pub use workers::{do_pieces, do_pieces_alone};

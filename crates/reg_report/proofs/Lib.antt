@@ -15,3 +15,4 @@ mod Assembly
 mod ListedLevels
 pub mod Pulling
 mod Pushing
+mod Answering
