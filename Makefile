@@ -6,7 +6,8 @@
 # make bench-library: time small calls, and 2^20 events against the program with one worker.
 # make picture-test: look at pages of `regkit draw` in a headless browser, and keep the screenshots in SHOTS=...
 # make bench: time it on generated histories, in three to fifteen minutes.
-# make install: bin/regcheck, regkit and their man pages below PREFIX, within DESTDIR.
+# make install: the programs, man pages, documents, examples and completions below PREFIX, within DESTDIR.
+# make dist: the release in dist/: a tarball, a Debian package, their bill of materials and their sums.
 FILE ?= examples/new_old_inversion.jsonl
 PREFIX ?= /usr/local
 SECONDS ?= 600
@@ -17,8 +18,10 @@ VERSION := $(shell cat VERSION)
 SONAME := libregcheck.so.1
 SOURCES := $(shell find crates -name out -prune -o -type f \( -name '*.rt' -o -name '*.antt' \) -print)
 PYTHON := $(shell find python/regkit -name '*.py')
+PROGRAM ?= bin/regcheck
+DOCUMENTS = $(DESTDIR)$(PREFIX)/share/doc/regcheck
 
-.PHONY: all run test fuzz picture-test bench library embed-test bench-library install clean
+.PHONY: all run test fuzz picture-test bench library embed-test bench-library install dist clean
 
 all: bin/regcheck
 
@@ -74,6 +77,7 @@ test:
 	@tests/limits bin/regcheck
 	@tests/spoiled_bytes bin/regcheck
 	@tests/compare_random --count 2000 --without-fail
+	@tests/installed
 	@cd python && REGCHECK=$(CURDIR)/bin/regcheck python3 -B -m unittest discover -q -s tests -t .
 
 fuzz: bin/regcheck bin/history_generator
@@ -89,11 +93,32 @@ bin/regkit: $(PYTHON) python/make_archive
 	mkdir -p bin
 	python3 python/make_archive bin/regkit
 
-install: bin/regcheck bin/regkit
-	install -D -m 755 bin/regcheck $(DESTDIR)$(PREFIX)/bin/regcheck
+bin/completions: bin/regcheck $(PYTHON) packaging/make_completions packaging/command_lines.py
+	packaging/make_completions bin/regcheck $@
+	touch $@
+
+# Everything that a release has is installed here, so that make dist has it too.
+install: bin/regcheck bin/regkit bin/completions
+	install -D -m 755 $(PROGRAM) $(DESTDIR)$(PREFIX)/bin/regcheck
 	install -D -m 755 bin/regkit $(DESTDIR)$(PREFIX)/bin/regkit
-	install -D -m 644 docs/regcheck.1 $(DESTDIR)$(PREFIX)/share/man/man1/regcheck.1
-	install -D -m 644 docs/regkit.1 $(DESTDIR)$(PREFIX)/share/man/man1/regkit.1
+	install -D -m 644 -t $(DESTDIR)$(PREFIX)/share/man/man1 docs/*.1
+	install -D -m 644 -t $(DESTDIR)$(PREFIX)/share/bash-completion/completions bin/completions/bash/*
+	install -D -m 644 -t $(DESTDIR)$(PREFIX)/share/zsh/site-functions bin/completions/zsh/*
+	install -D -m 644 -t $(DESTDIR)$(PREFIX)/share/fish/vendor_completions.d bin/completions/fish/*
+	install -D -m 644 -t $(DOCUMENTS) README.md CHANGELOG.md
+	install -D -m 644 -t $(DOCUMENTS)/docs docs/*.md
+	install -D -m 644 -t $(DOCUMENTS)/examples examples/README.md examples/*.jsonl examples/*.report examples/*.refusal
+	install -D -m 755 -t $(DOCUMENTS)/examples examples/recorder.py
+	install -D -m 644 -t $(DOCUMENTS)/examples/tutorial examples/tutorial/*.py
+	install -D -m 755 -t $(DOCUMENTS)/engines engines/*
+
+bin/static/regcheck: bin/regcheck packaging/link_static
+	packaging/link_static crates/regcheck/out/regcheck.o $@
+
+dist: bin/static/regcheck
+	rm -rf dist bin/tree
+	$(MAKE) --no-print-directory -s install DESTDIR=bin/tree PREFIX= PROGRAM=bin/static/regcheck
+	packaging/make_dist bin/tree dist
 
 clean:
-	rm -rf bin crates/*/out
+	rm -rf bin dist crates/*/out

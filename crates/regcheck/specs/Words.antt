@@ -1,5 +1,6 @@
 -- What the words of the command line name (the reading of words is `clap`'s).
-use Rattle.std.specs.Prelude.{◌≡◌, [], ◌∷◌, ℕ, codes, option_map, pos, true, List, Option, Some}
+use Rattle.std.specs.Prelude.{◌≡◌, [], ◌∷◌, ℕ, codes, if◌then◌else◌, option_map, pos, true, List, Option, None, Some}
+use Rattle.std.specs.Str.{bytes_eq}
 use Rattle.std.specs.Str.Parse.{digits_value, without_leading_plus}
 use Rattle.clap.specs.Words.{App, Rule, Text, fault_of, first_of, matches_of, new_app, new_rule, one_of, takes, with_rule}
 use Rattle.clap.specs.declared.builder.action.ArgAction.TheVariants.{Set}
@@ -28,17 +29,22 @@ workers_rule = number_rule (codes "workers") MAX_WORKERS (codes "4")
 abbrev pub cut_rule : Rule
 cut_rule = number_rule (codes "cut") MAX_CUT (codes "4096")
 
--- the program, whose own name isn't among the words
+-- the program, whose own name isn't among the words, and which tells its version
 abbrev pub program : App
-program = record (new_app (codes "regcheck")) { top = record (new_app (codes "regcheck")).top { no_binary_name = true } }
+program = record (new_app (codes "regcheck")) { top = record (new_app (codes "regcheck")).top { no_binary_name = true; has_version = true } }
 
 -- the command line that the program takes
 abbrev pub command_line : App
 command_line = with_rule (with_rule (with_rule program file_rule) workers_rule) cut_rule
 
--- the file that the words name
+-- the word `-` stands for standard input, any other for the file of that name
+abbrev pub file_of : Option Text → Option Text
+file_of None = None
+file_of (Some word) = if bytes_eq word (codes "-") then None else Some word
+
+-- the file that the words name; standard input where there is none
 unfoldable pub file_named : List Text → Option Text
-file_named words = first_of (codes "file") (matches_of command_line words)
+file_named words = file_of (first_of (codes "file") (matches_of command_line words))
 
 -- the number that a text says in decimal digits
 abbrev pub number_in : Text → ℕ
@@ -52,10 +58,10 @@ workers_named words = option_map number_in (one_of (codes "workers") (matches_of
 unfoldable pub cut_named : List Text → Option ℕ
 cut_named words = option_map number_in (one_of (codes "cut") (matches_of command_line words))
 
--- the command line takes the words, and they ask for no help
+-- the command line takes the words, and they ask for neither help nor the version
 unfoldable pub IsTaken : List Text → Type 0
 IsTaken words = takes command_line words ≡ true
 
--- no word is at fault, and none asks for help
+-- no word is at fault, and none asks for help or the version
 unfoldable pub IsFaultless : List Text → Type 0
 IsFaultless words = fault_of command_line words ≡ []

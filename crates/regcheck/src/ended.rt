@@ -11,7 +11,7 @@ pub enum Ended {
     NotAtomic,
     /// There is no report; with the number of the refusal, 1 to 18.
     Refused(u8),
-    /// The words of the command line were refused, or asked for help.
+    /// The words of the command line were refused, or asked for help or the version.
     BadWords,
 }
 

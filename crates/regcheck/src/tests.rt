@@ -33,7 +33,7 @@ fn read(alloc: Global, words: &[&str]) -> Result<Result<Words, String>, AllocErr
     }
 }
 
-// No word is standard input, and one is a file.
+// No word and `-` are standard input, and another word is a file.
 #[test]
 fn files(rt: HostRuntime) -> Result<(), Fail> {
     let alloc = rt.alloc();
@@ -41,6 +41,12 @@ fn files(rt: HostRuntime) -> Result<(), Fail> {
     for (words, want) in [
         (none, None),
         (&["h.jsonl"], Some("h.jsonl")),
+        (&["-"], None),
+        (&["--cut", "1", "-"], None),
+        (&["--", "-"], None),
+        (&["./-"], Some("./-")),
+        (&["--", "-\n"], Some("-\n")),
+        (&["--", "--"], Some("--")),
         (&["--", "--help"], Some("--help")),
         (&["--cut", "1"], None),
         (&["--cut", "1", "h.jsonl"], Some("h.jsonl")),
@@ -76,7 +82,7 @@ fn numbers(rt: HostRuntime) -> Result<(), Fail> {
     Ok(())
 }
 
-// Other words are refused, and so is a call for help, each with the parser's text.
+// Other words are refused, and so is a call for help or the version, each with the parser's text.
 #[test]
 fn bad_words(rt: HostRuntime) -> Result<(), Fail> {
     let alloc = rt.alloc();
@@ -85,6 +91,9 @@ fn bad_words(rt: HostRuntime) -> Result<(), Fail> {
         (two, "error: unexpected argument 'g.jsonl' found\n"),
         (&["--help"], "Checks a recorded history"),
         (&["-h"], "Checks a recorded history"),
+        (&["--version"], "regcheck "),
+        (&["-V"], "regcheck "),
+        (&["-", "-"], "error: unexpected argument '-' found\n"),
         (
             &["--unknown"],
             "error: unexpected argument '--unknown' found\n",

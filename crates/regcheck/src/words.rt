@@ -4,7 +4,7 @@ ghost use Rattle.clap.specs.Words.{app_of, first_value, found_of, rule_of};
 ghost use Rattle.clap.specs.Values.{kind_of};
 ghost use Rattle.reg_pieces.specs.declared.settings.TheConstants.{MAX_CUT, MAX_WORKERS};
 ghost use Rattle.regcheck.specs.Numbers.{HasNumber};
-ghost use Rattle.regcheck.specs.Words.{command_line, cut_named, file_named, number_rule, workers_named, IsFaultless, IsTaken};
+ghost use Rattle.regcheck.specs.Words.{command_line, cut_named, file_named, file_of, number_rule, workers_named, IsFaultless, IsTaken};
 
 use clap::error::ErrorKind;
 use clap::{Arg, ArgAction, ArgMatches, Command, Error, value_parser};
@@ -14,7 +14,12 @@ use std::alloc::{AllocError, Global};
 const ABOUT: &str =
     "Checks a recorded history of reads and writes of registers: whether each is safe, regular and atomic.";
 
-const FILE: &str = "The history, one JSON event a line; standard input where it is absent";
+const VERSION: &str = "1.0.0 (rattle-kit-13b logic dac8208d650f15bf)";
+
+const FILE: &str = "The history, one JSON event a line; standard input where it is absent or -";
+
+/// The word for standard input, in the place of a file's name.
+const STANDARD_INPUT: &str = "-";
 
 const WORKERS: &str = "Workers, 1 to 16; the report is the same with any number";
 
@@ -25,7 +30,7 @@ const STATUSES: &str = "The report goes to standard output. Exit status:
   0  the history is atomic
   1  it isn't
   2  the history is refused: it isn't well formed, or too long
-  3  the command line is refused, or it asked for this help
+  3  the command line is refused, or it asked for this help or the version
   4  the history couldn't be read, the report couldn't be written, or memory was refused";
 
 /// What the words ask for.
@@ -55,7 +60,7 @@ impl Words {
 /// Why there are no words.
 #[derive(Drop)]
 pub enum WordsFault {
-    /// They are refused, or ask for help: the text of the parser, with its line ends.
+    /// They are refused, or ask for help or the version: the text of the parser, with its line ends.
     Bad(String),
     /// Memory was refused.
     Memory,
@@ -90,6 +95,7 @@ fn command<'a>(alloc: Global) -> Result<Command<'a>, AllocError>
     let file = Arg::new(alloc, "file").value_name("FILE").help(FILE);
     Command::new(alloc, "regcheck")
         .no_binary_name(true)
+        .version(VERSION)
         .about(ABOUT)
         .after_help(STATUSES)
         .arg(file)?
@@ -110,7 +116,7 @@ fn fault(alloc: Global, error: &Error) -> WordsFault
 }
 
 fn parsed<'a>(alloc: Global, words: &'a [String]) -> Result<ArgMatches<'a>, WordsFault>
-    ensures file { IfOk result (λ matches. first_value (found_of matches) (codes "file") ≡ file_named (map string_bytes words.entry.now)) }
+    ensures file { IfOk result (λ matches. file_of (first_value (found_of matches) (codes "file")) ≡ file_named (map string_bytes words.entry.now)) }
     ensures workers { IfOk result (λ matches. HasNumber (found_of matches) (codes "workers") MAX_WORKERS (workers_named (map string_bytes words.entry.now))) }
     ensures cut { IfOk result (λ matches. HasNumber (found_of matches) (codes "cut") MAX_CUT (cut_named (map string_bytes words.entry.now))) }
     ensures faultless { IfOk result (λ _. IsFaultless (map string_bytes words.entry.now)) }
@@ -123,10 +129,10 @@ fn parsed<'a>(alloc: Global, words: &'a [String]) -> Result<ArgMatches<'a>, Word
 }
 
 /// Reads the words after the program's name: one file at most, `--workers N` and `--cut N`. Where they don't say, there
-/// are 4 workers, and the cut is 4096.
+/// are 4 workers, and the cut is 4096. The word `-` is standard input, as no word is.
 ///
 /// # Errors
-/// `Bad` where the words are others, or ask for help; `Memory` where memory was refused.
+/// `Bad` where the words are others, or ask for help or the version; `Memory` where memory was refused.
 pub fn read_words(alloc: Global, words: &[String]) -> Result<Words, WordsFault>
     ensures file { IfOk result (λ read. option_map string_bytes read.file ≡ file_named (map string_bytes words.now)) }
     ensures workers { IfOk result (λ read. Some read.workers ≡ workers_named (map string_bytes words.now)) }
@@ -137,8 +143,8 @@ pub fn read_words(alloc: Global, words: &[String]) -> Result<Words, WordsFault>
 {
     let matches = parsed(alloc, words)?;
     let file = match matches.get_str("file") {
-        Some(name) => Some(String::from_str(alloc, name)?),
-        None => None,
+        Some(name) if name != STANDARD_INPUT => Some(String::from_str(alloc, name)?),
+        _ => None,
     };
     Ok(Words {
         file,

@@ -3,7 +3,7 @@ use Rattle.std.proofs.Common.{◌≡◌, ◌∙◌, ap, codes, map, refl, string
 use Rattle.clap.specs.Words.{fault_of, first_of, found_of, is_simple, is_simple_and_free, matches_of, takes}
 use Rattle.clap.proofs.OnLiterals.{clap_on_literals}
 use Rattle.clap.proofs.WalkLemmas.{first_value-rows}
-use Rattle.regcheck.specs.Words.{IsFaultless, IsTaken, command_line, file_named}
+use Rattle.regcheck.specs.Words.{IsFaultless, IsTaken, command_line, file_named, file_of}
 use Rattle.regcheck.proofs.Numbers.{cut_has, workers_has}
 use Rattle.regcheck.proofs.words.parsed.Goals as goal
 
@@ -21,7 +21,7 @@ returns-in-Ok-clause-file c =
     let ours = c.in_ok-command.ensures in
     let words = map string_bytes c.args.words.now in
     let rows = (c.in-Ok.ensures.matches (ap is_simple ours ∙ simple)).0 in
-    first_value-rows (found_of c.in-Ok.matches) (codes "file") ∙ ap (first_of (codes "file")) (rows ∙ ap (λ app. matches_of app words) ours)
+    ap file_of (first_value-rows (found_of c.in-Ok.matches) (codes "file") ∙ ap (first_of (codes "file")) (rows ∙ ap (λ app. matches_of app words) ours))
 
 pub returns-in-Ok-clause-workers : goal.returns-in-Ok-clause-workers
 returns-in-Ok-clause-workers c =

@@ -1,0 +1,76 @@
+"""What the command lines of regcheck and regkit take, from regcheck's --help and regkit's own parser."""
+import argparse
+import pathlib
+import re
+import subprocess
+import sys
+from typing import List, NamedTuple
+
+ROOT = pathlib.Path(__file__).resolve().parents[1]
+
+# What stands for a value in a help text, of values that are paths. Other values, such as N, are none.
+FILES = {"FILE", "OUT", "OUT.html", "HISTORY", "REPORT"}
+FOLDERS = {"DIR"}
+
+
+class Option(NamedTuple):
+    """An option. A flag has an empty value."""
+
+    names: List[str]
+    value: str
+    choices: List[str]
+    help: str
+
+
+class Command(NamedTuple):
+    """A command, or the whole program if its name is empty."""
+
+    name: str
+    help: str
+    options: List[Option]
+    words: List[str]  # what stands for each word that is no option
+
+
+def brief(text: str) -> str:
+    """The first clause of a help text."""
+    return re.split(r"[;:(]|, or|, as ", " ".join(text.split()))[0].strip()
+
+
+def regcheck_options(said: str) -> List[Option]:
+    """The options in the parser's own help: a line begins with the names, and two spaces end them."""
+    options = []
+    for line in said.split("Options:\n")[1].split("\n\n")[0].splitlines():
+        names, _, text = line.strip().partition("  ")
+        value = re.search(r"<(\S+)>", names)
+        options.append(Option(re.findall(r"-[\w-]+", names.split("<")[0]), value.group(1) if value else "", [], brief(text)))
+    return options
+
+
+def regcheck(program: str) -> List[Command]:
+    """The command line of the program that was built."""
+    ran = subprocess.run([program, "--help"], capture_output=True, text=True, check=False)
+    return [Command("", "", regcheck_options(ran.stderr), ["FILE"])]
+
+
+def command(name: str, parser: argparse.ArgumentParser) -> Command:
+    """One parser of regkit, without the parsers below it."""
+    options, words = [], []
+    for action in parser._actions:
+        text = brief((action.help or "") % {**vars(action), "prog": "regkit"})
+        shown = action.metavar if isinstance(action.metavar, str) else action.dest.upper()
+        if action.option_strings:
+            value = "" if action.nargs == 0 else shown
+            options.append(Option(list(action.option_strings), value, [str(it) for it in action.choices or []], text))
+        elif not isinstance(action, argparse._SubParsersAction):
+            words.append(shown)
+    return Command(name, brief(parser.description or ""), options, words)
+
+
+def regkit() -> List[Command]:
+    """The program itself, and then each of its commands."""
+    sys.path.insert(0, str(ROOT / "python"))
+    from regkit.cli import COMMANDS, parser
+
+    top = parser([])
+    below = next(it for it in top._actions if isinstance(it, argparse._SubParsersAction)).choices
+    return [command("", top), *(command(name, below[name]) for name in COMMANDS)]
