@@ -6,8 +6,10 @@
 # make bench-library: time small calls, and 2^20 events against the program with one worker.
 # make picture-test: look at pages of `regkit draw` in a headless browser, and keep the screenshots in SHOTS=...
 # make bench: time it on generated histories, in three to fifteen minutes.
-# make install: the programs, man pages, documents, examples and completions below PREFIX, within DESTDIR.
+# make install: all of the next two below PREFIX, within DESTDIR.
+# make install-programs: the programs, man pages, documents, examples and completions. make install-library: the library.
 # make dist: the release in dist/: a tarball, a Debian package, their bill of materials and their sums.
+# make dist-library: a tarball of the library in dist/, with its packages for Go and Rust.
 FILE ?= examples/new_old_inversion.jsonl
 PREFIX ?= /usr/local
 SECONDS ?= 600
@@ -21,7 +23,7 @@ PYTHON := $(shell find python/regkit -name '*.py')
 PROGRAM ?= bin/regcheck
 DOCUMENTS = $(DESTDIR)$(PREFIX)/share/doc/regcheck
 
-.PHONY: all run test fuzz picture-test bench library embed-test bench-library install dist clean
+.PHONY: all run test fuzz picture-test bench library embed-test bench-library install install-programs install-library dist dist-library clean
 
 all: bin/regcheck
 
@@ -54,7 +56,7 @@ bin/libregcheck.so: bin/libregcheck.a library/regcheck.map
 
 bin/regcheck.pc: library/regcheck.pc.in VERSION
 	mkdir -p bin
-	sed -e 's|@PREFIX@|$(PREFIX)|' -e 's|@VERSION@|$(VERSION)|' library/regcheck.pc.in > $@
+	sed 's|@VERSION@|$(VERSION)|' library/regcheck.pc.in > $@
 
 embed-test: library bin/regcheck bin/history_generator
 	tests/embed --count $(COUNT)
@@ -97,8 +99,10 @@ bin/completions: bin/regcheck $(PYTHON) packaging/make_completions packaging/com
 	packaging/make_completions bin/regcheck $@
 	touch $@
 
+install: install-programs install-library
+
 # Everything that a release has is installed here, so that make dist has it too.
-install: bin/regcheck bin/regkit bin/completions
+install-programs: bin/regcheck bin/regkit bin/completions
 	install -D -m 755 $(PROGRAM) $(DESTDIR)$(PREFIX)/bin/regcheck
 	install -D -m 755 bin/regkit $(DESTDIR)$(PREFIX)/bin/regkit
 	install -D -m 644 -t $(DESTDIR)$(PREFIX)/share/man/man1 docs/*.1
@@ -112,13 +116,29 @@ install: bin/regcheck bin/regkit bin/completions
 	install -D -m 644 -t $(DOCUMENTS)/examples/tutorial examples/tutorial/*.py
 	install -D -m 755 -t $(DOCUMENTS)/engines engines/*
 
+install-library: library
+	install -D -m 644 -t $(DESTDIR)$(PREFIX)/include library/regcheck.h
+	install -D -m 644 -t $(DESTDIR)$(PREFIX)/lib bin/libregcheck.a
+	install -D -m 755 -t $(DESTDIR)$(PREFIX)/lib bin/$(SONAME)
+	ln -sf $(SONAME) $(DESTDIR)$(PREFIX)/lib/libregcheck.so
+	install -D -m 644 -t $(DESTDIR)$(PREFIX)/lib/pkgconfig bin/regcheck.pc
+
 bin/static/regcheck: bin/regcheck packaging/link_static
 	packaging/link_static crates/regcheck/out/regcheck.o $@
 
 dist: bin/static/regcheck
 	rm -rf dist bin/tree
-	$(MAKE) --no-print-directory -s install DESTDIR=bin/tree PREFIX= PROGRAM=bin/static/regcheck
+	$(MAKE) --no-print-directory -s install-programs DESTDIR=bin/tree PREFIX= PROGRAM=bin/static/regcheck
 	packaging/make_dist bin/tree dist
+
+LIBRARY_TREE := bin/library/libregcheck-$(VERSION)-x86_64-linux
+
+dist-library:
+	rm -rf bin/library
+	$(MAKE) --no-print-directory -s install-library DESTDIR=$(LIBRARY_TREE) PREFIX=
+	cp -r --parents $$(git ls-files go rust docs/embedding.md docs/format.md) $(LIBRARY_TREE)
+	mkdir -p dist
+	tar --sort=name --owner=root --group=root --mtime=@0 --mode=u+rw,go=rX -C bin/library -c . | gzip -9n > dist/$(notdir $(LIBRARY_TREE)).tar.gz
 
 clean:
 	rm -rf bin dist crates/*/out

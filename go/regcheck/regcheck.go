@@ -4,10 +4,12 @@
 // Check takes operations with the times of their calls and returns, as the checker Porcupine does. Report takes a history
 // in the form of the program regcheck, and gives its report.
 //
-// Building it takes cgo, regcheck.h and libregcheck, found by pkg-config or by CGO_CFLAGS and CGO_LDFLAGS.
+// Building it takes cgo, regcheck.h and libregcheck. If they aren't installed where the C compiler looks, CGO_CFLAGS=-I..
+// and CGO_LDFLAGS=-L.. say where they are.
 package regcheck
 
 /*
+#cgo LDFLAGS: -lregcheck
 #include <regcheck.h>
 */
 import "C"

@@ -1,5 +1,5 @@
 -- What a call answers, and what it leaves in the place for the report (this project's own interface; docs/embedding.md).
-use Rattle.std.specs.Prelude.{◌≡◌, ◌⊎◌, ◌++◌, ℕ, List, length, drop, nat_le, if◌then◌else◌, Option, Some, None, Ok, Err}
+use Rattle.std.specs.Prelude.{◌≡◌, ◌⊎◌, ◌++◌, ℕ, List, length, drop, nat_le, if◌then◌else◌, Option, Some, None, Ok}
 use Rattle.reg_report.specs.Answer.{IsAnswer, IsRefused}
 use Rattle.reg_report.specs.Refusals.{number_of, line_of, other_of}
 use Rattle.reg_report.specs.Run.{IsOutcome}
