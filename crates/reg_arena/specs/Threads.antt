@@ -11,7 +11,6 @@ use Rattle.reg_arena.specs.declared.event.Event.{Event}
 use Rattle.reg_arena.specs.declared.ends.Ends.{Ends}
 use Rattle.reg_arena.specs.declared.ends.Entry.{Entry}
 use Rattle.reg_arena.specs.declared.processes.Processes.{Processes}
-use Rattle.reg_arena.specs.declared.processes.TheConstants.{TABLE_LIMIT}
 use Rattle.reg_arena.specs.declared.threads.Threads.{Threads}
 use Rattle.reg_arena.specs.Shown.{IsLeastFrom, IsFirstOf, IsCall, key_at, by_register, by_process, by_value}
 
@@ -51,7 +50,7 @@ table_at table p = option_and_then (λ o. o) (slice_get table p)
 
 -- those of small numbers stand in the table, and the others in the map
 abbrev pub process_ends : Processes → ℕ → Option Ends
-process_ends t p = cond (nat_lt p TABLE_LIMIT) (table_at t.table.items p) (get nat_eq t.others p)
+process_ends t p = cond (nat_lt p t.table_limit) (table_at t.table.items p) (get nat_eq t.others p)
 
 -- one key has new ends, and the others those that they had
 pub record IsSetAt (k : ℕ) (e : Ends) (ends new_ends : ℕ → Option Ends) : Type 0 where

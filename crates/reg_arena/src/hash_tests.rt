@@ -5,22 +5,22 @@ use std::io;
 use std::random::RandomSource;
 use std::test::Fail;
 
-/// Processes on both sides of the table's limit, 65,536. Of them 1, 65,537 and 131,073 are equal in their low 16 bits, and so are 0 and 65,536.
+/// Processes on both sides of the table's limit, which is the number of events, 12. Of them 1, 13 and 25 leave the same when divided by it, and so do 0 and 12.
 const MIXED: &str =
-    "p65535 W x 1; p65536 R x; p1 R y; p4294967295 R x; p65537 R y; p65535 ok; p65536 = 1; p0 R x; p131073 R y; p1 = null; p65537 = null; p65536 R x";
+    "p11 W x 1; p12 R x; p1 R y; p4294967295 R x; p13 R y; p11 ok; p12 = 1; p0 R x; p25 R y; p1 = null; p13 = null; p12 R x";
 
 /// The lines of each process in `MIXED`, and of some that have none.
 const LINES: [(u32, &str); 11] = [
     (0, " 8"),
     (1, " 3 10"),
     (2, ""),
-    (65_534, ""),
-    (65_535, " 1 6"),
-    (65_536, " 2 7 12"),
-    (65_537, " 5 11"),
-    (65_538, ""),
-    (131_072, ""),
-    (131_073, " 9"),
+    (10, ""),
+    (11, " 1 6"),
+    (12, " 2 7 12"),
+    (13, " 5 11"),
+    (14, ""),
+    (24, ""),
+    (25, " 9"),
     (4_294_967_295, " 4"),
 ];
 

@@ -1,5 +1,5 @@
 //! The ends of the processes' lists: those of small numbers stand in a table, and the others in a map.
-ghost use Rattle.std.specs.Prelude.{◌≡◌, ◌<◌, ℕ, None, OnOk};
+ghost use Rattle.std.specs.Prelude.{◌≡◌, ◌<◌, ◌^◌, ℕ, None, OnOk};
 ghost use Rattle.reg_arena.specs.Threads.{IsSetAt, process_ends, table_at};
 
 use crate::ends::Ends;
@@ -7,22 +7,22 @@ use crate::seeded::Seeded;
 use indexmap::IndexMap;
 use std::alloc::{AllocError, Global};
 
-/// Process numbers below it stand in the table, which reaches as far as the greatest of them that was met.
-const TABLE_LIMIT: u32 = 65_536;
-
 /// The first and the last event of each process that has events.
 #[derive(Drop)]
 pub(crate) struct Processes {
+    /// Process numbers below it stand in the table, which reaches as far as the greatest of them that was met.
+    table_limit: usize,
     table: Vec<Option<Ends>>,
     others: IndexMap<u32, Ends, Seeded>,
 }
 
 impl Processes {
-    /// No process has events.
-    pub(crate) fn new(alloc: Global, hasher: Seeded) -> Self
+    /// No process has events. The table has at most `table_limit` places.
+    pub(crate) fn new(alloc: Global, table_limit: usize, hasher: Seeded) -> Self
         ensures { (p : ℕ) → process_ends result p ≡ None }
     {
         Processes {
+            table_limit,
             table: Vec::new(alloc),
             others: IndexMap::with_hasher(alloc, hasher),
         }
@@ -32,8 +32,8 @@ impl Processes {
     pub(crate) fn get(&self, process: u32) -> Option<Ends>
         ensures { result ≡ process_ends self.now process }
     {
-        if process < TABLE_LIMIT {
-            let place = process as usize;
+        let place = process as usize;
+        if place < self.table_limit {
             if place < self.table.len() {
                 self.table[place]
             } else {
@@ -48,8 +48,9 @@ impl Processes {
     pub(crate) fn set(&mut self, process: u32, ends: Ends) -> Result<(), AllocError>
         ensures { OnOk result (IsSetAt process ends (process_ends self.old) (process_ends self.new)) }
     {
-        if process < TABLE_LIMIT {
-            set_in_table(&mut self.table, process as usize, ends)?;
+        let place = process as usize;
+        if place < self.table_limit {
+            set_in_table(&mut self.table, place, ends)?;
         } else {
             self.others.insert(process, ends)?;
         }
@@ -59,7 +60,7 @@ impl Processes {
 
 /// Sets the ends at one place of a table, which grows as far as that place where it is shorter.
 fn set_in_table(table: &mut Vec<Option<Ends>>, place: usize, ends: Ends) -> Result<(), AllocError>
-    requires { place < TABLE_LIMIT }
+    requires { place < 2 ^ 32 }
     ensures { OnOk result (IsSetAt place ends (table_at table.old.items) (table_at table.new.items)) }
 {
     if table.len() <= place {

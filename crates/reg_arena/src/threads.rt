@@ -45,7 +45,7 @@ impl Threads {
             in_value: Vec::with_capacity(alloc, count)?,
             numbers: Vec::with_capacity(alloc, count)?,
             registers: Vec::new(alloc),
-            processes: Processes::new(alloc, hasher),
+            processes: Processes::new(alloc, count, hasher),
             values: IndexSet::with_hasher(alloc, hasher),
             entries: Vec::new(alloc),
         })
