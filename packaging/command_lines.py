@@ -53,7 +53,7 @@ def regcheck(program: str) -> List[Command]:
 
 
 def command(name: str, parser: argparse.ArgumentParser) -> Command:
-    """One parser of regkit, without the parsers below it."""
+    """One parser of regkit, without the parsers below it. Only `_actions` lists what a parser takes."""
     options, words = [], []
     for action in parser._actions:
         text = brief((action.help or "") % {**vars(action), "prog": "regkit"})
