@@ -1,20 +1,29 @@
 # make: prove and build bin/regcheck. make run: run it on a shipped example, or on FILE=...
 # make test: the merge gate; then, by the programs that it built, the examples, hostile runs, and the tests of regkit.
 # make fuzz: compare the program with the reference on spoiled histories for SECONDS=...
+# make library: bin/libregcheck.a, bin/libregcheck.so and bin/regcheck.pc, to call the checker from C and other languages.
+# make embed-test: compare the library with the program from C, Python, Go and Rust, on COUNT=... histories; under valgrind too.
+# make bench-library: time small calls, and 2^20 events against the program with one worker.
 # make picture-test: look at pages of `regkit draw` in a headless browser, and keep the screenshots in SHOTS=...
 # make bench: time it on generated histories, in three to fifteen minutes.
-# make install: the programs, man pages, documents, examples and completions below PREFIX, within DESTDIR.
+# make install: all of the next two below PREFIX, within DESTDIR.
+# make install-programs: the programs, man pages, documents, examples and completions. make install-library: the library.
 # make dist: the release in dist/: a tarball, a Debian package, their bill of materials and their sums.
+# make dist-library: a tarball of the library in dist/, with its packages for Go and Rust.
 FILE ?= examples/new_old_inversion.jsonl
 PREFIX ?= /usr/local
 SECONDS ?= 600
 SHOTS ?= /tmp/regkit-shots
+COUNT ?= 10000
+VERSION := $(shell cat VERSION)
+# The number behind .so is that of the interface.
+SONAME := libregcheck.so.1
 SOURCES := $(shell find crates -name out -prune -o -type f \( -name '*.rt' -o -name '*.antt' \) -print)
 PYTHON := $(shell find python/regkit -name '*.py')
 PROGRAM ?= bin/regcheck
 DOCUMENTS = $(DESTDIR)$(PREFIX)/share/doc/regcheck
 
-.PHONY: all run test fuzz picture-test bench install dist clean
+.PHONY: all run test fuzz picture-test bench library embed-test bench-library install install-programs install-library dist dist-library clean
 
 all: bin/regcheck
 
@@ -28,6 +37,32 @@ bin/history_generator: $(SOURCES) crates.txt
 	cd crates/history_generator && rt run -- sequential > /dev/null
 	mkdir -p bin
 	cp crates/history_generator/out/history_generator bin/history_generator
+
+library: bin/libregcheck.a bin/libregcheck.so bin/regcheck.pc
+
+# The archive of a static library leaves out the C part of the toolchain's allocator; here it is put in, and its names are
+# hidden, so that nothing but the one call can clash with a name of the program that links it.
+bin/libregcheck.a: $(SOURCES) crates.txt
+	cd crates/regcheck_c && rt lib > /dev/null
+	mkdir -p bin
+	ld -r -u regcheck_report -o bin/regcheck.o crates/regcheck_c/out/libregcheck_c.a "$$(dirname "$$(rt doc)")/c/liblibc_c.a"
+	objcopy --keep-global-symbol=regcheck_report bin/regcheck.o
+	rm -f $@
+	ar rcsD $@ bin/regcheck.o
+
+bin/libregcheck.so: bin/libregcheck.a library/regcheck.map
+	$(CC) -shared -o bin/$(SONAME) -Wl,-soname,$(SONAME),--version-script=library/regcheck.map,--no-undefined,-z,noexecstack,-z,now bin/regcheck.o
+	ln -sf $(SONAME) $@
+
+bin/regcheck.pc: library/regcheck.pc.in VERSION
+	mkdir -p bin
+	sed 's|@VERSION@|$(VERSION)|' library/regcheck.pc.in > $@
+
+embed-test: library bin/regcheck bin/history_generator
+	tests/embed --count $(COUNT)
+
+bench-library: library bin/regcheck bin/history_generator
+	bench/library
 
 run: bin/regcheck
 	bin/regcheck < $(FILE); status=$$?; test $$status -le 1
@@ -65,8 +100,10 @@ bin/completions: bin/regcheck $(PYTHON) packaging/make_completions packaging/com
 	packaging/make_completions bin/regcheck $@
 	touch $@
 
+install: install-programs install-library
+
 # Everything that a release has is installed here, so that make dist has it too.
-install: bin/regcheck bin/regkit bin/completions
+install-programs: bin/regcheck bin/regkit bin/completions
 	install -D -m 755 $(PROGRAM) $(DESTDIR)$(PREFIX)/bin/regcheck
 	install -D -m 755 bin/regkit $(DESTDIR)$(PREFIX)/bin/regkit
 	install -D -m 644 -t $(DESTDIR)$(PREFIX)/share/man/man1 docs/*.1
@@ -80,13 +117,29 @@ install: bin/regcheck bin/regkit bin/completions
 	install -D -m 644 -t $(DOCUMENTS)/examples/tutorial examples/tutorial/*.py
 	install -D -m 755 -t $(DOCUMENTS)/engines engines/*
 
+install-library: library
+	install -D -m 644 -t $(DESTDIR)$(PREFIX)/include library/regcheck.h
+	install -D -m 644 -t $(DESTDIR)$(PREFIX)/lib bin/libregcheck.a
+	install -D -m 755 -t $(DESTDIR)$(PREFIX)/lib bin/$(SONAME)
+	ln -sf $(SONAME) $(DESTDIR)$(PREFIX)/lib/libregcheck.so
+	install -D -m 644 -t $(DESTDIR)$(PREFIX)/lib/pkgconfig bin/regcheck.pc
+
 bin/static/regcheck: bin/regcheck packaging/link_static
 	packaging/link_static crates/regcheck/out/regcheck.o $@
 
 dist: bin/static/regcheck
 	rm -rf dist bin/tree
-	$(MAKE) --no-print-directory -s install DESTDIR=bin/tree PREFIX= PROGRAM=bin/static/regcheck
+	$(MAKE) --no-print-directory -s install-programs DESTDIR=bin/tree PREFIX= PROGRAM=bin/static/regcheck
 	packaging/make_dist bin/tree dist
+
+LIBRARY_TREE := bin/library/libregcheck-$(VERSION)-x86_64-linux
+
+dist-library:
+	rm -rf bin/library
+	$(MAKE) --no-print-directory -s install-library DESTDIR=$(LIBRARY_TREE) PREFIX=
+	cp -r --parents $$(git ls-files go rust docs/embedding.md docs/format.md) $(LIBRARY_TREE)
+	mkdir -p dist
+	tar --sort=name --owner=root --group=root --mtime=@0 --mode=u+rw,go=rX -C bin/library -c . | gzip -9n > dist/$(notdir $(LIBRARY_TREE)).tar.gz
 
 clean:
 	rm -rf bin dist crates/*/out

@@ -1,4 +1,4 @@
-"""Finds the program `regcheck` and runs it."""
+"""Asks the checker: the program `regcheck`, or for a small history the library, where it is installed."""
 import os
 import pathlib
 import shutil
@@ -7,6 +7,7 @@ import sys
 from typing import List, NamedTuple, Optional, Sequence
 
 from regkit.blanking import without_failures
+from regkit.library import MOST_BYTES, NoLibrary, find_library
 
 COMMAND_LINE = 3  # the checker's status for options that it doesn't know
 UNKNOWN_EVENT = "event is neither call nor reply"  # the refusal of a checker without `fail` and `crash`
@@ -66,11 +67,25 @@ def run_checker(history: bytes, options: Sequence[str] = (), program: Optional[s
     return Answer(ran.returncode, ran.stdout, refusal, history)
 
 
+def ask_checker(history: bytes, options: Sequence[str] = ()) -> Answer:
+    """The library's answer if the history is small and there are no options, else the program's: they are the same."""
+    if options or len(history) > MOST_BYTES:
+        return run_checker(history, options)
+    try:
+        library = find_library()
+    except NoLibrary as error:
+        raise NoChecker(str(error)) from error
+    if library is None:
+        return run_checker(history)
+    told = library.check(history)
+    return Answer(told.status, told.report, told.refusal, history)
+
+
 def judge(history: bytes, options: Sequence[str] = ()) -> Answer:
     """The checker's answer. One without the events `fail` and `crash` is given the history without them."""
-    answer = run_checker(history, options)
+    answer = ask_checker(history, options)
     known = without_failures(history) if UNKNOWN_EVENT in answer.refusal else history
-    return answer if known == history else run_checker(known, options)
+    return answer if known == history else ask_checker(known, options)
 
 
 def judge_first(history: bytes) -> Answer:

@@ -2,24 +2,29 @@
 import re
 from typing import Callable, Iterable, NamedTuple, Optional
 
-# The numbers of docs/format.md by their texts. On one line the lowest number counts.
+# The texts of the refusals of a line, by their numbers in docs/format.md. On one line the lowest number counts.
+TEXTS = {
+    1: "line is longer than 65536 bytes",
+    2: "not JSON",
+    3: "not an object",
+    4: "process is not a whole number from 0 to 4294967295",
+    5: "event is neither call nor reply",
+    6: "op is neither read nor write",
+    7: "register is not a text of 1 to 255 bytes",
+    8: "value does not fit the event",
+    9: "the process has an open call",
+    10: "reply without an open call",
+    11: "reply disagrees with its call",
+    12: "a read's reply has no value",
+    13: "value already written to this register",
+}
 NUMBERS = {
-    "line is longer than 65536 bytes": 1,
-    "not JSON": 2,
-    "not an object": 3,
-    "process is not a whole number from 0 to 4294967295": 4,
-    "event is neither call nor reply": 5,
+    **{text: number for number, text in TEXTS.items()},
     "event is not call, reply, fail or crash": 5,
-    "op is neither read nor write": 6,
-    "register is not a text of 1 to 255 bytes": 7,
-    "value does not fit the event": 8,
-    "the process has an open call": 9,
-    "reply without an open call": 10,
-    "reply disagrees with its call": 11,
-    "a read's reply has no value": 12,
-    "value already written to this register": 13,
     "the process crashed": 19,
 }
+# Those that are about the size of a history, or about none.
+OTHER_TEXTS = {14: "more than 1048576 events", 15: "input is longer than 67108864 bytes", 17: "no memory or no thread"}
 WORDS = re.compile(r"line (\d+): (.+?)(?: at line (\d+))?")
 
 
@@ -33,6 +38,12 @@ class Refusal(NamedTuple):
 
     def __str__(self) -> str:
         return f"line {self.line}: {self.text}" + ("" if self.other is None else f" at line {self.other}")
+
+
+def reason_of(number: int, line: int, other: int) -> str:
+    """What the program says of a refusal. A line or other line of 0 is none."""
+    text = TEXTS.get(number) or OTHER_TEXTS[number]
+    return (f"line {line}: " if line else "") + text + (f" at line {other}" if other else "")
 
 
 def read_refusal(words: str, line_of: Callable[[int], int]) -> Optional[Refusal]:

@@ -3,7 +3,7 @@
 //!
 //! What the floor above may rely on: [`read_lines`] gives exactly the lines that are not blank, in
 //! order and with their numbers, each as its one event or as the least fault that applies to it. It
-//! reads them by several threads, and gives what one thread would.
+//! reads them by several threads, and gives what one thread would, as [`read_lines_alone`] does.
 //! Nothing here knows how events follow one another; that is the floor above.
 //!
 //! Read it in this order: `limits`; `name`, `event` and `fault`, which say what a line can mean;
@@ -32,4 +32,4 @@ pub use limits::{MAX_EVENTS, MAX_INPUT, MAX_LINE, MAX_NAME};
 pub use line::{LineError, read_line};
 pub use lines::{Span, lines_of};
 pub use name::Name;
-pub use read::read_lines;
+pub use read::{read_lines, read_lines_alone};

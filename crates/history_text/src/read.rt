@@ -1,4 +1,4 @@
-//! All lines of an input, each read by itself, by several threads.
+//! All lines of an input, each read by itself, by several threads or by one.
 ghost use Rattle.std.specs.Prelude.{◌≡◌, ◌≤◌, length, IfOk, slice_range};
 ghost use Rattle.history_text.specs.Lines.{IsWithin};
 ghost use Rattle.history_text.specs.Reading.{line_reading, history_lines, IsAscending};
@@ -38,6 +38,24 @@ pub fn read_lines(
             { read_span(alloc, bytes, *span, &refused) },
         )
         .collect::<Result<Vec<_>, AllocError>>(rt, alloc)?
+}
+
+/// The same, by the calling thread alone: it takes no right to start threads.
+pub fn read_lines_alone(
+    alloc: Global,
+    bytes: &[u8],
+) -> Result<Vec<Result<LineEvent, LineFault>>, AllocError>
+    requires { length bytes.now ≤ MAX_INPUT }
+    ensures lines { IfOk result (λ v. v.items ≡ history_lines bytes.now) }
+    ensures ascending { IfOk result (λ v. IsAscending v.items) }
+{
+    let spans = lines_of(alloc, bytes)?;
+    let refused = AtomicBool::new(false);
+    let mut lines = Vec::with_capacity(alloc, spans.len())?;
+    for span in &spans {
+        lines.push(read_span(alloc, bytes, *span, &refused)?)?;
+    }
+    Ok(lines)
 }
 
 // Once memory was refused to one line no thread reads another: each would be refused in its turn, slowly.

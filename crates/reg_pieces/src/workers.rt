@@ -1,4 +1,4 @@
-//! All workers at once.
+//! All workers at once, or one alone.
 ghost use Rattle.std.specs.Prelude.{◌≡◌, ◌<◌, ◌≤◌, ℕ, All, IfOk, IfSome, true, length};
 ghost use Rattle.job_board.specs.Numbers.{times};
 ghost use Rattle.job_board.specs.Steps.{ClosesWith};
@@ -8,7 +8,7 @@ ghost use Rattle.reg_pieces.specs.Slots.{AreDone, AreEmpty};
 ghost use Rattle.reg_pieces.specs.Work.{HasWorked};
 ghost use Rattle.reg_pieces.specs.Workers.{IsHandedBack, IsNewSeat, view_with, weight_back, weight_of_all};
 
-use crate::gate::Gate;
+use crate::gate::{Gate, OpenGate};
 use crate::pieces::Pieces;
 use crate::settings::Settings;
 use crate::tasks::Plan;
@@ -146,5 +146,20 @@ pub fn do_pieces<R: Threads + Sync, G: Gate + Sync>(
     let (board, seat) = Board::open(alloc, plan.len())?;
     let seats = seats_of(alloc, plan, &board, seat, settings.workers())?;
     let back = all_work(rt, alloc, arena, plan, &board, seats, gate)?;
+    gathered(arena, plan, board, pieces, back)
+}
+
+/// The same pieces, done by the calling thread alone: it takes no right to start threads.
+///
+/// # Errors
+/// Where a growth was refused; what was done is dropped.
+pub fn do_pieces_alone(alloc: Global, arena: &Arena, plan: &Plan) -> Result<Pieces, AllocError>
+    requires { (cut : ℕ) × IsPlan arena.now cut plan.now }
+    ensures { IfOk result (AreDone arena.now plan.now.tasks) }
+{
+    let pieces = Pieces::empty(alloc, plan.len())?;
+    let (board, seat) = Board::open(alloc, plan.len())?;
+    let mut back = Vec::with_capacity(alloc, 1)?;
+    back.push(work(alloc, arena, plan, &board, seat, &OpenGate))?;
     gathered(arena, plan, board, pieces, back)
 }

@@ -16,3 +16,4 @@ mod ListedLevels
 mod FoundLines
 pub mod Pulling
 mod Pushing
+mod Answering

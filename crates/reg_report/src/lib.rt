@@ -1,18 +1,20 @@
 //! From the bytes of a history to the bytes of its report.
 //!
 //! What the floor above may rely on: [`run`] pulls all the bytes of a source, and the bytes that it pushes into a sink are
-//! the report of their history, or it answers the one refusal and pushes nothing. [`check`] gives the report's values and
-//! [`text`] their bytes; [`merge`] lists the operations of all registers in one legal order. [`plan`] and [`work`], handed on
-//! from `reg_pieces`, are the pieces of work and one worker; how many workers there are, and how they take turns, changes no
-//! report. Sources and sinks are handed on from `byte_ends`. [`laws`] says why the whole history is atomic exactly where each
-//! of its registers is, and that a history has one report.
+//! the report of their history, or it answers the one refusal and pushes nothing. [`check`] gives the report's values, and
+//! so does [`check_alone`] without threads; [`text`] gives their bytes; [`merge`] lists the operations of all registers in
+//! one legal order. [`plan`] and [`work`], handed on from `reg_pieces`, are the pieces of work and one worker; how many
+//! workers there are, and how they take turns, changes no report. Sources and sinks are handed on from `byte_ends`.
+//! [`laws`] says why the whole history is atomic exactly where each of its registers is, and that a history has one report.
 //!
-//! To read, from the input on: `pulled`; `checked`, which asks all others, and below it `reg_pieces`; `history`, which
-//! puts what is done together, or `first`, where the first register that isn't atomic is all that is asked for: there `tally` counts the calls, `register` makes the line of one register, with `levels`,
+//! To read, from the input on: `pulled`; `checked`, which asks all others, as `alone` does without threads, and below it
+//! `reg_pieces`; `history`, which puts what is done together, or `first`, if the first register that isn't atomic is all that
+//! is asked for: there `tally` counts the calls, `register` makes the line of one register, with `levels`,
 //! `fault` and `order`, and `merged` the order of all; then `report` with `lists`, `send` and `written`; `pushed`, `outcome` and `whole` at last.
 //! `refusal` and `wording` say why there is no report, and `told` asks the arena for what its laws say.
 #![tactic(auto)]
 
+mod alone;
 mod checked;
 mod fault;
 mod first;
@@ -35,6 +37,7 @@ mod whole;
 mod wording;
 mod written;
 
+pub use alone::check_alone;
 pub use byte_ends::{FromReader, FromWriter, IoFail, MemSink, MemSource, Sink, Source};
 pub use checked::check;
 pub use lists::{Lines, Registers};

@@ -1,0 +1,43 @@
+//! From the bytes of a history to its report, by the calling thread alone.
+ghost use Rattle.std.specs.Prelude.{◌≡◌, ◌<◌, false, length, Ok, Err, IfOk, IfErr};
+ghost use Rattle.history_text.specs.declared.limits.TheConstants.{MAX_INPUT};
+ghost use Rattle.reg_report.specs.Answer.{IsAnswer, IsRefused};
+
+use crate::history::history_report;
+use crate::refusal::Refusal;
+use crate::report::Report;
+use history_text::{MAX_INPUT, read_lines_alone};
+use reg_arena::Arena;
+use reg_pieces::{MAX_CUT, Settings, do_pieces_alone, plan};
+use std::alloc::Global;
+
+/// One worker, and cuts of the greatest size, since there is nobody to share a register's reads with; the whole report.
+fn settings() -> Settings
+    ensures { result.first ≡ false }
+{
+    match Settings::new(1, MAX_CUT, false) {
+        Some(settings) => settings,
+        None => unreachable!(),
+    }
+}
+
+/// The report of the history in the input, the same as [`check`](crate::check) gives. It takes no right to start threads
+/// and asks the system for nothing but memory, so the key of the arena's hashes is a digest of the lines.
+///
+/// # Errors
+/// As of [`check`](crate::check).
+pub fn check_alone(alloc: Global, input: &[u8]) -> Result<Report, Refusal>
+    ensures ok { IfOk result (λ report. IsAnswer false input.now (Ok report)) }
+    ensures err { IfErr result (IsRefused false input.now) }
+    ensures long { MAX_INPUT < length input.now → result ≡ Err Refusal.TooLong }
+{
+    if input.len() > MAX_INPUT {
+        return Err(Refusal::TooLong);
+    }
+    let settings = settings();
+    let lines = read_lines_alone(alloc, input)?;
+    let arena = Arena::build(alloc, lines)?;
+    let plan = plan(alloc, &arena, settings)?;
+    let pieces = do_pieces_alone(alloc, &arena, &plan)?;
+    Ok(history_report(alloc, &arena, &plan, settings.cut(), pieces)?)
+}

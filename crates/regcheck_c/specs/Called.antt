@@ -1,0 +1,61 @@
+-- What a call answers, and what it leaves in the place for the report (this project's own interface; docs/embedding.md).
+use Rattle.std.specs.Prelude.{◌≡◌, ◌⊎◌, ◌++◌, ℕ, List, false, length, drop, nat_le, if◌then◌else◌, Option, Some, None, Ok}
+use Rattle.reg_report.specs.Answer.{IsAnswer, IsRefused}
+use Rattle.reg_report.specs.Refusals.{number_of, line_of, other_of}
+use Rattle.reg_report.specs.Run.{IsOutcome}
+use Rattle.reg_report.specs.Text.{report_text}
+use Rattle.reg_report.specs.declared.outcome.Outcome.TheVariants.{Atomic, NotAtomic}
+use Rattle.reg_report.specs.declared.refusal.Refusal.{Refusal}
+use Rattle.reg_report.specs.declared.report.Report.{Report}
+use Rattle.regcheck_c.specs.declared.answer.Answer.{Answer}
+use Rattle.regcheck_c.specs.declared.status.TheConstants.{ATOMIC, NOT_ATOMIC, REFUSED, NO_MEMORY, TOO_SMALL}
+
+-- the place with a text at its beginning, if there is room for all of it; else as it was
+abbrev pub with_text : List ℕ → List ℕ → List ℕ
+with_text text old = if nat_le (length text) (length old) then text ++ drop (length text) old else old
+
+-- the status of a report, if there is room for so many bytes
+abbrev pub status_of_report : ℕ → Report → ℕ
+status_of_report room report = if nat_le (length (report_text report)) room then (if report.atomic then ATOMIC else NOT_ATOMIC) else TOO_SMALL
+
+-- what is said of a report
+abbrev pub answer_of_report : ℕ → Report → Answer
+answer_of_report room report = record { status = status_of_report room report; number = 0; line = 0; other = 0; length = length (report_text report) }
+
+-- a line, or 0 if there is none
+abbrev pub line_or_0 : Option ℕ → ℕ
+line_or_0 (Some line) = line
+line_or_0 None = 0
+
+-- the status of a refusal, as the program has it
+abbrev pub status_of_refusal : Refusal → ℕ
+status_of_refusal refusal = if nat_le (number_of refusal) 15 then REFUSED else NO_MEMORY
+
+-- what is said of a refusal
+abbrev pub answer_of_refusal : Refusal → Answer
+answer_of_refusal refusal = record {
+  status = status_of_refusal refusal;
+  number = number_of refusal;
+  line = line_or_0 (line_of refusal);
+  other = line_or_0 (other_of refusal);
+  length = 0;
+}
+
+-- the report is said, and put into the place if there is room
+abbrev pub IsPut : Report → List ℕ → List ℕ → Answer → Type 0
+IsPut report old new answer = (answer ≡ answer_of_report (length old) report) × (new ≡ with_text (report_text report) old)
+
+-- the refusal is said, and the place is as it was
+abbrev pub IsRefusal : Refusal → List ℕ → List ℕ → Answer → Type 0
+IsRefusal refusal old new answer = (answer ≡ answer_of_refusal refusal) × (new ≡ old)
+
+-- an input was answered: by its report, or by its refusal or for want of memory
+abbrev pub IsAnswered : List ℕ → List ℕ → List ℕ → Answer → Type 0
+IsAnswered input old new answer =
+    ((report : Report) × IsAnswer false input (Ok report) × IsPut report old new answer)
+    ⊎ ((refusal : Refusal) × IsRefused false input refusal × IsRefusal refusal old new answer)
+
+-- the status of an input's answer says whether its history is atomic, if it says either
+pub record TellsAtomic (input : List ℕ) (status : ℕ) : Type 0 where
+  pub atomic : status ≡ ATOMIC → IsOutcome input Atomic
+  pub not_atomic : status ≡ NOT_ATOMIC → IsOutcome input NotAtomic

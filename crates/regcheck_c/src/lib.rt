@@ -1,0 +1,39 @@
+//! The checker for programs in C, and for languages that call C: one function on bytes. It starts no thread, opens no file
+//! and keeps nothing between calls.
+//!
+//! What a C program may rely on: [`regcheck_report`] says of the history in its input what `regcheck` would say, and puts
+//! the same report where it is told to. `library/regcheck.h` declares it.
+//!
+//! Read it in this order: `status`, which numbers the endings; `answer`, what a call says; `place`, where the report goes.
+#![tactic(auto)]
+
+ghost use Rattle.regcheck_c.specs.Called.{IsAnswered, TellsAtomic};
+
+mod answer;
+mod place;
+mod status;
+#[cfg(test)]
+mod tests;
+
+pub use answer::Answer;
+use answer::refused;
+use place::put_report;
+use reg_report::check_alone;
+pub use status::{ATOMIC, NO_MEMORY, NOT_ATOMIC, REFUSED, TOO_SMALL};
+use std::alloc::Global;
+
+/// Checks the history in the input, puts its report at the beginning of `out`, and says in `answer` what came of it. `out`
+/// stays as it was where there is no report, or no room for all of it.
+#[unsafe(no_mangle)]
+pub extern "C" fn regcheck_report(alloc: Global, input: &[u8], out: &mut [u8], answer: &mut Answer)
+    // What is said, and the bytes at `out`, are those of the report or the refusal of the input, or memory was refused.
+    ensures answered { IsAnswered input.now out.old out.new answer.new }
+
+    // A status of 0 or 1 says whether that history is atomic.
+    ensures atomic { TellsAtomic input.now answer.new.status }
+{
+    *answer = match check_alone(alloc, input) {
+        Ok(report) => put_report(alloc, &report, out),
+        Err(refusal) => refused(&refusal),
+    };
+}

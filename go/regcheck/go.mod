@@ -1,0 +1,3 @@
+module regcheck
+
+go 1.18

@@ -1,0 +1,121 @@
+package regcheck
+
+import (
+	"bytes"
+	"encoding/json"
+	"fmt"
+	"sort"
+)
+
+// History gives the operations in the form of the program regcheck: one event a line, in the order of time.
+//
+// One operation precedes another exactly if it returned before the other was called. So at one moment the calls come
+// before the returns, and a client that calls while it has an open call gets a process of its own for that operation.
+func History(operations []Operation) ([]byte, error) {
+	steps, err := inOrder(operations)
+	if err != nil {
+		return nil, err
+	}
+	var history bytes.Buffer
+	lines := json.NewEncoder(&history)
+	lines.SetEscapeHTML(false)
+	processes := newProcesses(operations)
+	for _, step := range steps {
+		if err := lines.Encode(step.line(operations, processes)); err != nil {
+			return nil, err
+		}
+	}
+	return history.Bytes(), nil
+}
+
+// A step is the call or the return of the operation at a place.
+type step struct {
+	time      int64
+	isReturn  bool
+	operation int
+}
+
+func inOrder(operations []Operation) ([]step, error) {
+	steps := make([]step, 0, 2*len(operations))
+	for place, operation := range operations {
+		if operation.Return < operation.Call {
+			return nil, fmt.Errorf("the operation at index %d returned at %d, before its call at %d", place, operation.Return, operation.Call)
+		}
+		if operation.Write && operation.Value == nil {
+			return nil, fmt.Errorf("the operation at index %d writes no value", place)
+		}
+		steps = append(steps, step{operation.Call, false, place})
+		if operation.Return != Pending {
+			steps = append(steps, step{operation.Return, true, place})
+		}
+	}
+	sort.SliceStable(steps, func(a, b int) bool {
+		if steps[a].time != steps[b].time {
+			return steps[a].time < steps[b].time
+		}
+		return !steps[a].isReturn && steps[b].isReturn
+	})
+	return steps, nil
+}
+
+// A line is one event.
+type line struct {
+	Process  int     `json:"process"`
+	Event    string  `json:"event"`
+	Op       string  `json:"op,omitempty"`
+	Register string  `json:"register,omitempty"`
+	Value    **int64 `json:"value,omitempty"` // nil for no value, a pointer to nil for null
+}
+
+func (step step) line(operations []Operation, processes *processes) line {
+	operation := &operations[step.operation]
+	switch {
+	case step.isReturn && operation.Write:
+		return line{Process: processes.give(step.operation, operation.ClientId), Event: "reply"}
+	case step.isReturn:
+		return line{Process: processes.give(step.operation, operation.ClientId), Event: "reply", Value: &operation.Value}
+	case operation.Write:
+		return line{processes.take(step.operation, operation.ClientId), "call", "write", operation.Register, &operation.Value}
+	default:
+		return line{processes.take(step.operation, operation.ClientId), "call", "read", operation.Register, nil}
+	}
+}
+
+// processes has the processes of the clients, each with at most one open call.
+type processes struct {
+	isClient map[int]bool
+	next     int
+	free     map[int][]int // by client
+	of       map[int]int   // by operation
+}
+
+func newProcesses(operations []Operation) *processes {
+	made := &processes{isClient: map[int]bool{}, free: map[int][]int{}, of: map[int]int{}}
+	for _, operation := range operations {
+		made.isClient[operation.ClientId] = true
+		made.free[operation.ClientId] = []int{operation.ClientId}
+	}
+	return made
+}
+
+// take gives a free process of the client, or a number that no client has.
+func (processes *processes) take(operation, client int) int {
+	free := processes.free[client]
+	if len(free) == 0 {
+		for processes.isClient[processes.next] {
+			processes.next++
+		}
+		free = []int{processes.next}
+		processes.next++
+	}
+	processes.of[operation] = free[0]
+	processes.free[client] = free[1:]
+	return free[0]
+}
+
+// give frees the process of an operation, and tells it.
+func (processes *processes) give(operation, client int) int {
+	process := processes.of[operation]
+	processes.free[client] = append([]int{process}, processes.free[client]...)
+	return process
+}

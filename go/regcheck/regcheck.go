@@ -1,0 +1,90 @@
+// Package regcheck says whether recorded runs of read/write registers are linearizable. It calls the proved checker of the
+// same name, as a C library, and decides nothing itself.
+//
+// Check takes operations with the times of their calls and returns, as the checker Porcupine does. Report takes a history
+// in the form of the program regcheck, and gives its report.
+//
+// Building it takes cgo, regcheck.h and libregcheck. If they aren't installed where the C compiler looks, CGO_CFLAGS=-I..
+// and CGO_LDFLAGS=-L.. say where they are.
+package regcheck
+
+/*
+#cgo LDFLAGS: -lregcheck
+#include <regcheck.h>
+*/
+import "C"
+
+import (
+	"errors"
+	"fmt"
+	"unsafe"
+)
+
+// ErrMemory says that memory ran out.
+var ErrMemory = errors.New("no memory or no thread")
+
+// A Refusal says why a history has no report.
+type Refusal struct {
+	Number int // 1 to 15, as docs/format.md has them
+	Line   int // the refused line, from 1; 0 if no line is refused
+	Other  int // the line of the open call (9) or of the earlier write (13); else 0
+}
+
+var reasons = [...]string{
+	1:  "line is longer than 65536 bytes",
+	2:  "not JSON",
+	3:  "not an object",
+	4:  "process is not a whole number from 0 to 4294967295",
+	5:  "event is neither call nor reply",
+	6:  "op is neither read nor write",
+	7:  "register is not a text of 1 to 255 bytes",
+	8:  "value does not fit the event",
+	9:  "the process has an open call at line",
+	10: "reply without an open call",
+	11: "reply disagrees with its call",
+	12: "a read's reply has no value",
+	13: "value already written to this register at line",
+	14: "more than 1048576 events",
+	15: "input is longer than 67108864 bytes",
+}
+
+// Error is what the program says of the refusal.
+func (refusal *Refusal) Error() string {
+	reason := reasons[refusal.Number]
+	if refusal.Other != 0 {
+		reason = fmt.Sprintf("%s %d", reason, refusal.Other)
+	}
+	if refusal.Line == 0 {
+		return reason
+	}
+	return fmt.Sprintf("line %d: %s", refusal.Line, reason)
+}
+
+// Report gives whether the history is atomic, and the bytes of its report. The error is a *Refusal, or ErrMemory.
+// Goroutines may call it at once.
+func Report(history []byte) (atomic bool, report []byte, err error) {
+	input := history
+	if len(input) == 0 {
+		input = make([]byte, 1) // C is given no null, even for no bytes
+	}
+	report = make([]byte, len(history)+1024) // enough unless registers have one operation or two
+	answer := call(input, len(history), report)
+	if answer.status == C.REGCHECK_TOO_SMALL {
+		report = make([]byte, answer.length)
+		answer = call(input, len(history), report)
+	}
+	switch answer.status {
+	case C.REGCHECK_ATOMIC, C.REGCHECK_NOT_ATOMIC:
+		return answer.status == C.REGCHECK_ATOMIC, report[:answer.length], nil
+	case C.REGCHECK_REFUSED:
+		return false, nil, &Refusal{int(answer.number), int(answer.line), int(answer.other)}
+	default:
+		return false, nil, ErrMemory
+	}
+}
+
+func call(input []byte, length int, report []byte) (answer C.regcheck_answer) {
+	C.regcheck_report((*C.uint8_t)(unsafe.Pointer(&input[0])), C.size_t(length),
+		(*C.uint8_t)(unsafe.Pointer(&report[0])), C.size_t(len(report)), &answer)
+	return answer
+}

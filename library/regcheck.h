@@ -1,0 +1,46 @@
+/* regcheck: a proved checker of recorded runs of read/write registers, as one call.
+
+   A history and its report are the bytes that the program `regcheck` reads and writes; docs/format.md of the project has
+   their format, and docs/embedding.md says more of this call. */
+#ifndef REGCHECK_H
+#define REGCHECK_H
+
+#include <stddef.h>
+#include <stdint.h>
+
+#ifdef __cplusplus
+extern "C" {
+#endif
+
+/* How a call ended. The numbers are those of the program's exit statuses, as far as it has them. */
+enum regcheck_status {
+    REGCHECK_ATOMIC = 0,     /* the history is atomic (linearizable), and `out` has its report */
+    REGCHECK_NOT_ATOMIC = 1, /* it isn't, and `out` has its report */
+    REGCHECK_REFUSED = 2,    /* the input is refused */
+    REGCHECK_NO_MEMORY = 4,  /* memory ran out */
+    REGCHECK_TOO_SMALL = 5   /* the report is longer than `out`: call again with room for `length` bytes */
+};
+
+typedef struct regcheck_answer {
+    uint32_t status; /* an enum regcheck_status */
+    uint32_t number; /* the number of the refusal, 1 to 15, or 17 if memory ran out; 0 if there is a report */
+    uint32_t line;   /* the refused line, from 1; 0 if no line is refused */
+    uint32_t other;  /* the line of the open call (refusal 9) or of the earlier write (refusal 13); else 0 */
+    uint64_t length; /* the bytes of the report, whether there is room for them or not; 0 if there is none */
+} regcheck_answer;
+
+/* Checks the history of `input_length` bytes at `input`, and puts its report at the beginning of the `out_length` bytes at
+   `out`. It says what came of it in `*answer`. The bytes at `out` behind the report stay as they were, and all of them do if
+   there is no report or no room for all of it.
+
+   No pointer may be null, even for a length of 0. `out` and `*answer` may overlap neither each other nor the input. The call
+   starts no thread, and keeps nothing once it returns: threads may call it at once, each with its own `out` and `answer`.
+   It takes memory from malloc and gives all of it back. Don't call it from a signal handler, or from the child of a fork
+   in a process with several threads. */
+void regcheck_report(const uint8_t *input, size_t input_length, uint8_t *out, size_t out_length, regcheck_answer *answer);
+
+#ifdef __cplusplus
+}
+#endif
+
+#endif

@@ -1,0 +1,102 @@
+"""The checker as a library in this process: a small history is checked before a program would have started.
+
+`REGCHECK_LIBRARY` names the library's file; set to nothing, it says to use the program alone."""
+import ctypes
+import ctypes.util
+import os
+import pathlib
+import sys
+from functools import lru_cache
+from typing import Any, Iterator, NamedTuple, Optional
+
+from regkit.refusals import reason_of
+
+MOST_BYTES = 1_048_576  # the program has several workers: with a longer history it is as quick, or quicker
+ATOMIC, NOT_ATOMIC, TOO_SMALL = 0, 1, 5
+FILE = "libregcheck.so.1"  # the number is that of the interface
+
+
+class NoLibrary(Exception):
+    """The file in REGCHECK_LIBRARY isn't the library."""
+
+    def __init__(self, path: str, why: str) -> None:
+        super().__init__(f"{path} is not the library of regcheck: {why}. Is REGCHECK_LIBRARY right?")
+
+
+class Told(NamedTuple):
+    """What the library says of a history."""
+
+    status: int  # 0 atomic, 1 not atomic, 2 refused, 4 memory ran out, as the program's exit status
+    report: bytes
+    refusal: str  # in the words of the program
+    number: int = 0  # of the refusal
+    line: int = 0
+    other: int = 0
+
+
+class _Answer(ctypes.Structure):
+    """`regcheck_answer` of regcheck.h."""
+
+    _fields_ = [("status", ctypes.c_uint32), ("number", ctypes.c_uint32), ("line", ctypes.c_uint32),
+                ("other", ctypes.c_uint32), ("length", ctypes.c_uint64)]
+
+
+class Library:
+    """The one call of regcheck.h. Threads may use it at once; Python's lock is free meanwhile."""
+
+    def __init__(self, path: str) -> None:
+        try:
+            self._report: Any = ctypes.CDLL(path).regcheck_report
+        except (OSError, AttributeError) as error:
+            raise NoLibrary(path, str(error)) from error
+        self._report.argtypes = [ctypes.c_char_p, ctypes.c_size_t, ctypes.c_char_p, ctypes.c_size_t,
+                                 ctypes.POINTER(_Answer)]
+        self._report.restype = None
+
+    def check(self, history: bytes) -> Told:
+        """What the program would say of the history, byte for byte."""
+        room = len(history) + 1024  # enough unless registers have one operation or two
+        while True:
+            out, answer = ctypes.create_string_buffer(room), _Answer()
+            self._report(history, len(history), out, room, ctypes.byref(answer))
+            if answer.status != TOO_SMALL:
+                break
+            room = answer.length
+        if answer.status in (ATOMIC, NOT_ATOMIC):
+            return Told(answer.status, out.raw[:answer.length], "")
+        place = answer.number, answer.line, answer.other
+        return Told(answer.status, b"", reason_of(*place), *place)
+
+
+def _places() -> Iterator[str]:
+    """Where the library may be: below the prefix of the installed command, or where the system looks for it."""
+    started = pathlib.Path(sys.argv[0])
+    beside = started.resolve().parent.parent / "lib" / FILE
+    if started.is_file() and beside.is_file():
+        yield str(beside)
+    known = ctypes.util.find_library("regcheck")
+    if known is not None:
+        yield known
+
+
+@lru_cache(maxsize=None)
+def _loaded(path: str) -> Library:
+    return Library(path)
+
+
+def find_library() -> Optional[Library]:
+    """The library in REGCHECK_LIBRARY, or the one installed with this command, or the system's; None if there is none.
+
+    If only REGCHECK is set, the program that it names is what was asked for. Raises NoLibrary if REGCHECK_LIBRARY names
+    another file."""
+    named = os.environ.get("REGCHECK_LIBRARY")
+    if named is not None:
+        return _loaded(named) if named else None
+    if os.environ.get("REGCHECK"):
+        return None
+    for place in _places():
+        try:
+            return _loaded(place)
+        except NoLibrary:  # a file of another machine or project
+            continue
+    return None

@@ -1,0 +1,116 @@
+"""The checker as a library in this process: the same answers as the program's, and when which of them is asked."""
+import ctypes
+import os
+import pathlib
+import unittest
+from typing import Any, List
+from unittest import mock
+
+from regkit import checker
+from regkit.checker import NoChecker, ask_checker, find_checker, judge, run_checker
+from regkit.library import MOST_BYTES, Library, NoLibrary, find_library
+from regkit.refusals import TEXTS, reason_of, read_refusal
+
+from .events import gave, read, reply, text, write
+
+ROOT = pathlib.Path(__file__).resolve().parents[2]
+EXAMPLES = sorted((ROOT / "examples").glob("*.jsonl"))
+FINE = text(write(1, 5), reply(1), read(2), gave(2, 5))
+BUILT = os.environ.get("REGCHECK_LIBRARY") or str(ROOT / "bin" / "libregcheck.so.1")
+
+# A history that is refused for each reason about a line.
+REFUSED: List[bytes] = [
+    b'{"process":1' + b" " * 65536 + b"}", b"{", b"[]", b'{"process":-1}', b'{"process":1,"event":"end"}',
+    b'{"process":1,"event":"call","op":"add"}', b'{"process":1,"event":"call","op":"read","register":""}',
+    b'{"process":1,"event":"call","op":"read","register":"x","value":1}', text(read(1), read(1)), text(reply(1)),
+    text(write(1, 5), gave(1, 6)), text(read(1), reply(1)), text(write(1, 5), reply(1), write(2, 5)),
+]
+
+
+def environment(**names: str) -> Any:
+    """Without REGCHECK and REGCHECK_LIBRARY, but for these."""
+    kept = {name: value for name, value in os.environ.items() if name not in ("REGCHECK", "REGCHECK_LIBRARY")}
+    return mock.patch.dict(os.environ, {**kept, **names}, clear=True)
+
+
+class Reasons(unittest.TestCase):
+    def test_words_are_the_programs(self) -> None:
+        for number, history in enumerate(REFUSED, 1):
+            words = run_checker(history).refusal
+            refusal = read_refusal(words, int)
+            assert refusal is not None, words
+            self.assertEqual(refusal.number, number)
+            self.assertEqual(reason_of(number, refusal.line, refusal.other or 0), words)
+        self.assertEqual(set(TEXTS), set(range(1, len(REFUSED) + 1)))
+
+    def test_words_about_no_line(self) -> None:
+        self.assertEqual(reason_of(15, 0, 0), run_checker(b"\n" * 67_108_865).refusal)
+        self.assertEqual(reason_of(17, 0, 0), "no memory or no thread")
+
+
+class Choice(unittest.TestCase):
+    """Which of the two is asked."""
+
+    def test_no_library_is_wanted(self) -> None:
+        for names in ({"REGCHECK_LIBRARY": ""}, {"REGCHECK": "regcheck"}):
+            with environment(**names):
+                self.assertIsNone(find_library())
+
+    def test_no_library_is_named(self) -> None:
+        for path in ("/no/such/file", ctypes.util.find_library("c")):
+            assert path is not None
+            with environment(REGCHECK_LIBRARY=path):
+                self.assertRaises(NoLibrary, find_library)
+                with self.assertRaisesRegex(NoChecker, "Is REGCHECK_LIBRARY right"):
+                    judge(FINE)
+
+    def asked(self, history: bytes, *options: str) -> List[bytes]:
+        """What a library was asked, where the program says nothing."""
+        library = mock.Mock()
+        library.check.return_value = mock.Mock(status=0, report=b"", refusal="")
+        with mock.patch.object(checker, "find_library", return_value=library), \
+                mock.patch.object(checker, "run_checker"):
+            ask_checker(history, options)
+        return [call.args[0] for call in library.check.call_args_list]
+
+    def test_small_histories_without_options(self) -> None:
+        small = FINE.ljust(MOST_BYTES, b"\n")
+        self.assertEqual(self.asked(small), [small])
+        self.assertEqual(self.asked(small + b"\n"), [])
+        self.assertEqual(self.asked(FINE, "--workers", "1"), [])
+
+
+@unittest.skipUnless(os.path.isfile(BUILT), "no library: `make library` builds it")
+class Answers(unittest.TestCase):
+    """The library against the program. tests/embed compares many more."""
+
+    def test_examples(self) -> None:
+        library, program = Library(BUILT), find_checker()
+        for path in EXAMPLES:
+            history = path.read_bytes()
+            told, want = library.check(history), run_checker(history, program=program)
+            self.assertEqual((told.status, told.report, told.refusal), (want.status, want.report, want.refusal), path)
+
+    def test_refusals(self) -> None:
+        library = Library(BUILT)
+        for number, history in enumerate(REFUSED, 1):
+            told, want = library.check(history), run_checker(history)
+            self.assertEqual((told.number, told.status, told.refusal), (number, want.status, want.refusal))
+
+    def test_judge(self) -> None:
+        """A history with a failed call is given to the library without it."""
+        history = FINE + text(read(1)) + b'{"process":1,"event":"fail"}\n'
+        want = judge(history)
+        with environment(REGCHECK_LIBRARY=BUILT), mock.patch.object(checker, "run_checker") as program:
+            self.assertEqual(judge(history), want)
+            program.assert_not_called()
+
+    def test_a_report_longer_than_its_history(self) -> None:
+        history = text(*(read(process, str(process)) for process in range(1000)))
+        told, want = Library(BUILT).check(history), run_checker(history)
+        self.assertGreater(len(told.report), len(history) + 1024)
+        self.assertEqual(told.report, want.report)
+
+
+if __name__ == "__main__":
+    unittest.main()
