@@ -1,6 +1,7 @@
 //! How the work of a history is cut into pieces.
 ghost use Rattle.std.specs.Prelude.{◌<◌, ◌≤◌, ◌^◌, length, IfOk, OnOk};
-ghost use Rattle.reg_pieces.specs.Plan.{AddsCuts, IsFirstPlan, IsListOf, IsPlan, IsPlanBy};
+ghost use Rattle.job_board.specs.declared.limits.TheConstants.{MAX_JOBS};
+ghost use Rattle.reg_pieces.specs.Plan.{AddsCuts, IsFirstPlan, IsListOf, IsPlan, IsPlanBy, IsSomePlan};
 
 use crate::settings::Settings;
 use crate::tasks::{Plan, Task};
@@ -99,7 +100,9 @@ fn first_plan(alloc: Global, arena: &Arena) -> Result<Plan, AllocError>
 /// # Errors
 /// Where a growth was refused; the arena is as before.
 pub fn plan(alloc: Global, arena: &Arena, settings: Settings) -> Result<Plan, AllocError>
-    ensures { IfOk result (IsPlanBy arena.now settings.cut settings.first) }
+    ensures by { IfOk result (IsPlanBy arena.now settings.cut settings.first) }
+    ensures some { IfOk result (IsSomePlan arena.now) }
+    ensures few { IfOk result (λ plan. length plan.tasks ≤ MAX_JOBS) }
 {
     if settings.first() {
         first_plan(alloc, arena)

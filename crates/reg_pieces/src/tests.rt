@@ -1,5 +1,5 @@
 //! The pieces of a history, done by workers at once and by threads of the callers' own.
-ghost use Rattle.std.specs.Prelude.{All};
+ghost use Rattle.std.specs.Prelude.{◌≡◌, false, All, IfOk};
 ghost use Rattle.reg_pieces.specs.Plan.{IsSomePlan};
 ghost use Rattle.reg_pieces.specs.Workers.{IsNewSeat};
 
@@ -37,8 +37,10 @@ const TWO_REGISTERS: &str = r#"{"process":1,"event":"call","op":"write","registe
 // How many pieces they have in cuts of so many reads.
 const COUNTS: [(u32, u64); 3] = [(1, 4), (2, 3), (4096, 3)];
 
-// So many workers, and so many reads to a piece.
-fn settings(workers: u32, cut: u32) -> Result<Settings, Fail> {
+// So many workers, and so many reads to a piece, for a whole report.
+fn settings(workers: u32, cut: u32) -> Result<Settings, Fail>
+    ensures { IfOk result (λ s. s.first ≡ false) }
+{
     Ok(Settings::new(workers, cut, false).ok_or("a number beyond its limit")?)
 }
 
@@ -106,8 +108,8 @@ fn registers_above_a_fault_are_skipped(rt: HostRuntime) -> Result<(), Fail> {
     let worked = work(alloc, &arena, &plan, &board, seat, &OpenGate);
     let done = worked.done.as_slice();
     assert_eq!(rt; done.len(), 2);
-    assert!(rt; matches!(done[0], (0, Piece::Faulty(_))));
-    assert!(rt; matches!(done[1], (1, Piece::Skipped)));
+    assert!(rt; matches!(done.first(), Some((0, Piece::Faulty(_)))));
+    assert!(rt; matches!(done.get(1), Some((1, Piece::Skipped))));
     Ok(())
 }
 

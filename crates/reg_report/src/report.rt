@@ -63,7 +63,7 @@ pub struct RegReport {
     pub points: Option<Lines>,
 }
 
-/// The lines of the registers, and the summary.
+/// The lines of the registers, or of the first that isn't atomic alone, and the summary.
 #[derive(Drop)]
 pub struct Report {
     pub regs: Registers,
@@ -73,6 +73,6 @@ pub struct Report {
     pub registers: u32,
     /// Whether some order of all operations keeps precedence and gives each read the latest write of its register.
     pub atomic: bool,
-    /// Where it is atomic, the merged order without the initial writes.
+    /// Where it is atomic and the whole report was asked for, the merged order without the initial writes.
     pub order: Option<Lines>,
 }
