@@ -2,6 +2,7 @@
 import os
 import pathlib
 import subprocess
+import sys
 from concurrent.futures import ThreadPoolExecutor
 
 FOLDER = pathlib.Path(__file__).resolve().parent
@@ -19,13 +20,16 @@ def build(folder):
 
 
 def run(library, command, first=0, last=0, threads=False, given=b""):
-    """What the command ended with, and which kinds of request were refused: m for memory, t for a thread."""
+    """What the command ended with, and which kinds of request were refused: m for memory, t for a thread. A command that
+    doesn't end ends the test."""
     reader, writer = os.pipe()
     environment = {"LD_PRELOAD": library, "REFUSE_FROM": str(first), "REFUSE_TO": str(last),
                    "REFUSE_TOLD": str(writer), "REFUSE_THREADS": str(int(threads))}
     try:
         ran = subprocess.run(command, input=given, capture_output=True, env=environment, pass_fds=[writer],
                              timeout=SECONDS, check=False)
+    except subprocess.TimeoutExpired:
+        sys.exit(f"requests {first} to {last} refused: {command} didn't end in {SECONDS} seconds")
     finally:
         os.close(writer)
     with os.fdopen(reader, "rb") as told:
