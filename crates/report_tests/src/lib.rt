@@ -2,9 +2,9 @@
 //!
 //! They are a crate of their own, so that `reg_report` isn't proved once more with them.
 //!
-//! Read it in this order: `rows`, the histories with their answers; `histories`, what is answered to each; `ends`, where little
-//! comes at a time or something fails; `workers`, where several work at once; `first`, where the first register that isn't
-//! atomic is all that is asked for.
+//! Read it in this order: `rows`, the histories with their answers; `histories`, what is answered to each; `messages`, what is
+//! said of lines of other numbers; `ends`, where little comes at a time or something fails; `workers`, where several work
+//! at once; `first`, where the first register that isn't atomic is all that is asked for.
 #![tactic(auto)]
 
 #[cfg(test)]
@@ -13,6 +13,8 @@ mod ends;
 mod first;
 #[cfg(test)]
 mod histories;
+#[cfg(test)]
+mod messages;
 #[cfg(test)]
 mod rows;
 #[cfg(test)]
