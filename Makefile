@@ -1,4 +1,5 @@
 # make: prove and build bin/regcheck. make run: run it on a shipped example, or on FILE=...
+# make try: the same at once, unproved and with checks at run time; for a first look.
 # make test: the merge gate; then, by the programs that it built, the examples, hostile runs, and the tests of regkit.
 # make fuzz: compare the program with the reference on spoiled histories for SECONDS=...
 # make picture-test: look at pages of `regkit draw` in a headless browser, and keep the screenshots in SHOTS=...
@@ -11,7 +12,7 @@ SHOTS ?= /tmp/regkit-shots
 SOURCES := $(shell find crates -name out -prune -o -type f \( -name '*.rt' -o -name '*.antt' \) -print)
 PYTHON := $(shell find python/regkit -name '*.py')
 
-.PHONY: all run test fuzz picture-test bench install clean
+.PHONY: all run try test fuzz picture-test bench install clean
 
 all: bin/regcheck
 
@@ -29,8 +30,14 @@ bin/history_generator: $(SOURCES) crates.txt
 run: bin/regcheck
 	bin/regcheck < $(FILE); status=$$?; test $$status -le 1
 
+# Nothing is proved here: `rt try` compiles all crates with checks, runs the program, and keeps nothing.
+try:
+	@echo 'Nothing is proved in this run: see make run.' >&2
+	@cd crates/regcheck && rt try < $(abspath $(FILE)); status=$$?; test $$status -le 1
+
 # What the gate built is what is tested. The scripts print only differences, but for a seed and some counts.
 test:
+	@docs/list_edits | diff docs/edits.md -
 	rt ci
 	@mkdir -p bin
 	@cp crates/regcheck/out/regcheck crates/history_generator/out/history_generator bin/
