@@ -1,4 +1,5 @@
 # make: prove and build bin/regcheck. make run: run it on a shipped example, or on FILE=...
+# make try: the same at once, unproved and with checks at run time; for a first look.
 # make test: the merge gate; then, by the programs that it built, the examples, hostile runs, and the tests of regkit.
 # make fuzz: compare the program with the reference on spoiled histories for SECONDS=...
 # make library: bin/libregcheck.a, bin/libregcheck.so and bin/regcheck.pc, to call the checker from C and other languages.
@@ -23,7 +24,7 @@ PYTHON := $(shell find python/regkit -name '*.py')
 PROGRAM ?= bin/regcheck
 DOCUMENTS = $(DESTDIR)$(PREFIX)/share/doc/regcheck
 
-.PHONY: all run test fuzz picture-test bench library embed-test bench-library install install-programs install-library dist dist-library clean
+.PHONY: all run try test fuzz picture-test bench library embed-test bench-library install install-programs install-library dist dist-library clean
 
 all: bin/regcheck
 
@@ -67,8 +68,14 @@ bench-library: library bin/regcheck bin/history_generator
 run: bin/regcheck
 	bin/regcheck < $(FILE); status=$$?; test $$status -le 1
 
+# Nothing is proved here: `rt try` compiles all crates with checks, runs the program, and keeps nothing.
+try:
+	@echo 'Nothing is proved in this run: see make run.' >&2
+	@cd crates/regcheck && rt try < $(abspath $(FILE)); status=$$?; test $$status -le 1
+
 # What the gate built is what is tested. The scripts print only differences, but for a seed and some counts.
 test:
+	@docs/list_edits | diff docs/edits.md -
 	rt ci
 	@mkdir -p bin
 	@cp crates/regcheck/out/regcheck crates/history_generator/out/history_generator bin/
