@@ -11,7 +11,7 @@ SECONDS ?= 600
 SHOTS ?= /tmp/regkit-shots
 SOURCES := $(shell find crates -name out -prune -o -type f \( -name '*.rt' -o -name '*.antt' \) -print)
 PYTHON := $(shell find python/regkit -name '*.py')
-PROGRAM ?= bin/regcheck
+PROGRAM := bin/regcheck
 DOCUMENTS = $(DESTDIR)$(PREFIX)/share/doc/regcheck
 
 .PHONY: all run test fuzz picture-test bench install dist clean
