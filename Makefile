@@ -20,7 +20,7 @@ VERSION := $(shell cat VERSION)
 SONAME := libregcheck.so.1
 SOURCES := $(shell find crates -name out -prune -o -type f \( -name '*.rt' -o -name '*.antt' \) -print)
 PYTHON := $(shell find python/regkit -name '*.py')
-PROGRAM ?= bin/regcheck
+PROGRAM := bin/regcheck
 DOCUMENTS = $(DESTDIR)$(PREFIX)/share/doc/regcheck
 
 .PHONY: all run test fuzz picture-test bench library embed-test bench-library install install-programs install-library dist dist-library clean
