@@ -2,6 +2,7 @@
 ghost use Rattle.std.specs.Prelude.{◌≡◌, ◌<◌, false, length, Ok, Err, IfOk, IfErr};
 ghost use Rattle.history_text.specs.declared.limits.TheConstants.{MAX_INPUT};
 ghost use Rattle.reg_report.specs.Answer.{IsAnswer, IsRefused};
+ghost use Rattle.reg_report.specs.Meaning.{IsReport};
 
 use crate::history::history_report;
 use crate::refusal::Refusal;
@@ -9,7 +10,7 @@ use crate::report::Report;
 use history_text::{MAX_INPUT, read_lines_alone};
 use reg_arena::Arena;
 use reg_pieces::{MAX_CUT, Settings, do_pieces_alone, plan};
-use std::alloc::Global;
+use std::alloc::{AllocError, Global};
 
 /// One worker, and cuts of the greatest size, since there is nobody to share a register's reads with; the whole report.
 fn settings() -> Settings
@@ -19,6 +20,16 @@ fn settings() -> Settings
         Some(settings) => settings,
         None => unreachable!(),
     }
+}
+
+/// The report of an accepted history, with all its pieces done here.
+fn report_alone(alloc: Global, arena: &Arena) -> Result<Report, AllocError>
+    ensures { IfOk result (IsReport arena.now) }
+{
+    let settings = settings();
+    let plan = plan(alloc, arena, settings)?;
+    let pieces = do_pieces_alone(alloc, arena, &plan)?;
+    history_report(alloc, arena, &plan, settings.cut(), pieces)
 }
 
 /// The report of the history in the input, the same as [`check`](crate::check) gives. It takes no right to start threads
@@ -34,10 +45,7 @@ pub fn check_alone(alloc: Global, input: &[u8]) -> Result<Report, Refusal>
     if input.len() > MAX_INPUT {
         return Err(Refusal::TooLong);
     }
-    let settings = settings();
     let lines = read_lines_alone(alloc, input)?;
     let arena = Arena::build(alloc, lines)?;
-    let plan = plan(alloc, &arena, settings)?;
-    let pieces = do_pieces_alone(alloc, &arena, &plan)?;
-    Ok(history_report(alloc, &arena, &plan, settings.cut(), pieces)?)
+    Ok(report_alone(alloc, &arena)?)
 }

@@ -9,8 +9,8 @@ use Rattle.reg_report.proofs.alone.check_alone.Goals as goal
 
 pub returns-clause-ok : goal.returns-clause-ok
 returns-clause-ok c =
-    let report = c.in_ok-history_report.field-0 in
+    let report = c.in_ok-report_alone.field-0 in
     let arena = c.in_ok-arena.ensures.ok in
     answer-within false c.args.input.now report (omega (arith, c.if-input-gt-MAX_INPUT.false))
     (subst (λ (lines : List Line). IsAnswerToLines false lines (Ok report)) c.in_ok-lines.ensures.lines
-    (arena.0, subst (λ (h : History). IsReport h report) arena.1 c.in_ok-history_report.ensures))
+    (arena.0, subst (λ (h : History). IsReport h report) arena.1 c.in_ok-report_alone.ensures))
