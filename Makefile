@@ -75,6 +75,7 @@ test:
 	@tests/compare bin/regcheck
 	@tests/wrong_ends bin/regcheck
 	@tests/one_processor crates/report_tests/out/report_tests_tests
+	@tests/gate_comes_first crates/reg_pieces/out/reg_pieces_tests
 	@tests/refused_memory bin/regcheck
 	@tests/limits bin/regcheck
 	@tests/spoiled_bytes bin/regcheck

@@ -13,6 +13,10 @@ INVERSION = "p1 W x 1; p1 ok; p1 W x 2; p2 R x; p2 = 2; p2 R x; p2 = 1; p1 ok"
 MERGED = "p1 R x; p2 R y; p3 W x 1; p4 W y 2; p1 = 1; p2 = 2; p3 ok; p4 ok"
 WRITTEN_TWICE = "p1 W x 5; p1 ok; p1 W x 5"
 TWO_REGISTERS = INVERSION + "; p1 W y 1; p1 ok; p2 W y 2; p2 ok; p3 R y; p3 = 2; p3 R y; p3 = 1"
+BAD_WORDS = b"""error: invalid value '17' for '--workers <N>': 17 is not in 1..=16
+
+For more information, try '--help'.
+"""
 
 
 def event(words: str) -> str:
@@ -58,6 +62,7 @@ class Case(NamedTuple):
     history: bytes
     answer: Tuple[int, bytes, bytes]  # exit status, standard output, standard error
     threaded: bool = False  # whether a run starts a thread for sure
+    named: bool = False  # whether the history comes by the name of a file
 
 
 def case(name: str, words: Tuple[str, ...], given: bytes) -> Case:
@@ -72,6 +77,8 @@ def refused_cases() -> List[Case]:
     cases = [case(f"{name} --workers {workers}", ("--workers", workers), history(text))
              for name, text in named.items() for workers in ("1", "2")]
     cases.append(case("as it is", (), history(WRITE_AND_READ)))
+    cases.append(case("by name", ("--workers", "2"), history(INVERSION))._replace(named=True))
+    cases.append(Case("bad words", ("--workers", "17"), history(INVERSION), (3, b"", BAD_WORDS)))
     cases.append(case("two_registers --cut 1", ("--workers", "4", "--cut", "1"), history(TWO_REGISTERS))._replace(threaded=True))
     cases.append(case("sixteen_registers", ("--workers", "4"), sixteen_registers())._replace(threaded=True))
     return cases

@@ -2,7 +2,7 @@ ghost use Rattle.std.specs.Prelude.{◌<◌, length};
 
 use super::*;
 use crate::tables::{EVENTS, OPERATIONS, REFUSALS, VALUED, VALUES};
-use history_text::{LineEvent, LineFault, MAX_INPUT, Val, read_lines};
+use history_text::{Kind, LineEvent, LineFault, MAX_INPUT, Name, ReplyParts, Val, read_lines};
 use std::alloc::{AllocError, Global};
 use std::process::Abort;
 use std::test::Fail;
@@ -313,6 +313,58 @@ fn operations_precede_by_reply_and_call(rt: HostRuntime) -> Result<(), Fail> {
     ] {
         if one < arena.event_count() && other < arena.event_count() {
             assert_eq!(rt; precedes(&arena, one, other), want, "{one} and {other}");
+        }
+    }
+    Ok(())
+}
+
+// The event of a line: the call of a read at odd numbers, and the reply to it at even ones.
+fn read_event(
+    alloc: Global,
+    line: u32,
+    process: u32,
+    number: u32,
+) -> Result<LineEvent, AllocError> {
+    let kind = if number % 2 == 1 {
+        Kind::CallRead(Name::new(alloc, "x")?)
+    } else {
+        Kind::Reply(ReplyParts {
+            op: None,
+            register: None,
+            value: Some(Val::Null),
+        })
+    };
+    Ok(LineEvent {
+        line,
+        process,
+        kind,
+    })
+}
+
+// The first event past the limit is refused, be it a call or a reply.
+#[test]
+fn one_event_too_many(rt: HostRuntime) -> Result<(), Fail> {
+    let alloc = rt.alloc();
+    let want = LineRefusal {
+        line: 1_048_577,
+        number: 14,
+        other: None,
+    };
+    // In the second history a call of another process comes first, and the last event is a reply.
+    for others in [0u32, 1] {
+        let mut events = Vec::new(alloc);
+        for line in 1..=want.line {
+            let event = if line <= others {
+                read_event(alloc, line, 2, 1)?
+            } else {
+                read_event(alloc, line, 1, line.saturating_sub(others))?
+            };
+            events.push(Ok(event))?;
+        }
+        match Arena::build(alloc, events) {
+            Err(BuildError::Refused(refusal)) => assert_eq!(rt; refusal, want, "{others}"),
+            Err(BuildError::Memory) => return Err(Fail::from(AllocError)),
+            Ok(_) => assert!(rt; false, "{others}: accepted"),
         }
     }
     Ok(())

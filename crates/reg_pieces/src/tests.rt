@@ -220,3 +220,42 @@ fn callers_threads_do_each_piece_once(rt: HostRuntime) -> Result<(), Fail> {
     }
     Ok(())
 }
+
+// Two registers that are atomic: memory is wanted for the order of each.
+const TWO_ORDERS: &str = r#"{"process":1,"event":"call","op":"write","register":"x","value":1}
+{"process":2,"event":"call","op":"write","register":"y","value":1}
+"#;
+
+// Counts all pieces that arrive.
+#[derive(Drop)]
+struct CountsAll {
+    arrived: AtomicU64,
+}
+
+impl Gate for CountsAll {
+    fn arrive(&self, _piece: u64) {
+        self.arrived.fetch_add(1, Ordering::SeqCst);
+    }
+}
+
+// A piece passes the gate before it is done, so one for which memory is refused has passed it too. It is
+// tests/gate_comes_first that refuses memory to this test.
+#[test]
+fn each_drawn_piece_has_passed_the_gate(rt: HostRuntime) -> Result<(), Fail> {
+    let alloc = rt.alloc();
+    let lines = read_lines(&rt, alloc, TWO_ORDERS.as_bytes())?;
+    let arena = Arena::build(alloc, lines)?;
+    let plan = plan(alloc, &arena, settings(1, 1)?)?;
+    let (board, seat) = Board::open(alloc, plan.len())?;
+    let gate = CountsAll {
+        arrived: AtomicU64::new(0),
+    };
+    let worked = work(alloc, &arena, &plan, &board, seat, &gate);
+    let drawn = (worked.done.len() as u64).saturating_add(u64::from(worked.refused));
+    assert_eq!(rt;
+        gate.arrived.load(Ordering::SeqCst),
+        drawn,
+        "done before the gate"
+    );
+    Ok(())
+}
