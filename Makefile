@@ -86,8 +86,8 @@ test:
 	@tests/refused_memory bin/regcheck
 	@tests/limits bin/regcheck
 	@tests/spoiled_bytes bin/regcheck
-	@tests/compare_random --count 2000 --without-fail
-	@tests/compare_random --count 1000 --without-fail --options=--first
+	@tests/compare_random --count 2000
+	@tests/compare_random --count 1000 --options=--first
 	@tests/installed
 	@cd python && REGCHECK=$(CURDIR)/bin/regcheck python3 -B -m unittest discover -q -s tests -t .
 

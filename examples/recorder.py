@@ -4,7 +4,8 @@
     examples/recorder.py | bin/regcheck
 
 The store is a dictionary behind a lock, so the history is atomic. Put the store under test in its place: what
-times out there is `TimeoutError` here. If regkit is installed, the line with `sys.path` isn't needed."""
+times out there is `TimeoutError` here, and what surely did nothing is `ConnectionRefusedError`. If regkit is
+installed, the line with `sys.path` isn't needed."""
 import pathlib
 import random
 import sys
@@ -16,6 +17,10 @@ sys.path.insert(0, str(pathlib.Path(__file__).resolve().parents[1] / "python"))
 from regkit.record import Recorder
 
 
+class Killed(Exception):
+    """The client stops in the middle of a call."""
+
+
 class Store:
     """The store under test. At times no answer comes to a write, whether it took effect or not."""
 
@@ -24,10 +29,12 @@ class Store:
 
     def set(self, register, value):
         luck = random.random()
+        if luck < 0.1:
+            raise ConnectionRefusedError
         with self.lock:
-            if luck > 0.1:
+            if luck > 0.2:
                 self.values[register] = value
-        if luck < 0.2:
+        if luck < 0.3:
             raise TimeoutError
 
     def get(self, register):
@@ -35,22 +42,33 @@ class Store:
             return self.values.get(register)
 
 
+def call(client, store):
+    """One call. A write that timed out stays pending, and the client goes on under a new number. A write that was
+    refused has failed."""
+    register = random.choice(["x", "y"])
+    if random.random() < 0.5:
+        with suppress(TimeoutError, ConnectionRefusedError), client.write(register) as write:
+            store.set(register, write.value)
+            if random.random() < 0.02:
+                raise Killed
+    else:
+        with client.read(register) as read:
+            read.value = store.get(register)
+
+
 def use(recorder, store):
-    """One client. A write without an answer stays pending, and the client goes on under a new number."""
-    with recorder.client() as client:
-        for _ in range(100):
-            register = random.choice(["x", "y"])
-            if random.random() < 0.5:
-                with suppress(TimeoutError), client.write(register) as write:
-                    store.set(register, write.value)
-            else:
-                with client.read(register) as read:
-                    read.value = store.get(register)
+    """One client. If it is killed, its process crashes, and another client takes its place."""
+    calls = 100
+    while calls > 0:
+        with suppress(Killed), recorder.client() as client:
+            while calls > 0:
+                calls -= 1
+                call(client, store)
 
 
 def main():
     store = Store()
-    with Recorder(sys.stdout) as recorder:
+    with Recorder(sys.stdout, failures=ConnectionRefusedError) as recorder:
         clients = [threading.Thread(target=use, args=(recorder, store)) for _ in range(4)]
         for client in clients:
             client.start()

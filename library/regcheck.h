@@ -23,9 +23,9 @@ enum regcheck_status {
 
 typedef struct regcheck_answer {
     uint32_t status; /* an enum regcheck_status */
-    uint32_t number; /* the number of the refusal, 1 to 15, or 17 if memory ran out; 0 if there is a report */
+    uint32_t number; /* the number of the refusal, 1 to 15 or 19, or 17 if memory ran out; 0 if there is a report */
     uint32_t line;   /* the refused line, from 1; 0 if no line is refused */
-    uint32_t other;  /* the line of the open call (refusal 9) or of the earlier write (refusal 13); else 0 */
+    uint32_t other;  /* the line of the open call (refusal 9), of the earlier write (13) or of the crash (19); else 0 */
     uint64_t length; /* the bytes of the report, whether there is room for them or not; 0 if there is none */
 } regcheck_answer;
 

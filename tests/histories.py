@@ -131,7 +131,9 @@ NO_EVENTS = ["", " \t\r", "[]", "null", "5", "{", "{}", "\x0b", "\u00a0", "nul",
 
 
 def spoil(chance: random.Random, lines: List[Line]) -> None:
-    """Makes one line wrong, or at least strange."""
+    """Makes one line wrong, or at least strange, if there is one."""
+    if not lines:
+        return
     line = chance.choice(lines)
     what = chance.random()
     writes = [other for other in lines if other.get("op") == "write" and other.get("event") == "call"]
@@ -186,7 +188,7 @@ def random_history(seed: int, fails: bool = True) -> bytes:
         for _ in range(chance.choice([1, 1, 2])):
             spoil(chance, lines)
     texts = [text_of(chance, line) for line in lines]
-    if wrong and chance.random() < 0.2:
+    if wrong and chance.random() < 0.2 and texts:
         texts[chance.randrange(len(texts))] = chance.choice(NO_EVENTS)
     for _ in range(chance.choice([0, 0, 0, 1, 3])):
         texts.insert(chance.randrange(len(texts) + 1), chance.choice(["", "", " ", "\r", "\t "]))

@@ -1,12 +1,11 @@
 """Small histories that several test scripts use, and what the program has to answer to each by tests/reference.py.
 
-They are written in a short form: `p1 W x 5` calls a write, `p2 R x` a read, `p1 ok` and `p2 = 5` are replies."""
+They are written in a short form: `p1 W x 5` calls a write, `p2 R x` a read, `p1 ok` and `p2 = 5` are replies,
+`p1 fail` and `p1 crash` are events of these names."""
 import json
 from typing import List, NamedTuple, Tuple
 
 import reference
-
-CHECKER = reference.Options(fail=False)  # what the program of this tree knows
 
 WRITE_AND_READ = "p1 W x 5; p1 ok; p2 R x; p2 = 5"
 INVERSION = "p1 W x 1; p1 ok; p1 W x 2; p2 R x; p2 = 2; p2 R x; p2 = 1; p1 ok"
@@ -66,7 +65,7 @@ class Case(NamedTuple):
 
 
 def case(name: str, words: Tuple[str, ...], given: bytes) -> Case:
-    status, report, refusal = reference.answer(given, CHECKER)
+    status, report, refusal = reference.answer(given)
     return Case(name, words, given, (status, report, (refusal + "\n").encode() if refusal else b""))
 
 

@@ -25,9 +25,9 @@ var ErrMemory = errors.New("no memory or no thread")
 
 // A Refusal says why a history has no report.
 type Refusal struct {
-	Number int // 1 to 15, as docs/format.md has them
+	Number int // 1 to 15 or 19, as docs/format.md has them
 	Line   int // the refused line, from 1; 0 if no line is refused
-	Other  int // the line of the open call (9) or of the earlier write (13); else 0
+	Other  int // the line of the open call (9), of the earlier write (13) or of the crash (19); else 0
 }
 
 var reasons = [...]string{
@@ -35,7 +35,7 @@ var reasons = [...]string{
 	2:  "not JSON",
 	3:  "not an object",
 	4:  "process is not a whole number from 0 to 4294967295",
-	5:  "event is neither call nor reply",
+	5:  "event is not call, reply, fail or crash",
 	6:  "op is neither read nor write",
 	7:  "register is not a text of 1 to 255 bytes",
 	8:  "value does not fit the event",
@@ -46,6 +46,7 @@ var reasons = [...]string{
 	13: "value already written to this register at line",
 	14: "more than 1048576 events",
 	15: "input is longer than 67108864 bytes",
+	19: "the process crashed at line",
 }
 
 // Error is what the program says of the refusal.

@@ -116,8 +116,6 @@ def no_event(place: Place) -> str:
     event = place.event["event"]
     if event in UNKNOWN_OUTCOMES:
         return f"the event is {shown(event)}: leave it out, as a call whose outcome is unknown stays pending"
-    if event in ("fail", "crash"):
-        return f"this regcheck doesn't know {event} yet: use a newer one"
     own = synonym(event, OTHER_EVENTS)
     if own == "fail":
         return f"the event is {shown(event)}: a call that surely had no effect is ended by `fail`"

@@ -6,11 +6,9 @@ import subprocess
 import sys
 from typing import List, NamedTuple, Optional, Sequence
 
-from regkit.blanking import without_failures
 from regkit.library import MOST_BYTES, NoLibrary, find_library
 
 COMMAND_LINE = 3  # the checker's status for options that it doesn't know
-UNKNOWN_EVENT = "event is neither call nor reply"  # the refusal of a checker without `fail` and `crash`
 NOT_FOUND = "regcheck was not found: put it on PATH, or set REGCHECK to its path"
 
 
@@ -27,7 +25,6 @@ class Answer(NamedTuple):
     status: int  # 0 atomic, 1 not atomic, 2 refused, 3 command line, 4 input, memory or output failed
     report: bytes  # standard output; empty unless status is 0 or 1
     refusal: str  # standard error, without its line feed
-    judged: bytes = b""  # the history that it was given
 
 
 def beside() -> List[pathlib.Path]:
@@ -64,10 +61,10 @@ def run_checker(history: bytes, options: Sequence[str] = (), program: Optional[s
     except OSError as error:
         raise NoChecker(f"{path} could not be started: {error.strerror}. Is REGCHECK right?") from error
     refusal = ran.stderr.decode("utf-8", "replace").rstrip("\n")
-    return Answer(ran.returncode, ran.stdout, refusal, history)
+    return Answer(ran.returncode, ran.stdout, refusal)
 
 
-def ask_checker(history: bytes, options: Sequence[str] = ()) -> Answer:
+def judge(history: bytes, options: Sequence[str] = ()) -> Answer:
     """The library's answer if the history is small and there are no options, else the program's: they are the same."""
     if options or len(history) > MOST_BYTES:
         return run_checker(history, options)
@@ -78,14 +75,7 @@ def ask_checker(history: bytes, options: Sequence[str] = ()) -> Answer:
     if library is None:
         return run_checker(history)
     told = library.check(history)
-    return Answer(told.status, told.report, told.refusal, history)
-
-
-def judge(history: bytes, options: Sequence[str] = ()) -> Answer:
-    """The checker's answer. One without the events `fail` and `crash` is given the history without them."""
-    answer = ask_checker(history, options)
-    known = without_failures(history) if UNKNOWN_EVENT in answer.refusal else history
-    return answer if known == history else ask_checker(known, options)
+    return Answer(told.status, told.report, told.refusal)
 
 
 def judge_first(history: bytes) -> Answer:

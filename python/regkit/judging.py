@@ -125,7 +125,7 @@ class Judge:
         if answer.status != REFUSED:
             return Outcome(name, FAILED, failure_of(answer), advice(b"", answer.refusal, name))
         if self.wishes.verify:
-            verify_refusal(answer.judged, answer.refusal)
+            verify_refusal(data, answer.refusal)
         return Outcome(name, REFUSED, plain(answer.refusal), advice(data, answer.refusal, name))
 
     def judge_report(self, name: str, data: bytes, answer: Answer) -> Outcome:
@@ -135,7 +135,7 @@ class Judge:
         history = read_history(data, self.progress.reach)
         if self.wishes.verify:
             self.progress.step(f"{self.label}: verifying")
-            verify(answer.judged, written)
+            verify(data, written)
         outcome = self.verdict(name, history, parsed(written), count_evidence(history))
         if self.wishes.verify:
             outcome = outcome._replace(verified=True, words=f"{outcome.words}; the report was verified")

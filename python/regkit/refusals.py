@@ -8,7 +8,7 @@ TEXTS = {
     2: "not JSON",
     3: "not an object",
     4: "process is not a whole number from 0 to 4294967295",
-    5: "event is neither call nor reply",
+    5: "event is not call, reply, fail or crash",
     6: "op is neither read nor write",
     7: "register is not a text of 1 to 255 bytes",
     8: "value does not fit the event",
@@ -17,12 +17,9 @@ TEXTS = {
     11: "reply disagrees with its call",
     12: "a read's reply has no value",
     13: "value already written to this register",
+    19: "the process crashed",
 }
-NUMBERS = {
-    **{text: number for number, text in TEXTS.items()},
-    "event is not call, reply, fail or crash": 5,
-    "the process crashed": 19,
-}
+NUMBERS = {text: number for number, text in TEXTS.items()}
 # Those that are about the size of a history, or about none.
 OTHER_TEXTS = {14: "more than 1048576 events", 15: "input is longer than 67108864 bytes", 17: "no memory or no thread"}
 WORDS = re.compile(r"line (\d+): (.+?)(?: at line (\d+))?")

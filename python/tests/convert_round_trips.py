@@ -7,7 +7,7 @@ import sys
 
 from regkit.checker import run_checker
 from tests.convert_support import generated
-from tests.test_convert_rule import FORMS, KINDS, there_and_back
+from tests.test_convert_rule import KINDS, forms_of, there_and_back
 
 
 def main() -> int:
@@ -16,7 +16,7 @@ def main() -> int:
     for kind in KINDS:
         history = generated(kind, events, 1)
         report = run_checker(history.encode()).report
-        for form in FORMS:
+        for form in forms_of(kind):
             back = there_and_back(history, form)
             same = back == history or run_checker(back.encode()).report == report
             differing += not same

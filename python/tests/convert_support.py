@@ -8,17 +8,10 @@ import subprocess
 import tempfile
 from typing import Any, Dict, List, NamedTuple, Optional, Union
 
-from regkit.checker import NoChecker, find_checker, run_checker
 from regkit.commands import convert
 
 SAMPLES = pathlib.Path(__file__).parent / "samples"
 HISTORIES = pathlib.Path(__file__).parents[2] / "bin" / "history_generator"
-
-FAILED = (
-    '{"process":1,"event":"call","op":"read","register":"x"}\n'
-    '{"process":1,"event":"fail"}\n'
-    '{"process":1,"event":"crash"}\n'
-)
 
 
 class Ran(NamedTuple):
@@ -74,17 +67,6 @@ def short(history: str) -> List[str]:
         else:
             lines.append(f"{process} {what}")
     return lines
-
-
-def lacks_checker() -> Optional[str]:
-    """Why the program can't check histories with failures and crashes, if it can't."""
-    try:
-        answer = run_checker(FAILED.encode())
-    except NoChecker as error:
-        return str(error)
-    if answer.status == 2 and "event is" in answer.refusal:
-        return f"regcheck doesn't take failures and crashes yet ({find_checker()} says: {answer.refusal})"
-    return None
 
 
 def generated(kind: str, events: int, seed: int) -> str:

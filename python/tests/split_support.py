@@ -264,15 +264,9 @@ class Maker:
         self.lines.insert(place, json.dumps({"process": process, **said}))
 
 
-def random_history(seed: int, knows_ends: bool) -> bytes:
-    """A history of the seed. A checker that doesn't know failed calls and crashes gets few of them."""
-    ends = random.Random(-seed - 1).choice([0, 0.1, 0.3] if knows_ends else [0] * 9 + [0.1])
-    return Maker(seed, ends).history()
-
-
-def knows_ends(check: Check = run_checker) -> bool:
-    """Whether the checker knows failed calls and crashes."""
-    return check(b'{"process":1,"event":"crash"}\n').status == 0
+def random_history(seed: int) -> bytes:
+    """A history of the seed, often with failed calls and crashes."""
+    return Maker(seed, random.Random(-seed - 1).choice([0, 0.1, 0.3])).history()
 
 
 def differences(parts: int, lines: str, history: bytes, check: Check = run_checker) -> List[str]:

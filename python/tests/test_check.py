@@ -64,9 +64,10 @@ began, so 5 comes before null
 """)
 
     def test_the_examples(self) -> None:
-        atomic = {"atomic", "dropped_write", "merged_order", "pending_write", "retried_write"}
+        atomic = {"atomic", "crashed_client", "dropped_write", "merged_order", "pending_write", "retried_write"}
+        refused = {"refused", "failed_value_again"}
         for path in sorted(EXAMPLES.glob("*.jsonl")):
-            status = 0 if path.stem in atomic else 2 if path.stem == "refused" else 1
+            status = 0 if path.stem in atomic else 2 if path.stem in refused else 1
             with self.subTest(path.stem):
                 self.assertEqual(run("check", str(path)).status, status)
         inversion = run("check", str(EXAMPLES / "new_old_inversion.jsonl")).out
@@ -297,13 +298,12 @@ class Refusals(unittest.TestCase):
             with self.subTest(said):
                 self.assertIn(said, self.told(text(*events)))
 
-    def test_refusals_that_are_to_come_or_of_the_run(self) -> None:
+    def test_refusals_of_crashes_or_of_the_run(self) -> None:
         table = [
             ("line 2: the process crashed at line 1", "needs a new number: process 1 does nothing more"),
             ("input is longer than 67108864 bytes", "regkit split"),
             ("line 9: more than 1048576 events", "regkit split"),
             ("no memory or no thread", "more memory"), ("output could not be written", "disk"), ("what?", ""),
-            ("line 1: event is neither call nor reply", "this regcheck doesn't know crash yet"),
             ("line 2: event is not call, reply, fail or crash", 'the event is "call": write `call`'),
             ("line 1: line is longer than 65536 bytes", "one JSON object"),
         ]

@@ -7,7 +7,7 @@ from typing import List, Sequence, Tuple
 
 from regkit.checker import run_checker
 from regkit.convert.summary import too_large
-from tests.convert_support import SAMPLES, lacks_checker, run, short
+from tests.convert_support import SAMPLES, run, short
 
 # A sample, its form and options, and the status of its check.
 SAMPLE_RUNS: List[Tuple[str, str, Sequence[str], int]] = [
@@ -36,9 +36,6 @@ class Samples(unittest.TestCase):
                 self.assertEqual((ran.status, ran.history), (0, expected), ran.told)
 
     def test_each_is_checked(self) -> None:
-        lacks = lacks_checker()
-        if lacks:
-            self.skipTest(lacks)
         for name, form, options, status in SAMPLE_RUNS:
             with self.subTest(name, form=form):
                 ran = run((SAMPLES / name).read_text(encoding="utf-8"), form, *options)

@@ -9,7 +9,7 @@ import unittest
 from typing import Any, Dict, FrozenSet, List, NamedTuple, Optional, Tuple
 
 from regkit.checker import run_checker
-from tests.convert_support import HISTORIES, Ran, generated, lacks_checker, run
+from tests.convert_support import HISTORIES, Ran, generated, run
 
 KINDS = [
     "sequential",
@@ -18,6 +18,8 @@ KINDS = [
     "stale",
     "lost",
     "pending",
+    "failing",
+    "crashing",
     "registers",
     "processes",
     "hot",
@@ -26,6 +28,7 @@ KINDS = [
     "zones",
 ]
 FORMS = ["jepsen", "porcupine", "csv", "operations"]
+CRASH_FORMS = ["jepsen"]  # the forms that tell of crashes
 
 Precedence = FrozenSet[
     Tuple[int, int]
@@ -139,14 +142,11 @@ class Timed(unittest.TestCase):
         self.assertGreater(min(seen.values()), 25)
 
     def test_histories_are_well_formed(self) -> None:
-        lacks = lacks_checker()
         chance = random.Random(8)
         for _ in range(60):
             _, rows = self.source(chance, 6)
             text, _ = self.forms(rows)["csv"]
             history = run(text, "csv").history
-            if '"fail"' in history and lacks:
-                continue
             self.assertIn(run_checker(history.encode()).status, (0, 1), history)
 
 
@@ -181,6 +181,11 @@ class Logged(unittest.TestCase):
                 self.assertEqual(history_precedence(ran), source_precedence(calls), (text, ran.history))
 
 
+def forms_of(kind: str) -> List[str]:
+    """The forms in which a history of the kind loses nothing."""
+    return CRASH_FORMS if kind == "crashing" else FORMS
+
+
 def there_and_back(history: str, form: str) -> str:
     there = run(history, "jsonl", "--to", form)
     assert there.status == 0, there.told
@@ -194,7 +199,7 @@ class RoundTrips(unittest.TestCase):
     def test_generated_histories(self) -> None:
         for kind in KINDS:
             history = generated(kind, 600, 3)
-            for form in FORMS:
+            for form in forms_of(kind):
                 with self.subTest(kind, form=form):
                     self.assertEqual(there_and_back(history, form), history)
 

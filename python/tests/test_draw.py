@@ -229,7 +229,7 @@ class Layout(unittest.TestCase):
             size, processes = chance.choice([6, 30, 200, 900]), chance.choice([1, 3, 8, 12, 60])
             history = data(random_lines(chance, size, processes))
             calls = read_history(history)
-            answer = run_checker(without_failed(history))
+            answer = run_checker(history)
             rows = read_report(answer.report).rows
             marks = marks_of_fault(calls, rows[0]) if rows[0]["atomic"] == "no" else Marks()
             register = register_of(calls)
@@ -264,19 +264,6 @@ class Layout(unittest.TestCase):
         calls = read_history(data(lines)).registers["x"]
         stale_read = next(call for call in calls if call.kind == "read")
         self.assertEqual([call.value for call in overlapped_writes(stale_read, calls)], [2, 6, 7, 3])
-
-
-def without_failed(history: bytes) -> bytes:
-    """The same for a checker that doesn't know failed calls yet: other lines stay where they are."""
-    lines: List[bytes] = history.split(b"\n")
-    opened: Dict[int, int] = {}
-    for number, line in enumerate(lines):
-        event = json.loads(line) if line else {"event": ""}
-        if event["event"] == "call":
-            opened[event["process"]] = number
-        elif event["event"] == "fail":
-            lines[number] = lines[opened[event["process"]]] = b""
-    return b"\n".join(lines)
 
 
 class Signs(unittest.TestCase):

@@ -13,7 +13,7 @@ from regkit.parts import BLANK, MAP, MAP_LINE, Manifest, file_of, write_manifest
 from regkit.refusals import NUMBERS
 from regkit.report import Row
 from tests import split_support
-from tests.split_support import check_parts, differences, knows_ends, random_history, run_command
+from tests.split_support import check_parts, differences, random_history, run_command
 from tests.test_split import Folder, call, end, has_checker, history_of
 
 YES = {"pending": 0, "reads": 0, "regular": "yes", "safe": "yes", "writes": 1}
@@ -129,7 +129,6 @@ class RefusedParts(HandMade):
             ([again, busy, "line 9: the process crashed at line 2"], busy),
             (["", "", "line 7: event is not call, reply, fail or crash"],
              "line 7: event is not call, reply, fail or crash"),
-            (["", "line 7: event is neither call nor reply", ""], "line 7: event is neither call nor reply"),
         ]:
             with self.subTest(expected):
                 self.manifest(3, [], stopped=11)
@@ -242,10 +241,9 @@ class WholeRuns(Folder):
 
     def test_random_histories(self) -> None:
         """tests/scale_test runs thousands more."""
-        ends = knows_ends()
         for seed in range(10_000, 10_040):
             with self.subTest(seed):
-                history = random_history(seed, ends)
+                history = random_history(seed)
                 self.assertEqual([], differences(seed % 7 + 1, (BLANK, MAP)[seed // 7 % 2], history))
 
     def test_the_command_that_runs_a_part_again(self) -> None:

@@ -3,28 +3,29 @@ import ctypes
 import os
 import pathlib
 import unittest
-from typing import Any, List
+from typing import Any, Dict, List
 from unittest import mock
 
 from regkit import checker
-from regkit.checker import NoChecker, ask_checker, find_checker, judge, run_checker
+from regkit.checker import NoChecker, find_checker, judge, run_checker
 from regkit.library import MOST_BYTES, Library, NoLibrary, find_library
 from regkit.refusals import TEXTS, reason_of, read_refusal
 
-from .events import gave, read, reply, text, write
+from .events import crash, gave, read, reply, text, write
 
 ROOT = pathlib.Path(__file__).resolve().parents[2]
 EXAMPLES = sorted((ROOT / "examples").glob("*.jsonl"))
 FINE = text(write(1, 5), reply(1), read(2), gave(2, 5))
 BUILT = os.environ.get("REGCHECK_LIBRARY") or str(ROOT / "bin" / "libregcheck.so.1")
 
-# A history that is refused for each reason about a line.
-REFUSED: List[bytes] = [
-    b'{"process":1' + b" " * 65536 + b"}", b"{", b"[]", b'{"process":-1}', b'{"process":1,"event":"end"}',
-    b'{"process":1,"event":"call","op":"add"}', b'{"process":1,"event":"call","op":"read","register":""}',
-    b'{"process":1,"event":"call","op":"read","register":"x","value":1}', text(read(1), read(1)), text(reply(1)),
-    text(write(1, 5), gave(1, 6)), text(read(1), reply(1)), text(write(1, 5), reply(1), write(2, 5)),
-]
+# A history that is refused for each reason about a line, by number; 14 needs a million lines.
+REFUSED: Dict[int, bytes] = {
+    1: b'{"process":1' + b" " * 65536 + b"}", 2: b"{", 3: b"[]", 4: b'{"process":-1}', 5: b'{"process":1,"event":"end"}',
+    6: b'{"process":1,"event":"call","op":"add"}', 7: b'{"process":1,"event":"call","op":"read","register":""}',
+    8: b'{"process":1,"event":"call","op":"read","register":"x","value":1}', 9: text(read(1), read(1)),
+    10: text(reply(1)), 11: text(write(1, 5), gave(1, 6)), 12: text(read(1), reply(1)),
+    13: text(write(1, 5), reply(1), write(2, 5)), 19: text(crash(1), read(1)),
+}
 
 
 def environment(**names: str) -> Any:
@@ -35,13 +36,13 @@ def environment(**names: str) -> Any:
 
 class Reasons(unittest.TestCase):
     def test_words_are_the_programs(self) -> None:
-        for number, history in enumerate(REFUSED, 1):
+        for number, history in REFUSED.items():
             words = run_checker(history).refusal
             refusal = read_refusal(words, int)
             assert refusal is not None, words
             self.assertEqual(refusal.number, number)
             self.assertEqual(reason_of(number, refusal.line, refusal.other or 0), words)
-        self.assertEqual(set(TEXTS), set(range(1, len(REFUSED) + 1)))
+        self.assertEqual(set(TEXTS), set(REFUSED))
 
     def test_words_about_no_line(self) -> None:
         self.assertEqual(reason_of(15, 0, 0), run_checker(b"\n" * 67_108_865).refusal)
@@ -70,7 +71,7 @@ class Choice(unittest.TestCase):
         library.check.return_value = mock.Mock(status=0, report=b"", refusal="")
         with mock.patch.object(checker, "find_library", return_value=library), \
                 mock.patch.object(checker, "run_checker"):
-            ask_checker(history, options)
+            judge(history, options)
         return [call.args[0] for call in library.check.call_args_list]
 
     def test_small_histories_without_options(self) -> None:
@@ -93,12 +94,12 @@ class Answers(unittest.TestCase):
 
     def test_refusals(self) -> None:
         library = Library(BUILT)
-        for number, history in enumerate(REFUSED, 1):
+        for number, history in REFUSED.items():
             told, want = library.check(history), run_checker(history)
             self.assertEqual((told.number, told.status, told.refusal), (number, want.status, want.refusal))
 
     def test_judge(self) -> None:
-        """A history with a failed call is given to the library without it."""
+        """A small history is given to the library, one with a failed call too."""
         history = FINE + text(read(1)) + b'{"process":1,"event":"fail"}\n'
         want = judge(history)
         with environment(REGCHECK_LIBRARY=BUILT), mock.patch.object(checker, "run_checker") as program:

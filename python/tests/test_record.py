@@ -26,28 +26,6 @@ def lines(recorder: Recorder) -> List[str]:
     return recorder.history().decode("ascii").splitlines()
 
 
-def need_fail(test: unittest.TestCase) -> None:
-    """Skips a test if the checker that is here refuses the events fail and crash, by number 5."""
-    failed = b'{"process":1,"event":"call","op":"read","register":"x"}\n{"process":1,"event":"fail"}\n'
-    if "event is neither call nor reply" in run_checker(failed).refusal:
-        test.skipTest("this checker refuses the events fail and crash (refusal 5)")
-
-
-def without_failed(history: List[str]) -> bytes:
-    """The same history for a checker that knows no fail and no crash: their lines are blank, and also those
-    of failed calls, which are no operations."""
-    kept, open_calls = list(history), {}
-    for place, line in enumerate(history):
-        event = json.loads(line)
-        if event["event"] == "call":
-            open_calls[event["process"]] = place
-        if event["event"] == "fail":
-            kept[open_calls[event["process"]]] = ""
-        if event["event"] in ("fail", "crash"):
-            kept[place] = ""
-    return "\n".join(kept).encode("ascii")
-
-
 class Lost(Exception):
     """An answer that doesn't come."""
 
@@ -533,16 +511,12 @@ class Threads(unittest.TestCase):
         self.assertLess(counts["reply"] + counts["fail"], counts["call"])
 
     def test_a_troubled_store_is_atomic(self) -> None:
-        self.assertEqual(run_checker(without_failed(lines(threads_record(0.4)))).status, 0)
+        answer = run_checker(threads_record(0.4).history())
+        self.assertEqual((answer.status, answer.refusal), (0, ""))
 
     def test_a_failure_that_was_none_is_found(self) -> None:
-        self.assertEqual(run_checker(without_failed(lines(wrongly_failed()))).status, 1)
-
-    def test_the_same_with_a_checker_that_knows_fail(self) -> None:
-        need_fail(self)
-        for recorder, status in [(threads_record(0.4), 0), (wrongly_failed(), 1)]:
-            answer = run_checker(recorder.history())
-            self.assertEqual((answer.status, answer.refusal), (status, ""))
+        answer = run_checker(wrongly_failed().history())
+        self.assertEqual((answer.status, answer.refusal), (1, ""))
 
 
 class Asyncio(unittest.TestCase):

@@ -164,7 +164,7 @@ class Parts(Folder):
 
     def test_each_line_is_in_one_part(self) -> None:
         for seed in range(60):
-            history = random_history(seed, knows_ends=True)
+            history = random_history(seed)
             lines = enumerate(history.split(b"\n"), 1)
             expected = [(number, line) for number, line in lines if line.strip(b" \t\r")]
             with self.subTest(seed), tempfile.TemporaryDirectory() as self.directory:

@@ -492,11 +492,6 @@ class Refusals(unittest.TestCase):
             with self.subTest(name):
                 self.assertEqual(verify.verify_refusal(history(text), words + "\n").refusal, words)
 
-    def test_a_checker_without_fail_and_crash_has_other_words(self) -> None:
-        words = "line 1: event is neither call nor reply"
-        self.assertEqual(verify.verify_refusal(b'{"process":1,"event":"info"}\n', words).refusal, words)
-        self.assertIn("other words", self.wrong(b"no\n", words))
-
     def test_every_other_reason_is_wrong(self) -> None:
         reasons = {words.split(": ", 1)[1] for _, _, words in REFUSALS}
         for name, text, words in REFUSALS:

@@ -1,7 +1,7 @@
 -- The name of each kind.
 use Rattle.std.specs.Prelude.{ℕ, List, codes}
 use Rattle.history_generator.specs.declared.kind.Kind.{Kind}
-use Rattle.history_generator.specs.declared.kind.Kind.TheVariants.{Sequential, Atomic, Inversion, Stale, Lost, Pending, Registers, Processes, Hot, HotReverse, Writes, Zones}
+use Rattle.history_generator.specs.declared.kind.Kind.TheVariants.{Sequential, Atomic, Inversion, Stale, Lost, Pending, Failing, Crashing, Registers, Processes, Hot, HotReverse, Writes, Zones}
 
 abbrev pub name_of : Kind → List ℕ
 name_of Sequential = codes "sequential"
@@ -10,6 +10,8 @@ name_of Inversion = codes "inversion"
 name_of Stale = codes "stale"
 name_of Lost = codes "lost"
 name_of Pending = codes "pending"
+name_of Failing = codes "failing"
+name_of Crashing = codes "crashing"
 name_of Registers = codes "registers"
 name_of Processes = codes "processes"
 name_of Hot = codes "hot"

@@ -1,7 +1,7 @@
 -- The line of each event, as docs/format.md lays it out, with its line feed.
 use Rattle.std.specs.Prelude.{ℕ, List, ◌++◌, Some, None, codes, decimal}
 use Rattle.history_generator.specs.declared.event.Event.{Event}
-use Rattle.history_generator.specs.declared.event.Event.TheVariants.{ReadCall, ReadReply, WriteCall, WriteReply}
+use Rattle.history_generator.specs.declared.event.Event.TheVariants.{ReadCall, ReadReply, WriteCall, WriteReply, Fail, Crash}
 
 abbrev pub line_of : Event → List ℕ
 line_of (ReadCall process register) =
@@ -14,3 +14,7 @@ line_of (WriteCall process register write) =
     codes "{\"process\":" ++ (decimal process ++ (codes ",\"event\":\"call\",\"op\":\"write\",\"register\":\"r" ++ (decimal register ++ (codes "\",\"value\":" ++ (decimal write ++ codes "}\n")))))
 line_of (WriteReply process) =
     codes "{\"process\":" ++ (decimal process ++ codes ",\"event\":\"reply\"}\n")
+line_of (Fail process) =
+    codes "{\"process\":" ++ (decimal process ++ codes ",\"event\":\"fail\"}\n")
+line_of (Crash process) =
+    codes "{\"process\":" ++ (decimal process ++ codes ",\"event\":\"crash\"}\n")

@@ -25,6 +25,8 @@ pub(crate) enum Stage {
         register: u32,
         write: u32,
     },
+    /// It called an operation that has no effect, and its fail is to come.
+    Failed,
 }
 
 /// A client: the process that it calls as, and what it does.

@@ -29,6 +29,14 @@ pub enum Event {
     WriteReply {
         process: u32,
     },
+    /// The open call of a process ends and had no effect.
+    Fail {
+        process: u32,
+    },
+    /// A process crashes, with an open call or without one.
+    Crash {
+        process: u32,
+    },
 }
 
 /// Adds the line of an event, with its line feed. After an error a part of it may be there.
@@ -61,5 +69,7 @@ pub fn push_line(text: &mut String, event: Event) -> Result<(), AllocError>
         Event::WriteReply { process } => {
             writeln!(text, r#"{{"process":{process},"event":"reply"}}"#)
         }
+        Event::Fail { process } => { writeln!(text, r#"{{"process":{process},"event":"fail"}}"#) }
+        Event::Crash { process } => { writeln!(text, r#"{{"process":{process},"event":"crash"}}"#) }
     }
 }

@@ -17,6 +17,10 @@ pub enum Kind {
     Lost,
     /// Some clients die with an open call, and new ones take their places.
     Pending,
+    /// As `Atomic`, with some calls that fail: they have no effect.
+    Failing,
+    /// As `Atomic`, with some processes that crash, with an open call or without one. New ones take their places.
+    Crashing,
     /// As `Atomic`, over many registers.
     Registers,
     /// As `Atomic`, with many processes.
@@ -32,13 +36,15 @@ pub enum Kind {
 }
 
 /// The names of all kinds.
-pub const NAMES: [&str; 12] = [
+pub const NAMES: [&str; 14] = [
     "sequential",
     "atomic",
     "inversion",
     "stale",
     "lost",
     "pending",
+    "failing",
+    "crashing",
     "registers",
     "processes",
     "hot",
@@ -60,6 +66,8 @@ impl Kind {
             "stale" => Some(Kind::Stale),
             "lost" => Some(Kind::Lost),
             "pending" => Some(Kind::Pending),
+            "failing" => Some(Kind::Failing),
+            "crashing" => Some(Kind::Crashing),
             "registers" => Some(Kind::Registers),
             "processes" => Some(Kind::Processes),
             "hot" => Some(Kind::Hot),

@@ -6,6 +6,8 @@
 #![tactic(auto)]
 
 mod client;
+#[cfg(test)]
+mod end_tests;
 mod event;
 mod generate;
 mod history;

@@ -26,7 +26,7 @@ pub struct Settings {
     ghost few_registers: { registers ≤ MOST },
 }
 
-/// How many processes there are where it isn't said: for the kinds that are about many, a share of the events.
+/// How many processes there are by default: a share of the events for the kinds that are about many.
 fn usual_processes(kind: Kind, events: u32) -> u32
     ensures { result ≤ events + 4 }
 {
@@ -38,7 +38,7 @@ fn usual_processes(kind: Kind, events: u32) -> u32
     }
 }
 
-/// How many registers there are where it isn't said.
+/// How many registers there are by default.
 fn usual_registers(kind: Kind, events: u32) -> u32
     ensures { result ≤ events + 1 }
 {

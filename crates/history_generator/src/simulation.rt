@@ -1,7 +1,10 @@
 //! Clients that take turns at random. A turn is a call, an effect or a reply, so that an operation takes effect at one
 //! instant between its call and its reply, on the registers in memory: the order of these instants is a legal order,
-//! and the history is atomic. Where a client died, its operation took effect before, or is dropped. Of the kinds that
-//! aren't atomic, a rule of `served_write` or `served_read` breaks this.
+//! and the history is atomic. Where a client died or crashed, its operation took effect before, or is dropped. A call
+//! that fails never takes effect. Of the kinds that aren't atomic, a rule of `served_write` or `served_read` breaks this.
+ghost use Rattle.std.specs.Prelude.{◌≡◌, ◌<◌, ◌+◌, ◌-◌, ◌^◌, length, slice_get, slice_set, Some};
+ghost use Rattle.history_generator.specs.declared.client.Stage.TheVariants.{Idle, Failed};
+
 use crate::client::{Client, Stage};
 use crate::event::Event;
 use crate::history::History;
@@ -12,8 +15,11 @@ use rand::rngs::SmallRng;
 use rand::{RngExt, SeedableRng};
 use std::alloc::{AllocError, Global};
 
-/// Of so many chances to break a rule, or to die, one is taken.
+/// Of so many chances to break a rule, to die or to crash, one is taken.
 const SELDOM: u32 = 16;
+
+/// Of so many calls, one fails.
+const FAILING: u32 = 10;
 
 /// The clients, the memory that serves them, and what they did.
 #[derive(Drop)]
@@ -70,6 +76,13 @@ impl Simulation {
         self.random.random_ratio(1, SELDOM)
     }
 
+    /// Whether a call is one of those that fail.
+    fn fails(&mut self) -> bool
+        ensures memory { self.new.memory ≡ self.old.memory }
+    {
+        self.settings.kind == Kind::Failing && self.random.random_ratio(1, FAILING)
+    }
+
     /// True half of the time.
     fn coin(&mut self) -> bool {
         self.random.random_ratio(1, 2)
@@ -106,9 +119,12 @@ impl Simulation {
         }
     }
 
-    /// What a read sees. Atomic: what the register holds. Regular: the last write that was replied to, or the one
-    /// that is open. Stale: at times the write before the last that was replied to when the read was called.
+    /// What a read sees, unless it fails. Atomic: what the register holds. Regular: the last write that was replied to,
+    /// or the one that is open. Stale: at times the write before the last that was replied to when the read was called.
     fn served_read(&mut self, register: u32, replied: u32) -> Stage {
+        if self.fails() {
+            return Stage::Failed;
+        }
         let now = self.memory.register(register);
         let write = match self.settings.kind {
             Kind::Inversion => { if self.coin() { now.called } else { now.replied } }
@@ -118,8 +134,13 @@ impl Simulation {
         Stage::ReadServed { write }
     }
 
-    /// Stores what is written, save that at times it is lost.
-    fn served_write(&mut self, register: u32, write: u32) -> Stage {
+    /// Stores what is written, unless the write fails or is lost.
+    fn served_write(&mut self, register: u32, write: u32) -> Stage
+        ensures failed { result ≡ Failed → self.new.memory ≡ self.old.memory }
+    {
+        if self.fails() {
+            return Stage::Failed;
+        }
         if self.settings.kind != Kind::Lost || !self.seldom() {
             self.memory.store(register, write);
         }
@@ -148,6 +169,7 @@ impl Simulation {
                 self.memory.reply_write(register, write);
                 self.reply(Event::WriteReply { process })
             }
+            Stage::Failed => self.reply(Event::Fail { process }),
         }
     }
 
@@ -163,10 +185,18 @@ impl Simulation {
     }
 
     /// Changes the client with a number.
-    fn set_client(&mut self, number: u32, client: Client) {
+    fn set_client(&mut self, number: u32, client: Client)
+        ensures clients { self.new.clients.items ≡ slice_set self.old.clients.items number client }
+        ensures next { self.new.next_process ≡ self.old.next_process }
+    {
         if let Some(place) = self.clients.get_mut(number as usize) {
             *place = client;
         }
+    }
+
+    /// Whether the client has an open call.
+    fn is_open(&self, number: u32) -> bool {
+        self.client(number).stage != Stage::Idle
     }
 
     /// Lets a client take a turn.
@@ -177,11 +207,16 @@ impl Simulation {
         Ok(())
     }
 
-    /// Leaves the client's open call pending for good, and puts a new process in its place.
-    fn replace(&mut self, number: u32) {
+    /// Puts a new process in the client's place. An open call stays pending for good.
+    fn replace(&mut self, number: u32)
+        ensures client { number < length self.old.clients.items → slice_get self.new.clients.items number ≡ Some (record { process = self.old.next_process; stage = Idle }) }
+        ensures next { self.old.next_process < 2 ^ 32 - 1 → self.new.next_process ≡ self.old.next_process + 1 }
+    {
+        if self.is_open(number) {
+            self.open = self.open.saturating_sub(1);
+        }
         let process = self.next_process;
         self.next_process = process.saturating_add(1);
-        self.open = self.open.saturating_sub(1);
         self.set_client(
             number,
             Client {
@@ -191,6 +226,25 @@ impl Simulation {
         );
     }
 
+    /// Whether the client's process leaves in place of its turn.
+    fn leaves(&mut self, number: u32) -> bool {
+        match self.settings.kind {
+            Kind::Pending => self.is_open(number) && self.seldom(),
+            Kind::Crashing => self.seldom(),
+            _ => false,
+        }
+    }
+
+    /// Lets the client's process leave. Only a crash is told.
+    fn leave(&mut self, number: u32) -> Result<(), AllocError> {
+        if self.settings.kind == Kind::Crashing {
+            let process = self.client(number).process;
+            self.history.record(Event::Crash { process })?;
+        }
+        self.replace(number);
+        Ok(())
+    }
+
     /// Picks a client, and lets it take a turn, a whole operation, or its leave.
     fn step(&mut self) -> Result<(), AllocError> {
         let number = self.random.random_range(0..self.settings.processes);
@@ -198,10 +252,8 @@ impl Simulation {
             self.turn(number)?;
             return self.end(number);
         }
-        let is_open = self.client(number).stage != Stage::Idle;
-        if self.settings.kind == Kind::Pending && is_open && self.seldom() {
-            self.replace(number);
-            Ok(())
+        if self.leaves(number) {
+            self.leave(number)
         } else {
             self.turn(number)
         }
@@ -210,7 +262,7 @@ impl Simulation {
     /// Lets a client end its open operation.
     fn end(&mut self, number: u32) -> Result<(), AllocError> {
         for _ in 0..2 {
-            if self.client(number).stage != Stage::Idle {
+            if self.is_open(number) {
                 self.turn(number)?;
             }
         }

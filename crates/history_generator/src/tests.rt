@@ -73,6 +73,8 @@ fn kinds_are_as_they_say(rt: HostRuntime) -> Result<(), Fail> {
         (Kind::Stale, false, Some(false)),
         (Kind::Lost, false, Some(false)),
         (Kind::Pending, true, None),
+        (Kind::Failing, true, None),
+        (Kind::Crashing, true, None),
         (Kind::Registers, true, None),
         (Kind::Processes, true, None),
         (Kind::Hot, true, Some(true)),
@@ -160,6 +162,8 @@ fn lines(rt: HostRuntime) -> Result<(), Fail> {
             write: None,
         },
         Event::WriteReply { process: 1 },
+        Event::Fail { process: 2 },
+        Event::Crash { process: 1 },
     ] {
         push_line(&mut text, event)?;
     }
@@ -169,6 +173,8 @@ fn lines(rt: HostRuntime) -> Result<(), Fail> {
 {"process":2,"event":"call","op":"read","register":"r0"}
 {"process":2,"event":"reply","value":null}
 {"process":1,"event":"reply"}
+{"process":2,"event":"fail"}
+{"process":1,"event":"crash"}
 "#
     );
     Ok(())

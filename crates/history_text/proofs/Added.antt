@@ -1,5 +1,5 @@
 -- One member more: what an object with it holds, and how its name and its value are lexed.
-use Rattle.std.proofs.Common.{◌≡◌, ℕ, ◌≤◌, Bool, true, List, ◌∷◌, ◌++◌, get_or, Some, codes, refl, sym, ap, ◌∙◌, subst, arith}
+use Rattle.std.proofs.Common.{◌≡◌, ℕ, ◌≤◌, true, List, ◌∷◌, ◌++◌, get_or, Some, codes, refl, sym, ap, ◌∙◌, subst, arith}
 use Rattle.std.specs.Str.{IsUtf8}
 use Rattle.json.specs.Token.{Token}
 use Rattle.json.specs.Text.{content}
@@ -10,6 +10,7 @@ use Rattle.serde_json.proofs.Views.{get_member-put, get_member-put_other}
 use Rattle.history_text.specs.declared.flat_members.Found.{Found}
 use Rattle.history_text.specs.declared.event.Val.{Val}
 use Rattle.history_text.specs.declared.event.OpKind.{OpKind}
+use Rattle.history_text.specs.declared.event.EventWord.{EventWord}
 use Rattle.history_text.specs.Limits.{MAX_PROCESS}
 use Rattle.history_text.specs.Flat.{Scalar, Named, Holds, Adds, process_data, event_data, op_data, value_data}
 use Rattle.history_text.proofs.Lexed.{ascii_front}
@@ -19,51 +20,51 @@ differ : (x y : ℕ) (xs ys : List ℕ) → (x ≡ y → ⊥) → x ∷ xs ≡ y
 differ x y xs ys h e = h (ap (λ l. get_or l 0 0) e)
 
 module _ (f : Found) (ms : Members) (h : Holds ms f) where
-  put_process : (p : ℕ) → p ≤ MAX_PROCESS → Holds (put (codes "process") (process_data p) ms) (record { process = Some p; is_call = f.is_call; op = f.op; register = f.register; value = f.value })
+  put_process : (p : ℕ) → p ≤ MAX_PROCESS → Holds (put (codes "process") (process_data p) ms) (record { process = Some p; event = f.event; op = f.op; register = f.register; value = f.value })
   put_process p fits = record {
     process = get_member-put (codes "process") (process_data p) ms;
     limit = fits;
-    is_call = get_member-put_other (codes "event") (codes "process") _ ms (differ _ _ _ _ (λ e. omega arith)) ∙ h.is_call;
+    event = get_member-put_other (codes "event") (codes "process") _ ms (differ _ _ _ _ (λ e. omega arith)) ∙ h.event;
     op = get_member-put_other (codes "op") (codes "process") _ ms (differ _ _ _ _ (λ e. omega arith)) ∙ h.op;
     register = get_member-put_other (codes "register") (codes "process") _ ms (differ _ _ _ _ (λ e. omega arith)) ∙ h.register;
     value = get_member-put_other (codes "value") (codes "process") _ ms (differ _ _ _ _ (λ e. omega arith)) ∙ h.value;
   }
 
-  put_event : (b : Bool) → Holds (put (codes "event") (event_data b) ms) (record { process = f.process; is_call = Some b; op = f.op; register = f.register; value = f.value })
-  put_event b = record {
+  put_event : (w : EventWord) → Holds (put (codes "event") (event_data w) ms) (record { process = f.process; event = Some w; op = f.op; register = f.register; value = f.value })
+  put_event w = record {
     process = get_member-put_other (codes "process") (codes "event") _ ms (differ _ _ _ _ (λ e. omega arith)) ∙ h.process;
     limit = h.limit;
-    is_call = get_member-put (codes "event") (event_data b) ms;
+    event = get_member-put (codes "event") (event_data w) ms;
     op = get_member-put_other (codes "op") (codes "event") _ ms (differ _ _ _ _ (λ e. omega arith)) ∙ h.op;
     register = get_member-put_other (codes "register") (codes "event") _ ms (differ _ _ _ _ (λ e. omega arith)) ∙ h.register;
     value = get_member-put_other (codes "value") (codes "event") _ ms (differ _ _ _ _ (λ e. omega arith)) ∙ h.value;
   }
 
-  put_op : (k : OpKind) → Holds (put (codes "op") (op_data k) ms) (record { process = f.process; is_call = f.is_call; op = Some k; register = f.register; value = f.value })
+  put_op : (k : OpKind) → Holds (put (codes "op") (op_data k) ms) (record { process = f.process; event = f.event; op = Some k; register = f.register; value = f.value })
   put_op k = record {
     process = get_member-put_other (codes "process") (codes "op") _ ms (differ _ _ _ _ (λ e. omega arith)) ∙ h.process;
     limit = h.limit;
-    is_call = get_member-put_other (codes "event") (codes "op") _ ms (differ _ _ _ _ (λ e. omega arith)) ∙ h.is_call;
+    event = get_member-put_other (codes "event") (codes "op") _ ms (differ _ _ _ _ (λ e. omega arith)) ∙ h.event;
     op = get_member-put (codes "op") (op_data k) ms;
     register = get_member-put_other (codes "register") (codes "op") _ ms (differ _ _ _ _ (λ e. omega arith)) ∙ h.register;
     value = get_member-put_other (codes "value") (codes "op") _ ms (differ _ _ _ _ (λ e. omega arith)) ∙ h.value;
   }
 
-  put_register : (s : Bor (List ℕ)) → Holds (put (codes "register") (string s.now) ms) (record { process = f.process; is_call = f.is_call; op = f.op; register = Some s; value = f.value })
+  put_register : (s : Bor (List ℕ)) → Holds (put (codes "register") (string s.now) ms) (record { process = f.process; event = f.event; op = f.op; register = Some s; value = f.value })
   put_register s = record {
     process = get_member-put_other (codes "process") (codes "register") _ ms (differ _ _ _ _ (λ e. omega arith)) ∙ h.process;
     limit = h.limit;
-    is_call = get_member-put_other (codes "event") (codes "register") _ ms (differ _ _ _ _ (λ e. omega arith)) ∙ h.is_call;
+    event = get_member-put_other (codes "event") (codes "register") _ ms (differ _ _ _ _ (λ e. omega arith)) ∙ h.event;
     op = get_member-put_other (codes "op") (codes "register") _ ms (differ _ _ _ _ (λ e. omega arith)) ∙ h.op;
     register = get_member-put (codes "register") (string s.now) ms;
     value = get_member-put_other (codes "value") (codes "register") _ ms (differ _ _ _ _ (λ e. omega arith)) ∙ h.value;
   }
 
-  put_value : (v : Val) → Holds (put (codes "value") (value_data v) ms) (record { process = f.process; is_call = f.is_call; op = f.op; register = f.register; value = Some v })
+  put_value : (v : Val) → Holds (put (codes "value") (value_data v) ms) (record { process = f.process; event = f.event; op = f.op; register = f.register; value = Some v })
   put_value v = record {
     process = get_member-put_other (codes "process") (codes "value") _ ms (differ _ _ _ _ (λ e. omega arith)) ∙ h.process;
     limit = h.limit;
-    is_call = get_member-put_other (codes "event") (codes "value") _ ms (differ _ _ _ _ (λ e. omega arith)) ∙ h.is_call;
+    event = get_member-put_other (codes "event") (codes "value") _ ms (differ _ _ _ _ (λ e. omega arith)) ∙ h.event;
     op = get_member-put_other (codes "op") (codes "value") _ ms (differ _ _ _ _ (λ e. omega arith)) ∙ h.op;
     register = get_member-put_other (codes "register") (codes "value") _ ms (differ _ _ _ _ (λ e. omega arith)) ∙ h.register;
     value = get_member-put (codes "value") (value_data v) ms;
@@ -94,31 +95,31 @@ adds_member k d old new text mid rest front scalar put_holds ended =
 
 module _ (f : Found) (text mid rest : List ℕ) where
   pub adds_process : (p : ℕ) → p ≤ MAX_PROCESS → Named (codes "\"process\":") text mid → Scalar mid (process_data p) rest
-      → Adds text f (record { process = Some p; is_call = f.is_call; op = f.op; register = f.register; value = f.value }) rest
+      → Adds text f (record { process = Some p; event = f.event; op = f.op; register = f.register; value = f.value }) rest
   unfolding lex content
   adds_process p fits named scalar =
       adds_member (codes "process") (process_data p) f _ text mid rest (keyed (codes "process") _ text mid (λ behind. refl) refl named) scalar (λ ms h. put_process f ms h p fits)
 
-  pub adds_event : (b : Bool) → Named (codes "\"event\":") text mid → Scalar mid (event_data b) rest
-      → Adds text f (record { process = f.process; is_call = Some b; op = f.op; register = f.register; value = f.value }) rest
+  pub adds_event : (w : EventWord) → Named (codes "\"event\":") text mid → Scalar mid (event_data w) rest
+      → Adds text f (record { process = f.process; event = Some w; op = f.op; register = f.register; value = f.value }) rest
   unfolding lex content
-  adds_event b named scalar =
-      adds_member (codes "event") (event_data b) f _ text mid rest (keyed (codes "event") _ text mid (λ behind. refl) refl named) scalar (λ ms h. put_event f ms h b)
+  adds_event w named scalar =
+      adds_member (codes "event") (event_data w) f _ text mid rest (keyed (codes "event") _ text mid (λ behind. refl) refl named) scalar (λ ms h. put_event f ms h w)
 
   pub adds_op : (k : OpKind) → Named (codes "\"op\":") text mid → Scalar mid (op_data k) rest
-      → Adds text f (record { process = f.process; is_call = f.is_call; op = Some k; register = f.register; value = f.value }) rest
+      → Adds text f (record { process = f.process; event = f.event; op = Some k; register = f.register; value = f.value }) rest
   unfolding lex content
   adds_op k named scalar =
       adds_member (codes "op") (op_data k) f _ text mid rest (keyed (codes "op") _ text mid (λ behind. refl) refl named) scalar (λ ms h. put_op f ms h k)
 
   pub adds_register : (s : Bor (List ℕ)) → Named (codes "\"register\":") text mid → Scalar mid (string s.now) rest
-      → Adds text f (record { process = f.process; is_call = f.is_call; op = f.op; register = Some s; value = f.value }) rest
+      → Adds text f (record { process = f.process; event = f.event; op = f.op; register = Some s; value = f.value }) rest
   unfolding lex content
   adds_register s named scalar =
       adds_member (codes "register") (string s.now) f _ text mid rest (keyed (codes "register") _ text mid (λ behind. refl) refl named) scalar (λ ms h. put_register f ms h s)
 
   pub adds_value : (v : Val) → Named (codes "\"value\":") text mid → Scalar mid (value_data v) rest
-      → Adds text f (record { process = f.process; is_call = f.is_call; op = f.op; register = f.register; value = Some v }) rest
+      → Adds text f (record { process = f.process; event = f.event; op = f.op; register = f.register; value = Some v }) rest
   unfolding lex content
   adds_value v named scalar =
       adds_member (codes "value") (value_data v) f _ text mid rest (keyed (codes "value") _ text mid (λ behind. refl) refl named) scalar (λ ms h. put_value f ms h v)

@@ -10,7 +10,7 @@ use Rattle.history_text.specs.Reading.{json_of, line_form, history_lines}
 use Rattle.history_text.specs.Values.{same_value}
 use Rattle.history_text.specs.declared.event.Val.TheVariants.{Null, Int}
 use Rattle.history_text.specs.declared.event.OpKind.TheVariants.{WriteOp}
-use Rattle.history_text.specs.declared.event.Kind.TheVariants.{CallRead, CallWrite, Reply}
+use Rattle.history_text.specs.declared.event.Kind.TheVariants.{CallRead, CallWrite, Reply, Fail, Crash}
 use Rattle.history_text.specs.declared.fault.LineKind.TheVariants.{NotJson, NotObject, BadProcess, BadEvent, BadOp, BadRegister, BadValue}
 
 -- lines: blank ones are skipped and still count, and the last may lack its line feed
@@ -24,7 +24,7 @@ blank_lines = refl
 spans : line_spans (codes "a\n \r\n\nbc\n") ≡ record { line = 1; from = 0; to = 1 } ∷ record { line = 4; from = 6; to = 8 } ∷ []
 spans = refl
 
--- the four forms of an event
+-- the forms of an event
 
 write_call : line_form 1 (codes "{\"process\":1,\"event\":\"call\",\"op\":\"write\",\"register\":\"x\",\"value\":5}") ≡ Ok (record { line = 1; process = 1; kind = CallWrite (codes "x") (pos 5) })
 unfolding json_of serde_json_on_literals is_utf8 chars
@@ -41,6 +41,19 @@ bare_reply = refl
 full_reply : line_form 2 (codes "{\"process\":1,\"event\":\"reply\",\"op\":\"write\",\"register\":\"x\",\"value\":null}") ≡ Ok (record { line = 2; process = 1; kind = Reply (record { op = Some WriteOp; register = Some (codes "x"); value = Some Null }) })
 unfolding json_of serde_json_on_literals is_utf8 chars
 full_reply = refl
+
+bare_fail : line_form 2 (codes "{\"process\":1,\"event\":\"fail\"}") ≡ Ok (record { line = 2; process = 1; kind = Fail (record { op = None; register = None; value = None }) })
+unfolding json_of serde_json_on_literals is_utf8 chars
+bare_fail = refl
+
+full_fail : line_form 2 (codes "{\"process\":1,\"event\":\"fail\",\"op\":\"write\",\"register\":\"x\",\"value\":5}") ≡ Ok (record { line = 2; process = 1; kind = Fail (record { op = Some WriteOp; register = Some (codes "x"); value = Some (Int (pos 5)) }) })
+unfolding json_of serde_json_on_literals is_utf8 chars
+full_fail = refl
+
+-- of a crash no other member is read
+crash : line_form 2 (codes "{\"process\":1,\"event\":\"crash\",\"op\":0,\"register\":\"\",\"value\":true}") ≡ Ok (record { line = 2; process = 1; kind = Crash })
+unfolding json_of serde_json_on_literals is_utf8 chars
+crash = refl
 
 -- space around the JSON, unknown members, and of two equal names the last
 
@@ -85,6 +98,14 @@ process_past_32_bits = refl
 other_event : line_form 3 (codes "{\"process\":2,\"event\":\"Call\"}") ≡ Err BadEvent
 unfolding json_of serde_json_on_literals is_utf8 chars
 other_event = refl
+
+longer_word : line_form 3 (codes "{\"process\":2,\"event\":\"failed\"}") ≡ Err BadEvent
+unfolding json_of serde_json_on_literals is_utf8 chars
+longer_word = refl
+
+op_of_a_fail : line_form 3 (codes "{\"process\":2,\"event\":\"fail\",\"op\":\"cas\"}") ≡ Err BadOp
+unfolding json_of serde_json_on_literals is_utf8 chars
+op_of_a_fail = refl
 
 null_op : line_form 3 (codes "{\"process\":2,\"event\":\"reply\",\"op\":null}") ≡ Err BadOp
 unfolding json_of serde_json_on_literals is_utf8 chars

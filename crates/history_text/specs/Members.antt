@@ -9,6 +9,8 @@ use Rattle.history_text.specs.declared.event.Val.{Val}
 use Rattle.history_text.specs.declared.event.Val.TheVariants.{Null, Int}
 use Rattle.history_text.specs.declared.event.OpKind.{OpKind}
 use Rattle.history_text.specs.declared.event.OpKind.TheVariants.{ReadOp, WriteOp}
+use Rattle.history_text.specs.declared.event.EventWord.{EventWord}
+use Rattle.history_text.specs.declared.event.EventWord.TheVariants as word
 
 -- what stands under a name of the object, if anything
 abbrev pub Member : Type 0
@@ -18,9 +20,13 @@ Member = Option Data
 abbrev pub process_form : Member → Option ℕ
 process_form m = option_and_then (λ p. if nat_le p MAX_PROCESS then Some p else None) (option_and_then as_u64 (option_and_then as_number m))
 
--- an event: the word for a call, as true, or the word for a reply, as false
-abbrev pub event_form : Member → Option Bool
-event_form m = option_and_then (λ s. if bytes_eq s (codes "call") then Some true else (if bytes_eq s (codes "reply") then Some false else None)) (option_and_then as_str m)
+-- the word for a fail or for a crash
+abbrev pub other_word : List ℕ → Option EventWord
+other_word s = if bytes_eq s (codes "fail") then Some word.Fail else (if bytes_eq s (codes "crash") then Some word.Crash else None)
+
+-- an event: the word for a call, for a reply, for a fail or for a crash
+abbrev pub event_form : Member → Option EventWord
+event_form m = option_and_then (λ s. if bytes_eq s (codes "call") then Some word.Call else (if bytes_eq s (codes "reply") then Some word.Reply else other_word s)) (option_and_then as_str m)
 
 -- the word for a read or the word for a write
 abbrev pub op_form : Member → Option OpKind

@@ -1,5 +1,5 @@
 -- The one event of a line, or the least fault that applies to it; this project's profile.
-use Rattle.std.specs.Prelude.{ℕ, ◌<◌, ◌≤◌, List, length, map, codes, Bool, true, false, nat_lt, if◌then◌else◌, Option, Some, None, is_some, Result, Ok, Err}
+use Rattle.std.specs.Prelude.{ℕ, ◌<◌, ◌≤◌, List, length, map, codes, nat_lt, if◌then◌else◌, Option, Some, None, is_some, Result, Ok, Err}
 use Rattle.std.specs.List.{All, AllPairs}
 use Rattle.std.specs.Str.{is_utf8}
 use Rattle.serde_json.specs.Data.{Data}
@@ -11,7 +11,10 @@ use Rattle.history_text.specs.Members.{process_form, event_form, op_form, name_f
 use Rattle.history_text.specs.declared.event.OpKind.{OpKind}
 use Rattle.history_text.specs.declared.event.OpKind.TheVariants.{ReadOp, WriteOp}
 use Rattle.history_text.specs.declared.event.Kind.{Kind}
-use Rattle.history_text.specs.declared.event.Kind.TheVariants.{CallRead, CallWrite, Reply}
+use Rattle.history_text.specs.declared.event.EventWord.{EventWord}
+use Rattle.history_text.specs.declared.event.EventWord.TheVariants as word
+use Rattle.history_text.specs.declared.event.ReplyParts.{ReplyParts}
+use Rattle.history_text.specs.declared.event.Kind.TheVariants.{CallRead, CallWrite, Reply, Fail, Crash}
 use Rattle.history_text.specs.declared.event.LineEvent.{LineEvent}
 use Rattle.history_text.specs.declared.fault.LineFault.{LineFault}
 use Rattle.history_text.specs.declared.fault.LineKind.{LineKind}
@@ -33,17 +36,24 @@ abbrev pub call_kind : Data → Result Kind LineKind
 call_kind d = or_fault (op_form (get (codes "op") d)) BadOp (λ op.
     or_fault (name_form (get (codes "register") d)) BadRegister (λ name. call_of d op name))
 
--- a reply of the object: it may leave out its operation, its register and its value
-abbrev pub reply_kind : Data → Result Kind LineKind
-reply_kind d = or_fault (optional op_form (get (codes "op") d)) BadOp (λ op.
+-- what a reply or a fail of the object says: it may leave out its operation, its register and its value
+abbrev pub parts_form : Data → Result ReplyParts LineKind
+parts_form d = or_fault (optional op_form (get (codes "op") d)) BadOp (λ op.
     or_fault (optional name_form (get (codes "register") d)) BadRegister (λ name.
     or_fault (optional value_form (get (codes "value") d)) BadValue (λ value.
-    Ok (Reply (record { op = op; register = name; value = value })))))
+    Ok (record { op = op; register = name; value = value }))))
 
--- a call where the test is true, else a reply
-abbrev pub kind_of : Data → Bool → Result Kind LineKind
-kind_of d true = call_kind d
-kind_of d false = reply_kind d
+-- the end of a call, a reply or a fail, with what it says
+abbrev pub with_parts : (ReplyParts → Kind) → Result ReplyParts LineKind → Result Kind LineKind
+with_parts end (Ok parts) = Ok (end parts)
+with_parts end (Err fault) = Err fault
+
+-- what happened, by the word of the event; of a crash no other member is read
+abbrev pub kind_of : Data → EventWord → Result Kind LineKind
+kind_of d word.Call = call_kind d
+kind_of d word.Reply = with_parts (λ parts. Reply parts) (parts_form d)
+kind_of d word.Fail = with_parts (λ parts. Fail parts) (parts_form d)
+kind_of d word.Crash = Ok Crash
 
 -- the event of a process at line `n`
 abbrev pub with_kind : ℕ → ℕ → Result Kind LineKind → Result LineEvent LineKind
@@ -54,7 +64,7 @@ with_kind n process (Err fault) = Err fault
 abbrev pub event_of : ℕ → Data → Result LineEvent LineKind
 event_of n d = if is_some (as_object d)
     then or_fault (process_form (get (codes "process") d)) BadProcess (λ process.
-    or_fault (event_form (get (codes "event") d)) BadEvent (λ is_call. with_kind n process (kind_of d is_call)))
+    or_fault (event_form (get (codes "event") d)) BadEvent (λ event. with_kind n process (kind_of d event)))
     else Err NotObject
 
 -- the JSON value of the bytes, where `serde_json` reads one (RFC 8259; text in UTF-8)

@@ -19,7 +19,20 @@ pub enum OpKind {
     WriteOp,
 }
 
-/// What a reply says of the operation that it ends. A part that it leaves out is `None`.
+/// The word by which a line says what happened.
+#[derive(Clone, Copy, Debug, PartialEq, Eq)]
+pub(crate) enum EventWord {
+    /// An operation begins.
+    Call,
+    /// The open operation of the process ends, and has taken effect.
+    Reply,
+    /// The open operation of the process ends, and had no effect.
+    Fail,
+    /// The process does nothing more.
+    Crash,
+}
+
+/// What a reply or a fail says of the call that it ends. A part that it leaves out is `None`.
 #[derive(Debug, Drop, PartialEq)]
 pub struct ReplyParts {
     /// The kind of the operation.
@@ -30,7 +43,7 @@ pub struct ReplyParts {
     pub value: Option<Val>,
 }
 
-/// What happened: a call or a reply.
+/// What happened.
 #[derive(Debug, Drop, PartialEq)]
 pub enum Kind {
     /// The call of a read of the register.
@@ -39,6 +52,10 @@ pub enum Kind {
     CallWrite(Name, i64),
     /// The reply to the open call of the process.
     Reply(ReplyParts),
+    /// The end of the open call of the process, which had no effect.
+    Fail(ReplyParts),
+    /// The process does nothing more.
+    Crash,
 }
 
 /// The event of one line.
@@ -46,7 +63,7 @@ pub enum Kind {
 pub struct LineEvent {
     /// The line's number, from 1.
     pub line: u32,
-    /// The process that called or was replied to; any number of 32 bits.
+    /// The process of the event; any number of 32 bits.
     pub process: u32,
     /// What happened.
     pub kind: Kind,

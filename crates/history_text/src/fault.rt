@@ -13,11 +13,11 @@ pub enum LineKind {
     NotObject,
     /// `process` is absent, or not a whole number from 0 to 4294967295.
     BadProcess,
-    /// `event` is absent, or neither `"call"` nor `"reply"`.
+    /// `event` is absent, or none of `"call"`, `"reply"`, `"fail"` and `"crash"`.
     BadEvent,
-    /// `op` is neither `"read"` nor `"write"`; a reply may leave it out.
+    /// `op` is neither `"read"` nor `"write"`; a reply or a fail may leave it out.
     BadOp,
-    /// `register` is not a text of 1 to 255 bytes; a reply may leave it out.
+    /// `register` is not a text of 1 to 255 bytes; a reply or a fail may leave it out.
     BadRegister,
     /// `value` does not fit the event.
     BadValue,

@@ -8,11 +8,10 @@ ghost use Rattle.std.specs.Prelude.{◌≡◌, ◌≤◌, length, IfSome, IfOk, 
 ghost use Rattle.std.specs.Bool.{MatchBool};
 ghost use Rattle.serde_json.specs.Data.{Members, object};
 ghost use Rattle.history_text.specs.Limits.{IsName, MAX_LINE};
-ghost use Rattle.history_text.specs.Reading.{call_kind, reply_kind, kind_of, line_form};
+ghost use Rattle.history_text.specs.Reading.{call_kind, parts_form, kind_of, line_form};
 ghost use Rattle.history_text.specs.Flat.{Holds};
-ghost use Rattle.history_text.specs.declared.event.Kind.TheVariants.{Reply};
 
-use crate::event::{Kind, LineEvent, OpKind, ReplyParts, Val};
+use crate::event::{EventWord, Kind, LineEvent, OpKind, ReplyParts, Val};
 use crate::flat_members::{Found, flat_object};
 use crate::limits::MAX_NAME;
 use crate::name::Name;
@@ -35,10 +34,10 @@ pub(crate) fn flat_event(
     let Some(process) = found.process else {
         return Ok(None);
     };
-    let Some(is_call) = found.is_call else {
+    let Some(event) = found.event else {
         return Ok(None);
     };
-    let Some(kind) = kind(alloc, found, is_call)? else {
+    let Some(kind) = kind(alloc, found, event)? else {
         return Ok(None);
     };
     Ok(Some(LineEvent {
@@ -50,16 +49,22 @@ pub(crate) fn flat_event(
 
 /// What happened, as the word of the event says it.
 #[inline(always)]
-fn kind(alloc: Global, found: Found<'_>, is_call: bool) -> Result<Option<Kind>, AllocError>
+fn kind(alloc: Global, found: Found<'_>, event: EventWord) -> Result<Option<Kind>, AllocError>
     ensures { IfOk result (λ o. IfSome o (λ kind. (ms : Members) → Holds ms found.entry
-        → kind_of (object ms) is_call ≡ Ok kind)) }
+        → kind_of (object ms) event ≡ Ok kind)) }
 {
-    if is_call {
+    if let EventWord::Call = event {
         return call(alloc, found);
     }
-    let Some(parts) = reply_parts(alloc, found)? else {
+    if let EventWord::Crash = event {
+        return Ok(Some(Kind::Crash));
+    }
+    let Some(parts) = parts(alloc, found)? else {
         return Ok(None);
     };
+    if let EventWord::Fail = event {
+        return Ok(Some(Kind::Fail(parts)));
+    }
     Ok(Some(Kind::Reply(parts)))
 }
 
@@ -93,10 +98,10 @@ fn call(alloc: Global, found: Found<'_>) -> Result<Option<Kind>, AllocError>
     }
 }
 
-/// What a reply says of its operation.
-fn reply_parts(alloc: Global, found: Found<'_>) -> Result<Option<ReplyParts>, AllocError>
+/// What a reply or a fail says of its call.
+fn parts(alloc: Global, found: Found<'_>) -> Result<Option<ReplyParts>, AllocError>
     ensures { IfOk result (λ o. IfSome o (λ parts. (ms : Members) → Holds ms found.entry
-        → reply_kind (object ms) ≡ Ok (Reply parts))) }
+        → parts_form (object ms) ≡ Ok parts)) }
 {
     let mut register = None;
     if let Some(text) = found.register {

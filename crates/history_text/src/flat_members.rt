@@ -11,14 +11,14 @@ ghost use Rattle.serde_json.specs.Data.{string};
 ghost use Rattle.history_text.specs.Limits.{MAX_PROCESS};
 ghost use Rattle.history_text.specs.Flat.{Scalar, Named, Adds, IsFlat, process_data, event_data, op_data, value_data};
 
-use crate::event::{OpKind, Val};
+use crate::event::{EventWord, OpKind, Val};
 use crate::scan::{after, next_byte, plain_string, signed, skip_spaces, unsigned};
 
 /// What was found of the members, each as it is read. What is absent is `None`.
 #[derive(Clone, Copy, Drop)]
 pub(crate) struct Found<'a> {
     pub(crate) process: Option<u32>,
-    pub(crate) is_call: Option<bool>,
+    pub(crate) event: Option<EventWord>,
     pub(crate) op: Option<OpKind>,
     pub(crate) register: Option<&'a str>,
     pub(crate) value: Option<Val>,
@@ -26,7 +26,7 @@ pub(crate) struct Found<'a> {
 
 const NOTHING: Found<'static> = Found {
     process: None,
-    is_call: None,
+    event: None,
     op: None,
     register: None,
     value: None,
@@ -48,16 +48,22 @@ fn process(text: &[u8]) -> Option<(u32, &[u8])>
     Some((number as u32, rest))
 }
 
-/// Whether the event is a call, or else a reply.
+/// The word of the event. Calls and replies are looked for first: most lines are one or the other.
 #[inline(always)]
-fn is_call(text: &[u8]) -> Option<(bool, &[u8])>
+fn event(text: &[u8]) -> Option<(EventWord, &[u8])>
     ensures { IfSome result (λ r. Scalar text.now (event_data r.0) r.1.now) }
 {
     if let Some(rest) = after(text, b"\"call\"") {
-        return Some((true, rest));
+        return Some((EventWord::Call, rest));
     }
-    let rest = after(text, b"\"reply\"")?;
-    Some((false, rest))
+    if let Some(rest) = after(text, b"\"reply\"") {
+        return Some((EventWord::Reply, rest));
+    }
+    if let Some(rest) = after(text, b"\"fail\"") {
+        return Some((EventWord::Fail, rest));
+    }
+    let rest = after(text, b"\"crash\"")?;
+    Some((EventWord::Crash, rest))
 }
 
 /// Whether the operation reads or writes.
@@ -113,8 +119,8 @@ fn member<'a>(text: &'a [u8], found: Found<'a>) -> Option<(Found<'a>, &'a [u8])>
         return Some((found, rest));
     }
     if let Some(behind) = named(text, b"\"event\":") {
-        let (is_call, rest) = is_call(behind)?;
-        found.is_call = Some(is_call);
+        let (event, rest) = event(behind)?;
+        found.event = Some(event);
         return Some((found, rest));
     }
     if let Some(behind) = named(text, b"\"op\":") {

@@ -1,14 +1,15 @@
 //! Lines of a recorded history: bytes go in, and for each line that is not blank its event, or its
-//! least fault, comes out.
+//! lowest-numbered fault, comes out.
 //!
-//! What the floor above may rely on: [`read_lines`] gives exactly the lines that are not blank, in
-//! order and with their numbers, each as its one event or as the least fault that applies to it. It
-//! reads them by several threads, and gives what one thread would, as [`read_lines_alone`] does.
-//! Nothing here knows how events follow one another; that is the floor above.
+//! What the floor above may rely on: [`read_lines_in_parts`] gives exactly the lines that are not blank,
+//! in order and with their numbers, each as its one event or as the lowest-numbered fault that applies
+//! to it. Several threads read them, and each fills a part. [`read_lines`] joins the parts, and
+//! [`read_lines_alone`] reads the same by one thread. Nothing here knows how events follow one another;
+//! that is the floor above.
 //!
 //! Read it in this order: `limits`; `name`, `event` and `fault`, which say what a line can mean;
 //! `members`, `refused` and `line`, which read one line; `scan`, `flat_members` and `flat_line`, which read
-//! a line of the common form faster; `lines` and `read`, which read them all.
+//! a line of the common form faster; `lines`, `parts` and `read`, which read them all.
 #![tactic(auto)]
 
 mod event;
@@ -20,6 +21,7 @@ mod line;
 mod lines;
 mod members;
 mod name;
+mod parts;
 mod read;
 mod refused;
 mod scan;
@@ -32,4 +34,4 @@ pub use limits::{MAX_EVENTS, MAX_INPUT, MAX_LINE, MAX_NAME};
 pub use line::{LineError, read_line};
 pub use lines::{Span, lines_of};
 pub use name::Name;
-pub use read::{read_lines, read_lines_alone};
+pub use read::{read_lines, read_lines_alone, read_lines_in_parts};

@@ -4,10 +4,10 @@
 //! fault, is read as a JSON value here. Faults are looked for by ascending number, so the first that is
 //! found is the least.
 ghost use Rattle.serde_json.specs.View.{view};
-ghost use Rattle.history_text.specs.Reading.{call_kind, reply_kind, kind_of, event_of, line_form, line_reading};
+ghost use Rattle.history_text.specs.Reading.{call_kind, parts_form, kind_of, event_of, line_form, line_reading};
 ghost use Rattle.history_text.specs.Memory.{Gives, GivesLine};
 
-use crate::event::{Kind, LineEvent, OpKind, ReplyParts};
+use crate::event::{EventWord, Kind, LineEvent, OpKind, ReplyParts};
 use crate::fault::{LineFault, LineKind};
 use crate::flat_line::flat_event;
 use crate::limits::MAX_LINE;
@@ -68,8 +68,8 @@ fn event(alloc: Global, value: &Value, line: u32) -> Result<LineEvent, Refused>
         return Err(Refused::Fault(LineKind::NotObject));
     }
     let process = members::process(value).ok_or(LineKind::BadProcess)?;
-    let is_call = members::is_call(value).ok_or(LineKind::BadEvent)?;
-    let kind = kind(alloc, value, is_call)?;
+    let event = members::event(value).ok_or(LineKind::BadEvent)?;
+    let kind = kind(alloc, value, event)?;
     Ok(LineEvent {
         line,
         process,
@@ -77,13 +77,14 @@ fn event(alloc: Global, value: &Value, line: u32) -> Result<LineEvent, Refused>
     })
 }
 
-fn kind(alloc: Global, value: &Value, is_call: bool) -> Result<Kind, Refused>
-    ensures { Gives (kind_of (view value.now) is_call) result }
+fn kind(alloc: Global, value: &Value, event: EventWord) -> Result<Kind, Refused>
+    ensures { Gives (kind_of (view value.now) event) result }
 {
-    if is_call {
-        call(alloc, value)
-    } else {
-        reply(alloc, value)
+    match event {
+        EventWord::Call => call(alloc, value),
+        EventWord::Reply => Ok(Kind::Reply(parts(alloc, value)?)),
+        EventWord::Fail => Ok(Kind::Fail(parts(alloc, value)?)),
+        EventWord::Crash => Ok(Kind::Crash),
     }
 }
 
@@ -106,8 +107,9 @@ fn call(alloc: Global, value: &Value) -> Result<Kind, Refused>
     }
 }
 
-fn reply(alloc: Global, value: &Value) -> Result<Kind, Refused>
-    ensures { Gives (reply_kind (view value.now)) result }
+/// What a reply or a fail says of its call.
+fn parts(alloc: Global, value: &Value) -> Result<ReplyParts, Refused>
+    ensures { Gives (parts_form (view value.now)) result }
 {
     let op = members::reply_op(value).ok_or(LineKind::BadOp)?;
     let text = members::reply_register(value).ok_or(LineKind::BadRegister)?;
@@ -116,9 +118,9 @@ fn reply(alloc: Global, value: &Value) -> Result<Kind, Refused>
         None => None,
         Some(text) => Some(Name::new(alloc, text)?),
     };
-    Ok(Kind::Reply(ReplyParts {
+    Ok(ReplyParts {
         op,
         register,
         value: replied,
-    }))
+    })
 }

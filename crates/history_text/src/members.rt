@@ -2,9 +2,9 @@
 ghost use Rattle.std.specs.Prelude.{◌≡◌, option_map, codes, Some};
 ghost use Rattle.serde_json.specs.View.{view};
 ghost use Rattle.serde_json.specs.Find.{get};
-ghost use Rattle.history_text.specs.Members.{process_form, event_form, op_form, name_form, written_form, value_form, has_no_value, optional};
+ghost use Rattle.history_text.specs.Members.{process_form, event_form, other_word as other_word_form, op_form, name_form, written_form, value_form, has_no_value, optional};
 
-use crate::event::{OpKind, Val};
+use crate::event::{EventWord, OpKind, Val};
 use crate::limits::MAX_NAME;
 use serde_json::Value;
 
@@ -15,15 +15,28 @@ pub(crate) fn process(object: &Value) -> Option<u32>
     u32::try_from(number).ok()
 }
 
-/// Whether the event is a call, or else a reply.
-pub(crate) fn is_call(object: &Value) -> Option<bool>
+/// The word of the event.
+pub(crate) fn event(object: &Value) -> Option<EventWord>
     ensures { result ≡ event_form (get (codes "event") (view object.now)) }
 {
     let word = object.get("event").and_then(Value::as_str)?;
     if word == "call" {
-        Some(true)
+        Some(EventWord::Call)
     } else if word == "reply" {
-        Some(false)
+        Some(EventWord::Reply)
+    } else {
+        other_word(word)
+    }
+}
+
+/// The word of an event that is neither a call nor a reply.
+fn other_word(word: &str) -> Option<EventWord>
+    ensures { result ≡ other_word_form word.now }
+{
+    if word == "fail" {
+        Some(EventWord::Fail)
+    } else if word == "crash" {
+        Some(EventWord::Crash)
     } else {
         None
     }

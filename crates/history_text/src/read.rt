@@ -1,5 +1,5 @@
 //! All lines of an input, each read by itself, by several threads or by one.
-ghost use Rattle.std.specs.Prelude.{◌≡◌, ◌≤◌, length, IfOk, slice_range};
+ghost use Rattle.std.specs.Prelude.{◌≡◌, ◌≤◌, flat_map, length, IfOk, slice_range};
 ghost use Rattle.history_text.specs.Lines.{IsWithin};
 ghost use Rattle.history_text.specs.Reading.{line_reading, history_lines, IsAscending};
 
@@ -8,6 +8,7 @@ use crate::fault::LineFault;
 use crate::limits::MAX_INPUT;
 use crate::line::{LineError, read_line};
 use crate::lines::{Span, lines_of};
+use crate::parts::Parts;
 use rayon::prelude::*;
 use std::alloc::{AllocError, Global};
 use std::sync::atomic::{AtomicBool, Ordering};
@@ -26,9 +27,26 @@ pub fn read_lines(
     ensures lines { IfOk result (λ v. v.items ≡ history_lines bytes.now) }
     ensures ascending { IfOk result (λ v. IsAscending v.items) }
 {
+    let mut lines = Vec::new(alloc);
+    for part in read_lines_in_parts(rt, alloc, bytes)? {
+        let mut part = part;
+        lines.append(&mut part)?;
+    }
+    Ok(lines)
+}
+
+/// The same in parts, one behind the other: each thread fills its own, and none is copied.
+pub fn read_lines_in_parts(
+    rt: &(impl Threads + Sync),
+    alloc: Global,
+    bytes: &[u8],
+) -> Result<Vec<Vec<Result<LineEvent, LineFault>>>, AllocError>
+    requires { length bytes.now ≤ MAX_INPUT }
+    ensures { IfOk result (λ v. flat_map (λ part. part.items) v.items ≡ history_lines bytes.now) }
+{
     let spans = lines_of(alloc, bytes)?;
     let refused = AtomicBool::new(false);
-    spans
+    let parts = spans
         .par_iter()
         .map(
             |span: &Span| -> Result<Result<LineEvent, LineFault>, AllocError>
@@ -37,7 +55,8 @@ pub fn read_lines(
                     ≡ line_reading span.now.line (slice_range bytes.entry.now span.now.from span.now.to)) }
             { read_span(alloc, bytes, *span, &refused) },
         )
-        .collect::<Result<Vec<_>, AllocError>>(rt, alloc)?
+        .collect::<Result<Parts, AllocError>>(rt, alloc)??;
+    parts.into_parts()
 }
 
 /// The same, by the calling thread alone: it takes no right to start threads.

@@ -35,7 +35,7 @@ fn number(alloc: Global, bytes: &[u8]) -> Result<u8, AllocError> {
 }
 
 // A name, a line, and what is read of it as line 7.
-const EVENTS: [(&str, &str, &str); 9] = [
+const EVENTS: [(&str, &str, &str); 16] = [
     (
         "call of a write",
         WRITE,
@@ -67,6 +67,41 @@ const EVENTS: [(&str, &str, &str); 9] = [
         "Ok(LineEvent { line: 7, process: 1, kind: Reply(ReplyParts { op: Some(ReadOp), register: Some(Name { text: \"y\" }), value: Some(Null) }) })",
     ),
     (
+        "fail without parts",
+        r#"{"process":1,"event":"fail"}"#,
+        "Ok(LineEvent { line: 7, process: 1, kind: Fail(ReplyParts { op: None, register: None, value: None }) })",
+    ),
+    (
+        "fail with all parts",
+        r#"{"process":1,"event":"fail","op":"write","register":"x","value":5}"#,
+        "Ok(LineEvent { line: 7, process: 1, kind: Fail(ReplyParts { op: Some(WriteOp), register: Some(Name { text: \"x\" }), value: Some(Int(5)) }) })",
+    ),
+    (
+        "fail with all parts, null and members that nobody knows",
+        r#"{"process":1,"event":"fail","op":"read","register":"y","value":null,"error":"refused"}"#,
+        "Ok(LineEvent { line: 7, process: 1, kind: Fail(ReplyParts { op: Some(ReadOp), register: Some(Name { text: \"y\" }), value: Some(Null) }) })",
+    ),
+    (
+        "crash",
+        r#"{"process":3,"event":"crash"}"#,
+        "Ok(LineEvent { line: 7, process: 3, kind: Crash })",
+    ),
+    (
+        "crash with the parts of a call, none of them in form",
+        r#"{"process":3,"event":"crash","op":7,"register":"","value":"5","signal":9}"#,
+        "Ok(LineEvent { line: 7, process: 3, kind: Crash })",
+    ),
+    (
+        "fault of a fail with its line",
+        r#"{"process":1,"event":"fail","value":9223372036854775808}"#,
+        "Err(LineFault { line: 7, kind: BadValue })",
+    ),
+    (
+        "fault of a crash with its line",
+        r#"{"process":-1,"event":"crash"}"#,
+        "Err(LineFault { line: 7, kind: BadProcess })",
+    ),
+    (
         "greatest process and greatest value",
         r#"{"process":4294967295,"event":"call","op":"write","register":"x","value":9223372036854775807}"#,
         "Ok(LineEvent { line: 7, process: 4294967295, kind: CallWrite(Name { text: \"x\" }, 9223372036854775807) })",
@@ -95,7 +130,7 @@ fn events_of_lines(rt: HostRuntime) -> Result<(), Fail> {
 }
 
 // A line, and the number of its fault, or 0 where it has an event.
-const FAULTS: [(&str, u8); 28] = [
+const FAULTS: [(&str, u8); 45] = [
     (r#"{"process":2,"ev"#, 2),
     ("\0", 2),
     ("[]", 3),
@@ -107,7 +142,17 @@ const FAULTS: [(&str, u8); 28] = [
     (r#"{"process":"1","event":"reply"}"#, 4),
     (r#"{"process":4294967296,"event":"reply"}"#, 4),
     (r#"{"process":1}"#, 5),
-    (r#"{"process":1,"event":"fail"}"#, 5),
+    // No word but the four, each spelled as it is.
+    (r#"{"process":1,"event":"Fail"}"#, 5),
+    (r#"{"process":1,"event":"failed"}"#, 5),
+    (r#"{"process":1,"event":"fai"}"#, 5),
+    (r#"{"process":1,"event":"Crash"}"#, 5),
+    (r#"{"process":1,"event":"crashed"}"#, 5),
+    (r#"{"process":1,"event":"crash "}"#, 5),
+    (r#"{"process":1,"event":" crash"}"#, 5),
+    (r#"{"process":1,"event":"timeout"}"#, 5),
+    (r#"{"process":1,"event":""}"#, 5),
+    (r#"{"process":1,"event":null}"#, 5),
     (r#"{"process":1,"event":"call"}"#, 6),
     (r#"{"process":1,"event":"call","op":"cas"}"#, 6),
     (r#"{"process":1,"event":"reply","op":null}"#, 6),
@@ -134,6 +179,22 @@ const FAULTS: [(&str, u8); 28] = [
     (
         r#"{"process":1,"event":"reply","value":-9223372036854775809}"#,
         8,
+    ),
+    // A fail has its parts in the forms of a reply.
+    (r#"{"process":1,"event":"fail","op":"cas"}"#, 6),
+    (r#"{"process":1,"event":"fail","op":null}"#, 6),
+    (r#"{"process":1,"event":"fail","register":""}"#, 7),
+    (r#"{"process":1,"event":"fail","value":"5"}"#, 8),
+    (r#"{"process":1,"event":"fail","value":5.0}"#, 8),
+    (
+        r#"{"process":1,"event":"fail","op":0,"register":0,"value":true}"#,
+        6,
+    ),
+    // Of a crash the process is judged, and no other part.
+    (r#"{"event":"crash","value":true}"#, 4),
+    (
+        r#"{"process":1,"event":"crash","op":0,"register":0,"value":true}"#,
+        0,
     ),
     // Of several faults the least number, wherever its member stands.
     (
@@ -176,7 +237,7 @@ fn faults_of_lines(rt: HostRuntime) -> Result<(), Fail> {
 const PARTS: &str = r#""process":1,"event":"call","op":"write""#;
 
 // A line, whether it is read with no tree, and what is read of it either way, as `told_line` tells it.
-const FORMS: [(&str, bool, &str); 26] = [
+const FORMS: [(&str, bool, &str); 41] = [
     (r#"{W,"register":"x","value":5}"#, true, "x 5"),
     // Any order.
     (r#"{"value":5,"register":"x",W}"#, true, "x 5"),
@@ -238,9 +299,68 @@ const FORMS: [(&str, bool, &str); 26] = [
     (r#"{W,"register":"x","value":5,}"#, false, "fault 2"),
     (r#"{W,"register":"x" "value":5}"#, false, "fault 2"),
     (r#"{W,"register":"x","value":5}}"#, false, "fault 2"),
+    // The ends of a call, the last of two events, and words that are nearly those of the format.
+    (r#"{W,"event":"reply"}"#, true, "a reply"),
+    (r#"{W,"event":"fail"}"#, true, "a fail of a write"),
+    (
+        r#"{W,"register":"x","event":"fail"}"#,
+        true,
+        "a fail of a write of x",
+    ),
+    (r#"{"process":1,"event":"fail"}"#, true, "a fail"),
+    (
+        r#"{ "value": -7, "event": "fail", "process": 1 }"#,
+        true,
+        "a fail at -7",
+    ),
+    (
+        r#"{"process":1,"event":"fail","value":null}"#,
+        true,
+        "a fail at null",
+    ),
+    (r#"{"process":1,"event":"f\u0061il"}"#, false, "a fail"),
+    (r#"{W,"register":"","event":"fail"}"#, false, "fault 7"),
+    (r#"{"process":1,"event":"crash"}"#, true, "a crash"),
+    (
+        r#"{W,"register":"","value":5,"event":"crash"}"#,
+        false,
+        "a crash",
+    ),
+    (
+        r#"{"event":"crash","register":"","op":"read","value":5,"process":1}"#,
+        true,
+        "a crash",
+    ),
+    (
+        r#"{"process":1,"event":"crash","value":[true]}"#,
+        false,
+        "a crash",
+    ),
+    (r#"{"process":1,"event":"failed"}"#, false, "fault 5"),
+    (r#"{"process":1,"event":"crash "}"#, false, "fault 5"),
+    (r#"{"process":1,"event":"crash""#, false, "fault 2"),
 ];
 
-// What a line calls, or the number of its fault.
+// What a fail says of its call.
+fn told_fail(told: &mut String, parts: &ReplyParts) -> Result<(), Fail> {
+    write!(told, "a fail")?;
+    match parts.op {
+        None => (),
+        Some(OpKind::ReadOp) => write!(told, " of a read")?,
+        Some(OpKind::WriteOp) => write!(told, " of a write")?,
+    }
+    if let Some(name) = &parts.register {
+        write!(told, " of {}", name.as_str())?;
+    }
+    match parts.value {
+        None => (),
+        Some(Val::Null) => write!(told, " at null")?,
+        Some(Val::Int(value)) => write!(told, " at {value}")?,
+    }
+    Ok(())
+}
+
+// What a line says, or the number of its fault.
 fn told_line(alloc: Global, line: &Result<LineEvent, LineFault>) -> Result<String, Fail> {
     let mut told = String::new(alloc);
     match line {
@@ -248,6 +368,8 @@ fn told_line(alloc: Global, line: &Result<LineEvent, LineFault>) -> Result<Strin
             Kind::CallRead(name) => write!(told, "read {}", name.as_str())?,
             Kind::CallWrite(name, value) => write!(told, "{} {value}", name.as_str())?,
             Kind::Reply(_) => write!(told, "a reply")?,
+            Kind::Fail(parts) => told_fail(&mut told, parts)?,
+            Kind::Crash => write!(told, "a crash")?,
         },
         Err(fault) => write!(told, "fault {}", fault.number())?,
     }

@@ -1,4 +1,4 @@
--- Lists of the board's events: each is one step of one seat on one of the two words (this project's own design).
+-- Lists of the board's events (this project's own design). A draw, a flag or a look is a step of one seat on one of the two words; a split or a join changes seats alone.
 use Rattle.std.specs.Prelude.{◌≡◌, ℕ, ◌+◌, ◌<◌, min, ltb, if◌then◌else◌, false, List, [], ◌∷◌, ◌++◌, set}
 use mathlib.Core.Option.{some}
 use lib.ListN.{get_elem?}

@@ -22,9 +22,9 @@ const NEXT: usize = 0;
 
 const LEAST: usize = 1;
 
-/// Jobs numbered from 0, to be drawn by the holders of its seats, and the least number that any of them flagged.
+/// Jobs numbered from 0, to be drawn by the holders of its seats, and the lowest number that any of them flagged.
 ///
-/// To a contract it is its name and the number of its jobs. Each call is asked with seats of this board.
+/// Contracts see the board as its name and the number of its jobs. Each call takes seats of this board.
 #[derive(Drop)]
 pub struct Board<A: Allocator> {
     table: Table<u8, View, u64, Rule, A>,
@@ -39,10 +39,11 @@ impl<A: Allocator> Model for Board<A> {
 }
 
 impl<A: Allocator> Board<A> {
-    /// A board of `jobs` numbers, 0 up to and without `jobs`, none of them drawn or flagged, and its one seat, which has the
+    /// A board of the numbers from 0 to below `jobs`, none of them drawn or flagged, and its one seat, which has the
     /// [`FULL_WEIGHT`](crate::FULL_WEIGHT).
     ///
-    /// The only error is want of memory. No later call on the board takes any.
+    /// # Errors
+    /// Want of memory. No later call on the board takes any.
     pub fn open(alloc: A, jobs: u64) -> Result<(Board<A>, Seat), AllocError>
         requires { jobs ≤ MAX_JOBS }
         ensures { IfOk result (λ r. (r.0.jobs ≡ jobs) × (r.1.board ≡ r.0.id) × (r.1.view ≡ opening_view jobs)) }
@@ -58,9 +59,11 @@ impl<A: Allocator> Board<A> {
         Ok((board, seat))
     }
 
-    /// Draws the next number, one that no seat drew before; `None` where no number is left.
+    /// Draws the next number; `None` if no number is left.
     ///
-    /// It is one atomic addition. A seat that was told `None` gets it again without a step.
+    /// The clauses say that this seat didn't draw the number before. That no other seat did follows from the board's rule, and
+    /// [`join`](Board::join) and [`close`](Board::close) tell it of the seats that come together. A draw is one atomic addition. A seat
+    /// that was told `None` gets it again without a step.
     pub fn draw(&self, seat: &mut Seat) -> Option<u64>
         requires { seat.old.board ≡ self.now.id }
         ensures board { seat.new.board ≡ seat.old.board }
@@ -170,8 +173,8 @@ impl<A: Allocator> Board<A> {
         }
     }
 
-    /// The least number that was flagged, or the number of jobs. The seat must have the [`FULL_WEIGHT`](crate::FULL_WEIGHT); else board
-    /// and seat come back as they were.
+    /// The lowest number that was flagged, or the number of jobs. The seat must have the [`FULL_WEIGHT`](crate::FULL_WEIGHT); otherwise
+    /// the board and the seat come back as they were.
     pub fn close(self, seat: Seat) -> Result<u64, SeatsOut<A>>
         requires { seat.board ≡ self.id }
         ensures ok { IfOk result (λ n. (seat.view.weight ≡ FULL_WEIGHT) × ClosesWith self.jobs seat.view n) }

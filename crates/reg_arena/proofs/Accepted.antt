@@ -4,15 +4,19 @@ use Rattle.std.specs.Option.{option_or}
 use Rattle.std.proofs.lemmas.Bool.{eqb-true, eq-eqb, false≢true}
 use Rattle.history_text.specs.declared.event.Val.{Val}
 use Rattle.history_text.specs.declared.event.Val.TheVariants.{Int}
+use Rattle.history_text.specs.declared.event.OpKind.{OpKind}
 use Rattle.history_text.specs.declared.event.OpKind.TheVariants.{ReadOp, WriteOp}
 use Rattle.history_text.specs.declared.event.LineEvent.{LineEvent}
 use Rattle.history_text.specs.declared.event.Kind.{Kind}
-use Rattle.history_text.specs.declared.event.Kind.TheVariants.{CallRead, CallWrite, Reply}
+use Rattle.history_text.specs.declared.event.Kind.TheVariants.{CallRead, CallWrite, Reply, Fail, Crash}
 use Rattle.history_text.specs.declared.event.ReplyParts.{ReplyParts}
 use Rattle.reg_arena.specs.Lists.{last_with, first_with}
-use Rattle.reg_arena.specs.Events.{Asked, asked_by, replied_by, is_call, is_of_process, open_call, open_asked}
-use Rattle.reg_arena.specs.Refusals.{AreAccepted, event_refusal, refused, call_while_open, reply_without_call, reply_disagrees, reply_without_value, value_written, too_many}
-use Rattle.reg_arena.specs.History.{history_of, events_after, event_after, event_value, asked_for, nothing_asked, register_number}
+use Rattle.reg_arena.specs.Events.{Asked, asked_by, replied_by, failed_by, ended_by, is_call, is_crash, is_crash_kind, is_of_process, open_call, open_asked, crashed_at}
+use Rattle.reg_arena.specs.Refusals.{AreAccepted, event_refusal, refused, call_while_open, end_without_call, reply_disagrees, fail_disagrees, reply_without_value, value_written, too_many, after_crash, late_refusal}
+use Rattle.reg_arena.specs.History.{history_of, events_after, event_after, event_value, asked_for, kind_asked, what_by, register_number}
+use Rattle.reg_arena.specs.Operations.{is_a_call, is_a_reply, is_a_fail, kind_in, number_in}
+use Rattle.reg_arena.specs.declared.ids.RegId.{RegId}
+use Rattle.reg_arena.specs.declared.event.What.{What}
 use Rattle.reg_arena.specs.declared.event.Event.{Event}
 
 -- ---- lists
@@ -132,26 +136,32 @@ or-second (Some x) b h = absurd (cc (h))
 
 pub record IsFree (before : List LineEvent) (e : LineEvent) : Type 0 where
   pub call : call_while_open before e ≡ None
-  pub open_one : reply_without_call before e ≡ None
+  pub open_one : end_without_call before e ≡ None
   pub agrees_with : reply_disagrees before e ≡ None
+  pub fails_with : fail_disagrees before e ≡ None
   pub has_value : reply_without_value before e ≡ None
   pub new : value_written before e ≡ None
   pub room : too_many before e ≡ None
+  pub alive : after_crash before e ≡ None
 
 pub free-of : (before : List LineEvent) (e : LineEvent) → event_refusal before e ≡ None → IsFree before e
 free-of before e h =
     let h2 = or-second (call_while_open before e) _ h in
-    let h3 = or-second (reply_without_call before e) _ h2 in
+    let h3 = or-second (end_without_call before e) _ h2 in
     let h4 = or-second (reply_disagrees before e) _ h3 in
-    let h5 = or-second (reply_without_value before e) _ h4 in
-    let h6 = or-second (value_written before e) _ h5 in
+    let h5 = or-second (fail_disagrees before e) _ h4 in
+    let h6 = or-second (reply_without_value before e) _ h5 in
+    let h7 = or-second (value_written before e) _ h6 in
+    let late = or-first (late_refusal before e) None h7 in
     record {
       call = or-first (call_while_open before e) _ h;
-      open_one = or-first (reply_without_call before e) _ h2;
+      open_one = or-first (end_without_call before e) _ h2;
       agrees_with = or-first (reply_disagrees before e) _ h3;
-      has_value = or-first (reply_without_value before e) _ h4;
-      new = or-first (value_written before e) _ h5;
-      room = or-first (too_many before e) None h6;
+      fails_with = or-first (fail_disagrees before e) _ h4;
+      has_value = or-first (reply_without_value before e) _ h5;
+      new = or-first (value_written before e) _ h6;
+      room = or-first (too_many before e) (after_crash before e) late;
+      alive = or-second (too_many before e) (after_crash before e) late;
     }
 
 -- ---- calls and replies
@@ -161,46 +171,130 @@ pub asked-value : (k : Kind) (a : Asked) → asked_by k ≡ Some a → (a.kind �
 asked-value (CallRead name) a h = let q : record { register = name; kind = ReadOp; value = None } ≡ a = cc (h) in subst (λ (a : Asked). (a.kind ≡ ReadOp → a.value ≡ None) × (a.kind ≡ WriteOp → (n : _) × (CallRead name ≡ CallWrite a.register n) × (a.value ≡ Some (Int n)))) q (λ _. refl, λ e. absurd (cc (e)))
 asked-value (CallWrite name m) a h = let q : record { register = name; kind = WriteOp; value = Some (Int m) } ≡ a = cc (h) in subst (λ (a : Asked). (a.kind ≡ ReadOp → a.value ≡ None) × (a.kind ≡ WriteOp → (n : _) × (CallWrite name m ≡ CallWrite a.register n) × (a.value ≡ Some (Int n)))) q (λ e. absurd (cc (e)), λ _. (m, refl, refl))
 asked-value (Reply parts) a h = absurd (cc (h))
+asked-value (Fail parts) a h = absurd (cc (h))
+asked-value Crash a h = absurd (cc (h))
 
 pub call-replies : (k : Kind) (a : Asked) → asked_by k ≡ Some a → replied_by k ≡ None
 call-replies (CallRead name) a h = refl
 call-replies (CallWrite name n) a h = refl
 call-replies (Reply parts) a h = absurd (cc (h))
+call-replies (Fail parts) a h = absurd (cc (h))
+call-replies Crash a h = absurd (cc (h))
 
-pub reply-parts : (k : Kind) → is_some (asked_by k) ≡ false → (parts : ReplyParts) × (asked_by k ≡ None) × (replied_by k ≡ Some parts)
-reply-parts (CallRead name) h = absurd (false≢true (sym h))
-reply-parts (CallWrite name n) h = absurd (false≢true (sym h))
-reply-parts (Reply parts) h = (parts, refl, refl)
+some-of : {A : Type 0} (o : Option A) → is_some o ≡ true → (x : A) × (o ≡ Some x)
+some-of None h = absurd (false≢true h)
+some-of (Some x) h = (x, refl)
 
 pub call-asks : (k : Kind) → is_some (asked_by k) ≡ true → (a : Asked) × (asked_by k ≡ Some a)
-call-asks (CallRead name) h = (_, refl)
-call-asks (CallWrite name n) h = (_, refl)
-call-asks (Reply parts) h = absurd (false≢true h)
+call-asks k h = some-of (asked_by k) h
+
+pub reply-asks : (k : Kind) (parts : ReplyParts) → ended_by k ≡ Some parts → asked_by k ≡ None
+reply-asks (CallRead name) parts h = absurd (cc (h))
+reply-asks (CallWrite name n) parts h = absurd (cc (h))
+reply-asks (Reply p) parts h = refl
+reply-asks (Fail p) parts h = refl
+reply-asks Crash parts h = refl
+
+pub reply-ends : (k : Kind) (parts : ReplyParts) → replied_by k ≡ Some parts → ended_by k ≡ Some parts
+reply-ends k parts h = ap (λ o. option_or o (failed_by k)) h
+
+pub fail-ends : (k : Kind) (parts : ReplyParts) → failed_by k ≡ Some parts → ended_by k ≡ Some parts
+fail-ends (CallRead name) parts h = absurd (cc (h))
+fail-ends (CallWrite name n) parts h = absurd (cc (h))
+fail-ends (Reply p) parts h = absurd (cc (h))
+fail-ends (Fail p) parts h = h
+fail-ends Crash parts h = absurd (cc (h))
+
+pub reply-parts : (k : Kind) → is_some (replied_by k) ≡ true → (parts : ReplyParts) × (asked_by k ≡ None) × (replied_by k ≡ Some parts)
+reply-parts k h = let x = some-of (replied_by k) h in (x.0, reply-asks k x.0 (reply-ends k x.0 x.1), x.1)
+
+-- ---- what an event is, by its line
+
+pub call-what : (kind : OpKind) (k : Kind) → is_a_call (what_by kind k) ≡ is_some (asked_by k)
+call-what kind (CallRead name) = refl
+call-what kind (CallWrite name n) = refl
+call-what kind (Reply parts) = refl
+call-what kind (Fail parts) = refl
+call-what kind Crash = refl
+
+pub reply-what : (kind : OpKind) (k : Kind) → is_a_reply (what_by kind k) ≡ is_some (replied_by k)
+reply-what kind (CallRead name) = refl
+reply-what kind (CallWrite name n) = refl
+reply-what kind (Reply parts) = refl
+reply-what kind (Fail parts) = refl
+reply-what kind Crash = refl
+
+pub fail-what : (kind : OpKind) (k : Kind) → is_a_fail (what_by kind k) ≡ is_some (failed_by k)
+fail-what kind (CallRead name) = refl
+fail-what kind (CallWrite name n) = refl
+fail-what kind (Reply parts) = refl
+fail-what kind (Fail parts) = refl
+fail-what kind Crash = refl
+
+-- the line of a call, of a reply and of a fail
+module _ (before : List LineEvent) (le : LineEvent) (ev : Event) (is : ev ≡ event_after before le) where
+  what-is : ev.what ≡ what_by (kind_asked (asked_for before le)) le.kind
+  what-is = ap (λ (x : Event). x.what) is
+
+  pub call-line : is_a_call ev.what ≡ is_call le
+  call-line = ap is_a_call what-is ∙ call-what (kind_asked (asked_for before le)) le.kind
+
+  pub reply-line : is_a_reply ev.what ≡ is_some (replied_by le.kind)
+  reply-line = ap is_a_reply what-is ∙ reply-what (kind_asked (asked_for before le)) le.kind
+
+  pub fail-line : is_a_fail ev.what ≡ is_some (failed_by le.kind)
+  fail-line = ap is_a_fail what-is ∙ fail-what (kind_asked (asked_for before le)) le.kind
+
+  -- what is none of the three is a crash
+  pub crash-line : is_a_call ev.what ≡ false → is_a_reply ev.what ≡ false → is_a_fail ev.what ≡ false → is_crash le ≡ true
+  crash-line c r f = go le.kind (sym call-line ∙ c) (sym reply-line ∙ r) (sym fail-line ∙ f)
+    where
+      go : (k : Kind) → is_some (asked_by k) ≡ false → is_some (replied_by k) ≡ false → is_some (failed_by k) ≡ false → is_crash_kind k ≡ true
+      go (CallRead name) c r f = absurd (false≢true (sym c))
+      go (CallWrite name n) c r f = absurd (false≢true (sym c))
+      go (Reply parts) c r f = absurd (false≢true (sym r))
+      go (Fail parts) c r f = absurd (false≢true (sym f))
+      go Crash c r f = refl
+
+-- the kind of a call, where there is one
+asks-kind : (o : Option Asked) (k : Kind) (a : Asked) → option_or (asked_by k) (option_and_then (λ _. o) (ended_by k)) ≡ Some a → (kind : OpKind) → kind_in (what_by kind k) ≡ kind
+asks-kind o (CallRead name) a h kind = refl
+asks-kind o (CallWrite name n) a h kind = refl
+asks-kind o (Reply parts) a h kind = refl
+asks-kind o (Fail parts) a h kind = refl
+asks-kind o Crash a h kind = absurd (cc (h))
 
 -- what an event is, once what its call asks for is known
 pub record IsAsking (before : List LineEvent) (le : LineEvent) (a : Asked) (ev : Event) : Type 0 where
   pub line : ev.line ≡ le.line
   pub process : ev.process ≡ le.process
-  pub register : ev.register.0 ≡ register_number before a.register
-  pub call : ev.is_call ≡ is_call le
-  pub kind : ev.kind ≡ a.kind
+  pub register : ev.register ≡ Some (record { 0 = register_number before a.register })
+  pub number : number_in ev.register ≡ register_number before a.register
+  pub what : ev.what ≡ what_by a.kind le.kind
+  pub kind : kind_in ev.what ≡ a.kind
   pub value : ev.value ≡ event_value a a.kind le
 
-pub asking : (before : List LineEvent) (le : LineEvent) (a : Asked) (ev : Event) → ev ≡ event_after before le → asked_for before le ≡ a → IsAsking before le a ev
-asking before le a ev is q = record {
-  line = ap (λ (x : Event). x.line) is;
-  process = ap (λ (x : Event). x.process) is;
-  register = ap (λ (x : Event). x.register.0) is ∙ ap (λ (y : Asked). register_number before y.register) q;
-  call = ap (λ (x : Event). x.is_call) is;
-  kind = ap (λ (x : Event). x.kind) is ∙ ap (λ (y : Asked). y.kind) q;
-  value = ap (λ (x : Event). x.value) is ∙ ap (λ (y : Asked). event_value y y.kind le) q;
-}
+pub asking : (before : List LineEvent) (le : LineEvent) (a : Asked) (ev : Event) → ev ≡ event_after before le → asked_for before le ≡ Some a → IsAsking before le a ev
+asking before le a ev is q =
+    let register = ap (λ (x : Event). x.register) is ∙ ap (option_map {U = RegId} (λ (c : Asked). record { 0 = register_number before c.register })) q in
+    let what = ap (λ (x : Event). x.what) is ∙ ap (λ (o : Option Asked). what_by (kind_asked o) le.kind) q in
+    record {
+      line = ap (λ (x : Event). x.line) is;
+      process = ap (λ (x : Event). x.process) is;
+      register = register;
+      number = ap number_in register;
+      what = what;
+      kind = ap kind_in what ∙ asks-kind (open_asked before le.process) le.kind a q a.kind;
+      value = ap (λ (x : Event). x.value) is ∙ ap (option_and_then (λ (c : Asked). event_value c c.kind le)) q;
+    }
 
-pub asked-call : (before : List LineEvent) (le : LineEvent) (a : Asked) → asked_by le.kind ≡ Some a → asked_for before le ≡ a
-asked-call before le a h = ap (λ o. unwrap_or (option_or o (open_asked before le.process)) nothing_asked) h
+pub asked-call : (before : List LineEvent) (le : LineEvent) (a : Asked) → asked_by le.kind ≡ Some a → asked_for before le ≡ Some a
+asked-call before le a h = ap (λ o. option_or o (option_and_then (λ _. open_asked before le.process) (ended_by le.kind))) h
 
-pub asked-reply : (before : List LineEvent) (le : LineEvent) (a : Asked) → asked_by le.kind ≡ None → open_asked before le.process ≡ Some a → asked_for before le ≡ a
-asked-reply before le a h k = ap (λ o. unwrap_or (option_or o (open_asked before le.process)) nothing_asked) h ∙ ap (λ o. unwrap_or o nothing_asked) k
+pub asked-end : (before : List LineEvent) (le : LineEvent) (parts : ReplyParts) (a : Asked) → ended_by le.kind ≡ Some parts → open_asked before le.process ≡ Some a → asked_for before le ≡ Some a
+asked-end before le parts a h k =
+    ap (λ o. option_or o (option_and_then (λ _. open_asked before le.process) (ended_by le.kind))) (reply-asks le.kind parts h)
+    ∙ (ap (option_and_then (λ (_ : ReplyParts). open_asked before le.process)) h ∙ k)
 
 -- the call that is open, where it stands
 pub record IsOpenAt (es : List LineEvent) (t p : ℕ) (c : LineEvent) (a : Asked) : Type 0 where
@@ -241,13 +335,24 @@ open-at es t p c h = go (last_with (is_of_process p) (take t es)) refl h
               ap (option_and_then (λ (y : LineEvent). asked_by y.kind)) h ∙ (ap (λ (y : LineEvent). asked_by y.kind) (sym q) ∙ x.1),
             )
 
--- a reply has an open call
-pub reply-open : (before : List LineEvent) (le : LineEvent) (parts : ReplyParts) → replied_by le.kind ≡ Some parts → reply_without_call before le ≡ None → (c : LineEvent) × (open_call before le.process ≡ Some c)
-reply-open before le parts h k = go (open_call before le.process) refl (sym (ap (option_and_then (λ _. cond (is_none (open_call before le.process)) (Some (refused le 10 None)) None)) h) ∙ k)
+-- no event comes after a crash of its process
+pub alive-crash : (before : List LineEvent) (le : LineEvent) → after_crash before le ≡ None → crashed_at before le.process ≡ None
+alive-crash before le k = go (crashed_at before le.process) k
   where
-    go : (o : Option LineEvent) → open_call before le.process ≡ o → cond (is_none (open_call before le.process)) (Some (refused le 10 None)) None ≡ None → (c : LineEvent) × (open_call before le.process ≡ Some c)
-    go (Some c) e m = (c, e)
-    go None e m = let x = sym (ap (λ o. cond (is_none o) (Some (refused le 10 None)) None) e) ∙ m in absurd (cc (x))
+    go : (o : Option LineEvent) → option_map (λ (crash : LineEvent). refused le 19 (Some crash.line)) o ≡ None → o ≡ None
+    go None m = refl
+    go (Some c) m = absurd (cc (m))
+
+-- a reply or a fail has an open call
+pub end-open : (before : List LineEvent) (le : LineEvent) (parts : ReplyParts) → ended_by le.kind ≡ Some parts → IsFree before le → (c : LineEvent) × (open_call before le.process ≡ Some c)
+end-open before le parts h free =
+    go (open_call before le.process) refl (is_none (crashed_at before le.process)) (ap is_none (alive-crash before le free.alive))
+    (sym (ap (option_and_then (λ (_ : ReplyParts). cond (is_none (open_call before le.process) && is_none (crashed_at before le.process)) (Some (refused le 10 None)) None)) h) ∙ free.open_one)
+  where
+    go : (o : Option LineEvent) → open_call before le.process ≡ o → (b : Bool) → b ≡ true → cond (is_none (open_call before le.process) && b) (Some (refused le 10 None)) None ≡ None → (c : LineEvent) × (open_call before le.process ≡ Some c)
+    go (Some c) e b d m = (c, e)
+    go None e true d m = let x = sym (ap (λ o. cond (is_none o && true) (Some (refused le 10 None)) None) e) ∙ m in absurd (cc (x))
+    go None e false d m = absurd (false≢true d)
 
 -- a call has none
 pub call-open : (before : List LineEvent) (le : LineEvent) (a : Asked) → asked_by le.kind ≡ Some a → call_while_open before le ≡ None → open_call before le.process ≡ None

@@ -1,17 +1,27 @@
 -- An append keeps all three families, the calls and the entries.
-use Rattle.std.proofs.Common.{◌≡◌, ℕ, ◌+◌, ◌<◌, ◌≤◌, nat_lt, cond, Bool, true, false, List, [], ◌∷◌, ◌++◌, length, slice_get, Option, Some, None, ◌⊎◌, inl, inr, refl, sym, ap, subst, ◌∙◌, arith, option_and_then}
+use Rattle.std.proofs.Common.{◌≡◌, ℕ, zero, suc, ◌+◌, ◌-◌, ◌^◌, ◌<◌, ◌≤◌, ◌==◌, ◌&&◌, ◌||◌, not, nat_lt, nat_eq, cond, Bool, true, false, List, [], ◌∷◌, ◌++◌, length, set, drop, slice_get, Option, Some, None, ◌⊎◌, inl, inr, refl, sym, ap, subst, ◌∙◌, arith, option_and_then, length-append}
 use Rattle.std.specs.Option.{option_or}
+use Rattle.std.proofs.lemmas.List.{length-set}
 use Rattle.std.proofs.lemmas.Option.{slice_get_past, slice_get_within}
-use Rattle.std.proofs.lemmas.Bool.{ltb-true, ltb-false}
+use Rattle.std.proofs.lemmas.Bool.{cases_order, eqb-true, eqb-false, eq-eqb, ne_eqb, ltb-true, ltb-false, false≢true}
 use Rattle.history_text.specs.declared.event.Val.{Val}
+use Rattle.history_text.specs.declared.event.OpKind.TheVariants.{ReadOp, WriteOp}
 use Rattle.reg_arena.specs.declared.ids.EvId.{EvId}
+use Rattle.reg_arena.specs.declared.ids.RegId.{RegId}
 use Rattle.reg_arena.specs.declared.event.Event.{Event}
+use Rattle.reg_arena.specs.declared.event.What.{What}
+use Rattle.reg_arena.specs.declared.event.What.TheVariants.{Call, Reply, Fail, Crash}
 use Rattle.reg_arena.specs.declared.ends.Ends.{Ends}
 use Rattle.reg_arena.specs.declared.ends.Entry.{Entry}
-use Rattle.reg_arena.specs.Shown.{IsLeastFrom, IsFirstOf, IsCall, key_at, by_process, by_value}
-use Rattle.reg_arena.specs.Threads.{IsThreaded, IsJoinedBy, IsEnteredBy, IsCallAt, IsEntry, link_at, by_write, by_reply, entry_alone, entry_with, entry_after}
-use Rattle.reg_arena.proofs.Links.{decide_eq, slice_get-push, slice_get-push_other}
+use Rattle.reg_arena.specs.declared.ends.Write.{Write}
+use Rattle.reg_arena.specs.declared.ends.Write.TheVariants.{Unwritten, Written, Failed}
+use Rattle.reg_arena.specs.declared.ends.TheConstants.{NO_CALL}
+use Rattle.reg_arena.specs.Operations.{next_of, has_failed, begins, is_a_call, is_a_reply, is_a_fail, kind_in, number_in, writes}
+use Rattle.reg_arena.specs.Shown.{IsLeastFrom, IsFirstOf, begins_at, key_at, by_process, by_value}
+use Rattle.reg_arena.specs.Threads.{IsThreaded, IsJoinedBy, IsEnteredBy, IsCall, IsCallAt, IsCallOf, IsAppendable, IsLastRead, IsEntry, link_at, call_at, calls_with, no_call, by_write, by_reply, by_read, later, write_called, write_kept, write_with, reply_with, read_with, with_call, with_fail, entry_alone, entry_with, entry_after, end_of}
+use Rattle.reg_arena.proofs.Links.{decide_eq, slice_get-push, slice_get-push_other, slice_get-set, slice_get-set_other}
 use Rattle.reg_arena.proofs.Threading.{IsPushed, threaded-alone, threaded-joined}
+use Rattle.reg_arena.proofs.Belonging.{drop-get, next-some, next-none}
 
 -- links and ends that are the same at each place are threaded alike
 threaded-same : {K : Type 0} (key : ℕ → Option K) (link new_link : ℕ → Option EvId) (ends new_ends : K → Option Ends) → ((i : ℕ) → new_link i ≡ link i) → ((k : K) → new_ends k ≡ ends k) → IsThreaded key link ends → IsThreaded key new_link new_ends
@@ -80,19 +90,27 @@ first-with key es e n k (Some j) at q h =
     let w = key-within key es j.0 k h.1 in
     (h.0, key-keep key es e j.0 k h.1, λ i l lt x. elim (key-back key es e i k x) [ inl y ↦ omega (arith, y.0) | inr y ↦ h.2 i l lt y ])
 
+cond-value : {K : Type 0} (b : Bool) (o : Option K) (k : K) → cond b o None ≡ Some k → (b ≡ true) × (o ≡ Some k)
+cond-value true o k h = (refl, h)
+cond-value false o k h = absurd (cc (h))
+
+pub write-call : (e : Event) (k : ℕ × Val) → by_write e ≡ Some k → is_a_call e.what ≡ true
+write-call e k h = (cond-value (is_a_call e.what) (by_value e) k h).0
+
 pub write-value : (e : Event) (k : ℕ × Val) → by_write e ≡ Some k → by_value e ≡ Some k
-write-value e k h = go e.is_call h
-  where
-    go : (b : Bool) → cond b (by_value e) None ≡ Some k → by_value e ≡ Some k
-    go true h = h
-    go false h = absurd (cc (h))
+write-value e k h = (cond-value (is_a_call e.what) (by_value e) k h).1
+
+pub reply-said : (e : Event) (k : ℕ × Val) → by_reply e ≡ Some k → is_a_reply e.what ≡ true
+reply-said e k h = (cond-value (is_a_reply e.what) (by_value e) k h).0
 
 pub reply-value : (e : Event) (k : ℕ × Val) → by_reply e ≡ Some k → by_value e ≡ Some k
-reply-value e k h = go e.is_call h
-  where
-    go : (b : Bool) → cond b None (by_value e) ≡ Some k → by_value e ≡ Some k
-    go true h = absurd (cc (h))
-    go false h = h
+reply-value e k h = (cond-value (is_a_reply e.what) (by_value e) k h).1
+
+pub read-said : (e : Event) (k : ℕ × Val) → by_read e ≡ Some k → (is_a_reply e.what && not (writes (kind_in e.what))) ≡ true
+read-said e k h = (cond-value (is_a_reply e.what && not (writes (kind_in e.what))) (by_value e) k h).0
+
+pub read-value : (e : Event) (k : ℕ × Val) → by_read e ≡ Some k → by_value e ≡ Some k
+read-value e k h = (cond-value (is_a_reply e.what && not (writes (kind_in e.what))) (by_value e) k h).1
 
 pub key-along : {K : Type 0} (key other : Event → Option K) (es : List Event) (k : K) → ((e : Event) → key e ≡ Some k → other e ≡ Some k) → (i : ℕ) → key_at key es i ≡ Some k → key_at other es i ≡ Some k
 key-along key other es k f i h = go (slice_get es i) h
@@ -101,7 +119,73 @@ key-along key other es k f i h = go (slice_get es i) h
     go None h = absurd (cc (h))
     go (Some e) h = f e h
 
+-- ---- the next event of a process after an append
+
+next-push : (p s : ℕ) (xs : List Event) (e : Event) → next_of p s (xs ++ e ∷ []) ≡ option_or (next_of p s xs) (cond (e.process == p) (Some (s + length xs, e)) None)
+next-push p s [] e = let t : s ≡ s + 0 = omega arith in ap (λ m. cond (e.process == p) (Some (m, e)) None) t
+next-push p s (x ∷ xs) e = go (x.process == p) (next-push p (suc s) xs e)
+  where
+    go : (b : Bool) → next_of p (suc s) (xs ++ e ∷ []) ≡ option_or (next_of p (suc s) xs) (cond (e.process == p) (Some (suc s + length xs, e)) None)
+        → cond b (Some (s, x)) (next_of p (suc s) (xs ++ e ∷ [])) ≡ option_or (cond b (Some (s, x)) (next_of p (suc s) xs)) (cond (e.process == p) (Some (s + suc (length xs), e)) None)
+    go true h = refl
+    go false h = let t : suc s + length xs ≡ s + suc (length xs) = omega arith in h ∙ ap (λ m. option_or (next_of p (suc s) xs) (cond (e.process == p) (Some (m, e)) None)) t
+
+drop-push : (xs : List Event) (m : ℕ) (e : Event) → m ≤ length xs → drop m (xs ++ e ∷ []) ≡ drop m xs ++ e ∷ []
+drop-push xs zero e l = refl
+drop-push [] (suc m) e l = absurd (omega arith)
+drop-push (x ∷ xs) (suc m) e l = drop-push xs m e (omega arith)
+
+next-alone : (es : List Event) (i p : ℕ) → ((u : ℕ) → i < u → key_at by_process es u ≡ Some p → ⊥) → next_of p (suc (i + 2)) (drop (suc i) es) ≡ None
+next-alone es i p h = go (next_of p (suc (i + 2)) (drop (suc i) es)) refl
+  where
+    go : (o : Option (ℕ × Event)) → next_of p (suc (i + 2)) (drop (suc i) es) ≡ o → o ≡ None
+    go None n = refl
+    go (Some r) n =
+        let x = next-some p (suc (i + 2)) (drop (suc i) es) r n in
+        absurd (h (suc i + x.place) (omega arith) (ap (option_and_then by_process) (sym (drop-get es (suc i) x.place) ∙ x.there) ∙ ap Some x.process))
+
+next-known : (es : List Event) (i p u : ℕ) → i < u → key_at by_process es u ≡ Some p → (r : ℕ × Event) × (next_of p (suc (i + 2)) (drop (suc i) es) ≡ Some r)
+next-known es i p u lt key = go (next_of p (suc (i + 2)) (drop (suc i) es)) refl
+  where
+    there : (o : Option Event) → slice_get es u ≡ o → option_and_then by_process o ≡ Some p → (g : Event) × (slice_get es u ≡ Some g) × (g.process ≡ p)
+    there None q k = absurd (cc (k))
+    there (Some g) q k = (g, q, cc (k))
+
+    go : (o : Option (ℕ × Event)) → next_of p (suc (i + 2)) (drop (suc i) es) ≡ o → (r : ℕ × Event) × (o ≡ Some r)
+    go (Some r) n = (r, refl)
+    go None n =
+        let g = there (slice_get es u) refl key in
+        let z : suc i + (u - suc i) ≡ u = omega (arith, lt) in
+        absurd (next-none p (suc (i + 2)) (drop (suc i) es) n (u - suc i) g.0 (drop-get es (suc i) (u - suc i) ∙ (ap (slice_get es) z ∙ g.1)) g.2)
+
 -- ---- the calls after an append
+
+fail-no_call : (w : What) → is_a_fail w ≡ true → is_a_call w ≡ true → ⊥
+fail-no_call (Call kind) f c = false≢true f
+fail-no_call (Reply kind) f c = false≢true f
+fail-no_call (Fail kind) f c = false≢true c
+fail-no_call Crash f c = false≢true f
+
+pub and-left : (a b : Bool) → (a && b) ≡ true → a ≡ true
+and-left true b h = refl
+and-left false b h = absurd (false≢true h)
+
+or-true : (a : Bool) → (a || true) ≡ true
+or-true true = refl
+or-true false = refl
+
+call-no_reply : (w : What) → is_a_call w ≡ true → is_a_reply w ≡ false
+call-no_reply (Call kind) h = refl
+call-no_reply (Reply kind) h = absurd (false≢true h)
+call-no_reply (Fail kind) h = refl
+call-no_reply Crash h = refl
+
+drop-all : (xs : List Event) (e : Event) → drop (suc (length xs)) (xs ++ e ∷ []) ≡ []
+drop-all [] e = refl
+drop-all (x ∷ xs) e = drop-all xs e
+
+abbrev event_id : ℕ → EvId
+event_id m = record { 0 = m }
 
 module _ (es : List Event) (e : Event) where
   pub call-keep : (i : ℕ) → IsCall es i → IsCall (es ++ e ∷ []) i
@@ -121,120 +205,441 @@ module _ (es : List Event) (e : Event) where
         own = λ x. h.own (x.0, sym (slice_get-push_other es e i (λ q. omega arith)) ∙ x.1, x.2);
       }
 
-  pub calls-push : (calls : List EvId) (call : EvId) → length calls ≡ length es → ((i : ℕ) (c : EvId) → slice_get calls i ≡ Some c → IsCallAt es i c.0) → IsCallAt (es ++ e ∷ []) (length es) call.0
-      → (i : ℕ) (c : EvId) → slice_get (calls ++ call ∷ []) i ≡ Some c → IsCallAt (es ++ e ∷ []) i c.0
-  calls-push calls call column old new i c h = elim (decide_eq i (length calls)) [
+  next-after : (i p : ℕ) → i < length es → next_of p (suc (i + 2)) (drop (suc i) (es ++ e ∷ [])) ≡ option_or (next_of p (suc (i + 2)) (drop (suc i) es)) (cond (e.process == p) (Some (suc (i + 2) + length (drop (suc i) es), e)) None)
+  next-after i p l = ap (next_of p (suc (i + 2))) (drop-push es (suc i) e (omega arith)) ∙ next-push p (suc (i + 2)) (drop (suc i) es) e
+
+  -- where the call has a next event, another one changes nothing
+  begins-next : (i : ℕ) (f : Event) (r : ℕ × Event) → i < length es → next_of f.process (suc (i + 2)) (drop (suc i) es) ≡ Some r → begins_at (es ++ e ∷ []) i f ≡ begins_at es i f
+  begins-next i f r l n = ap (begins f) (next-after i f.process l ∙ (ap (λ o. option_or o (cond (e.process == f.process) (Some (suc (i + 2) + length (drop (suc i) es), e)) None)) n ∙ sym n))
+
+  -- nor does one that isn't a fail
+  begins-other : (i : ℕ) (f : Event) → i < length es → is_a_fail e.what ≡ false → begins_at (es ++ e ∷ []) i f ≡ begins_at es i f
+  begins-other i f l kept = go (next_of f.process (suc (i + 2)) (drop (suc i) es)) refl
+    where
+      by_process : (b : Bool) → has_failed (cond b (Some (suc (i + 2) + length (drop (suc i) es), e)) None) ≡ false
+      by_process true = kept
+      by_process false = refl
+
+      go : (o : Option (ℕ × Event)) → next_of f.process (suc (i + 2)) (drop (suc i) es) ≡ o → begins_at (es ++ e ∷ []) i f ≡ begins_at es i f
+      go (Some r) n = begins-next i f r l n
+      go None n =
+          ap (begins f) (next-after i f.process l ∙ ap (λ o. option_or o (cond (e.process == f.process) (Some (suc (i + 2) + length (drop (suc i) es), e)) None)) n)
+          ∙ (ap (λ b. is_a_call f.what && not b) (by_process (e.process == f.process)) ∙ sym (ap (begins f) n))
+
+  -- a call of another process is kept
+  begins-apart : (i : ℕ) (f : Event) → i < length es → (e.process ≡ f.process → ⊥) → begins_at (es ++ e ∷ []) i f ≡ begins_at es i f
+  begins-apart i f l ne = ap (begins f) (next-after i f.process l ∙ (ap (λ b. option_or (next_of f.process (suc (i + 2)) (drop (suc i) es)) (cond b (Some (suc (i + 2) + length (drop (suc i) es), e)) None)) (ne_eqb e.process f.process ne) ∙ or-none (next_of f.process (suc (i + 2)) (drop (suc i) es))))
+    where
+      or-none : {A : Type 0} (o : Option A) → option_or o None ≡ o
+      or-none None = refl
+      or-none (Some x) = refl
+
+  -- the call of an appended fail fails, and no other
+  module _ (c : EvId) (h : IsCallAt (es ++ e ∷ []) (length es) c.0) (f : is_a_fail e.what ≡ true) where
+    new-at : slice_get (es ++ e ∷ []) (length es) ≡ Some e
+    new-at = slice_get-push es e
+
+    -- the fail is no call
+    pub call-before : c.0 < length es
+    call-before = elim (decide_eq c.0 (length es)) [
+      | inl q ↦ absurd (let a = h.call in let w = a.1 in let s = ap (slice_get (es ++ e ∷ [])) q in let same : a.0 ≡ e = cc (w, s, new-at) in fail-no_call e.what f (sym (ap (λ (v : Event). is_a_call v.what) same) ∙ a.2))
+      | inr ne ↦ let o = h.order in omega (arith, o, ne)
+    ]
+
+    call-process : key_at by_process es c.0 ≡ Some e.process
+    call-process = sym (same-key c.0 call-before) ∙ (h.process ∙ ap (option_and_then by_process) new-at)
+
+    call-last : (u : ℕ) → c.0 < u → key_at by_process es u ≡ Some e.process → ⊥
+    call-last u lt key = let l = key-within by_process es u e.process key in h.between u lt l (same-key u l ∙ (key ∙ sym (ap (option_and_then by_process) new-at)))
+
+    pub begins-failed : (g : Event) → slice_get es c.0 ≡ Some g → begins_at (es ++ e ∷ []) c.0 g ≡ false
+    begins-failed g at =
+        let key = call-process in
+        let own : g.process ≡ e.process = let k = ap (option_and_then by_process) at in let w : Some g.process ≡ Some e.process = sym k ∙ key in cc (w) in
+        let none = next-alone es c.0 g.process (λ u lt k. call-last u lt (k ∙ ap Some own)) in
+        ap (begins g) (next-after c.0 g.process call-before
+        ∙ (ap (λ o. option_or o (cond (e.process == g.process) (Some (suc (c.0 + 2) + length (drop (suc c.0) es), e)) None)) none
+        ∙ ap (λ b. cond b (Some (suc (c.0 + 2) + length (drop (suc c.0) es), e)) None) (eq-eqb e.process g.process (sym own))))
+        ∙ (ap (λ b. is_a_call g.what && not b) f ∙ and-false (is_a_call g.what))
+      where
+        and-false : (b : Bool) → (b && false) ≡ false
+        and-false true = refl
+        and-false false = refl
+
+    pub begins-unfailed : (i : ℕ) (g : Event) → slice_get es i ≡ Some g → (i ≡ c.0 → ⊥) → begins_at (es ++ e ∷ []) i g ≡ begins_at es i g
+    begins-unfailed i g at ne = go (decide_eq e.process g.process)
+      where
+        l : i < length es
+        l = slice_get_within es i g at
+
+        go : (e.process ≡ g.process) ⊎ (e.process ≡ g.process → ⊥) → begins_at (es ++ e ∷ []) i g ≡ begins_at es i g
+        go (inr apart) = begins-apart i g l apart
+        go (inl own) = elim (cases_order i c.0) [
+          | inl q ↦ absurd (ne q)
+          | inr w ↦ elim w [
+            | inl less ↦ let r = next-known es i g.process c.0 less (call-process ∙ ap Some own) in begins-next i g r.0 l r.1
+            | inr more ↦ absurd (call-last i more (ap (option_and_then by_process) at ∙ ap Some (sym own)))
+          ]
+        ]
+
+-- ---- the column of calls
+
+call-set : (calls : List EvId) (k : ℕ) → k < length calls → call_at (set calls k no_call) k ≡ None
+call-set calls k l = ap (option_and_then (λ (c : EvId). cond (nat_eq c.0 NO_CALL) None (Some c))) (slice_get-set calls k no_call l)
+
+call-set_other : (calls : List EvId) (k i : ℕ) → (i ≡ k → ⊥) → call_at (set calls k no_call) i ≡ call_at calls i
+call-set_other calls k i ne = ap (option_and_then (λ (c : EvId). cond (nat_eq c.0 NO_CALL) None (Some c))) (slice_get-set_other calls k i no_call ne)
+
+call-push : (calls : List EvId) (c : EvId) (i : ℕ) → (i ≡ length calls → ⊥) → call_at (calls ++ c ∷ []) i ≡ call_at calls i
+call-push calls c i ne = ap (option_and_then (λ (c : EvId). cond (nat_eq c.0 NO_CALL) None (Some c))) (slice_get-push_other calls c i ne)
+
+call-pushed : (calls : List EvId) (c : EvId) → call_at (calls ++ c ∷ []) (length calls) ≡ cond (nat_eq c.0 NO_CALL) None (Some c)
+call-pushed calls c = ap (option_and_then (λ (c : EvId). cond (nat_eq c.0 NO_CALL) None (Some c))) (slice_get-push calls c)
+
+call-some : (c : EvId) → c.0 < 2 ^ 20 → cond (nat_eq c.0 NO_CALL) None (Some c) ≡ Some c
+call-some c l = ap (λ b. cond b None (Some c)) (ne_eqb c.0 NO_CALL (λ q. omega (arith, l, q)))
+
+-- what the column says after an append
+record AreCallsAfter (calls new : List EvId) (n : ℕ) (w : What) (call : EvId) : Type 0 where
+  kept : (i : ℕ) → i < n → (is_a_fail w ≡ true → i ≡ call.0 → ⊥) → call_at new i ≡ call_at calls i
+  failed : is_a_fail w ≡ true → call_at new call.0 ≡ None
+  none : is_a_call w ≡ false → is_a_reply w ≡ false → call_at new n ≡ None
+  some : (is_a_call w || is_a_reply w) ≡ true → call_at new n ≡ Some call
+
+calls-after : (calls : List EvId) (n : ℕ) (w : What) (call : EvId) → n ≡ length calls → n < 2 ^ 20 → ((w ≡ Crash → ⊥) → call.0 ≤ n) → (is_a_fail w ≡ true → call.0 < n) → AreCallsAfter calls (calls_with calls w call) n w call
+calls-after calls n (Call kind) call q room le lt = let b = le (λ x. cc (x)) in record {
+  kept = λ i l ne. call-push calls call i (λ c. omega (arith, l, c, q));
+  failed = λ f. absurd (false≢true f);
+  none = λ c r. absurd (false≢true (sym c));
+  some = λ x. ap (call_at (calls ++ call ∷ [])) q ∙ (call-pushed calls call ∙ call-some call (omega (arith, b, room)));
+}
+calls-after calls n (Reply kind) call q room le lt = let b = le (λ x. cc (x)) in record {
+  kept = λ i l ne. call-push calls call i (λ c. omega (arith, l, c, q));
+  failed = λ f. absurd (false≢true f);
+  none = λ c r. absurd (false≢true (sym r));
+  some = λ x. ap (call_at (calls ++ call ∷ [])) q ∙ (call-pushed calls call ∙ call-some call (omega (arith, b, room)));
+}
+calls-after calls n (Fail kind) call q room le lt =
+    let l = lt refl in
+    let long : length (set calls call.0 no_call) ≡ n = length-set calls call.0 no_call ∙ sym q in
+    record {
+      kept = λ i l ne. call-push (set calls call.0 no_call) no_call i (λ c. omega (arith, l, c, long)) ∙ call-set_other calls call.0 i (ne refl);
+      failed = λ f. call-push (set calls call.0 no_call) no_call call.0 (λ c. omega (arith, l, c, long)) ∙ call-set calls call.0 (omega (arith, l, q));
+      none = λ c r. ap (call_at (set calls call.0 no_call ++ no_call ∷ [])) (sym long) ∙ call-pushed (set calls call.0 no_call) no_call;
+      some = λ x. absurd (false≢true x);
+    }
+calls-after calls n Crash call q room le lt = record {
+  kept = λ i l ne. call-push calls no_call i (λ c. omega (arith, l, c, q));
+  failed = λ f. absurd (false≢true f);
+  none = λ c r. ap (call_at (calls ++ no_call ∷ [])) q ∙ call-pushed calls no_call;
+  some = λ x. absurd (false≢true x);
+}
+
+-- ---- the calls and the entries after an append
+
+-- an event n is appended whose call is the event `call`
+module _ (es : List Event) (e : Event) (n : EvId) (calls : List EvId) (call : EvId) (at : n.0 ≡ length es) (column : length calls ≡ length es) (room : length es < 2 ^ 20) (fits : IsAppendable es e call) where
+  abbrev new_calls : List EvId
+  new_calls = calls_with calls e.what call
+
+  no-crash : is_a_fail e.what ≡ true → e.what ≡ Crash → ⊥
+  no-crash f q = false≢true (sym (ap is_a_fail q) ∙ f)
+
+  fail-before : is_a_fail e.what ≡ true → call.0 < length es
+  fail-before f = call-before es e call (fits.call (no-crash f)) f
+
+  said : AreCallsAfter calls new_calls (length es) e.what call
+  said = calls-after calls (length es) e.what call (sym column) room (λ c. (fits.call c).order) fail-before
+
+  -- whether an old event belongs to an operation changes for the call of a fail alone
+  belongs-kept : (i : ℕ) (f : Event) → slice_get es i ≡ Some f → (is_a_fail e.what ≡ true → i ≡ call.0 → ⊥) → begins_at (es ++ e ∷ []) i f ≡ begins_at es i f
+  belongs-kept i f old ne = go (is_a_fail e.what) refl
+    where
+      go : (b : Bool) → is_a_fail e.what ≡ b → begins_at (es ++ e ∷ []) i f ≡ begins_at es i f
+      go true q = begins-unfailed es e call (fits.call (no-crash q)) q i f old (ne q)
+      go false q = begins-other es e i f (slice_get_within es i f old) q
+
+  call-kept : (i : ℕ) (f : Event) (o : Option EvId) → slice_get es i ≡ Some f → begins_at (es ++ e ∷ []) i f ≡ begins_at es i f → IsCallOf es i f o → IsCallOf (es ++ e ∷ []) i f o
+  call-kept i f None old q h = ap (λ b. is_a_reply f.what || b) q ∙ h
+  call-kept i f (Some c) old q h = (ap (λ b. is_a_reply f.what || b) q ∙ h.0, call_at-keep es e i c.0 (slice_get_within es i f old) h.1)
+
+  -- the call of a fail is then none of an operation
+  call-failed : is_a_fail e.what ≡ true → (f : Event) → slice_get es call.0 ≡ Some f → IsCallOf (es ++ e ∷ []) call.0 f None
+  call-failed q f old =
+      let h = fits.call (no-crash q) in
+      let c = h.call in
+      let there : slice_get (es ++ e ∷ []) call.0 ≡ Some f = slice_get-push_other es e call.0 (λ x. let l = fail-before q in omega (arith, l, x)) ∙ old in
+      let w = c.1 in
+      let same : c.0 ≡ f = cc (w, there) in
+      let is = ap (λ (v : Event). is_a_call v.what) (sym same) ∙ c.2 in
+      ap (λ b. b || begins_at (es ++ e ∷ []) call.0 f) (call-no_reply f.what is) ∙ begins-failed es e call h q f old
+
+  call-of_new : (b d : Bool) → is_a_call e.what ≡ b → is_a_reply e.what ≡ d → IsCallOf (es ++ e ∷ []) (length es) e (call_at new_calls (length es))
+  call-of_new false false c r = subst (IsCallOf (es ++ e ∷ []) (length es) e) (sym (said.none c r)) (ap (λ b. b || begins_at (es ++ e ∷ []) (length es) e) r ∙ ap (λ b. b && not (has_failed (next_of e.process (suc (length es + 2)) (drop (suc (length es)) (es ++ e ∷ []))))) c)
+  call-of_new true d c r = subst (IsCallOf (es ++ e ∷ []) (length es) e) (sym (said.some (ap (λ b. b || is_a_reply e.what) c))) (
+    ap (λ b. b || begins_at (es ++ e ∷ []) (length es) e) (call-no_reply e.what c) ∙ (ap (begins e) (ap (next_of e.process (suc (length es + 2))) (drop-all es e)) ∙ ap (λ b. b && true) c),
+    fits.call (λ q. false≢true (sym (ap is_a_call q) ∙ c)),
+  )
+  call-of_new false true c r = subst (IsCallOf (es ++ e ∷ []) (length es) e) (sym (said.some (ap (λ b. is_a_call e.what || b) r ∙ or-true (is_a_call e.what)))) (
+    ap (λ b. b || begins_at (es ++ e ∷ []) (length es) e) r,
+    fits.call (λ q. false≢true (sym (ap is_a_reply q) ∙ r)),
+  )
+
+  pub calls-push : ((i : ℕ) (f : Event) → slice_get es i ≡ Some f → IsCallOf es i f (call_at calls i)) → (i : ℕ) (f : Event) → slice_get (es ++ e ∷ []) i ≡ Some f → IsCallOf (es ++ e ∷ []) i f (call_at new_calls i)
+  calls-push old i f h = elim (decide_eq i (length es)) [
     | inl q ↦
-        let w = sym (slice_get-push calls call) ∙ (ap (slice_get (calls ++ call ∷ [])) (sym q) ∙ h) in
-        let same : call ≡ c = cc (w) in
-        let at : length es ≡ i = omega (arith, q, column) in
-        subst (λ (x : EvId). IsCallAt (es ++ e ∷ []) i x.0) same (subst (λ m. IsCallAt (es ++ e ∷ []) m call.0) at new)
+        let w = sym (slice_get-push es e) ∙ (ap (slice_get (es ++ e ∷ [])) (sym q) ∙ h) in
+        let same : e ≡ f = cc (w) in
+        subst (λ m. IsCallOf (es ++ e ∷ []) m f (call_at new_calls m)) (sym q) (subst (λ (v : Event). IsCallOf (es ++ e ∷ []) (length es) v (call_at new_calls (length es))) same (call-of_new (is_a_call e.what) (is_a_reply e.what) refl refl))
     | inr ne ↦
-        let was = sym (slice_get-push_other calls call i ne) ∙ h in
-        let l = slice_get_within calls i c was in
-        call_at-keep i c.0 (omega (arith, l, column)) (old i c was)
+        let was = sym (slice_get-push_other es e i ne) ∙ h in
+        let l = slice_get_within es i f was in
+        by_fail i f was l (is_a_fail e.what) refl (decide_eq i call.0)
   ]
+    where
+      kept : (i : ℕ) (f : Event) → slice_get es i ≡ Some f → i < length es → (is_a_fail e.what ≡ true → i ≡ call.0 → ⊥) → IsCallOf (es ++ e ∷ []) i f (call_at new_calls i)
+      kept i f was l ne = subst (IsCallOf (es ++ e ∷ []) i f) (sym (said.kept i l ne)) (call-kept i f (call_at calls i) was (belongs-kept i f was ne) (old i f was))
 
--- ---- the entries after an append
+      by_fail : (i : ℕ) (f : Event) → slice_get es i ≡ Some f → i < length es → (b : Bool) → is_a_fail e.what ≡ b → (i ≡ call.0) ⊎ (i ≡ call.0 → ⊥) → IsCallOf (es ++ e ∷ []) i f (call_at new_calls i)
+      by_fail i f was l false q d = kept i f was l (λ x. absurd (false≢true (sym q ∙ x)))
+      by_fail i f was l true q (inr ne) = kept i f was l (λ _. ne)
+      by_fail i f was l true q (inl s) = subst (λ m. IsCallOf (es ++ e ∷ []) m f (call_at new_calls m)) (sym s) (subst (IsCallOf (es ++ e ∷ []) call.0 f) (sym (said.failed q)) (call-failed q f (ap (slice_get es) (sym s) ∙ was)))
 
-module _ (es : List Event) (e : Event) (n : EvId) (calls : List EvId) (call : EvId) (at : n.0 ≡ length es) (column : length calls ≡ length es) where
-  call-old : (i : ℕ) (c : EvId) → i < length es → slice_get (calls ++ call ∷ []) i ≡ Some c → slice_get calls i ≡ Some c
-  call-old i c l h = sym (slice_get-push_other calls call i (λ q. omega (arith, q, l, column))) ∙ h
+  -- ---- the parts of an entry
 
-  call-new : (i : ℕ) (c : EvId) → i ≡ length es → slice_get (calls ++ call ∷ []) i ≡ Some c → call ≡ c
-  call-new i c q h =
-      let m : i ≡ length calls = omega (arith, q, column) in
-      let w = sym (slice_get-push calls call) ∙ (ap (slice_get (calls ++ call ∷ [])) (sym m) ∙ h) in
-      cc (w)
+  -- a call that isn't of the appended fail stays as it is
+  call-same : (i : ℕ) → i < length es → (is_a_fail e.what ≡ true → i ≡ call.0 → ⊥) → call_at new_calls i ≡ call_at calls i
+  call-same i l ne = said.kept i l ne
 
-  call-kept : (i : ℕ) (c : EvId) → slice_get calls i ≡ Some c → slice_get (calls ++ call ∷ []) i ≡ Some c
-  call-kept i c h = let l = slice_get_within calls i c h in slice_get-push_other calls call i (λ q. omega arith) ∙ h
+  -- the write's calls: `w` is the write so far
+  record IsWriteSoFar (events : List Event) (said_calls : List EvId) (k : ℕ × Val) (w : Write) : Type 0 where
+    first : IsFirstOf by_write events k (write_called w)
+    kept : (id : EvId) → write_called w ≡ Some id → call_at said_calls id.0 ≡ write_kept w
 
-  -- an entry of another key
-  entry-other : (k : ℕ × Val) (y : Entry) → (by_value e ≡ Some k → ⊥) → IsEntry es calls k y → IsEntry (es ++ e ∷ []) (calls ++ call ∷ []) k y
-  entry-other k y ne h = record {
-    write = first-other by_write es e k y.write (λ q. ne (write-value e k q)) h.write;
-    reply = first-other by_reply es e k y.first_reply (λ q. ne (reply-value e k q)) h.reply;
-    some = (h.some.0, key-keep by_value es e h.some.0 k h.some.1, call-kept h.some.0 y.last_call h.some.2);
-    last = λ i c q g. elim (key-back by_value es e i k q) [ inl x ↦ absurd (ne x.1) | inr x ↦ h.last i c x (call-old i c (key-within by_value es i k x) g) ];
+  write-id : (k : ℕ × Val) (id : EvId) (o : Option EvId) → o ≡ Some id → IsFirstOf by_write es k o → key_at by_write es id.0 ≡ Some k
+  write-id k id None q h = absurd (cc (q))
+  write-id k id (Some j) q h = let s : j ≡ id = cc (q) in subst (λ (v : EvId). key_at by_write es v.0 ≡ Some k) s h.1
+
+  -- no write's call is that of a fail of another register or value
+  not-failed : (k : ℕ × Val) (id : EvId) → key_at by_write es id.0 ≡ Some k → (by_value e ≡ Some k → ⊥) → is_a_fail e.what ≡ true → id.0 ≡ call.0 → ⊥
+  not-failed k id key ne f q =
+      let value = key-along by_write by_value es k (λ v. write-value v k) id.0 key in
+      ne (sym (fits.same f) ∙ (ap (key_at by_value es) (sym q) ∙ value))
+
+  write-other : (k : ℕ × Val) (w : Write) → (by_value e ≡ Some k → ⊥) → IsWriteSoFar es calls k w → IsWriteSoFar (es ++ e ∷ []) new_calls k w
+  write-other k w ne h = record {
+    first = first-other by_write es e k (write_called w) (λ q. ne (write-value e k q)) h.first;
+    kept = λ id q.
+        let key = write-id k id (write_called w) q h.first in
+        call-same id.0 (key-within by_write es id.0 k key) (not-failed k id key ne) ∙ h.kept id q;
   }
 
-  firsts : (k : ℕ × Val) → by_value e ≡ Some k → (w r : Option EvId) → IsFirstOf by_write es k w → IsFirstOf by_reply es k r
-      → IsFirstOf by_write (es ++ e ∷ []) k (option_or w (entry_alone e n call).write) × IsFirstOf by_reply (es ++ e ∷ []) k (option_or r (entry_alone e n call).first_reply)
-  firsts k q w r hw hr = go e.is_call refl
+  -- an event that is no call adds no write
+  write-same : (k : ℕ × Val) (w : Write) → is_a_call e.what ≡ false → is_a_fail e.what ≡ false → IsWriteSoFar es calls k w → IsWriteSoFar (es ++ e ∷ []) new_calls k w
+  write-same k w c f h = record {
+    first = first-other by_write es e k (write_called w) (λ q. false≢true (sym c ∙ write-call e k q)) h.first;
+    kept = λ id q.
+        let key = write-id k id (write_called w) q h.first in
+        call-same id.0 (key-within by_write es id.0 k key) (λ x. absurd (false≢true (sym f ∙ x))) ∙ h.kept id q;
+  }
+
+  -- a call is its own
+  call-own : is_a_call e.what ≡ true → call ≡ n
+  call-own c =
+      let own = (fits.call (λ q. false≢true (sym (ap is_a_call q) ∙ c))).own (e, slice_get-push es e, c) in
+      let same : call.0 ≡ n.0 = omega (arith, own, at) in
+      ap (λ m. event_id m) same
+
+  write-called : (k : ℕ × Val) (w : Write) → by_value e ≡ Some k → is_a_call e.what ≡ true → IsWriteSoFar es calls k w → IsWriteSoFar (es ++ e ∷ []) new_calls k (with_call w n)
+  write-called k w q c h = go w h
     where
-      or_none : (key : Event → Option (ℕ × Val)) (o : Option EvId) → IsFirstOf key (es ++ e ∷ []) k o → IsFirstOf key (es ++ e ∷ []) k (option_or o None)
-      or_none key None h = h
-      or_none key (Some j) h = h
+      by : by_write e ≡ Some k
+      by = ap (λ b. cond b (by_value e) None) c ∙ q
 
-      go : (b : Bool) → e.is_call ≡ b → IsFirstOf by_write (es ++ e ∷ []) k (option_or w (cond b (Some n) None)) × IsFirstOf by_reply (es ++ e ∷ []) k (option_or r (cond b None (Some n)))
-      go true c = (
-        first-with by_write es e n k w at (ap (λ b. cond b (by_value e) None) c ∙ q) hw,
-        or_none by_reply r (first-other by_reply es e k r (λ x. let z = ap (λ b. cond b None (by_value e)) (sym c) ∙ x in cc (z)) hr),
-      )
-      go false c = (
-        or_none by_write w (first-other by_write es e k w (λ x. let z = ap (λ b. cond b (by_value e) None) (sym c) ∙ x in cc (z)) hw),
-        first-with by_reply es e n k r at (ap (λ b. cond b None (by_value e)) c ∙ q) hr,
-      )
+      no-fail : is_a_fail e.what ≡ true → ⊥
+      no-fail f = fail-no_call e.what f c
 
-  new-key : (k : ℕ × Val) → by_value e ≡ Some k → key_at by_value (es ++ e ∷ []) n.0 ≡ Some k
-  new-key k q = ap (key_at by_value (es ++ e ∷ [])) at ∙ (ap (option_and_then by_value) (slice_get-push es e) ∙ q)
+      here : call_at new_calls n.0 ≡ Some n
+      here = ap (call_at new_calls) at ∙ (said.some (ap (λ b. b || is_a_reply e.what) c) ∙ ap Some (call-own c))
 
-  new-call : slice_get (calls ++ call ∷ []) n.0 ≡ Some call
-  new-call = let m : n.0 ≡ length calls = omega (arith, at, column) in ap (slice_get (calls ++ call ∷ [])) m ∙ slice_get-push calls call
+      go : (w : Write) → IsWriteSoFar es calls k w → IsWriteSoFar (es ++ e ∷ []) new_calls k (with_call w n)
+      go Unwritten h = record { first = first-with by_write es e n k None at by h.first; kept = λ id x. let s : n ≡ id = cc (x) in subst (λ (v : EvId). call_at new_calls v.0 ≡ Some n) s here }
+      go (Written w) h = record {
+        first = first-with by_write es e n k (Some w) at by h.first;
+        kept = λ id x. call-same id.0 (key-within by_write es id.0 k (write-id k id (Some w) x h.first)) (λ f. absurd (no-fail f)) ∙ h.kept id x;
+      }
+      go (Failed w) h = record {
+        first = first-with by_write es e n k (Some w) at by h.first;
+        kept = λ id x. call-same id.0 (key-within by_write es id.0 k (write-id k id (Some w) x h.first)) (λ f. absurd (no-fail f)) ∙ h.kept id x;
+      }
+
+  write-failed : (k : ℕ × Val) (w : Write) → is_a_fail e.what ≡ true → IsWriteSoFar es calls k w → IsWriteSoFar (es ++ e ∷ []) new_calls k (with_fail w call)
+  write-failed k w f h = go w h
+    where
+      other : (o : Option EvId) → IsFirstOf by_write es k o → IsFirstOf by_write (es ++ e ∷ []) k o
+      other o h = first-other by_write es e k o (λ q. fail-no_call e.what f (write-call e k q)) h
+
+      go : (w : Write) → IsWriteSoFar es calls k w → IsWriteSoFar (es ++ e ∷ []) new_calls k (with_fail w call)
+      go Unwritten h = record { first = other None h.first; kept = λ id x. absurd (cc (x)) }
+      go (Failed w) h = record {
+        first = other (Some w) h.first;
+        kept = λ id x. elim (decide_eq id.0 call.0) [
+          | inl q ↦ ap (call_at new_calls) q ∙ said.failed f
+          | inr ne ↦ call-same id.0 (key-within by_write es id.0 k (write-id k id (Some w) x h.first)) (λ _. ne) ∙ h.kept id x
+        ];
+      }
+      go (Written w) h = by_test (nat_eq w.0 call.0) refl
+        where
+          by_test : (b : Bool) → nat_eq w.0 call.0 ≡ b → IsWriteSoFar (es ++ e ∷ []) new_calls k (cond b (Failed w) (Written w))
+          by_test true t = record { first = other (Some w) h.first; kept = λ id x. let s : w ≡ id = cc (x) in ap (call_at new_calls) (ap (λ (v : EvId). v.0) (sym s) ∙ eqb-true w.0 call.0 t) ∙ said.failed f }
+          by_test false t = record {
+            first = other (Some w) h.first;
+            kept = λ id x.
+                let s : w ≡ id = cc (x) in
+                call-same id.0 (key-within by_write es id.0 k (write-id k id (Some w) x h.first)) (λ _ q. eqb-false w.0 call.0 t (ap (λ (v : EvId). v.0) s ∙ q)) ∙ h.kept id x;
+          }
+
+  write-own : (k : ℕ × Val) (w : Write) (v : What) → e.what ≡ v → by_value e ≡ Some k → IsWriteSoFar es calls k w → IsWriteSoFar (es ++ e ∷ []) new_calls k (write_with w v n call)
+  write-own k w (Call kind) q value h = write-called k w value (ap is_a_call q) h
+  write-own k w (Reply kind) q value h = write-same k w (ap is_a_call q) (ap is_a_fail q) h
+  write-own k w (Fail kind) q value h = write-failed k w (ap is_a_fail q) h
+  write-own k w Crash q value h = write-same k w (ap is_a_call q) (ap is_a_fail q) h
+
+  reply-own : (k : ℕ × Val) (r : Option EvId) (v : What) → e.what ≡ v → by_value e ≡ Some k → IsFirstOf by_reply es k r → IsFirstOf by_reply (es ++ e ∷ []) k (reply_with r v n)
+  reply-own k r (Call kind) q value h = first-other by_reply es e k r (λ x. false≢true (sym (ap is_a_reply q) ∙ reply-said e k x)) h
+  reply-own k r (Reply kind) q value h = first-with by_reply es e n k r at (ap (λ v. cond (is_a_reply v) (by_value e) None) q ∙ value) h
+  reply-own k r (Fail kind) q value h = first-other by_reply es e k r (λ x. false≢true (sym (ap is_a_reply q) ∙ reply-said e k x)) h
+  reply-own k r Crash q value h = first-other by_reply es e k r (λ x. false≢true (sym (ap is_a_reply q) ∙ reply-said e k x)) h
+
+  -- a read's reply keeps its call
+  read-not_failed : (k : ℕ × Val) (i : ℕ) → key_at by_read es i ≡ Some k → is_a_fail e.what ≡ true → i ≡ call.0 → ⊥
+  read-not_failed k i key f q = go (slice_get es i) refl key
+    where
+      go : (o : Option Event) → slice_get es i ≡ o → option_and_then by_read o ≡ Some k → ⊥
+      go None there x = cc (x)
+      go (Some g) there x =
+          let c = (fits.call (no-crash f)).call in
+          let l = fail-before f in
+          let w = c.1 in
+          let here : slice_get (es ++ e ∷ []) call.0 ≡ Some g = slice_get-push_other es e call.0 (λ z. omega (arith, l, z)) ∙ (ap (slice_get es) (sym q) ∙ there) in
+          let same : c.0 ≡ g = cc (w, here) in
+          let is = ap (λ (v : Event). is_a_call v.what) (sym same) ∙ c.2 in
+          let said = and-left (is_a_reply g.what) (not (writes (kind_in g.what))) (read-said g k x) in
+          false≢true (sym (call-no_reply g.what is) ∙ said)
+
+  read-same : (k : ℕ × Val) (i : ℕ) → key_at by_read es i ≡ Some k → call_at new_calls i ≡ call_at calls i
+  read-same k i key = call-same i (key-within by_read es i k key) (read-not_failed k i key)
+
+  read-kept : (k : ℕ × Val) (l : Option EvId) → (by_read e ≡ Some k → ⊥) → IsLastRead es calls k l → IsLastRead (es ++ e ∷ []) new_calls k l
+  read-kept k None ne h = λ i q. elim (key-back by_read es e i k q) [ inl x ↦ ne x.1 | inr x ↦ h i x ]
+  read-kept k (Some c) ne h = (
+    (h.0.0, key-keep by_read es e h.0.0 k h.0.1, read-same k h.0.0 h.0.1 ∙ h.0.2),
+    λ i d q g. elim (key-back by_read es e i k q) [ inl x ↦ absurd (ne x.1) | inr x ↦ h.1 i d x (sym (read-same k i x) ∙ g) ],
+  )
+
+  read-added : (k : ℕ × Val) (l : Option EvId) → by_read e ≡ Some k → is_a_reply e.what ≡ true → IsLastRead es calls k l → IsLastRead (es ++ e ∷ []) new_calls k (later l (Some call))
+  read-added k l by r h = go l h
+    where
+      key : key_at by_read (es ++ e ∷ []) n.0 ≡ Some k
+      key = ap (key_at by_read (es ++ e ∷ [])) at ∙ (ap (option_and_then by_read) (slice_get-push es e) ∙ by)
+
+      here : call_at new_calls n.0 ≡ Some call
+      here = ap (call_at new_calls) at ∙ said.some (ap (λ b. is_a_call e.what || b) r ∙ or-true (is_a_call e.what))
+
+      own : (i : ℕ) (d : EvId) → i ≡ length es → call_at new_calls i ≡ Some d → call ≡ d
+      own i d q g = let s : i ≡ n.0 = omega (arith, q, at) in let w = sym here ∙ (ap (call_at new_calls) (sym s) ∙ g) in cc (w)
+
+      go : (l : Option EvId) → IsLastRead es calls k l → IsLastRead (es ++ e ∷ []) new_calls k (later l (Some call))
+      go None h = ((n.0, key, here), λ i d q g. elim (key-back by_read es e i k q) [ inl x ↦ let s = own i d x.0 g in omega (arith, ap (λ (v : EvId). v.0) s) | inr x ↦ absurd (h i x) ])
+      go (Some c) h = by_test (nat_lt c.0 call.0) refl
+        where
+          by_test : (b : Bool) → nat_lt c.0 call.0 ≡ b → IsLastRead (es ++ e ∷ []) new_calls k (Some (cond b call c))
+          by_test true t =
+              let lt = ltb-true c.0 call.0 t in
+              ((n.0, key, here), λ i d q g. elim (key-back by_read es e i k q) [ inl x ↦ let s = own i d x.0 g in omega (arith, ap (λ (v : EvId). v.0) s) | inr x ↦ let o = h.1 i d x (sym (read-same k i x) ∙ g) in omega arith ])
+          by_test false t =
+              let le = ltb-false c.0 call.0 t in (
+                (h.0.0, key-keep by_read es e h.0.0 k h.0.1, read-same k h.0.0 h.0.1 ∙ h.0.2),
+                λ i d q g. elim (key-back by_read es e i k q) [ inl x ↦ let s = own i d x.0 g in omega (arith, ap (λ (v : EvId). v.0) s) | inr x ↦ h.1 i d x (sym (read-same k i x) ∙ g) ],
+              )
+
+  read-own : (k : ℕ × Val) (l : Option EvId) (v : What) → e.what ≡ v → by_value e ≡ Some k → IsLastRead es calls k l → IsLastRead (es ++ e ∷ []) new_calls k (read_with l v call)
+  read-own k l (Call kind) q value h = read-kept k l (λ x. false≢true (sym (ap (λ v. is_a_reply v && not (writes (kind_in v))) q) ∙ read-said e k x)) h
+  read-own k l (Reply ReadOp) q value h = read-added k l (ap (λ v. cond (is_a_reply v && not (writes (kind_in v))) (by_value e) None) q ∙ value) (ap is_a_reply q) h
+  read-own k l (Reply WriteOp) q value h = read-kept k l (λ x. false≢true (sym (ap (λ v. is_a_reply v && not (writes (kind_in v))) q) ∙ read-said e k x)) h
+  read-own k l (Fail kind) q value h = read-kept k l (λ x. false≢true (sym (ap (λ v. is_a_reply v && not (writes (kind_in v))) q) ∙ read-said e k x)) h
+  read-own k l Crash q value h = read-kept k l (λ x. false≢true (sym (ap (λ v. is_a_reply v && not (writes (kind_in v))) q) ∙ read-said e k x)) h
+
+  -- ---- an entry
+
+  -- an entry of another key
+  entry-other : (k : ℕ × Val) (y : Entry) → (by_value e ≡ Some k → ⊥) → IsEntry es calls k y → IsEntry (es ++ e ∷ []) new_calls k y
+  entry-other k y ne h =
+      let w = write-other k y.write ne (record { first = h.write; kept = h.kept }) in
+      record {
+        write = w.first;
+        kept = w.kept;
+        reply = first-other by_reply es e k y.first_reply (λ q. ne (reply-value e k q)) h.reply;
+        read = read-kept k y.last_read (λ q. ne (read-value e k q)) h.read;
+      }
 
   -- the first entry of a key
-  entry-first : (k : ℕ × Val) → by_value e ≡ Some k → ((i : ℕ) → key_at by_value es i ≡ Some k → ⊥) → IsEntry (es ++ e ∷ []) (calls ++ call ∷ []) k (entry_alone e n call)
+  entry-first : (k : ℕ × Val) → by_value e ≡ Some k → ((i : ℕ) → key_at by_value es i ≡ Some k → ⊥) → IsEntry (es ++ e ∷ []) new_calls k (entry_alone e n call)
   entry-first k q none =
-      let f = firsts k q None None (λ i _ x. none i (key-along by_write by_value es k (λ e. write-value e k) i x)) (λ i _ x. none i (key-along by_reply by_value es k (λ e. reply-value e k) i x)) in
+      let w = write-own k Unwritten e.what refl q (record { first = λ i _ x. none i (key-along by_write by_value es k (λ e. write-value e k) i x); kept = λ id x. absurd (cc (x)) }) in
       record {
-        write = f.0;
-        reply = f.1;
-        some = (n.0, new-key k q, new-call);
-        last = λ i c x g. elim (key-back by_value es e i k x) [ inl y ↦ let s = call-new i c y.0 g in omega (arith, ap (λ (z : EvId). z.0) s) | inr y ↦ absurd (none i y) ];
+        write = w.first;
+        kept = w.kept;
+        reply = reply-own k None e.what refl q (λ i _ x. none i (key-along by_reply by_value es k (λ e. reply-value e k) i x));
+        read = read-own k None e.what refl q (λ i x. none i (key-along by_read by_value es k (λ e. read-value e k) i x));
       }
 
   -- an entry of the event's key
-  entry-next : (k : ℕ × Val) (y : Entry) → by_value e ≡ Some k → IsEntry es calls k y → IsEntry (es ++ e ∷ []) (calls ++ call ∷ []) k (entry_with y e n call)
+  entry-next : (k : ℕ × Val) (y : Entry) → by_value e ≡ Some k → IsEntry es calls k y → IsEntry (es ++ e ∷ []) new_calls k (entry_with y e n call)
   entry-next k y q h =
-      let f = firsts k q y.write y.first_reply h.write h.reply in
-      let m = greatest (nat_lt y.last_call.0 call.0) refl in
-      record { write = f.0; reply = f.1; some = m.0; last = m.1 }
-    where
-      greatest : (b : Bool) → nat_lt y.last_call.0 call.0 ≡ b
-          → ((i : ℕ) × (key_at by_value (es ++ e ∷ []) i ≡ Some k) × (slice_get (calls ++ call ∷ []) i ≡ Some (cond b call y.last_call)))
-          × ((i : ℕ) (c : EvId) → key_at by_value (es ++ e ∷ []) i ≡ Some k → slice_get (calls ++ call ∷ []) i ≡ Some c → c.0 ≤ (cond b call y.last_call).0)
-      greatest true t =
-          let lt = ltb-true y.last_call.0 call.0 t in (
-            (n.0, new-key k q, new-call),
-            λ i c x g. elim (key-back by_value es e i k x) [ inl z ↦ let s = call-new i c z.0 g in omega (arith, ap (λ (z : EvId). z.0) s) | inr z ↦ let o = h.last i c z (call-old i c (key-within by_value es i k z) g) in omega arith ],
-          )
-      greatest false t =
-          let le = ltb-false y.last_call.0 call.0 t in (
-            (h.some.0, key-keep by_value es e h.some.0 k h.some.1, call-kept h.some.0 y.last_call h.some.2),
-            λ i c x g. elim (key-back by_value es e i k x) [ inl z ↦ let s = call-new i c z.0 g in omega (arith, ap (λ (z : EvId). z.0) s) | inr z ↦ h.last i c z (call-old i c (key-within by_value es i k z) g) ],
-          )
+      let w = write-own k y.write e.what refl q (record { first = h.write; kept = h.kept }) in
+      record {
+        write = w.first;
+        kept = w.kept;
+        reply = reply-own k y.first_reply e.what refl q h.reply;
+        read = read-own k y.last_read e.what refl q h.read;
+      }
 
   pub entries-push : (entry new_entry : ℕ × Val → Option Entry) → ((k : ℕ × Val) → entry k ≡ None → (i : ℕ) → key_at by_value es i ≡ Some k → ⊥) → ((k : ℕ × Val) (y : Entry) → entry k ≡ Some y → IsEntry es calls k y)
-      → IsEnteredBy (by_value e) e n call entry new_entry → (k : ℕ × Val) (y : Entry) → new_entry k ≡ Some y → IsEntry (es ++ e ∷ []) (calls ++ call ∷ []) k y
+      → IsEnteredBy (by_value e) e n call entry new_entry → (k : ℕ × Val) (y : Entry) → new_entry k ≡ Some y → IsEntry (es ++ e ∷ []) new_calls k y
   entries-push entry new_entry none old t k y h = go (by_value e) refl t
     where
-      of_key : by_value e ≡ Some k → new_entry k ≡ Some (entry_after (entry k) e n call) → (o : Option Entry) → entry k ≡ o → IsEntry (es ++ e ∷ []) (calls ++ call ∷ []) k y
+      of_key : by_value e ≡ Some k → new_entry k ≡ Some (entry_after (entry k) e n call) → (o : Option Entry) → entry k ≡ o → IsEntry (es ++ e ∷ []) new_calls k y
       of_key q new None was =
           let w = sym new ∙ h in
           let same : entry_after (entry k) e n call ≡ y = cc (w) in
-          subst (IsEntry (es ++ e ∷ []) (calls ++ call ∷ []) k) (sym (ap (λ o. entry_after o e n call) was) ∙ same) (entry-first k q (none k was))
+          subst (IsEntry (es ++ e ∷ []) new_calls k) (sym (ap (λ o. entry_after o e n call) was) ∙ same) (entry-first k q (none k was))
       of_key q new (Some z) was =
           let w = sym new ∙ h in
           let same : entry_after (entry k) e n call ≡ y = cc (w) in
-          subst (IsEntry (es ++ e ∷ []) (calls ++ call ∷ []) k) (sym (ap (λ o. entry_after o e n call) was) ∙ same) (entry-next k z q (old k z was))
+          subst (IsEntry (es ++ e ∷ []) new_calls k) (sym (ap (λ o. entry_after o e n call) was) ∙ same) (entry-next k z q (old k z was))
 
-      go : (o : Option (ℕ × Val)) → by_value e ≡ o → IsEnteredBy o e n call entry new_entry → IsEntry (es ++ e ∷ []) (calls ++ call ∷ []) k y
+      go : (o : Option (ℕ × Val)) → by_value e ≡ o → IsEnteredBy o e n call entry new_entry → IsEntry (es ++ e ∷ []) new_calls k y
       go None q t = entry-other k y (λ x. let z = sym q ∙ x in cc (z)) (old k y (sym (t k) ∙ h))
       go (Some p) q t = elim (t.others k) [
         | inl s ↦ of_key (q ∙ ap Some (sym s)) (subst (λ (v : ℕ × Val). new_entry v ≡ Some (entry_after (entry v) e n call)) (sym s) t.one) (entry k) refl
         | inr d ↦ entry-other k y (λ x. d.0 (let z = sym q ∙ x in let w : p ≡ k = cc (z) in sym w)) (old k y (sym d.1 ∙ h))
       ]
+
+-- a fail ends a call before it
+pub fail-within : (es : List Event) (e : Event) (call : EvId) → IsAppendable es e call → is_a_fail e.what ≡ true → call.0 < length es
+fail-within es e call fits f = call-before es e call (fits.call (λ q. false≢true (sym (ap is_a_fail q) ∙ f))) f
+
+pub calls-length : (calls : List EvId) (w : What) (call : EvId) → length (calls_with calls w call) ≡ length calls + 1
+calls-length calls (Call kind) call = length-append calls (call ∷ [])
+calls-length calls (Reply kind) call = length-append calls (call ∷ [])
+calls-length calls (Fail kind) call = length-append (set calls call.0 no_call) (no_call ∷ []) ∙ ap (λ m. m + 1) (length-set calls call.0 no_call)
+calls-length calls Crash call = length-append calls (no_call ∷ [])
+
+-- no register is past the next one
+pub end-known : (o : Option RegId) → end_of o ≤ number_in o + 1
+end-known None = omega arith
+end-known (Some r) = omega arith
 
 -- ---- the numbers of the entries after an append
 

@@ -1,130 +1,118 @@
 -- The operation of a call, by the link to the next event of its process.
-use Rattle.std.proofs.Common.{◌≡◌, ℕ, zero, suc, ◌+◌, ◌-◌, ◌==◌, cond, Bool, true, false, List, [], ◌∷◌, ◌++◌, length, slice_get, Option, Some, None, inl, inr, refl, sym, ap, subst, ◌∙◌, arith, option_map, option_and_then}
-use Rattle.std.proofs.lemmas.Bool.{eqb-true, eqb-false}
+use Rattle.std.proofs.Common.{◌≡◌, ℕ, suc, ◌+◌, ◌-◌, ◌<◌, ◌≤◌, cond, Bool, true, false, List, [], ◌∷◌, ◌++◌, length, drop, slice_get, Option, Some, None, inl, inr, refl, sym, ap, subst, ◌∙◌, arith, option_map, option_and_then, unwrap_or}
+use Rattle.std.proofs.lemmas.Bool.{cases_order}
 use Rattle.reg_arena.specs.declared.event.Event.{Event}
 use Rattle.reg_arena.specs.declared.ids.EvId.{EvId}
+use Rattle.reg_arena.specs.declared.ids.RegId.{RegId}
 use Rattle.reg_arena.specs.Lists.{In}
 use Rattle.reg_arena.specs.History.{History}
-use Rattle.reg_arena.specs.Operations.{Operation, next_of, operation, calls_from, initial_writes, operations, writes}
+use Rattle.reg_arena.specs.Operations.{Operation, next_of, reply_in, operation, is_a_reply, kind_in, number_in, calls, initial_writes, operations, writes}
 use Rattle.reg_arena.specs.declared.op.Op.{Op}
+use Rattle.history_text.specs.declared.event.OpKind.{OpKind}
 use Rattle.history_text.specs.declared.event.Val.{Val}
 use Rattle.reg_arena.specs.declared.ids.Oper.TheVariants.{Called}
-use Rattle.reg_arena.specs.Shown.{IsCall, IsNamed, name_of, op_shown, IsLeastFrom, IsFirstOf, IsNextOf, key_at, by_process}
+use Rattle.reg_arena.specs.Shown.{IsNamed, begins_at, name_of, op_shown, IsLeastFrom, IsNextOf, key_at, by_process}
+use Rattle.reg_arena.specs.Walking.{IsReplyOf, timed}
+use Rattle.reg_arena.proofs.Belonging.{IsNextAt, next-at, call-In}
+use Rattle.reg_arena.proofs.Named.{at-begun}
+use Rattle.reg_arena.proofs.Recorded.{In-right}
 
--- the place before
-abbrev pub less : ℕ → ℕ
-less zero = zero
-less (suc k) = k
-
-abbrev pub before : Option EvId → Option EvId
-before None = None
-before (Some j) = Some (record { 0 = less j.0 })
-
--- the event that a link leads to, with its time, where the first event has the time s
-abbrev pub led_to : ℕ → List Event → Option EvId → Option (ℕ × Event)
-led_to s es None = None
-led_to s es (Some j) = option_map (λ r. (s + j.0, r)) (slice_get es j.0)
-
-shift : (p : ℕ) (x : Event) (xs : List Event) (m : ℕ) (o : Option EvId) → IsLeastFrom (λ j. key_at by_process (x ∷ xs) j ≡ Some p) (suc m) o → IsLeastFrom (λ j. key_at by_process xs j ≡ Some p) m (before o)
-shift p x xs m None h = λ i l q. h (suc i) (omega arith) q
-shift p x xs m (Some j) h = go j.0 h
+-- the next event of a process is the one that the link leads to
+pub next-linked : (evs : List Event) (i : ℕ) (e : Event) (o : Option EvId) → slice_get evs i ≡ Some e → IsNextOf by_process evs i o → next_of e.process (suc (i + 2)) (drop (suc i) evs) ≡ timed evs o
+next-linked evs i e o at n = elim (next-at evs i e.process (next_of e.process (suc (2 + i)) (drop (suc i) evs)) refl) [
+  | inl x ↦ time ∙ (x.0 ∙ sym (last o link x.1))
+  | inr x ↦ time ∙ (x.2 ∙ sym (found o link x.0 x.1 x.3))
+]
   where
-    go : (k : ℕ) → IsLeastFrom (λ j. key_at by_process (x ∷ xs) j ≡ Some p) (suc m) (Some (record { 0 = k })) → IsLeastFrom (λ j. key_at by_process xs j ≡ Some p) m (Some (record { 0 = less k }))
-    go zero h = absurd (omega (arith, h.0))
-    go (suc k) h = (omega (arith, h.0), h.1, λ i l lt q. h.2 (suc i) (omega arith) (omega arith) q)
+    time : next_of e.process (suc (i + 2)) (drop (suc i) evs) ≡ next_of e.process (suc (2 + i)) (drop (suc i) evs)
+    time = let t : i + 2 ≡ 2 + i = omega arith in ap (λ m. next_of e.process (suc m) (drop (suc i) evs)) t
 
-led-before : (p s : ℕ) (x : Event) (xs : List Event) (m : ℕ) (o : Option EvId) → IsLeastFrom (λ j. key_at by_process (x ∷ xs) j ≡ Some p) (suc m) o → led_to (suc s) xs (before o) ≡ led_to s (x ∷ xs) o
-led-before p s x xs m None h = refl
-led-before p s x xs m (Some j) h = go j.0 h
-  where
-    go : (k : ℕ) → IsLeastFrom (λ j. key_at by_process (x ∷ xs) j ≡ Some p) (suc m) (Some (record { 0 = k })) → led_to (suc s) xs (Some (record { 0 = less k })) ≡ led_to s (x ∷ xs) (Some (record { 0 = k }))
-    go zero h = absurd (omega (arith, h.0))
-    go (suc k) h = let e : suc s + k ≡ s + suc k = omega arith in ap (λ t. option_map (λ (r : Event). (t, r)) (slice_get xs k)) e
+    link : IsLeastFrom (λ j. key_at by_process evs j ≡ Some e.process) (i + 1) o
+    link = n e.process (ap (option_and_then by_process) at)
 
-next-led : (p s : ℕ) (es : List Event) (o : Option EvId) → IsFirstOf by_process es p o → next_of p s es ≡ led_to s es o
-next-led p s [] None h = refl
-next-led p s [] (Some j) h = absurd (let q = h.1 in cc (q))
-next-led p s (e ∷ es) o h = go (e.process == p) refl o h (next-led p (suc s) es)
-  where
-    at : (k : ℕ) → e.process ≡ p → IsFirstOf by_process (e ∷ es) p (Some (record { 0 = k })) → Some (s, e) ≡ led_to s (e ∷ es) (Some (record { 0 = k }))
-    at zero q h = let z : s ≡ s + 0 = omega arith in ap (λ t. Some (t, e)) z
-    at (suc k) q h = absurd (h.2 0 (omega arith) (omega arith) (ap Some q))
-
-    later : (o : Option EvId) → (e.process ≡ p → ⊥) → IsFirstOf by_process (e ∷ es) p o → IsLeastFrom (λ j. key_at by_process (e ∷ es) j ≡ Some p) 1 o
-    later None n h = λ i l q. h i (omega arith) q
-    later (Some j) n h = out j.0 h
+    event-at : (j : ℕ) → key_at by_process evs j ≡ Some e.process → (g : Event) × (slice_get evs j ≡ Some g) × (g.process ≡ e.process)
+    event-at j h = go (slice_get evs j) refl h
       where
-        out : (k : ℕ) → IsFirstOf by_process (e ∷ es) p (Some (record { 0 = k })) → IsLeastFrom (λ j. key_at by_process (e ∷ es) j ≡ Some p) 1 (Some (record { 0 = k }))
-        out zero h = absurd (n (let q = h.1 in cc (q)))
-        out (suc k) h = (omega arith, h.1, λ i l lt q. h.2 i (omega arith) lt q)
+        go : (o : Option Event) → slice_get evs j ≡ o → option_and_then by_process o ≡ Some e.process → (g : Event) × (slice_get evs j ≡ Some g) × (g.process ≡ e.process)
+        go None q h = absurd (cc (h))
+        go (Some g) q h = (g, q, cc (h))
 
-    go : (b : Bool) → (e.process == p) ≡ b → (o : Option EvId) → IsFirstOf by_process (e ∷ es) p o → ((o : Option EvId) → IsFirstOf by_process es p o → next_of p (suc s) es ≡ led_to (suc s) es o) → cond b (Some (s, e)) (next_of p (suc s) es) ≡ led_to s (e ∷ es) o
-    go true d None h f = absurd (h 0 (omega arith) (ap Some (eqb-true _ _ d)))
-    go true d (Some j) h f = at j.0 (eqb-true _ _ d) h
-    go false d o h f = let l = later o (eqb-false _ _ d) h in f (before o) (shift p e es 0 o l) ∙ led-before p s e es 0 o l
+    last : (o : Option EvId) → IsLeastFrom (λ j. key_at by_process evs j ≡ Some e.process) (i + 1) o → ((u : ℕ) (g : Event) → i < u → slice_get evs u ≡ Some g → g.process ≡ e.process → ⊥) → timed evs o ≡ None
+    last None l none = refl
+    last (Some j) l none = let g = event-at j.0 l.1 in absurd (none j.0 g.0 (let b = l.0 in omega arith) g.1 g.2)
 
--- the operation of a call is the one that its link tells
-pub called-In : (n s : ℕ) (es : List Event) (i : ℕ) (e : Event) (o : Option EvId) → slice_get es i ≡ Some e → e.is_call ≡ true → IsLeastFrom (λ j. key_at by_process es j ≡ Some e.process) (i + 1) o → In (operation n (s + i) e (led_to s es o)) (calls_from n s es)
-called-In n s [] i e o at c h = absurd (cc (at))
-called-In n s (x ∷ xs) zero e o at c h =
-    let q : x ≡ e = cc (at) in
-    let d : x.is_call ≡ true = ap (λ (v : Event). v.is_call) q ∙ c in
-    let l = subst (λ m. IsLeastFrom (λ j. key_at by_process (x ∷ xs) j ≡ Some e.process) m o) (omega arith) h in
-    let r : next_of e.process (suc s) xs ≡ led_to s (x ∷ xs) o = next-led e.process (suc s) xs (before o) (shift e.process x xs 0 o l) ∙ led-before e.process s x xs 0 o l in
-    let t : s + 0 ≡ s = omega arith in
-    subst (λ b. In (operation n (s + 0) e (led_to s (x ∷ xs) o)) (cond b (operation n s x (next_of x.process (suc s) xs) ∷ calls_from n (suc s) xs) (calls_from n (suc s) xs))) (sym d)
-    (inl (subst (λ (v : Event). operation n (s + 0) e (led_to s (x ∷ xs) o) ≡ operation n s v (next_of v.process (suc s) xs)) (sym q)
-    (ap (λ m. operation n m e (led_to s (x ∷ xs) o)) t ∙ ap (operation n s e) (sym r))))
-called-In n s (x ∷ xs) (suc i) e o at c h =
-    let l = subst (λ m. IsLeastFrom (λ j. key_at by_process (x ∷ xs) j ≡ Some e.process) m o) (omega arith) h in
-    let deep = called-In n (suc s) xs i e (before o) at c (shift e.process x xs (i + 1) o l) in
-    let t : suc s + i ≡ s + suc i = omega arith in
-    let same : In (operation n (s + suc i) e (led_to s (x ∷ xs) o)) (calls_from n (suc s) xs) =
-    subst (λ m. In (operation n m e (led_to s (x ∷ xs) o)) (calls_from n (suc s) xs)) t (subst (λ y. In (operation n (suc s + i) e y) (calls_from n (suc s) xs)) (led-before e.process s x xs (i + 1) o l) deep) in
-    deeper x.is_call same
-  where
-    deeper : (b : Bool) → In (operation n (s + suc i) e (led_to s (x ∷ xs) o)) (calls_from n (suc s) xs) → In (operation n (s + suc i) e (led_to s (x ∷ xs) o)) (cond b (operation n s x (next_of x.process (suc s) xs) ∷ calls_from n (suc s) xs) (calls_from n (suc s) xs))
-    deeper true k = inr k
-    deeper false k = k
+    found : (o : Option EvId) → IsLeastFrom (λ j. key_at by_process evs j ≡ Some e.process) (i + 1) o → (j : ℕ) (g : Event) → IsNextAt evs i e.process j g → timed evs o ≡ Some (j + 2, g)
+    found None l j g x = absurd (let b = x.order in l j (omega arith) (ap (option_and_then by_process) x.there ∙ ap Some x.process))
+    found (Some m) l j g x = elim (cases_order m.0 j) [
+      | inl q ↦ ap (option_map (λ (e : Event). (m.0 + 2, e))) (ap (slice_get evs) q ∙ x.there) ∙ ap (λ k. Some (k + 2, g)) q
+      | inr w ↦ elim w [
+        | inl less ↦ let h = event-at m.0 l.1 in absurd (x.between m.0 h.0 (let b = l.0 in omega arith) less h.1 h.2)
+        | inr more ↦ absurd (let b = x.order in l.2 j (omega arith) more (ap (option_and_then by_process) x.there ∙ ap Some x.process))
+      ]
+    ]
 
-In-after : {X : Type 0} (a : X) (xs ys : List X) → In a ys → In a (xs ++ ys)
-In-after a [] ys h = h
-In-after a (x ∷ xs) ys h = inr (In-after a xs ys h)
+-- ---- the reply of a call
 
-pub called-operation : (h : History) (i : ℕ) (e : Event) (o : Option EvId) → slice_get h.events i ≡ Some e → e.is_call ≡ true → IsNextOf by_process h.events i o → In (operation (length h.events + 2) (2 + i) e (led_to 2 h.events o)) (operations h)
-called-operation h i e o at c n = In-after _ (initial_writes (length h.names)) _ (called-In (length h.events + 2) 2 h.events i e o at c (n e.process (ap (option_and_then by_process) at)))
+pub reply-none : (evs : List Event) (i : ℕ) → IsNextOf by_process evs i None → IsReplyOf evs i None
+reply-none evs i n e at = ap reply_in (next-linked evs i e None at n)
 
-abbrev op_with : Event → ℕ → Option ℕ → Option Val → Op
-op_with e t u v = record { line = e.line; call = t; reply = u; process = Some e.process; register = e.register; kind = e.kind; value = v }
+pub reply-some : (evs : List Event) (i : ℕ) (j : EvId) (r : Event) → IsNextOf by_process evs i (Some j) → slice_get evs j.0 ≡ Some r → is_a_reply r.what ≡ true → IsReplyOf evs i (Some j)
+reply-some evs i j r n there q e at =
+    let t : timed evs (Some j) ≡ Some (j.0 + 2, r) = ap (option_map (λ (e : Event). (j.0 + 2, e))) there in
+    ap reply_in (next-linked evs i e (Some j) at n ∙ t) ∙ (ap (λ b. cond b (Some (j.0 + 2, r)) None) q ∙ sym t)
+
+pub reply-other : (evs : List Event) (i : ℕ) (j : EvId) (r : Event) → IsNextOf by_process evs i (Some j) → slice_get evs j.0 ≡ Some r → is_a_reply r.what ≡ false → IsReplyOf evs i None
+reply-other evs i j r n there q e at =
+    let t : timed evs (Some j) ≡ Some (j.0 + 2, r) = ap (option_map (λ (e : Event). (j.0 + 2, e))) there in
+    ap reply_in (next-linked evs i e (Some j) at n ∙ t) ∙ ap (λ b. cond b (Some (j.0 + 2, r)) None) q
+
+-- ---- the operation of a call
+
+abbrev op_with : Event → ℕ → Option ℕ → RegId → Option Val → Op
+op_with e t u r v = record { line = e.line; call = t; reply = u; process = Some e.process; register = r; kind = kind_in e.what; value = v }
 
 -- the operation of a call has its event's name
 named : (n i : ℕ) (e : Event) (o : Option (ℕ × Event)) → name_of (operation n (2 + i) e o) ≡ Called (record { 0 = i })
 named n i e None = let t : 2 + i - 2 ≡ i = omega arith in ap (λ m. Called (record { 0 = m })) t
 named n i e (Some r) = let t : 2 + i - 2 ≡ i = omega arith in ap (λ m. Called (record { 0 = m })) t
 
-module _ (h : History) (i : EvId) (e : Event) (at : slice_get h.events i.0 ≡ Some e) (c : IsCall h.events i.0) where
-  is-call : e.is_call ≡ true
-  is-call = let a = c.1 in let same : c.0 ≡ e = cc (a, at) in sym (ap (λ (v : Event). v.is_call) same) ∙ c.2
+register-is : (o : Option RegId) → unwrap_or o (record { 0 = 0 }) ≡ record { 0 = number_in o }
+register-is None = refl
+register-is (Some r) = refl
 
-  pub pending : IsNextOf by_process h.events i.0 None → (o : Operation) × IsNamed h (Called i) o × ((record { line = e.line; call = i.0 + 2; reply = None; process = Some e.process; register = e.register; kind = e.kind; value = e.value }) ≡ op_shown o)
-  pending n =
-      let o = operation (length h.events + 2) (2 + i.0) e None in
-      let t : i.0 + 2 ≡ 2 + i.0 = omega arith in (
-        o,
-        record { one = called-operation h i.0 e None at is-call n; named = named (length h.events + 2) i.0 e None },
-        ap (λ x. op_with e x None e.value) t,
+module _ (h : History) (i : EvId) (e : Event) (at : slice_get h.events i.0 ≡ Some e) (c : (f : Event) × (slice_get h.events i.0 ≡ Some f) × (begins_at h.events i.0 f ≡ true)) (register : RegId) (reg : register ≡ unwrap_or e.register (record { 0 = 0 })) where
+  begun : begins_at h.events i.0 e ≡ true
+  begun = let a = c.1 in let same : c.0 ≡ e = cc (a, at) in ap (begins_at h.events i.0) (sym same) ∙ c.2
+
+  -- the operation with its reply
+  by-reply : (o : Option (ℕ × Event)) → reply_in (next_of e.process (suc (i.0 + 2)) (drop (suc i.0) h.events)) ≡ o → (x : Operation) × IsNamed h (Called i) x × (x ≡ operation (length h.events + 2) (2 + i.0) e o)
+  by-reply o r =
+      let t : 2 + i.0 ≡ i.0 + 2 = omega arith in
+      let q : reply_in (next_of e.process (suc (2 + i.0)) (drop (suc i.0) h.events)) ≡ o = ap (λ m. reply_in (next_of e.process (suc m) (drop (suc i.0) h.events))) t ∙ r in
+      let inside = call-In (length h.events + 2) 2 h.events i.0 e at (at-begun h.events i.0 e begun) in
+      let there = subst (λ y. In (operation (length h.events + 2) (2 + i.0) e y) (calls h.events)) q inside in (
+        operation (length h.events + 2) (2 + i.0) e o,
+        record { one = In-right (operation (length h.events + 2) (2 + i.0) e o) (initial_writes (length h.names)) (calls h.events) there; named = named (length h.events + 2) i.0 e o },
+        refl,
       )
 
-  pub replied : (j : EvId) (r : Event) (v : Option Val) → IsNextOf by_process h.events i.0 (Some j) → slice_get h.events j.0 ≡ Some r → v ≡ cond (writes e.kind) e.value r.value
-      → (o : Operation) × IsNamed h (Called i) o × ((record { line = e.line; call = i.0 + 2; reply = Some (j.0 + 2); process = Some e.process; register = e.register; kind = e.kind; value = v }) ≡ op_shown o)
-  replied j r v n there q =
-      let o = operation (length h.events + 2) (2 + i.0) e (Some (2 + j.0, r)) in
+  abbrev shown : Option ℕ → Option Val → Op
+  shown u v = record { line = e.line; call = i.0 + 2; reply = u; process = Some e.process; register = register; kind = kind_in e.what; value = v }
+
+  same-register : register ≡ record { 0 = number_in e.register }
+  same-register = reg ∙ register-is e.register
+
+  pub pending : IsReplyOf h.events i.0 None → (o : Operation) × IsNamed h (Called i) o × (shown None e.value ≡ op_shown o)
+  pending r =
+      let x = by-reply None (r e at) in
       let t : i.0 + 2 ≡ 2 + i.0 = omega arith in
-      let u : j.0 + 2 ≡ 2 + j.0 = omega arith in (
-        o,
-        record {
-          one = subst (λ y. In (operation (length h.events + 2) (2 + i.0) e y) (operations h)) (ap (option_map (λ (x : Event). (2 + j.0, x))) there) (called-operation h i.0 e (Some j) at is-call n);
-          named = named (length h.events + 2) i.0 e (Some (2 + j.0, r));
-        },
-        ap (λ x. op_with e x (Some (j.0 + 2)) v) t ∙ (ap (λ x. op_with e (2 + i.0) (Some x) v) u ∙ ap (op_with e (2 + i.0) (Some (2 + j.0))) q),
+      (x.0, x.1, ap (λ m. op_with e m None register e.value) t ∙ (ap (λ g. op_with e (2 + i.0) None g e.value) same-register ∙ ap op_shown (sym x.2)))
+
+  pub replied : (j : EvId) (r : Event) (v : Option Val) → IsReplyOf h.events i.0 (Some j) → slice_get h.events j.0 ≡ Some r → v ≡ cond (writes (kind_in e.what)) e.value r.value → (o : Operation) × IsNamed h (Called i) o × (shown (Some (j.0 + 2)) v ≡ op_shown o)
+  replied j r v n there q =
+      let x = by-reply (Some (j.0 + 2, r)) (n e at ∙ ap (option_map (λ (e : Event). (j.0 + 2, e))) there) in
+      let t : i.0 + 2 ≡ 2 + i.0 = omega arith in (
+        x.0,
+        x.1,
+        ap (λ m. op_with e m (Some (j.0 + 2)) register v) t ∙ (ap (λ g. op_with e (2 + i.0) (Some (j.0 + 2)) g v) same-register ∙ (ap (op_with e (2 + i.0) (Some (j.0 + 2)) (record { 0 = number_in e.register })) q ∙ ap op_shown (sym x.2))),
       )

@@ -1,14 +1,26 @@
 -- The entry of an event's register and value, by the number beside the event or beside another of the same.
-use Rattle.std.proofs.Common.{◌≡◌, ℕ, ◌<◌, length, slice_get, Option, Some, None, inl, inr, refl, ap, ◌∙◌, arith, option_and_then, option_map, unwrap_or, sym, subst, List}
+use Rattle.std.proofs.Common.{◌≡◌, ℕ, ◌^◌, ◌<◌, nat_eq, cond, false, length, slice_get, Option, Some, None, inl, inr, refl, ap, ◌∙◌, ◌||◌, Bool, true, is_some, arith, option_and_then, option_map, unwrap_or, sym, subst, List}
 use Rattle.std.proofs.lemmas.Option.{slice_get_cases, slice_get_past}
+use Rattle.std.proofs.lemmas.Bool.{cases_order, eqb-true, eqb-false, eq-eqb, ne_eqb, false≢true}
 use Rattle.history_text.specs.declared.event.Val.{Val}
 use Rattle.reg_arena.specs.declared.event.Event.{Event}
+use Rattle.reg_arena.specs.declared.event.What.{What}
+use Rattle.reg_arena.specs.declared.event.What.TheVariants.{Call, Reply, Fail, Crash}
+use Rattle.reg_arena.specs.declared.ends.Entry.{Entry}
+use Rattle.reg_arena.specs.declared.ends.TheConstants.{NO_CALL}
+use Rattle.reg_arena.proofs.Recorded.{reply-no_call}
+use Rattle.reg_arena.proofs.Walking.{begins-call}
+use Rattle.reg_arena.specs.declared.ends.Write.{Write}
+use Rattle.reg_arena.specs.declared.ends.Write.TheVariants.{Unwritten, Written, Failed}
+use Rattle.reg_arena.specs.Operations.{is_a_call, is_a_reply}
 use Rattle.reg_arena.specs.declared.threads.Threads.{Threads}
-use Rattle.reg_arena.specs.Shown.{key_at, by_register, by_value}
+use Rattle.reg_arena.specs.Shown.{IsFirstOf, begins_at, belongs_at, key_at, by_register, by_value}
 use Rattle.reg_arena.specs.Step.{IsLastWith}
 use Rattle.reg_arena.specs.declared.ids.EvId.{EvId}
 use Rattle.reg_arena.specs.declared.ids.RegId.{RegId}
-use Rattle.reg_arena.specs.Threads.{AreThreads, IsAlike, IsLastOf, event_number, value_entry, value_number}
+use Rattle.reg_arena.specs.Threads.{AreThreads, IsAlike, IsCallAt, IsCallOf, IsKeptWrite, IsLastOf, by_write, call_at, event_number, value_entry, value_number, write_called, write_kept}
+use Rattle.reg_arena.proofs.Append.{key-along, write-call, write-value}
+use Rattle.reg_arena.proofs.ByValue.{key-by, key-none, key-parts}
 use Rattle.reg_arena.proofs.Values.{number-within as within-keys, entry-is}
 
 -- the element at a place within a list
@@ -47,8 +59,8 @@ number-absent t a e none = go (by_value e) refl
     absent k q (Some n) h =
         let w = within-keys t.values.keys k n h in
         let y = element t.entries.items n (omega (arith, w, a.numbered)) in
-        let i = (a.entries k y.0 (entry-is t.values.keys t.entries.items k n y.0 h y.1)).some in
-        absurd (none k q i.0 i.1)
+        let i = a.values.last k y.0.ends (ap (option_map (λ (y : Entry). y.ends)) (entry-is t.values.keys t.entries.items k n y.0 h y.1)) in
+        absurd (none k q y.0.ends.last.0 i.0)
 
     go : (o : Option (ℕ × Val)) → by_value e ≡ o → None ≡ option_and_then (value_number t.values.keys) o
     go None q = refl
@@ -56,49 +68,118 @@ number-absent t a e none = go (by_value e) refl
 
 -- ---- an event of the same register and value
 
-key-by : (e : Event) (v : Val) → e.value ≡ Some v → by_value e ≡ Some (e.register.0, v)
-key-by e v q = ap (option_map {U = ℕ × Val} (λ v. (e.register.0, v))) q
-
-key-none : (e : Event) → e.value ≡ None → by_value e ≡ None
-key-none e q = ap (option_map {U = ℕ × Val} (λ v. (e.register.0, v))) q
-
 -- the last event of an event's register and value is like it
-pub alike-last : (es : List Event) (e : Event) (o : Option EvId) → ((v : Val) → e.value ≡ Some v → IsLastOf by_value es (e.register.0, v) o) → (e.value ≡ None → o ≡ None) → IsAlike es e o
-alike-last es e o some none = go e.value refl o refl
+pub alike-last : (es : List Event) (e : Event) (r : RegId) (o : Option EvId) → e.register ≡ Some r → ((v : Val) → e.value ≡ Some v → IsLastOf by_value es (r.0, v) o) → (e.value ≡ None → o ≡ None) → IsAlike es e o
+alike-last es e r o reg some none = go e.value refl o refl
   where
     go : (w : Option Val) → e.value ≡ w → (p : Option EvId) → o ≡ p → IsAlike es e p
     go None q p h = subst (IsAlike es e) (sym (none q) ∙ h) (λ k x. absurd (let z = key-none e q in cc (x, z)))
-    go (Some v) q None h = λ k x. let z = key-by e v q in let same : (e.register.0, v) ≡ k = cc (z, x) in subst (λ k. IsLastOf by_value es k None) same (subst (IsLastOf by_value es (e.register.0, v)) h (some v q))
-    go (Some v) q (Some j) h = ((e.register.0, v), key-by e v q, (subst (IsLastOf by_value es (e.register.0, v)) h (some v q)).0)
+    go (Some v) q None h = λ k x. let z = key-by e r v reg q in let same : (r.0, v) ≡ k = cc (z, x) in subst (λ k. IsLastOf by_value es k None) same (subst (IsLastOf by_value es (r.0, v)) h (some v q))
+    go (Some v) q (Some j) h = ((r.0, v), key-by e r v reg q, (subst (IsLastOf by_value es (r.0, v)) h (some v q)).0)
+
+-- no event is like one without a value
+pub alike-none : (es : List Event) (e : Event) → e.value ≡ None → IsAlike es e None
+alike-none es e q = λ k x. absurd (let z = key-none e q in cc (x, z))
 
 -- so is the last event with what a call asks for; a new register has no event
-pub alike-call : (t : Threads) → AreThreads t → (e : Event) (number : Option ℕ) (o : Option EvId) → e.register.0 ≡ unwrap_or number (length t.registers.items) → IsLastWith t.events.items number e.value o → IsAlike t.events.items e o
-alike-call t a e None o r h = subst (IsAlike t.events.items e) (sym h) (λ k x i y. a.registers.none k.0 (slice_get_past t.registers.items k.0 (let z = register-of e k x in omega (arith, z, r))) i (key-along-register i k y))
+pub alike-call : (t : Threads) → AreThreads t → (e : Event) (r : RegId) (number : Option ℕ) (o : Option EvId) → e.register ≡ Some r → r.0 ≡ unwrap_or number (length t.registers.items) → IsLastWith t.events.items number e.value o → IsAlike t.events.items e o
+alike-call t a e r None o reg q h = subst (IsAlike t.events.items e) (sym h) (λ k x i y. a.registers.none k.0 (slice_get_past t.registers.items k.0 (let z = number-of_key k x in omega (arith, z, q))) i (key-along-register i k y))
   where
-    register-of : (e : Event) (k : ℕ × Val) → by_value e ≡ Some k → e.register.0 ≡ k.0
-    register-of e k x = go e.value x
-      where
-        go : (w : Option Val) → option_map {U = ℕ × Val} (λ v. (e.register.0, v)) w ≡ Some k → e.register.0 ≡ k.0
-        go None z = absurd (cc (z))
-        go (Some v) z = let p : (e.register.0, v) ≡ k = cc (z) in ap (λ (k : ℕ × Val). k.0) p
+    number-of_key : (k : ℕ × Val) → by_value e ≡ Some k → r.0 ≡ k.0
+    number-of_key k x = let p = (key-parts e k x).0 in let w = ap (option_map {U = ℕ} (λ (r : RegId). r.0)) reg in let z : Some r.0 ≡ Some k.0 = sym w ∙ p in cc (z)
 
     key-along-register : (i : ℕ) (k : ℕ × Val) → key_at by_value t.events.items i ≡ Some k → key_at by_register t.events.items i ≡ Some k.0
     key-along-register i k y = go (slice_get t.events.items i) y
       where
         go : (o : Option Event) → option_and_then by_value o ≡ Some k → option_and_then by_register o ≡ Some k.0
         go None z = absurd (cc (z))
-        go (Some f) z = ap Some (register-of f k z)
-alike-call t a e (Some n) o r h = alike-last t.events.items e o (λ v q. some v q h) (λ q. none q h)
+        go (Some f) z = (key-parts f k z).0
+alike-call t a e r (Some n) o reg q h = alike-last t.events.items e r o reg (λ v z. some v z h) (λ z. none z h)
   where
-    some : (v : Val) → e.value ≡ Some v → IsLastWith t.events.items (Some n) e.value o → IsLastOf by_value t.events.items (e.register.0, v) o
-    some v q h = subst (λ m. IsLastOf by_value t.events.items (m, v) o) (sym r) (subst (λ w. IsLastWith t.events.items (Some n) w o) q h)
+    some : (v : Val) → e.value ≡ Some v → IsLastWith t.events.items (Some n) e.value o → IsLastOf by_value t.events.items (r.0, v) o
+    some v z h = subst (λ m. IsLastOf by_value t.events.items (m, v) o) (sym q) (subst (λ w. IsLastWith t.events.items (Some n) w o) z h)
 
     none : e.value ≡ None → IsLastWith t.events.items (Some n) e.value o → o ≡ None
-    none q h = subst (λ w. IsLastWith t.events.items (Some n) w o) q h
+    none z h = subst (λ w. IsLastWith t.events.items (Some n) w o) z h
 
 -- an event of the same register and value
-pub alike-same : (es : List Event) (e f : Event) (j : EvId) (v : Val) → slice_get es j.0 ≡ Some f → f.value ≡ Some v → e.register ≡ f.register → e.value ≡ f.value → IsAlike es e (Some j)
-alike-same es e f j v at has register value =
-    let here : by_value f ≡ Some (f.register.0, v) = key-by f v has in
-    let there : by_value e ≡ Some (f.register.0, v) = key-by e v (value ∙ has) ∙ ap (λ (r : RegId). Some (r.0, v)) register in
-    ((f.register.0, v), there, ap (option_and_then by_value) at ∙ here)
+pub alike-same : (es : List Event) (e f : Event) (j : EvId) (r : RegId) (v : Val) → slice_get es j.0 ≡ Some f → f.register ≡ Some r → f.value ≡ Some v → e.register ≡ Some r → e.value ≡ Some v → IsAlike es e (Some j)
+alike-same es e f j r v at reg has register value = ((r.0, v), key-by e r v register value, ap (option_and_then by_value) at ∙ key-by f r v reg has)
+
+-- ---- the write that didn't fail
+
+call-begins : (w : What) (b : Bool) → is_a_call w ≡ true → (is_a_reply w || b) ≡ b
+call-begins (Call kind) b h = refl
+call-begins (Reply kind) b h = absurd (false≢true h)
+call-begins (Fail kind) b h = refl
+call-begins Crash b h = refl
+
+pub kept-write : (t : Threads) → AreThreads t → (k : ℕ × Val) (y : Entry) → value_entry t.values.keys t.entries.items k ≡ Some y → IsKeptWrite t.events.items k (write_kept y.write)
+kept-write t a k y h = go y.write (a.entries k y h).write (a.entries k y h).kept
+  where
+    es : List Event
+    es = t.events.items
+
+    -- what the column of calls says of a write's call
+    begun : (id : EvId) (e : Event) (o : Option EvId) → key_at by_write es id.0 ≡ Some k → slice_get es id.0 ≡ Some e → call_at t.calls.items id.0 ≡ o → begins_at es id.0 e ≡ is_some o
+    begun id e o key at call =
+        let is = write-call e k (sym (ap (option_and_then by_write) at) ∙ key) in
+        let c = subst (IsCallOf es id.0 e) call (a.calls id.0 e at) in
+        sym (call-begins e.what (begins_at es id.0 e) is) ∙ by_option o c
+      where
+        by_option : (o : Option EvId) → IsCallOf es id.0 e o → belongs_at es id.0 e ≡ is_some o
+        by_option None c = c
+        by_option (Some x) c = c.0
+
+    go : (w : Write) → IsFirstOf by_write es k (write_called w) → ((id : EvId) → write_called w ≡ Some id → call_at t.calls.items id.0 ≡ write_kept w) → IsKeptWrite es k (write_kept w)
+    go Unwritten first kept = λ id e f at. absurd (first id.0 (omega arith) f.1)
+    go (Written w) first kept = (first, λ e at. begun w e (Some w) first.1 at (kept w refl))
+    go (Failed w) first kept = λ id e f at.
+        let same : w.0 ≡ id.0 = elim (cases_order w.0 id.0) [
+          | inl q ↦ q
+          | inr c ↦ elim c [ inl l ↦ absurd (f.2 w.0 (omega arith) l first.1) | inr g ↦ absurd (first.2 id.0 (omega arith) g f.1) ]
+        ] in
+        begun id e None f.1 at (ap (call_at t.calls.items) (sym same) ∙ kept w refl)
+
+-- a register and value without an entry have no write
+pub kept-none : (t : Threads) → AreThreads t → (k : ℕ × Val) → value_entry t.values.keys t.entries.items k ≡ None → IsKeptWrite t.events.items k None
+kept-none t a k h = λ w e f at. absurd (a.values.none k (ap (option_map (λ (y : Entry). y.ends)) h) w.0 (key-along by_write by_value t.events.items k (λ e. write-value e k) w.0 f.1))
+
+-- ---- the column of calls
+
+pub column-none : (calls : List EvId) (i : ℕ) (c : EvId) → slice_get calls i ≡ Some c → c.0 ≡ NO_CALL → call_at calls i ≡ None
+column-none calls i c at q = ap (option_and_then (λ (c : EvId). cond (nat_eq c.0 NO_CALL) None (Some c))) at ∙ ap (λ b. cond b None (Some c)) (eq-eqb c.0 NO_CALL q)
+
+pub column-some : (calls : List EvId) (i : ℕ) (c : EvId) → slice_get calls i ≡ Some c → (c.0 ≡ NO_CALL → ⊥) → call_at calls i ≡ Some c
+column-some calls i c at ne = ap (option_and_then (λ (c : EvId). cond (nat_eq c.0 NO_CALL) None (Some c))) at ∙ ap (λ b. cond b None (Some c)) (ne_eqb c.0 NO_CALL ne)
+
+-- an event begins an operation where it is its own call
+pub begins-column : (es : List Event) (calls : List EvId) (i : ℕ) (e : Event) (c : EvId) → i < 2 ^ 20 → slice_get es i ≡ Some e → slice_get calls i ≡ Some c → IsCallOf es i e (call_at calls i) → nat_eq c.0 i ≡ begins_at es i e
+begins-column es calls i e c l at said k = go (nat_eq c.0 NO_CALL) refl
+  where
+    or-second : (a b : Bool) → (a || b) ≡ false → b ≡ false
+    or-second true b h = absurd (false≢true (sym h))
+    or-second false b h = h
+
+    or-first : (a b : Bool) → (a || b) ≡ true → b ≡ false → a ≡ true
+    or-first true b h q = refl
+    or-first false b h q = absurd (false≢true (sym q ∙ h))
+
+    own : IsCallAt es i c.0 → belongs_at es i e ≡ true → (b : Bool) → begins_at es i e ≡ b → nat_eq c.0 i ≡ b
+    own h has true q = eq-eqb c.0 i (h.own (e, at, begins-call e _ q))
+    own h has false q =
+        let reply = or-first (is_a_reply e.what) (begins_at es i e) has q in
+        ne_eqb c.0 i (λ s.
+        let w = h.call.1 in
+        let u = ap (slice_get es) s in
+        let same : h.call.0 ≡ e = cc (w, u, at) in
+        reply-no_call e.what reply (ap (λ (v : Event). is_a_call v.what) (sym same) ∙ h.call.2))
+
+    go : (b : Bool) → nat_eq c.0 NO_CALL ≡ b → nat_eq c.0 i ≡ begins_at es i e
+    go true q =
+        let far = eqb-true c.0 NO_CALL q in
+        let none = subst (IsCallOf es i e) (column-none calls i c said far) k in
+        ne_eqb c.0 i (λ s. omega (arith, s, far, l)) ∙ sym (or-second (is_a_reply e.what) (begins_at es i e) none)
+    go false q =
+        let h = subst (IsCallOf es i e) (column-some calls i c said (eqb-false c.0 NO_CALL q)) k in
+        own h.1 h.0 (begins_at es i e) refl

@@ -1,4 +1,4 @@
--- How an event joins the list of its process, by the ends of the processes' lists.
+-- How an event joins the list of its process, by the ends of the processes' lists, and how a list is left with an empty link at the end of its column.
 use Rattle.std.proofs.Common.{◌≡◌, ℕ, ◌<◌, List, [], ◌∷◌, ◌++◌, length, set, Option, Some, None, ap, subst, ◌∙◌}
 use Rattle.reg_arena.specs.Threads.{IsJoined, IsSetAt, link_at}
 use Rattle.reg_arena.specs.declared.ends.Ends.{Ends}
@@ -23,3 +23,13 @@ module _ (links new_links : List (Option EvId)) (ends new_ends : ℕ → Option 
     next = λ d some. absurd (cc (was, some));
     others = u.others;
   }
+
+-- an empty link at the end changes no list
+pub joined-pushed : {K : Type 0} (k : K) (id : EvId) (links mid new_links : List (Option EvId)) (ends new_ends : K → Option Ends) → new_links ≡ mid ++ None ∷ [] → IsJoined k id (link_at links) (link_at mid) ends new_ends → IsJoined k id (link_at links) (link_at new_links) ends new_ends
+joined-pushed k id links mid new_links ends new_ends items j =
+    let same : (i : ℕ) → link_at new_links i ≡ link_at mid i = λ i. ap (λ (xs : List (Option EvId)). link_at xs i) items ∙ link-push mid i in
+    record {
+      fresh = λ none. let f = j.fresh none in (f.0, λ i. same i ∙ f.1 i);
+      next = λ d some. let f = j.next d some in (f.0, same d.last.0 ∙ f.1, λ i ne. same i ∙ f.2 i ne);
+      others = j.others;
+    }

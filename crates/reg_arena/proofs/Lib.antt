@@ -5,6 +5,7 @@ pub mod Joining
 pub mod Keys
 pub mod Values
 pub mod Append
+pub mod ByValue
 pub mod ByEvent
 pub mod Numbers
 pub mod Accepted

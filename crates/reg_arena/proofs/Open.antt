@@ -13,20 +13,28 @@ use Rattle.history_text.specs.declared.event.OpKind.{OpKind}
 use Rattle.history_text.specs.declared.event.OpKind.TheVariants.{ReadOp, WriteOp}
 use Rattle.history_text.specs.declared.event.LineEvent.{LineEvent}
 use Rattle.history_text.specs.declared.event.Kind.{Kind}
-use Rattle.history_text.specs.declared.event.Kind.TheVariants.{CallRead, CallWrite, Reply}
+use Rattle.history_text.specs.declared.event.Kind.TheVariants.{CallRead, CallWrite, Reply, Fail, Crash}
 use Rattle.reg_arena.specs.Lists.{In, last_with, first_with}
-use Rattle.reg_arena.specs.Events.{Asked, asked_by, is_call, is_of_process, open_call, open_asked}
+use Rattle.reg_arena.specs.Events.{Asked, asked_by, replied_by, failed_by, is_call, is_crash, is_crash_kind, is_of_process, open_call, open_asked, crashed_at}
 use Rattle.reg_arena.specs.Refusals.{AreAccepted, writes_to}
-use Rattle.reg_arena.specs.History.{history_of, event_after, register_names, register_number}
+use Rattle.reg_arena.specs.History.{history_of, event_after, register_names, register_number, what_by}
 use Rattle.reg_arena.specs.Shown.{key_at, by_process, by_value}
-use Rattle.reg_arena.specs.Threads.{by_write}
-use Rattle.reg_arena.specs.Step.{IsOpen, IsNumber, IsWritten}
+use Rattle.reg_arena.specs.Threads.{IsCall, IsLastOf, by_write}
+use Rattle.reg_arena.specs.Step.{IsOpenCall, IsStanding, IsCrash, IsNumber, IsWritten}
+use Rattle.reg_arena.specs.declared.standing.Open.{Open}
+use Rattle.reg_arena.specs.declared.standing.Standing.TheVariants.{Opened, Crashed, Free}
+use Rattle.reg_arena.specs.Operations.{is_a_call, kind_in, number_in}
+use Rattle.reg_arena.specs.declared.ids.RegId.{RegId}
+use Rattle.reg_arena.specs.declared.event.What.{What}
+use Rattle.reg_arena.specs.declared.event.What.TheVariants.{Call, Crash as Crashes}
 use Rattle.reg_arena.specs.declared.ids.EvId.{EvId}
 use Rattle.reg_arena.specs.declared.event.Event.{Event}
 use Rattle.reg_arena.proofs.Numbers.{is-In, place-in, place-out}
-use Rattle.reg_arena.proofs.Accepted.{last-some, IsLineAt, line-at, at-after, asked-value, call-asks}
+use Rattle.reg_arena.proofs.Accepted.{last-some, IsLineAt, IsLastPassing, line-at, at-after, asked-value, call-asks, call-line}
 use Rattle.reg_arena.proofs.Turns.{IsCallEvent, call-event, number-later}
-use Rattle.reg_arena.proofs.Append.{write-value}
+use Rattle.reg_arena.proofs.Append.{write-call, write-value}
+use Rattle.reg_arena.proofs.ByValue.{key-by, key-parts}
+use Rattle.reg_arena.proofs.Walking.{number-known}
 
 -- ---- the last and the first of a list
 
@@ -82,69 +90,132 @@ module _ (es : List LineEvent) (acc : AreAccepted es) where
           let w : ev.process ≡ p = cc (q) in
           (ev, l.0, l.1, sym (ap (λ (x : Event). x.process) l.1.is) ∙ w, at)
 
-  -- ---- the open call
+  -- ---- how a process stands
+
+  -- the last event of a process, on the lines
+  line-last : (p : ℕ) (j : EvId) → IsLastOf by_process (history_of es).events p (Some j) → (ev : Event) × (c : LineEvent) × IsLineAt es j.0 ev c × (c.process ≡ p) × (slice_get (history_of es).events j.0 ≡ Some ev) × (last_with (is_of_process p) es ≡ Some c)
+  line-last p j h =
+      let x = process-line p j.0 h.0 in
+      (x.0, x.1, x.2, x.3, x.4, last-is (is_of_process p) es j.0 x.1 x.2.there (eq-eqb _ _ x.3) (λ u y lt at q. let w = h.1 u (line-process p u y at (eqb-true _ _ q)) in omega arith))
 
   -- the open call and its event
-  pub record IsOpenEvent (p : ℕ) (j : EvId) (ev : Event) (c : LineEvent) (a : Asked) : Type 0 where
-    pub there : slice_get (history_of es).events j.0 ≡ Some ev
-    pub before : slice_get es j.0 ≡ Some c
-    pub line : ev.line ≡ c.line
+  pub record IsOpenEvent (p : ℕ) (o : Open) (c : LineEvent) (a : Asked) : Type 0 where
+    pub before : slice_get es o.call.0 ≡ Some c
     pub asks : asked_by c.kind ≡ Some a
-    pub says : IsCallEvent es j.0 c a ev
     pub opened : open_call es p ≡ Some c
     pub asked : open_asked es p ≡ Some a
+    pub free : crashed_at es p ≡ None
     pub process : c.process ≡ p
+    pub line : (ev : Event) → slice_get (history_of es).events o.call.0 ≡ Some ev → ev.line ≡ c.line
+    pub register : o.register.0 ≡ register_number (take o.call.0 es) a.register
+    pub kind : o.kind ≡ a.kind
+    pub value : o.value ≡ a.value
 
-  pub open-some : (p : ℕ) (j : EvId) → IsOpen (history_of es).events p (Some j) → (ev : Event) × (c : LineEvent) × (a : Asked) × IsOpenEvent p j ev c a
-  open-some p j h =
-      let x = process-line p j.0 h.0.0 in
+  pub open-some : (p : ℕ) (o : Open) → IsOpenCall (history_of es).events p o → (c : LineEvent) × (a : Asked) × IsOpenEvent p o c a
+  open-some p o h =
+      let x = line-last p o.call h.last in
       let ev = x.0 in
       let c = x.1 in
       let l = x.2 in
       let there = x.4 in
-      let call = h.1.1 in
-      let same : h.1.0 ≡ ev = cc (call, there) in
-      let ends : is_call c ≡ true = sym (ap (λ (z : Event). z.is_call) l.is) ∙ (sym (ap (λ (z : Event). z.is_call) same) ∙ h.1.2) in
+      let was = h.there in
+      let same : h.event ≡ ev = cc (was, there) in
+      let what : ev.what ≡ Call o.kind = ap (λ (z : Event). z.what) (sym same) ∙ h.what in
+      let ends : is_call c ≡ true = sym (call-line (take o.call.0 es) c ev l.is) ∙ ap is_a_call what in
       let a = call-asks c.kind ends in
-      let last = last-is (is_of_process p) es j.0 c l.there (eq-eqb _ _ x.3) (λ u y lt at q. let w = h.0.1 u (line-process p u y at (eqb-true _ _ q)) in omega arith) in
-      let is : open_call es p ≡ Some c = ap (option_and_then (λ (e : LineEvent). cond (is_call e) (Some e) None)) last ∙ ap (λ b. cond b (Some c) None) ends in (
-        ev,
+      let says = call-event es o.call.0 c a.0 ev l.is a.1 in
+      let is : open_call es p ≡ Some c = ap (option_and_then (λ (e : LineEvent). cond (is_call e) (Some e) None)) x.5 ∙ ap (λ b. cond b (Some c) None) ends in
+      let register : ev.register ≡ Some o.register = ap (λ (z : Event). z.register) (sym same) ∙ h.register in
+      let both = says.says.register in
+      let number : o.register ≡ record { 0 = register_number (take o.call.0 es) a.0.register } = cc (register, both) in (
         c,
         a.0,
         record {
-          there = there;
           before = l.there;
-          line = ap (λ (z : Event). z.line) l.is;
           asks = a.1;
-          says = call-event es j.0 c a.0 ev l.is a.1;
           opened = is;
           asked = ap (option_and_then (λ (e : LineEvent). asked_by e.kind)) is ∙ a.1;
+          free = ap (option_and_then (λ (e : LineEvent). cond (is_crash e) (Some e) None)) x.5 ∙ ap (λ b. cond b (Some c) None) (call-no_crash c.kind ends);
           process = x.3;
+          line = λ z at. let s : ev ≡ z = cc (there, at) in sym (ap (λ (z : Event). z.line) s) ∙ ap (λ (z : Event). z.line) l.is;
+          register = ap (λ (r : RegId). r.0) number;
+          kind = sym (ap kind_in what) ∙ says.says.kind;
+          value = sym h.value ∙ (ap (λ (z : Event). z.value) same ∙ says.value);
         },
       )
-
-  pub open-none : (p : ℕ) → IsOpen (history_of es).events p None → open_call es p ≡ None
-  open-none p h = go (last_with (is_of_process p) es) refl
     where
-      by_kind : (l : LineEvent) → last_with (is_of_process p) es ≡ Some l → (b : Bool) → is_call l ≡ b → cond b (Some l) None ≡ None
-      by_kind l e false q = refl
-      by_kind l e true q =
-          let r = last-some (is_of_process p) es l e in
-          let ev = event_after (take r.place es) l in
-          let at = event-of r.place l r.there in
-          absurd (h (record { 0 = r.place }) (
-            line-process p r.place l r.there (eqb-true _ _ r.passes),
-            λ i k.
-                let x = process-line p i k in
-                elim (cases_order i r.place) [
-                  | inl w ↦ omega arith
-                  | inr w ↦ elim w [ inl less ↦ omega arith | inr more ↦ absurd (r.none_later i x.1 more x.2.there (eq-eqb _ _ x.3)) ]
-                ],
-          ) (ev, at, q))
+      call-no_crash : (k : Kind) → is_some (asked_by k) ≡ true → is_crash_kind k ≡ false
+      call-no_crash (CallRead name) h = refl
+      call-no_crash (CallWrite name n) h = refl
+      call-no_crash (Reply parts) h = refl
+      call-no_crash (Fail parts) h = refl
+      call-no_crash Crash h = absurd (false≢true h)
 
-      go : (o : Option LineEvent) → last_with (is_of_process p) es ≡ o → open_call es p ≡ None
-      go None e = ap (option_and_then (λ (e : LineEvent). cond (is_call e) (Some e) None)) e
-      go (Some l) e = ap (option_and_then (λ (e : LineEvent). cond (is_call e) (Some e) None)) e ∙ by_kind l e (is_call l) refl
+  -- a crash, and its line
+  pub crashed-some : (p : ℕ) (j : EvId) → IsStanding (history_of es).events p (Crashed j) → (c : LineEvent) × (crashed_at es p ≡ Some c) × (open_call es p ≡ None) × ((ev : Event) → slice_get (history_of es).events j.0 ≡ Some ev → ev.line ≡ c.line)
+  crashed-some p j h =
+      let x = line-last p j h.0 in
+      let ev = x.0 in
+      let c = x.1 in
+      let l = x.2 in
+      let there = x.4 in
+      let was = h.1.1 in
+      let same : h.1.0 ≡ ev = cc (was, there) in
+      let what : ev.what ≡ Crashes = ap (λ (z : Event). z.what) (sym same) ∙ h.1.2 in
+      let none : is_call c ≡ false = sym (call-line (take j.0 es) c ev l.is) ∙ ap is_a_call what in
+      let crash = what-crash c.kind _ (sym (ap (λ (z : Event). z.what) l.is) ∙ what) in (
+        c,
+        ap (option_and_then (λ (e : LineEvent). cond (is_crash e) (Some e) None)) x.5 ∙ ap (λ b. cond b (Some c) None) crash,
+        ap (option_and_then (λ (e : LineEvent). cond (is_call e) (Some e) None)) x.5 ∙ ap (λ b. cond b (Some c) None) none,
+        λ z at. let s : ev ≡ z = cc (there, at) in sym (ap (λ (z : Event). z.line) s) ∙ ap (λ (z : Event). z.line) l.is,
+      )
+    where
+      what-crash : (k : Kind) (kind : OpKind) → what_by kind k ≡ Crashes → is_crash_kind k ≡ true
+      what-crash (CallRead name) kind h = absurd (cc (h))
+      what-crash (CallWrite name n) kind h = absurd (cc (h))
+      what-crash (Reply parts) kind h = absurd (cc (h))
+      what-crash (Fail parts) kind h = absurd (cc (h))
+      what-crash Crash kind h = refl
+
+  -- neither
+  pub free-none : (p : ℕ) → IsStanding (history_of es).events p Free → (open_call es p ≡ None) × (crashed_at es p ≡ None)
+  free-none p h = go (last_with (is_of_process p) es) refl
+    where
+      is-last : (l : LineEvent) (r : IsLastPassing (is_of_process p) es l) → IsLastOf by_process (history_of es).events p (Some (record { 0 = r.place }))
+      is-last l r = (
+        line-process p r.place l r.there (eqb-true _ _ r.passes),
+        λ i k.
+            let x = process-line p i k in
+            elim (cases_order i r.place) [
+              | inl w ↦ omega arith
+              | inr w ↦ elim w [ inl less ↦ omega arith | inr more ↦ absurd (r.none_later i x.1 more x.2.there (eq-eqb _ _ x.3)) ]
+            ],
+      )
+
+      by_call : (l : LineEvent) → last_with (is_of_process p) es ≡ Some l → (b : Bool) → is_call l ≡ b → cond b (Some l) None ≡ None
+      by_call l e false q = refl
+      by_call l e true q =
+          let r = last-some (is_of_process p) es l e in
+          let at = event-of r.place l r.there in
+          absurd ((h (record { 0 = r.place }) (is-last l r)).0 (event_after (take r.place es) l, at, call-line (take r.place es) l _ refl ∙ q))
+
+      by_crash : (l : LineEvent) → last_with (is_of_process p) es ≡ Some l → (b : Bool) → is_crash l ≡ b → cond b (Some l) None ≡ None
+      by_crash l e false q = refl
+      by_crash l e true q =
+          let r = last-some (is_of_process p) es l e in
+          let at = event-of r.place l r.there in
+          absurd ((h (record { 0 = r.place }) (is-last l r)).1 (event_after (take r.place es) l, at, crash-what l.kind _ q))
+        where
+          crash-what : (k : Kind) (kind : OpKind) → is_crash_kind k ≡ true → what_by kind k ≡ Crashes
+          crash-what (CallRead name) kind h = absurd (false≢true h)
+          crash-what (CallWrite name n) kind h = absurd (false≢true h)
+          crash-what (Reply parts) kind h = absurd (false≢true h)
+          crash-what (Fail parts) kind h = absurd (false≢true h)
+          crash-what Crash kind h = refl
+
+      go : (o : Option LineEvent) → last_with (is_of_process p) es ≡ o → (open_call es p ≡ None) × (crashed_at es p ≡ None)
+      go None e = (ap (option_and_then (λ (e : LineEvent). cond (is_call e) (Some e) None)) e, ap (option_and_then (λ (e : LineEvent). cond (is_crash e) (Some e) None)) e)
+      go (Some l) e = (ap (option_and_then (λ (e : LineEvent). cond (is_call e) (Some e) None)) e ∙ by_call l e (is_call l) refl, ap (option_and_then (λ (e : LineEvent). cond (is_crash e) (Some e) None)) e ∙ by_crash l e (is_crash l) refl)
 
   -- ---- the names
 
@@ -158,11 +229,11 @@ module _ (es : List LineEvent) (acc : AreAccepted es) where
       take-whole [] = refl
       take-whole (x ∷ xs) = ap (λ ys. x ∷ ys) (take-whole xs)
 
-  -- the name at the number of a call's register
-  pub name-at : (i : ℕ) (c : LineEvent) (a : Asked) (ev : Event) → slice_get es i ≡ Some c → asked_by c.kind ≡ Some a → IsCallEvent es i c a ev → slice_get (register_names es) ev.register.0 ≡ Some a.register
-  name-at i c a ev at asks says =
-      let n = number-stays i c a at asks in
-      ap (slice_get (register_names es)) (says.says.register ∙ sym n.1) ∙ (place-in a.register (register_names es) n.0).1
+  -- the name at the number of an open call's register
+  pub name-at : (p : ℕ) (o : Open) (c : LineEvent) (a : Asked) → IsOpenEvent p o c a → slice_get (register_names es) o.register.0 ≡ Some a.register
+  name-at p o c a i =
+      let n = number-stays o.call.0 c a i.before i.asks in
+      ap (slice_get (register_names es)) (i.register ∙ sym n.1) ∙ (place-in a.register (register_names es) n.0).1
 
   -- ---- the call that wrote a value before
 
@@ -181,6 +252,8 @@ module _ (es : List LineEvent) (acc : AreAccepted es) where
       go : (k : Kind) → c.kind ≡ k → writes_to name v k ≡ true → In name (register_names es) × (key_at by_write (history_of es).events i ≡ Some (register_number es name, v))
       go (CallRead m) q h = absurd (false≢true h)
       go (Reply parts) q h = absurd (false≢true h)
+      go (Fail parts) q h = absurd (false≢true h)
+      go Crash q h = absurd (false≢true h)
       go (CallWrite m n) q h =
           let t = both (bytes_eq m name) (value_eq (Int n) v) h in
           let e : m ≡ name = (bytes_eq-Decides m name).0 t.0 in
@@ -189,9 +262,9 @@ module _ (es : List LineEvent) (acc : AreAccepted es) where
           let asks : asked_by c.kind ≡ Some a = ap asked_by q in
           let s = number-stays i c a at asks in
           let f = call-event es i c a (event_after (take i es) c) refl asks in
-          let call : (event_after (take i es) c).is_call ≡ true = ap is_some asks in
+          let call : is_a_call (event_after (take i es) c).what ≡ true = call-line (take i es) c (event_after (take i es) c) refl ∙ ap is_some asks in
           let value : by_value (event_after (take i es) c) ≡ Some (register_number es name, v) =
-          ap (option_map (λ w. ((event_after (take i es) c).register.0, w))) f.value ∙ (ap (λ r. Some (r, Int n)) (f.says.register ∙ sym s.1) ∙ (ap (λ z. Some (register_number es z, Int n)) e ∙ ap (λ z. Some (register_number es name, z)) (sym x))) in (
+          key-by (event_after (take i es) c) _ (Int n) f.says.register f.value ∙ (ap (λ r. Some (r, Int n)) (sym s.1) ∙ (ap (λ z. Some (register_number es z, Int n)) e ∙ ap (λ z. Some (register_number es name, z)) (sym x))) in (
             subst (λ z. In z (register_names es)) e s.0,
             ap (option_and_then by_write) (event-of i c at) ∙ (ap (λ b. cond b (by_value (event_after (take i es) c)) None) call ∙ value),
           )
@@ -199,21 +272,8 @@ module _ (es : List LineEvent) (acc : AreAccepted es) where
   key-written : (name : List ℕ) (v : Val) (i : ℕ) → In name (register_names es) → key_at by_write (history_of es).events i ≡ Some (register_number es name, v) → (c : LineEvent) × (slice_get es i ≡ Some c) × (writes_to name v c.kind ≡ true) × ((ev : Event) → slice_get (history_of es).events i ≡ Some ev → ev.line ≡ c.line)
   key-written name v i there h = go (slice_get (history_of es).events i) refl h
     where
-      call-of : (e : Event) → by_write e ≡ Some (register_number es name, v) → e.is_call ≡ true
-      call-of e q = by_kind e.is_call refl q
-        where
-          by_kind : (b : Bool) → e.is_call ≡ b → cond b (by_value e) None ≡ Some (register_number es name, v) → e.is_call ≡ true
-          by_kind true d k = d
-          by_kind false d k = absurd (cc (k))
-
-      value-of : (e : Event) → by_value e ≡ Some (register_number es name, v) → (e.register.0 ≡ register_number es name) × (e.value ≡ Some v)
-      value-of e q = by_opt e.value refl q
-        where
-          by_opt : (o : Option Val) → e.value ≡ o → option_map {U = ℕ × Val} (λ w. (e.register.0, w)) o ≡ Some (register_number es name, v) → (e.register.0 ≡ register_number es name) × (e.value ≡ Some v)
-          by_opt None d k = absurd (cc (k))
-          by_opt (Some w) d k =
-              let p : (e.register.0, w) ≡ (register_number es name, v) = cc (k) in
-              (ap (λ (z : ℕ × Val). z.0) p, d ∙ ap (λ (z : ℕ × Val). Some z.1) p)
+      value-of : (e : Event) → by_value e ≡ Some (register_number es name, v) → (number_in e.register ≡ register_number es name) × (e.value ≡ Some v)
+      value-of e q = let p = key-parts e (register_number es name, v) q in (number-known e (register_number es name) p.0, p.1)
 
       same-name : (m : List ℕ) → In m (register_names es) → register_number es m ≡ register_number es name → m ≡ name
       same-name m i q =
@@ -225,12 +285,12 @@ module _ (es : List LineEvent) (acc : AreAccepted es) where
       writes-same : (n : ℤ) (k : Kind) → k ≡ CallWrite name n → writes_to name (Int n) k ≡ true
       writes-same n k q = ap (writes_to name (Int n)) q ∙ (ap (λ b. b && value_eq (Int n) (Int n)) ((bytes_eq-Decides name name).1 refl) ∙ (Decides-int_eq n n).1 refl)
 
-      by_asked : (ev : Event) (c : LineEvent) (a : Asked) → IsLineAt es i ev c → asked_by c.kind ≡ Some a → IsCallEvent es i c a ev → (ev.register.0 ≡ register_number es name) × (ev.value ≡ Some v) → (k : OpKind) → a.kind ≡ k → writes_to name v c.kind ≡ true
+      by_asked : (ev : Event) (c : LineEvent) (a : Asked) → IsLineAt es i ev c → asked_by c.kind ≡ Some a → IsCallEvent es i c a ev → (number_in ev.register ≡ register_number es name) × (ev.value ≡ Some v) → (k : OpKind) → a.kind ≡ k → writes_to name v c.kind ≡ true
       by_asked ev c a l asks says w ReadOp q = absurd (let none = (asked-value c.kind a asks).0 q in let x = says.value in let y = w.1 in cc (none, x, y))
       by_asked ev c a l asks says w WriteOp q =
           let t = (asked-value c.kind a asks).1 q in
           let s = number-stays i c a l.there asks in
-          let e : a.register ≡ name = same-name a.register s.0 (s.1 ∙ (sym says.says.register ∙ w.0)) in
+          let e : a.register ≡ name = same-name a.register s.0 (s.1 ∙ (sym says.says.number ∙ w.0)) in
           let x = says.value in
           let y = w.1 in
           let z = t.2 in
@@ -242,7 +302,7 @@ module _ (es : List LineEvent) (acc : AreAccepted es) where
       go (Some ev) at q =
           let l = line-at es acc i ev at in
           let c = l.0 in
-          let call : is_call c ≡ true = sym (ap (λ (z : Event). z.is_call) l.1.is) ∙ call-of ev q in
+          let call : is_call c ≡ true = sym (call-line (take i es) c ev l.1.is) ∙ write-call ev _ q in
           let a = call-asks c.kind call in
           let says = call-event es i c a.0 ev l.1.is a.1 in (
             c,

@@ -1,13 +1,15 @@
--- The lines that were read so far, and one line more.
-use Rattle.std.proofs.Common.{◌≡◌, ℕ, zero, suc, ◌+◌, ◌<◌, ◌≤◌, List, [], ◌∷◌, ◌++◌, length, take, slice_get, Some, None, inl, inr, refl, sym, ap, subst, ◌∙◌, arith, option_and_then}
-use Rattle.std.specs.Prelude.{Result, Ok, Err}
+-- The lines built so far, and one line more or all that are left.
+use Rattle.std.proofs.Common.{◌≡◌, ℕ, zero, suc, ◌+◌, ◌<◌, ◌≤◌, List, [], ◌∷◌, ◌++◌, length, take, slice_get, drop, Option, Some, None, inl, inr, refl, sym, ap, subst, ◌∙◌, arith, option_and_then}
+use Rattle.std.specs.Prelude.{Result, Ok, Err, flat_map}
 use Rattle.std.specs.Result.{result_ok, IsErrAnd, IfErr}
 use Rattle.std.proofs.lemmas.Bool.{cases_order}
+use Rattle.std.proofs.lemmas.List.{append_assoc, append-nil, length-append}
 use Rattle.std.proofs.lemmas.List.Elements.{filter_map-append}
 use Rattle.std.proofs.lemmas.Option.{slice_get_past}
 use Rattle.history_text.specs.Faults.{fault_number}
 use Rattle.history_text.specs.declared.event.LineEvent.{LineEvent}
 use Rattle.history_text.specs.declared.fault.LineFault.{LineFault}
+use Rattle.reg_arena.specs.Built.{IsBuilt, IsBuiltWith}
 use Rattle.reg_arena.specs.Refusals.{Line, AreAccepted, IsBuildError, IsRefusal, IsWellFormed, event_refusal, events_of, line_refusal, refusal_at}
 use Rattle.reg_arena.specs.History.{History, history_of}
 use Rattle.reg_arena.specs.Step.{IsStep}
@@ -17,56 +19,114 @@ use Rattle.reg_arena.specs.declared.refusal.LineRefusal.{LineRefusal}
 use Rattle.reg_arena.proofs.Accepted.{take-push}
 use Rattle.reg_arena.proofs.Step.{accepted-push}
 
+-- a whole list is taken
 pub take-all : {X : Type 0} (xs : List X) (n : ℕ) → length xs ≤ n → take n xs ≡ xs
 take-all [] zero l = refl
 take-all [] (suc n) l = refl
 take-all (x ∷ xs) zero l = absurd (omega arith)
 take-all (x ∷ xs) (suc n) l = ap (λ ys. x ∷ ys) (take-all xs n (omega arith))
 
-module _ (lines : List Line) (n : ℕ) where
-  -- ---- a line that has an event
+-- what stands behind a list doesn't change what is taken of it
+take-front : {X : Type 0} (xs ys : List X) (n : ℕ) → n ≤ length xs → take n (xs ++ ys) ≡ take n xs
+take-front xs ys zero l = refl
+take-front [] ys (suc n) l = absurd (omega arith)
+take-front (x ∷ xs) ys (suc n) l = ap (λ zs. x ∷ zs) (take-front xs ys n (omega arith))
 
-  module _ (e : LineEvent) (at : slice_get lines n ≡ Some (Ok e)) where
-    events-more : events_of (take (n + 1) lines) ≡ events_of (take n lines) ++ e ∷ []
-    events-more =
-        let s : n + 1 ≡ suc n = omega arith in
-        ap (λ m. events_of (take m lines)) s ∙ (ap events_of (take-push lines n (Ok e) at) ∙ filter_map-append result_ok (take n lines) (Ok e ∷ []))
+-- nor what stands at a place of it
+get-front : {X : Type 0} (xs ys : List X) (n : ℕ) → n < length xs → slice_get (xs ++ ys) n ≡ slice_get xs n
+get-front [] ys n l = absurd (omega arith)
+get-front (x ∷ xs) ys zero l = refl
+get-front (x ∷ xs) ys (suc n) l = get-front xs ys n (omega arith)
 
-    refusal-there : refusal_at lines n ≡ event_refusal (events_of (take n lines)) e
-    refusal-there = ap (option_and_then (line_refusal (take n lines))) at
+-- the element behind a list
+get-behind : {X : Type 0} (xs : List X) (y : X) (ys : List X) → slice_get (xs ++ y ∷ ys) (length xs) ≡ Some y
+get-behind [] y ys = refl
+get-behind (x ∷ xs) y ys = get-behind xs y ys
 
-    -- the history with the event
-    pub is-more : (h : History) → h ≡ history_of (events_of (take n lines) ++ e ∷ []) → h ≡ history_of (events_of (take (n + 1) lines))
-    is-more h q = q ∙ ap history_of (sym events-more)
+-- the refusal at a place depends on nothing behind it
+refusal-front : (lines more : List Line) (i : ℕ) → i < length lines → refusal_at (lines ++ more) i ≡ refusal_at lines i
+refusal-front lines more i l = ap (λ front. option_and_then (line_refusal front) (slice_get (lines ++ more) i)) (take-front lines more i (omega (arith, l))) ∙ ap (option_and_then (line_refusal (take i lines))) (get-front lines more i l)
 
-    pub accepted-more : AreAccepted (events_of (take n lines)) → event_refusal (events_of (take n lines)) e ≡ None → AreAccepted (events_of (take (n + 1) lines))
-    accepted-more acc free = subst AreAccepted (sym events-more) (accepted-push (events_of (take n lines)) e acc free)
+-- the refusal of the line behind some lines
+refusal-behind : (lines : List Line) (line : Line) (more : List Line) → refusal_at (lines ++ line ∷ more) (length lines) ≡ line_refusal lines line
+refusal-behind lines line more = ap (option_and_then (line_refusal (take (length lines) (lines ++ line ∷ more)))) (get-behind lines line more) ∙ ap (λ front. line_refusal front line) (take-front lines (line ∷ more) (length lines) (omega arith) ∙ take-all lines (length lines) (omega arith))
 
-    pub free-more : ((i : ℕ) → i < n → refusal_at lines i ≡ None) → event_refusal (events_of (take n lines)) e ≡ None → (i : ℕ) → i < n + 1 → refusal_at lines i ≡ None
-    free-more before free i l = elim (cases_order i n) [
-      | inl q ↦ ap (refusal_at lines) q ∙ (refusal-there ∙ free)
-      | inr c ↦ elim c [ inl lt ↦ before i lt | inr gt ↦ absurd (omega arith) ]
-    ]
+-- past the end there is none
+refusal-past : (lines : List Line) (i : ℕ) → length lines ≤ i → refusal_at lines i ≡ None
+refusal-past lines i l = ap (option_and_then (line_refusal (take i lines))) (slice_get_past lines i l)
 
-    -- a refused event refuses the history
-    pub refused-event : (x : BuildError) → ((i : ℕ) → i < n → refusal_at lines i ≡ None) → IsStep (events_of (take n lines)) e (Err x) → IsBuildError lines x
-    refused-event (Refused r) before s = record { place = n; there = refusal-there ∙ s; least = before }
-    refused-event Memory before s = tt
+module _ (lines : List Line) (h : History) (built : IsBuilt lines h) where
+  -- none of the lines is faulty, whatever stands behind them
+  free-before : (more : List Line) (i : ℕ) → i < length lines → refusal_at (lines ++ more) i ≡ None
+  free-before more i l = refusal-front lines more i l ∙ built.well_formed i
 
-  -- ---- a line that has a fault
+  -- one more line that has an event
+  pub built-more : (e : LineEvent) (g : History) → IsStep (events_of lines) e (Ok g) → IsBuilt (lines ++ Ok e ∷ []) g
+  built-more e g s = let events : events_of (lines ++ Ok e ∷ []) ≡ events_of lines ++ e ∷ [] = filter_map-append result_ok lines (Ok e ∷ []) in record {
+    is = s.1 ∙ ap history_of (sym events);
+    accepted = subst AreAccepted (sym events) (accepted-push (events_of lines) e built.accepted s.0);
+    well_formed = λ i. elim (cases_order i (length lines)) [
+      | inl q ↦ ap (refusal_at (lines ++ Ok e ∷ [])) q ∙ (refusal-behind lines (Ok e) [] ∙ s.0)
+      | inr c ↦ elim c [ inl lt ↦ free-before (Ok e ∷ []) i lt | inr gt ↦ refusal-past (lines ++ Ok e ∷ []) i (past i gt) ]
+    ];
+  }
+    where
+      past : (i : ℕ) → length lines < i → length (lines ++ Ok e ∷ []) ≤ i
+      past i gt = grind (arith, length-append lines (Ok e ∷ []))
 
-  pub refused-line : (f : LineFault) (r : LineRefusal) → slice_get lines n ≡ Some (Err f) → r ≡ record { line = f.line; number = fault_number f.kind; other = None } → ((i : ℕ) → i < n → refusal_at lines i ≡ None) → IsRefusal lines r
-  refused-line f r at q before = record { place = n; there = ap (option_and_then (line_refusal (take n lines))) at ∙ ap Some (sym q); least = before }
+  -- a refused event refuses all lines that begin so
+  pub refused-event : (e : LineEvent) (x : BuildError) → IsStep (events_of lines) e (Err x) → (after : List Line) → IsBuildError (lines ++ Ok e ∷ after) x
+  refused-event e (Refused r) s after = record { place = length lines; there = refusal-behind lines (Ok e) after ∙ s; least = free-before (Ok e ∷ after) }
+  refused-event e Memory s after = tt
 
-pub well-formed : (lines : List Line) (n : ℕ) → length lines ≤ n → ((i : ℕ) → i < n → refusal_at lines i ≡ None) → IsWellFormed lines
-well-formed lines n l before i = elim (cases_order i n) [
-  | inl q ↦ past (omega arith)
-  | inr c ↦ elim c [ inl lt ↦ before i lt | inr gt ↦ past (omega arith) ]
-]
-  where
-    past : length lines ≤ i → refusal_at lines i ≡ None
-    past k = ap (option_and_then (line_refusal (take i lines))) (slice_get_past lines i k)
+  -- and so does a line that has a fault
+  pub refused-line : (f : LineFault) (r : LineRefusal) → r ≡ record { line = f.line; number = fault_number f.kind; other = None } → (after : List Line) → IsRefusal (lines ++ Err f ∷ after) r
+  refused-line f r q after = record { place = length lines; there = refusal-behind lines (Err f) after ∙ ap Some (sym q); least = free-before (Err f ∷ after) }
 
-pub error-passed : (lines : List Line) (r : Result History BuildError) (x : BuildError) → IsErrAnd r (λ y. y ≡ x) → IsBuildError lines x → IfErr r (IsBuildError lines)
-error-passed lines (Ok h) x p b = absurd p
-error-passed lines (Err y) x p b = subst (IsBuildError lines) (sym p) b
+-- a list is what stands before a place, what stands there, and what stands behind it
+split-at : {X : Type 0} (xs : List X) (n : ℕ) (x : X) → slice_get xs n ≡ Some x → xs ≡ take n xs ++ x ∷ drop (suc n) xs
+split-at [] n x e = cc
+split-at (y ∷ ys) zero x e = let same : y ≡ x = cc in ap (λ z. z ∷ ys) same
+split-at (y ∷ ys) (suc n) x e = ap (λ zs. y ∷ zs) (split-at ys n x e)
+
+module _ (before lines : List Line) (n : ℕ) (h : History) (built : IsBuilt (before ++ take n lines) h) where
+  -- the lines before, those up to the place, the line there, and all behind it
+  whole : (line : Line) → slice_get lines n ≡ Some line → (after : List Line) → (before ++ take n lines) ++ line ∷ (drop (suc n) lines ++ after) ≡ before ++ lines ++ after
+  whole line at after = append_assoc before (take n lines) (line ∷ (drop (suc n) lines ++ after)) ∙ ap (λ xs. before ++ xs) (sym (append_assoc (take n lines) (line ∷ drop (suc n) lines) after) ∙ ap (λ xs. xs ++ after) (sym (split-at lines n line at))) ∙ sym (append_assoc before lines after)
+
+  pub part-more : (e : LineEvent) (g : History) → slice_get lines n ≡ Some (Ok e) → IsStep (events_of (before ++ take n lines)) e (Ok g) → IsBuilt (before ++ take (n + 1) lines) g
+  part-more e g at s = let next : n + 1 ≡ suc n = omega arith in subst (λ xs. IsBuilt xs g) (append_assoc before (take n lines) (Ok e ∷ []) ∙ ap (λ xs. before ++ xs) (sym (take-push lines n (Ok e) at) ∙ ap (λ m. take m lines) (sym next))) (built-more (before ++ take n lines) h built e g s)
+
+  pub part-event-refused : (e : LineEvent) (x : BuildError) → slice_get lines n ≡ Some (Ok e) → IsStep (events_of (before ++ take n lines)) e (Err x) → (after : List Line) → IsBuildError (before ++ lines ++ after) x
+  part-event-refused e x at s after = subst (λ xs. IsBuildError xs x) (whole (Ok e) at after) (refused-event (before ++ take n lines) h built e x s (drop (suc n) lines ++ after))
+
+  pub part-line-refused : (f : LineFault) (r : LineRefusal) → slice_get lines n ≡ Some (Err f) → r ≡ record { line = f.line; number = fault_number f.kind; other = None } → (after : List Line) → IsRefusal (before ++ lines ++ after) r
+  part-line-refused f r at q after = subst (λ xs. IsRefusal xs r) (whole (Err f) at after) (refused-line (before ++ take n lines) h built f r q (drop (suc n) lines ++ after))
+
+-- an error that is passed on tells of the same lines
+pub error-passed : (before lines : List Line) (r : Result History BuildError) (x : BuildError) → IsErrAnd r (λ y. y ≡ x) → ((after : List Line) → IsBuildError (before ++ lines ++ after) x) → IsBuiltWith before lines r
+error-passed before lines (Ok h) x p refused = absurd p
+error-passed before lines (Err y) x p refused = λ after. subst (IsBuildError (before ++ lines ++ after)) (sym p) (refused after)
+
+-- ---- lines in parts
+
+-- what is built of no lines
+pub nothing-built : (h : History) → h ≡ history_of [] → IsBuilt [] h
+nothing-built h e = record {
+  is = e;
+  accepted = λ i. ap (option_and_then (event_refusal (take i []))) (slice_get_past [] i (omega arith));
+  well_formed = λ i. refusal-past [] i (omega arith);
+}
+
+-- what is built of all lines, before which and behind which nothing is left
+pub all-built : (before all : List Line) (h : History) → IsBuilt before h → before ++ [] ≡ all → IsWellFormed all × (h ≡ history_of (events_of all))
+all-built before all h built e = let same : before ≡ all = sym (append-nil before) ∙ e in (subst IsWellFormed same built.well_formed, built.is ∙ ap (λ lines. history_of (events_of lines)) same)
+
+-- the lines of a part have been taken in
+pub next-part : {V : Type 0} (items : V → List Line) (before : List Line) (part : V) (rest parts : List V) (all : List Line) → parts ≡ part ∷ rest → before ++ flat_map items parts ≡ all → before ++ items part ++ flat_map items rest ≡ all
+next-part items before part rest parts all e whole = append_assoc before (items part) (flat_map items rest) ∙ ap (λ parts. before ++ flat_map items parts) (sym e) ∙ whole
+
+-- an error that is passed on refuses all lines
+pub error-of-all : (all : List Line) (r : Result History BuildError) (x : BuildError) → IsErrAnd r (λ y. y ≡ x) → IsBuildError all x → IfErr r (IsBuildError all)
+error-of-all all (Ok h) x p refused = absurd p
+error-of-all all (Err y) x p refused = subst (IsBuildError all) (sym p) refused

@@ -8,11 +8,13 @@ use Rattle.history_text.specs.declared.event.LineEvent.{LineEvent}
 use Rattle.reg_arena.specs.Lists.{In}
 use Rattle.reg_arena.specs.Refusals.{AreAccepted}
 use Rattle.reg_arena.specs.History.{History, IsRecorded, events_after, event_after, register_names}
-use Rattle.reg_arena.specs.Operations.{Operation, calls, writes, IsWrite, IsCompleted, Precedes, IsHistory, initial_write, initial_writes, operations, of_register}
+use Rattle.reg_arena.specs.Operations.{Operation, calls, is_a_call, is_a_reply, is_a_fail, writes, IsWrite, IsCompleted, Precedes, IsHistory, initial_write, initial_writes, operations, of_register}
 use Rattle.reg_arena.specs.declared.event.Event.{Event}
-use Rattle.reg_arena.proofs.Accepted.{line-at, at-after}
-use Rattle.reg_arena.proofs.Turns.{no-two-calls, not-again, write-value}
-use Rattle.reg_arena.proofs.Belonging.{IsCallOf, called-one, same-call}
+use Rattle.reg_arena.specs.declared.event.What.{What}
+use Rattle.reg_arena.specs.declared.event.What.TheVariants.{Call, Reply, Fail, Crash}
+use Rattle.reg_arena.proofs.Accepted.{line-at, at-after, call-line, crash-line}
+use Rattle.reg_arena.proofs.Turns.{no-two-calls, none-after-crash, not-again, write-value}
+use Rattle.reg_arena.proofs.Belonging.{IsCallOf, IsPending, IsNextAt, IsLastAt, next-at, called-one, same-call}
 
 pub filter-In : {A : Type 0} (p : A → Bool) (a : A) (xs : List A) → In a (filter p xs) → In a xs × (p a ≡ true)
 filter-In p a [] h = absurd h
@@ -65,6 +67,12 @@ In-right a (x ∷ xs) ys h = inr (In-right a xs ys h)
 -- an operation of the events, or an initial write
 abbrev pub Known : List Event → Operation → Type 0
 Known evs a = ((j : ℕ) × (a ≡ initial_write j)) ⊎ In a (calls evs)
+
+pub reply-no_call : (w : What) → is_a_reply w ≡ true → is_a_call w ≡ true → ⊥
+reply-no_call (Call kind) r c = false≢true r
+reply-no_call (Reply kind) r c = false≢true c
+reply-no_call (Fail kind) r c = false≢true r
+reply-no_call Crash r c = false≢true r
 
 module _ (es : List LineEvent) (acc : AreAccepted es) where
   row : (a : Operation) → In a (calls (events_after [] es)) → (k : ℕ) × (e : Event) × IsCallOf (events_after [] es) a k e
@@ -126,9 +134,9 @@ module _ (es : List LineEvent) (acc : AreAccepted es) where
     | inr r ↦ elim r [ inl lt ↦ absurd (not_before a b i j d g q lt) | inr gt ↦ absurd (not_before b a j i g d (sym q) gt) ]
   ]
 
-  -- a reply is no call
-  reply-no-call : (j k : ℕ) (g e : Event) → slice_get (events_after [] es) j ≡ Some g → slice_get (events_after [] es) k ≡ Some e → j ≡ k → g ≡ e
-  reply-no-call j k g e m n q = let s = ap (slice_get (events_after [] es)) q in cc (m, n, s)
+  -- one place has one event
+  pub one-event : (j k : ℕ) (g e : Event) → slice_get (events_after [] es) j ≡ Some g → slice_get (events_after [] es) k ≡ Some e → j ≡ k → g ≡ e
+  one-event j k g e m n q = let s = ap (slice_get (events_after [] es)) q in cc (m, n, s)
 
   pub apart-called : (a b : Operation) (i : In a (calls (events_after [] es))) (j : In b (calls (events_after [] es))) → a.reply ≡ b.call → ⊥
   apart-called a b i j q =
@@ -138,15 +146,53 @@ module _ (es : List LineEvent) (acc : AreAccepted es) where
         | inl p ↦ omega (arith, p.reply, q, (times b j).2)
         | inr r ↦
             let u = r.2 in
-            let g = reply-no-call r.0 z.0 r.1 z.1 u.there z.2.there (omega (arith, q, u.reply, z.2.call)) in
-            let first = line-at es acc x.0 x.1 x.2.there in
-            let second = line-at es acc r.0 r.1 u.there in
-            let process : second.0.process ≡ first.0.process = sym (ap (λ (v : Event). v.process) second.1.is) ∙ (u.process ∙ ap (λ (v : Event). v.process) first.1.is) in
-            no-two-calls es acc x.0 r.0 first.0 second.0 first.1.there second.1.there u.order process
-            (sym (ap (λ (v : Event). v.is_call) first.1.is) ∙ x.2.is_call)
-            (sym (ap (λ (v : Event). v.is_call) second.1.is) ∙ (ap (λ (v : Event). v.is_call) g ∙ z.2.is_call))
-            (λ m y l n at same. u.between m (event_after (take m es) y) l n (at-after [] es m y at) (same ∙ sym (ap (λ (v : Event). v.process) first.1.is)))
+            let g = one-event r.0 z.0 r.1 z.1 u.there z.2.there (omega (arith, q, u.reply, z.2.call)) in
+            reply-no_call r.1.what u.is_reply (ap (λ (v : Event). is_a_call v.what) g ∙ z.2.is_call)
       ]
+
+  -- no call comes after a call of its process
+  two-calls : (k j : ℕ) (e g : Event) → slice_get (events_after [] es) k ≡ Some e → is_a_call e.what ≡ true → IsNextAt (events_after [] es) k e.process j g → is_a_call g.what ≡ true → ⊥
+  two-calls k j e g at call x other =
+      let first = line-at es acc k e at in
+      let second = line-at es acc j g x.there in
+      no-two-calls es acc k j first.0 second.0 first.1.there second.1.there x.order
+      (sym (ap (λ (v : Event). v.process) second.1.is) ∙ (x.process ∙ ap (λ (v : Event). v.process) first.1.is))
+      (sym (call-line (take k es) first.0 e first.1.is) ∙ call)
+      (sym (call-line (take j es) second.0 g second.1.is) ∙ other)
+      (λ m y l n at same. x.between m (event_after (take m es) y) l n (at-after [] es m y at) (same ∙ sym (ap (λ (v : Event). v.process) first.1.is)))
+
+  -- no event comes after a crash of its process
+  crash-last : (j : ℕ) (g : Event) → slice_get (events_after [] es) j ≡ Some g → is_a_call g.what ≡ false → is_a_reply g.what ≡ false → is_a_fail g.what ≡ false → IsLastAt (events_after [] es) j g.process
+  crash-last j g at c r f u h lt there same = elim (next-at (events_after [] es) j g.process _ refl) [
+    | inl x ↦ x.1 u h lt there same
+    | inr x ↦
+        let n = x.3 in
+        let first = line-at es acc j g at in
+        let second = line-at es acc x.0 x.1 n.there in
+        none-after-crash es acc j x.0 first.0 second.0 first.1.there second.1.there n.order
+        (sym (ap (λ (v : Event). v.process) second.1.is) ∙ (n.process ∙ ap (λ (v : Event). v.process) first.1.is))
+        (crash-line (take j es) first.0 g first.1.is c r f)
+        (λ m y l k at' q. n.between m (event_after (take m es) y) l k (at-after [] es m y at') (q ∙ sym (ap (λ (v : Event). v.process) first.1.is)))
+  ]
+
+  -- no call comes after a pending operation of its process
+  pending-last : (o : Operation) (k u : ℕ) (e f : Event) → slice_get (events_after [] es) k ≡ Some e → is_a_call e.what ≡ true → IsPending (events_after [] es) o k e.process → k < u → slice_get (events_after [] es) u ≡ Some f → f.process ≡ e.process → is_a_call f.what ≡ true → ⊥
+  pending-last o k u e f at call p lt there same other = elim p.rest [
+    | inl last ↦ last u f lt there same
+    | inr x ↦
+        let n = x.2 in
+        elim (cases_order u x.0) [
+          | inl q ↦ two-calls k x.0 e x.1 at call n (ap (λ (v : Event). is_a_call v.what) (one-event x.0 u x.1 f n.there there (sym q)) ∙ other)
+          | inr w ↦ elim w [
+            | inl less ↦ n.between u f lt less there same
+            | inr more ↦ by_kind x.0 x.1 n x.3 x.4 more (is_a_call x.1.what) refl
+          ]
+        ]
+  ]
+    where
+      by_kind : (j : ℕ) (g : Event) → IsNextAt (events_after [] es) k e.process j g → is_a_reply g.what ≡ false → is_a_fail g.what ≡ false → j < u → (b : Bool) → is_a_call g.what ≡ b → ⊥
+      by_kind j g n r d more true c = two-calls k j e g at call n c
+      by_kind j g n r d more false c = crash-last j g n.there c r d u f more there (same ∙ sym n.process)
 
   apart : (a b : Operation) → Known (events_after [] es) a → Known (events_after [] es) b → a.reply ≡ b.call → ⊥
   apart a b (inl (j, e)) (inl (k, f)) q = omega (arith, q, ap (λ (o : Operation). o.reply) e, ap (λ (o : Operation). o.call) f)
@@ -173,7 +219,7 @@ module _ (es : List LineEvent) (acc : AreAccepted es) where
   not-null a i u q =
       let x = row a i in
       let l = line-at es acc x.0 x.1 x.2.there in
-      let n = write-value es x.0 l.0 x.1 l.1 (sym (ap (λ (v : Event). v.is_call) l.1.is) ∙ x.2.is_call) (sym (ap writes x.2.kind) ∙ u) in
+      let n = write-value es x.0 l.0 x.1 l.1 (sym (call-line (take x.0 es) l.0 x.1 l.1.is) ∙ x.2.is_call) (sym (ap writes x.2.kind) ∙ u) in
       let w = x.2.value u in
       let z : Some Null ≡ Some (Int n.0) = sym q ∙ (w ∙ n.1) in
       cc (z)
@@ -186,7 +232,7 @@ module _ (es : List LineEvent) (acc : AreAccepted es) where
       let l = line-at es acc x.0 x.1 x.2.there in
       let m = line-at es acc z.0 z.1 z.2.there in
       not-again es acc x.0 z.0 l.0 m.0 x.1 z.1 l.1 m.1 (omega (arith, lt, x.2.call, z.2.call))
-      (sym (ap (λ (w : Event). w.is_call) l.1.is) ∙ x.2.is_call) (sym (ap (λ (w : Event). w.is_call) m.1.is) ∙ z.2.is_call)
+      (sym (call-line (take x.0 es) l.0 x.1 l.1.is) ∙ x.2.is_call) (sym (call-line (take z.0 es) m.0 z.1 m.1.is) ∙ z.2.is_call)
       (sym (ap writes x.2.kind) ∙ u) (sym (ap writes z.2.kind) ∙ v)
       (sym x.2.register ∙ (r ∙ z.2.register)) (sym (x.2.value u) ∙ (q ∙ z.2.value v))
 
@@ -208,7 +254,7 @@ module _ (es : List LineEvent) (acc : AreAccepted es) where
       let same : z.1.process ≡ x.1.process = cc (some) in
       let later : x.0 < z.0 = omega (arith, lt, x.2.call, z.2.call) in
       elim x.2.ends [
-        | inl p ↦ absurd (p.none_later z.0 z.1 later z.2.there same)
+        | inl p ↦ absurd (pending-last a x.0 z.0 x.1 z.1 x.2.there x.2.is_call p later z.2.there same z.2.is_call)
         | inr r ↦
             let u = r.2 in
             elim (cases_order a.reply b.call) [

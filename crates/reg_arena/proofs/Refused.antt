@@ -8,150 +8,292 @@ use Rattle.history_text.specs.declared.event.OpKind.{OpKind}
 use Rattle.history_text.specs.declared.event.LineEvent.{LineEvent}
 use Rattle.history_text.specs.declared.event.ReplyParts.{ReplyParts}
 use Rattle.history_text.specs.declared.event.Kind.{Kind}
-use Rattle.history_text.specs.declared.event.Kind.TheVariants.{CallRead, CallWrite, Reply}
+use Rattle.history_text.specs.declared.event.Kind.TheVariants.{CallRead, CallWrite, Reply, Fail, Crash}
 use Rattle.reg_arena.specs.Lists.{first_with}
-use Rattle.reg_arena.specs.Events.{Asked, asked_by, replied_by, open_call, open_asked, reply_agrees}
-use Rattle.reg_arena.specs.Refusals.{AreAccepted, event_refusal, first_some, refused, too_many, writes_to}
+use Rattle.reg_arena.specs.Events.{Asked, asked_by, replied_by, failed_by, ended_by, is_crash, is_crash_kind, open_call, open_asked, crashed_at, reply_agrees, fail_agrees}
+use Rattle.reg_arena.specs.Refusals.{AreAccepted, event_refusal, late_refusal, refused, failing, call_while_open, end_without_call, reply_disagrees, fail_disagrees, reply_without_value, value_written, too_many, after_crash, writes_to}
 use Rattle.reg_arena.specs.History.{history_of, events_after, register_names}
-use Rattle.reg_arena.specs.Step.{IsOpen, IsNumber, IsWritten}
+use Rattle.reg_arena.specs.Step.{IsOpenCall, IsStanding, IsNumber, IsWritten}
 use Rattle.reg_arena.specs.declared.ids.EvId.{EvId}
 use Rattle.reg_arena.specs.declared.event.Event.{Event}
+use Rattle.reg_arena.specs.declared.standing.Open.{Open}
+use Rattle.reg_arena.specs.declared.standing.Standing.{Standing}
+use Rattle.reg_arena.specs.declared.standing.Standing.TheVariants.{Opened, Crashed, Free}
 use Rattle.reg_arena.specs.declared.refusal.LineRefusal.{LineRefusal}
 use Rattle.reg_arena.specs.Threads.{by_write}
 use Rattle.reg_arena.proofs.Append.{key-within}
-use Rattle.reg_arena.proofs.Accepted.{call-replies}
-use Rattle.reg_arena.proofs.Open.{open-some, open-none, written-none, written-some, name-at}
+use Rattle.reg_arena.proofs.Accepted.{call-replies, reply-asks, reply-ends, fail-ends}
+use Rattle.reg_arena.proofs.Open.{open-some, crashed-some, free-none, written-none, written-some, name-at}
 
--- the refusal by what the event asks and what it replies
-abbrev refusal_by : List LineEvent → LineEvent → Option Asked → Option ReplyParts → Option LineRefusal
-refusal_by before e o r = first_some (option_and_then (λ _. option_map (λ (call : LineEvent). refused e 9 (Some call.line)) (open_call before e.process)) o
-    ∷ option_and_then (λ _. cond (is_none (open_call before e.process)) (Some (refused e 10 None)) None) r
-    ∷ option_and_then (λ (reply : ReplyParts). option_and_then (λ (call : Asked). cond (not (reply_agrees call reply)) (Some (refused e 11 None)) None) (open_asked before e.process)) r
-    ∷ option_and_then (λ (reply : ReplyParts). option_and_then (λ (call : Asked). cond (is_none call.value && is_none reply.value) (Some (refused e 12 None)) None) (open_asked before e.process)) r
-    ∷ option_and_then (λ (call : Asked). option_and_then (λ v. option_map (λ (w : LineEvent). refused e 13 (Some w.line)) (first_with (λ (w : LineEvent). writes_to call.register v w.kind) before)) call.value) o
-    ∷ too_many before e
-    ∷ [])
+-- ---- what an event is none of
 
-by-call : (before : List LineEvent) (e : LineEvent) (a : Asked) → asked_by e.kind ≡ Some a → event_refusal before e ≡ refusal_by before e (Some a) None
-by-call before e a h = ap (λ o. refusal_by before e o (replied_by e.kind)) h ∙ ap (refusal_by before e (Some a)) (call-replies e.kind a h)
+call-fails : (k : Kind) (a : Asked) → asked_by k ≡ Some a → failed_by k ≡ None
+call-fails (CallRead name) a h = refl
+call-fails (CallWrite name n) a h = refl
+call-fails (Reply parts) a h = absurd (cc (h))
+call-fails (Fail parts) a h = absurd (cc (h))
+call-fails Crash a h = absurd (cc (h))
 
-pub reply-calls : (k : Kind) (parts : ReplyParts) → replied_by k ≡ Some parts → asked_by k ≡ None
-reply-calls (CallRead name) parts h = absurd (cc (h))
-reply-calls (CallWrite name n) parts h = absurd (cc (h))
-reply-calls (Reply p) parts h = refl
+reply-fails : (k : Kind) (parts : ReplyParts) → replied_by k ≡ Some parts → failed_by k ≡ None
+reply-fails (CallRead name) parts h = refl
+reply-fails (CallWrite name n) parts h = refl
+reply-fails (Reply p) parts h = refl
+reply-fails (Fail p) parts h = absurd (cc (h))
+reply-fails Crash parts h = refl
 
-by-reply : (before : List LineEvent) (e : LineEvent) (parts : ReplyParts) → replied_by e.kind ≡ Some parts → event_refusal before e ≡ refusal_by before e None (Some parts)
-by-reply before e parts h = ap (λ o. refusal_by before e o (replied_by e.kind)) (reply-calls e.kind parts h) ∙ ap (refusal_by before e None) h
+fail-replies : (k : Kind) (parts : ReplyParts) → failed_by k ≡ Some parts → replied_by k ≡ None
+fail-replies (CallRead name) parts h = refl
+fail-replies (CallWrite name n) parts h = refl
+fail-replies (Reply p) parts h = absurd (cc (h))
+fail-replies (Fail p) parts h = refl
+fail-replies Crash parts h = refl
+
+pub crash-none : (k : Kind) → is_crash_kind k ≡ true → (asked_by k ≡ None) × (replied_by k ≡ None) × (failed_by k ≡ None)
+crash-none (CallRead name) h = absurd (false≢true h)
+crash-none (CallWrite name n) h = absurd (false≢true h)
+crash-none (Reply parts) h = absurd (false≢true h)
+crash-none (Fail parts) h = absurd (false≢true h)
+crash-none Crash h = (refl, refl, refl)
 
 pub events-length : (b es : List LineEvent) → length (events_after b es) ≡ length es
 events-length b [] = refl
 events-length b (e ∷ es) = let r = events-length (b ++ e ∷ []) es in omega arith
 
-full : (es : List LineEvent) (e : LineEvent) → too_many es e ≡ cond (nat_le MAX_EVENTS (length (history_of es).events)) (Some (refused e 14 None)) None
+pub full : (es : List LineEvent) (e : LineEvent) → too_many es e ≡ cond (nat_le MAX_EVENTS (length (history_of es).events)) (Some (refused e 14 None)) None
 full es e = ap (λ n. cond (nat_le MAX_EVENTS n) (Some (refused e 14 None)) None) (sym (events-length [] es))
-
-abbrev asked_of : List ℕ → OpKind → Option Val → Asked
-asked_of r k v = record { register = r; kind = k; value = v }
 
 or-none : {A : Type 0} (o : Option A) → option_or o None ≡ o
 or-none None = refl
 or-none (Some x) = refl
+
+skip : {A : Type 0} (a b : Option A) → a ≡ None → option_or a b ≡ b
+skip a b h = ap (λ o. option_or o b) h
 
 pub written-within : (events : List Event) (number : Option ℕ) (value : Option Val) (j : EvId) → IsWritten events number value (Some j) → j.0 < length events
 written-within events None v j h = absurd (cc (h))
 written-within events (Some r) None j h = absurd (cc (h))
 written-within events (Some r) (Some v) j h = key-within by_write events j.0 (r, v) h.1
 
-module _ (es : List LineEvent) (acc : AreAccepted es) (e : LineEvent) where
+abbrev asked_of : List ℕ → OpKind → Option Val → Asked
+asked_of r k v = record { register = r; kind = k; value = v }
+
+module _ (es : List LineEvent) (e : LineEvent) where
+  -- ---- each reason by itself
+
+  late : event_refusal es e ≡ option_or (call_while_open es e) (option_or (end_without_call es e) (option_or (reply_disagrees es e) (option_or (fail_disagrees es e) (option_or (reply_without_value es e) (option_or (value_written es e) (late_refusal es e))))))
+  late = ap (λ o. option_or (call_while_open es e) (option_or (end_without_call es e) (option_or (reply_disagrees es e) (option_or (fail_disagrees es e) (option_or (reply_without_value es e) (option_or (value_written es e) o)))))) (or-none (late_refusal es e))
+
+  no-call : asked_by e.kind ≡ None → (call_while_open es e ≡ None) × (value_written es e ≡ None)
+  no-call h = (
+    ap (option_and_then (λ (_ : Asked). option_map (λ (call : LineEvent). refused e 9 (Some call.line)) (open_call es e.process))) h,
+    ap (option_and_then (λ (call : Asked). option_and_then (λ v. option_map (λ (w : LineEvent). refused e 13 (Some w.line)) (first_with (λ (w : LineEvent). writes_to call.register v w.kind) es)) call.value)) h,
+  )
+
+  no-end : ended_by e.kind ≡ None → end_without_call es e ≡ None
+  no-end h = ap (option_and_then (λ (_ : ReplyParts). cond (is_none (open_call es e.process) && is_none (crashed_at es e.process)) (Some (refused e 10 None)) None)) h
+
+  closed-call : open_call es e.process ≡ None → call_while_open es e ≡ None
+  closed-call h = go (asked_by e.kind)
+    where
+      go : (o : Option Asked) → option_and_then (λ _. option_map (λ (call : LineEvent). refused e 9 (Some call.line)) (open_call es e.process)) o ≡ None
+      go None = refl
+      go (Some a) = ap (option_map (λ (call : LineEvent). refused e 9 (Some call.line))) h
+
+  open-end : (c : LineEvent) → open_call es e.process ≡ Some c → end_without_call es e ≡ None
+  open-end c h = go (ended_by e.kind)
+    where
+      go : (o : Option ReplyParts) → option_and_then (λ _. cond (is_none (open_call es e.process) && is_none (crashed_at es e.process)) (Some (refused e 10 None)) None) o ≡ None
+      go None = refl
+      go (Some p) = ap (λ o. cond (is_none o && is_none (crashed_at es e.process)) (Some (refused e 10 None)) None) h
+
+  crashed-end : (c : LineEvent) → open_call es e.process ≡ None → crashed_at es e.process ≡ Some c → end_without_call es e ≡ None
+  crashed-end c n h = go (ended_by e.kind)
+    where
+      go : (o : Option ReplyParts) → option_and_then (λ _. cond (is_none (open_call es e.process) && is_none (crashed_at es e.process)) (Some (refused e 10 None)) None) o ≡ None
+      go None = refl
+      go (Some p) =
+          ap (λ o. cond (is_none o && is_none (crashed_at es e.process)) (Some (refused e 10 None)) None) n
+          ∙ ap (λ o. cond (true && is_none o) (Some (refused e 10 None)) None) h
+
+  unasked : (fails : Asked → ReplyParts → Bool) (number : ℕ) (said : Option ReplyParts) → open_asked es e.process ≡ None → failing fails number es e said ≡ None
+  unasked fails number None h = refl
+  unasked fails number (Some p) h = ap (option_and_then (λ (call : Asked). cond (fails call p) (Some (refused e number None)) None)) h
+
+  unsaid : (fails : Asked → ReplyParts → Bool) (number : ℕ) (said : Option ReplyParts) → said ≡ None → failing fails number es e said ≡ None
+  unsaid fails number said h = ap (failing fails number es e) h
+
+  said-of : (fails : Asked → ReplyParts → Bool) (number : ℕ) (said : Option ReplyParts) (p : ReplyParts) (a : Asked) → said ≡ Some p → open_asked es e.process ≡ Some a → failing fails number es e said ≡ cond (fails a p) (Some (refused e number None)) None
+  said-of fails number said p a h q = ap (failing fails number es e) h ∙ ap (option_and_then (λ (call : Asked). cond (fails call p) (Some (refused e number None)) None)) q
+
+  none-asked : open_call es e.process ≡ None → open_asked es e.process ≡ None
+  none-asked h = ap (option_and_then (λ (e : LineEvent). asked_by e.kind)) h
+
   -- ---- a call
 
-  module _ (a : Asked) (asks : asked_by e.kind ≡ Some a) where
-    abbrev late : Option LineRefusal → Option LineRefusal
-    late last = option_or (option_and_then (λ v. option_map (λ (w : LineEvent). refused e 13 (Some w.line)) (first_with (λ (w : LineEvent). writes_to a.register v w.kind) es)) a.value) (option_or last None)
+  module _ (acc : AreAccepted es) (a : Asked) (asks : asked_by e.kind ≡ Some a) where
+    no-said : (replied_by e.kind ≡ None) × (failed_by e.kind ≡ None)
+    no-said = (call-replies e.kind a asks, call-fails e.kind a asks)
 
-    pub call-open : (j : EvId) (ev : Event) → IsOpen (history_of es).events e.process (Some j) → slice_get (history_of es).events j.0 ≡ Some ev → event_refusal es e ≡ Some (refused e 9 (Some ev.line))
-    call-open j ev h at =
-        let x = open-some es acc e.process j h in
-        let was = x.3.there in
-        let same : x.0 ≡ ev = cc (was, at) in
-        by-call es e a asks ∙ (ap (λ o. option_or (option_map (λ (call : LineEvent). refused e 9 (Some call.line)) o) (late (too_many es e))) x.3.opened ∙ ap (λ n. Some (refused e 9 (Some n))) (sym x.3.line ∙ ap (λ (z : Event). z.line) same))
+    no-ended : ended_by e.kind ≡ None
+    no-ended = ap (λ o. option_or o (failed_by e.kind)) no-said.0 ∙ no-said.1
 
-    after-open : IsOpen (history_of es).events e.process None → event_refusal es e ≡ option_or (option_and_then (λ v. option_map (λ (w : LineEvent). refused e 13 (Some w.line)) (first_with (λ (w : LineEvent). writes_to a.register v w.kind) es)) a.value) (too_many es e)
+    after-open : open_call es e.process ≡ None → event_refusal es e ≡ option_or (value_written es e) (late_refusal es e)
     after-open h =
-        by-call es e a asks
-        ∙ (ap (λ o. option_or (option_map (λ (call : LineEvent). refused e 9 (Some call.line)) o) (option_or (option_and_then (λ v. option_map (λ (w : LineEvent). refused e 13 (Some w.line)) (first_with (λ (w : LineEvent). writes_to a.register v w.kind) es)) a.value) (option_or (too_many es e) None))) (open-none es acc e.process h)
-        ∙ ap (option_or (option_and_then (λ v. option_map (λ (w : LineEvent). refused e 13 (Some w.line)) (first_with (λ (w : LineEvent). writes_to a.register v w.kind) es)) a.value)) (or-none (too_many es e)))
+        late ∙ (skip (call_while_open es e) _ (closed-call h) ∙ (skip (end_without_call es e) _ (no-end no-ended)
+        ∙ (skip (reply_disagrees es e) _ (unsaid (λ call reply. not (reply_agrees call reply)) 11 (replied_by e.kind) no-said.0)
+        ∙ (skip (fail_disagrees es e) _ (unsaid (λ call fail. not (fail_agrees call fail)) 11 (failed_by e.kind) no-said.1)
+        ∙ skip (reply_without_value es e) _ (unsaid (λ call reply. is_none call.value && is_none reply.value) 12 (replied_by e.kind) no-said.0)))))
 
-    call-written : (number : Option ℕ) (v : Val) (j : EvId) (ev : Event) → a.value ≡ Some v → IsNumber (register_names es) a.register number → IsOpen (history_of es).events e.process None → IsWritten (history_of es).events number (Some v) (Some j) → slice_get (history_of es).events j.0 ≡ Some ev
+    pub call-open : (o : Open) (ev : Event) → IsOpenCall (history_of es).events e.process o → slice_get (history_of es).events o.call.0 ≡ Some ev → event_refusal es e ≡ Some (refused e 9 (Some ev.line))
+    call-open o ev h at =
+        let x = open-some es acc e.process o h in
+        let i = x.2 in
+        let first : call_while_open es e ≡ Some (refused e 9 (Some ev.line)) =
+        ap (option_and_then (λ (_ : Asked). option_map (λ (call : LineEvent). refused e 9 (Some call.line)) (open_call es e.process))) asks
+        ∙ (ap (option_map (λ (call : LineEvent). refused e 9 (Some call.line))) i.opened ∙ ap (λ n. Some (refused e 9 (Some n))) (sym (i.line ev at))) in
+        late ∙ ap (λ o. option_or o (option_or (end_without_call es e) (option_or (reply_disagrees es e) (option_or (fail_disagrees es e) (option_or (reply_without_value es e) (option_or (value_written es e) (late_refusal es e))))))) first
+
+    call-written : (number : Option ℕ) (v : Val) (j : EvId) (ev : Event) → a.value ≡ Some v → IsNumber (register_names es) a.register number → open_call es e.process ≡ None → IsWritten (history_of es).events number (Some v) (Some j) → slice_get (history_of es).events j.0 ≡ Some ev
         → event_refusal es e ≡ Some (refused e 13 (Some ev.line))
     call-written number v j ev q n h w at =
         let x = written-some es acc a.register number v j n w in
-        after-open h ∙ (ap (λ o. option_or (option_and_then (λ v. option_map (λ (w : LineEvent). refused e 13 (Some w.line)) (first_with (λ (w : LineEvent). writes_to a.register v w.kind) es)) o) (too_many es e)) q
-        ∙ (ap (λ o. option_or (option_map (λ (w : LineEvent). refused e 13 (Some w.line)) o) (too_many es e)) x.1 ∙ ap (λ n. Some (refused e 13 (Some n))) (sym (x.2 ev at))))
+        let wrote : value_written es e ≡ Some (refused e 13 (Some ev.line)) =
+        ap (option_and_then (λ (call : Asked). option_and_then (λ v. option_map (λ (w : LineEvent). refused e 13 (Some w.line)) (first_with (λ (w : LineEvent). writes_to call.register v w.kind) es)) call.value)) asks
+        ∙ (ap (option_and_then (λ v. option_map (λ (w : LineEvent). refused e 13 (Some w.line)) (first_with (λ (w : LineEvent). writes_to a.register v w.kind) es))) q
+        ∙ (ap (option_map (λ (w : LineEvent). refused e 13 (Some w.line))) x.1 ∙ ap (λ n. Some (refused e 13 (Some n))) (sym (x.2 ev at)))) in
+        after-open h ∙ ap (λ o. option_or o (late_refusal es e)) wrote
 
-    pub call-wrote : (number : Option ℕ) (value : Option Val) (j : EvId) (ev : Event) → a.value ≡ value → IsNumber (register_names es) a.register number → IsOpen (history_of es).events e.process None → IsWritten (history_of es).events number value (Some j) → slice_get (history_of es).events j.0 ≡ Some ev
+    pub call-wrote : (number : Option ℕ) (value : Option Val) (j : EvId) (ev : Event) → a.value ≡ value → IsNumber (register_names es) a.register number → open_call es e.process ≡ None → IsWritten (history_of es).events number value (Some j) → slice_get (history_of es).events j.0 ≡ Some ev
         → event_refusal es e ≡ Some (refused e 13 (Some ev.line))
     call-wrote None None j ev q n h w at = absurd (cc (w))
     call-wrote (Some r) None j ev q n h w at = absurd (cc (w))
     call-wrote number (Some v) j ev q n h w at = call-written number v j ev q n h w at
 
-    pub call-free : (number : Option ℕ) → IsNumber (register_names es) a.register number → IsOpen (history_of es).events e.process None → IsWritten (history_of es).events number a.value None
-        → event_refusal es e ≡ cond (nat_le MAX_EVENTS (length (history_of es).events)) (Some (refused e 14 None)) None
-    call-free number n h w = after-open h ∙ (ap (λ o. option_or o (too_many es e)) (none a.value w) ∙ full es e)
+    pub call-free : (number : Option ℕ) → IsNumber (register_names es) a.register number → open_call es e.process ≡ None → IsWritten (history_of es).events number a.value None → event_refusal es e ≡ late_refusal es e
+    call-free number n h w =
+        after-open h ∙ skip (value_written es e) (late_refusal es e)
+        (ap (option_and_then (λ (call : Asked). option_and_then (λ v. option_map (λ (w : LineEvent). refused e 13 (Some w.line)) (first_with (λ (w : LineEvent). writes_to call.register v w.kind) es)) call.value)) asks ∙ none a.value w)
       where
         none : (o : Option Val) → IsWritten (history_of es).events number o None → option_and_then (λ v. option_map (λ (w : LineEvent). refused e 13 (Some w.line)) (first_with (λ (w : LineEvent). writes_to a.register v w.kind) es)) o ≡ None
         none None w = refl
         none (Some v) w = ap (option_map (λ (w : LineEvent). refused e 13 (Some w.line))) (written-none es acc a.register number v n w)
 
-  -- ---- a reply
+  -- a process with no open call
+  pub unopened : (acc : AreAccepted es) (s : Standing) → IsStanding (history_of es).events e.process s → ((o : Open) → s ≡ Opened o → ⊥) → open_call es e.process ≡ None
+  unopened acc (Opened o) h ne = absurd (ne o refl)
+  unopened acc (Crashed j) h ne = (crashed-some es acc e.process j h).2
+  unopened acc Free h ne = (free-none es acc e.process h).0
 
-  module _ (parts : ReplyParts) (replies : replied_by e.kind ≡ Some parts) where
-    abbrev rest : Option Asked → Option LineRefusal → Option LineRefusal
-    rest o last = option_or (option_and_then (λ (call : Asked). cond (not (reply_agrees call parts)) (Some (refused e 11 None)) None) o) (option_or (option_and_then (λ (call : Asked). cond (is_none call.value && is_none parts.value) (Some (refused e 12 None)) None) o) last)
+  -- ---- what is left of any event
 
-    pub reply-closed : IsOpen (history_of es).events e.process None → event_refusal es e ≡ Some (refused e 10 None)
-    reply-closed h = by-reply es e parts replies ∙ ap (λ o. option_or (cond (is_none o) (Some (refused e 10 None)) None) (rest (open_asked es e.process) (option_or (too_many es e) None))) (open-none es acc e.process h)
+  pub late-crashed : (acc : AreAccepted es) (j : EvId) (ev : Event) → IsStanding (history_of es).events e.process (Crashed j) → slice_get (history_of es).events j.0 ≡ Some ev → cond (nat_le MAX_EVENTS (length (history_of es).events)) (Some (refused e 14 None)) None ≡ None → late_refusal es e ≡ Some (refused e 19 (Some ev.line))
+  late-crashed acc j ev h at room =
+      let x = crashed-some es acc e.process j h in
+      skip (too_many es e) (after_crash es e) (full es e ∙ room) ∙ (ap (option_map (λ (crash : LineEvent). refused e 19 (Some crash.line))) x.1 ∙ ap (λ n. Some (refused e 19 (Some n))) (sym (x.3 ev at)))
 
-    -- the refusal of a reply to an open call
-    reply-open : (j : EvId) (ev : Event) (name : List ℕ) → IsOpen (history_of es).events e.process (Some j) → slice_get (history_of es).events j.0 ≡ Some ev → slice_get (register_names es) ev.register.0 ≡ Some name
-        → event_refusal es e ≡ option_or (cond (not (reply_agrees (record { register = name; kind = ev.kind; value = ev.value }) parts)) (Some (refused e 11 None)) None) (option_or (cond (is_none ev.value && is_none parts.value) (Some (refused e 12 None)) None) (cond (nat_le MAX_EVENTS (length (history_of es).events)) (Some (refused e 14 None)) None))
-    reply-open j ev name h at named =
-        let x = open-some es acc e.process j h in
-        let i = x.3 in
-        let was = i.there in
-        let same : x.0 ≡ ev = cc (was, at) in
-        let k = ap (λ (z : Event). slice_get (register_names es) z.register.0) (sym same) in
-        let n = name-at es acc j.0 x.1 x.2 x.0 i.before i.asks i.says in
-        let register : x.2.register ≡ name = cc (k, n, named) in
-        let kind : x.2.kind ≡ ev.kind = sym i.says.says.kind ∙ ap (λ (z : Event). z.kind) same in
-        let value : x.2.value ≡ ev.value = sym i.says.value ∙ ap (λ (z : Event). z.value) same in
-        let asked : x.2 ≡ record { register = name; kind = ev.kind; value = ev.value } = ap (λ r. asked_of r x.2.kind x.2.value) register ∙ (ap (λ k. asked_of name k x.2.value) kind ∙ ap (asked_of name ev.kind) value) in
-        by-reply es e parts replies
-        ∙ (ap (λ o. option_or (cond (is_none o) (Some (refused e 10 None)) None) (rest (open_asked es e.process) (option_or (too_many es e) None))) i.opened
-        ∙ (ap (λ o. rest o (option_or (too_many es e) None)) (i.asked ∙ ap Some asked)
-        ∙ ap (rest (Some (record { register = name; kind = ev.kind; value = ev.value }))) (or-none (too_many es e) ∙ full es e)))
+  pub late-full : (r : LineRefusal) → cond (nat_le MAX_EVENTS (length (history_of es).events)) (Some (refused e 14 None)) None ≡ Some r → late_refusal es e ≡ Some r
+  late-full r h = ap (λ o. option_or o (after_crash es e)) (full es e ∙ h)
 
-    -- the same, by the tests of the code
-    module _ (j : EvId) (ev : Event) (name : List ℕ) (h : IsOpen (history_of es).events e.process (Some j)) (at : slice_get (history_of es).events j.0 ≡ Some ev) (named : slice_get (register_names es) ev.register.0 ≡ Some name) (b : Bool) (test : b ≡ reply_agrees (record { register = name; kind = ev.kind; value = ev.value }) parts) where
-      tested : (d : Bool) → b ≡ d → event_refusal es e ≡ option_or (cond (not d) (Some (refused e 11 None)) None) (option_or (cond (is_none ev.value && is_none parts.value) (Some (refused e 12 None)) None) (cond (nat_le MAX_EVENTS (length (history_of es).events)) (Some (refused e 14 None)) None))
-      tested d q = reply-open j ev name h at named ∙ ap (λ d. option_or (cond (not d) (Some (refused e 11 None)) None) (option_or (cond (is_none ev.value && is_none parts.value) (Some (refused e 12 None)) None) (cond (nat_le MAX_EVENTS (length (history_of es).events)) (Some (refused e 14 None)) None))) (sym test ∙ q)
+  pub late-alive : crashed_at es e.process ≡ None → late_refusal es e ≡ cond (nat_le MAX_EVENTS (length (history_of es).events)) (Some (refused e 14 None)) None
+  late-alive h = ap (option_or (too_many es e)) (ap (option_map (λ (crash : LineEvent). refused e 19 (Some crash.line))) h) ∙ (or-none (too_many es e) ∙ full es e)
 
-      pub reply-disagreeing : b ≡ false → event_refusal es e ≡ Some (refused e 11 None)
-      reply-disagreeing q = tested false q
+  -- ---- a crash
 
-      pub reply-empty : b ≡ true → is_some ev.value ≡ false → is_some parts.value ≡ false → event_refusal es e ≡ Some (refused e 12 None)
-      reply-empty q v w = tested true q ∙ by_none ev.value v parts.value w
-        where
-          by_none : (o : Option Val) → is_some o ≡ false → (p : Option Val) → is_some p ≡ false → option_or (cond (is_none o && is_none p) (Some (refused e 12 None)) None) (cond (nat_le MAX_EVENTS (length (history_of es).events)) (Some (refused e 14 None)) None) ≡ Some (refused e 12 None)
-          by_none None x None y = refl
-          by_none None x (Some p) y = absurd (false≢true (sym y))
-          by_none (Some o) x p y = absurd (false≢true (sym x))
+  pub crash-late : is_crash e ≡ true → event_refusal es e ≡ late_refusal es e
+  crash-late c =
+      let n = crash-none e.kind c in
+      let calls = no-call n.0 in
+      late ∙ (skip (call_while_open es e) _ calls.0 ∙ (skip (end_without_call es e) _ (no-end (ap (λ o. option_or o (failed_by e.kind)) n.1 ∙ n.2))
+      ∙ (skip (reply_disagrees es e) _ (unsaid (λ call reply. not (reply_agrees call reply)) 11 (replied_by e.kind) n.1)
+      ∙ (skip (fail_disagrees es e) _ (unsaid (λ call fail. not (fail_agrees call fail)) 11 (failed_by e.kind) n.2)
+      ∙ (skip (reply_without_value es e) _ (unsaid (λ call reply. is_none call.value && is_none reply.value) 12 (replied_by e.kind) n.1)
+      ∙ skip (value_written es e) _ calls.1)))))
 
-      pub reply-free : b ≡ true → (is_some ev.value ≡ true) ⊎ (is_some parts.value ≡ true) → event_refusal es e ≡ cond (nat_le MAX_EVENTS (length (history_of es).events)) (Some (refused e 14 None)) None
-      reply-free q v = tested true q ∙ by_some ev.value parts.value v
-        where
-          by_some : (o p : Option Val) → (is_some o ≡ true) ⊎ (is_some p ≡ true) → option_or (cond (is_none o && is_none p) (Some (refused e 12 None)) None) (cond (nat_le MAX_EVENTS (length (history_of es).events)) (Some (refused e 14 None)) None) ≡ cond (nat_le MAX_EVENTS (length (history_of es).events)) (Some (refused e 14 None)) None
-          by_some None None (inl x) = absurd (false≢true x)
-          by_some None None (inr x) = absurd (false≢true x)
-          by_some None (Some p) x = refl
-          by_some (Some o) p x = refl
+  -- ---- a reply or a fail without an open call
+
+  module _ (acc : AreAccepted es) (parts : ReplyParts) (ends : ended_by e.kind ≡ Some parts) where
+    pub end-closed : IsStanding (history_of es).events e.process Free → event_refusal es e ≡ Some (refused e 10 None)
+    end-closed h =
+        let n = free-none es acc e.process h in
+        let ten : end_without_call es e ≡ Some (refused e 10 None) =
+        ap (option_and_then (λ (_ : ReplyParts). cond (is_none (open_call es e.process) && is_none (crashed_at es e.process)) (Some (refused e 10 None)) None)) ends
+        ∙ (ap (λ o. cond (is_none o && is_none (crashed_at es e.process)) (Some (refused e 10 None)) None) n.0 ∙ ap (λ o. cond (true && is_none o) (Some (refused e 10 None)) None) n.1) in
+        late ∙ (skip (call_while_open es e) _ (no-call (reply-asks e.kind parts ends)).0
+        ∙ ap (λ o. option_or o (option_or (reply_disagrees es e) (option_or (fail_disagrees es e) (option_or (reply_without_value es e) (option_or (value_written es e) (late_refusal es e)))))) ten)
+
+    pub end-crashed : (j : EvId) → IsStanding (history_of es).events e.process (Crashed j) → event_refusal es e ≡ late_refusal es e
+    end-crashed j h =
+        let x = crashed-some es acc e.process j h in
+        let calls = no-call (reply-asks e.kind parts ends) in
+        let none = none-asked x.2 in
+        late ∙ (skip (call_while_open es e) _ calls.0 ∙ (skip (end_without_call es e) _ (crashed-end x.0 x.2 x.1)
+        ∙ (skip (reply_disagrees es e) _ (unasked (λ call reply. not (reply_agrees call reply)) 11 (replied_by e.kind) none)
+        ∙ (skip (fail_disagrees es e) _ (unasked (λ call fail. not (fail_agrees call fail)) 11 (failed_by e.kind) none)
+        ∙ (skip (reply_without_value es e) _ (unasked (λ call reply. is_none call.value && is_none reply.value) 12 (replied_by e.kind) none)
+        ∙ skip (value_written es e) _ calls.1)))))
+
+  -- ---- a reply or a fail of an open call
+
+  module _ (acc : AreAccepted es) (o : Open) (name : List ℕ) (h : IsOpenCall (history_of es).events e.process o) (named : slice_get (register_names es) o.register.0 ≡ Some name) where
+    opened-by : (c : LineEvent) × (open_call es e.process ≡ Some c) × (open_asked es e.process ≡ Some (asked_of name o.kind o.value)) × (crashed_at es e.process ≡ None)
+    opened-by =
+        let x = open-some es acc e.process o h in
+        let i = x.2 in
+        let n = name-at es acc e.process o x.0 x.1 i in
+        let register : x.1.register ≡ name = cc (n, named) in
+        (x.0, i.opened, i.asked ∙ (ap (λ r. Some (asked_of r x.1.kind x.1.value)) register ∙ (ap (λ k. Some (asked_of name k x.1.value)) (sym i.kind) ∙ ap (λ v. Some (asked_of name o.kind v)) (sym i.value))), i.free)
+
+    abbrev room : Option LineRefusal
+    room = cond (nat_le MAX_EVENTS (length (history_of es).events)) (Some (refused e 14 None)) None
+
+    module _ (parts : ReplyParts) (replies : replied_by e.kind ≡ Some parts) where
+      reply-open : event_refusal es e ≡ option_or (cond (not (reply_agrees (asked_of name o.kind o.value) parts)) (Some (refused e 11 None)) None) (option_or (cond (is_none o.value && is_none parts.value) (Some (refused e 12 None)) None) room)
+      reply-open =
+          let x = opened-by in
+          let calls = no-call (reply-asks e.kind parts (reply-ends e.kind parts replies)) in
+          late ∙ (skip (call_while_open es e) _ calls.0 ∙ (skip (end_without_call es e) _ (open-end x.0 x.1)
+          ∙ (ap (λ r. option_or r (option_or (fail_disagrees es e) (option_or (reply_without_value es e) (option_or (value_written es e) (late_refusal es e))))) (said-of (λ call reply. not (reply_agrees call reply)) 11 (replied_by e.kind) parts (asked_of name o.kind o.value) replies x.2)
+          ∙ ap (option_or (cond (not (reply_agrees (asked_of name o.kind o.value) parts)) (Some (refused e 11 None)) None))
+          (skip (fail_disagrees es e) _ (unsaid (λ call fail. not (fail_agrees call fail)) 11 (failed_by e.kind) (reply-fails e.kind parts replies))
+          ∙ (ap (λ r. option_or r (option_or (value_written es e) (late_refusal es e))) (said-of (λ call reply. is_none call.value && is_none reply.value) 12 (replied_by e.kind) parts (asked_of name o.kind o.value) replies x.2)
+          ∙ ap (option_or (cond (is_none o.value && is_none parts.value) (Some (refused e 12 None)) None)) (skip (value_written es e) _ calls.1 ∙ late-alive x.3))))))
+
+      -- the same, by the tests of the code
+      module _ (b : Bool) (test : b ≡ reply_agrees (asked_of name o.kind o.value) parts) where
+        tested : (d : Bool) → b ≡ d → event_refusal es e ≡ option_or (cond (not d) (Some (refused e 11 None)) None) (option_or (cond (is_none o.value && is_none parts.value) (Some (refused e 12 None)) None) room)
+        tested d q = reply-open ∙ ap (λ d. option_or (cond (not d) (Some (refused e 11 None)) None) (option_or (cond (is_none o.value && is_none parts.value) (Some (refused e 12 None)) None) room)) (sym test ∙ q)
+
+        pub reply-disagreeing : b ≡ false → event_refusal es e ≡ Some (refused e 11 None)
+        reply-disagreeing q = tested false q
+
+        pub reply-empty : b ≡ true → is_some o.value ≡ false → is_some parts.value ≡ false → event_refusal es e ≡ Some (refused e 12 None)
+        reply-empty q v w = tested true q ∙ by_none o.value v parts.value w
+          where
+            by_none : (o : Option Val) → is_some o ≡ false → (p : Option Val) → is_some p ≡ false → option_or (cond (is_none o && is_none p) (Some (refused e 12 None)) None) room ≡ Some (refused e 12 None)
+            by_none None x None y = refl
+            by_none None x (Some p) y = absurd (false≢true (sym y))
+            by_none (Some o) x p y = absurd (false≢true (sym x))
+
+        pub reply-free : b ≡ true → (is_some o.value ≡ true) ⊎ (is_some parts.value ≡ true) → event_refusal es e ≡ room
+        reply-free q v = tested true q ∙ by_some o.value parts.value v
+          where
+            by_some : (o p : Option Val) → (is_some o ≡ true) ⊎ (is_some p ≡ true) → option_or (cond (is_none o && is_none p) (Some (refused e 12 None)) None) room ≡ room
+            by_some None None (inl x) = absurd (false≢true x)
+            by_some None None (inr x) = absurd (false≢true x)
+            by_some None (Some p) x = refl
+            by_some (Some o) p x = refl
+
+    module _ (parts : ReplyParts) (fails : failed_by e.kind ≡ Some parts) where
+      fail-open : event_refusal es e ≡ option_or (cond (not (fail_agrees (asked_of name o.kind o.value) parts)) (Some (refused e 11 None)) None) room
+      fail-open =
+          let x = opened-by in
+          let calls = no-call (reply-asks e.kind parts (fail-ends e.kind parts fails)) in
+          let unreplied = fail-replies e.kind parts fails in
+          late ∙ (skip (call_while_open es e) _ calls.0 ∙ (skip (end_without_call es e) _ (open-end x.0 x.1)
+          ∙ (skip (reply_disagrees es e) _ (unsaid (λ call reply. not (reply_agrees call reply)) 11 (replied_by e.kind) unreplied)
+          ∙ (ap (λ r. option_or r (option_or (reply_without_value es e) (option_or (value_written es e) (late_refusal es e)))) (said-of (λ call fail. not (fail_agrees call fail)) 11 (failed_by e.kind) parts (asked_of name o.kind o.value) fails x.2)
+          ∙ ap (option_or (cond (not (fail_agrees (asked_of name o.kind o.value) parts)) (Some (refused e 11 None)) None))
+          (skip (reply_without_value es e) _ (unsaid (λ call reply. is_none call.value && is_none reply.value) 12 (replied_by e.kind) unreplied) ∙ (skip (value_written es e) _ calls.1 ∙ late-alive x.3))))))
+
+      pub fail-tested : (b d : Bool) → b ≡ fail_agrees (asked_of name o.kind o.value) parts → b ≡ d → event_refusal es e ≡ option_or (cond (not d) (Some (refused e 11 None)) None) room
+      fail-tested b d test q = fail-open ∙ ap (λ d. option_or (cond (not d) (Some (refused e 11 None)) None) room) (sym test ∙ q)

@@ -26,7 +26,7 @@ gave v = Reply (record { op = None; register = None; value = v })
 
 -- ---- refusals
 
--- a call while the process has an open call, before a line that is torn: the least faulty line counts
+-- a call while the process has an open call, before a line that is torn: the first faulty line counts
 twice_open : IsRefusal (Ok (event 1 1 (wrote (codes "x") 1)) ∷ Ok (event 2 1 (wrote (codes "x") 2)) ∷ Err (record { line = 3; kind = NotJson }) ∷ []) (record { line = 2; number = 9; other = Some 1 })
 twice_open = record { place = 1; there = refl; least = below }
   where

@@ -1,6 +1,7 @@
 -- The history with one event more.
-use Rattle.std.proofs.Common.{◌≡◌, ℕ, ◌<◌, ◌^◌, nat_le, is_some, cond, Bool, true, false, List, [], ◌∷◌, ◌++◌, length, take, slice_get, Option, Some, None, inl, inr, refl, sym, ap, subst, ◌∙◌, arith, option_and_then, unwrap_or, append_assoc, append-nil, length-append}
-use Rattle.std.proofs.lemmas.Bool.{cases_order, leb-false}
+use Rattle.std.proofs.Common.{◌≡◌, ℕ, ◌<◌, ◌^◌, nat_le, is_some, option_map, cond, Bool, true, false, List, [], ◌∷◌, ◌++◌, length, take, slice_get, Option, Some, None, inl, inr, refl, sym, ap, subst, ◌∙◌, arith, option_and_then, unwrap_or, append_assoc, append-nil, length-append}
+use Rattle.std.proofs.lemmas.Bool.{cases_order, leb-false, false≢true}
+use Rattle.std.specs.Option.{option_or}
 use Rattle.std.proofs.lemmas.Option.{slice_get_past}
 use Rattle.std.proofs.lemmas.List.{take-append-le}
 use Rattle.history_text.specs.declared.limits.TheConstants.{MAX_EVENTS}
@@ -11,25 +12,33 @@ use Rattle.history_text.specs.declared.event.OpKind.TheVariants.{ReadOp, WriteOp
 use Rattle.history_text.specs.declared.event.LineEvent.{LineEvent}
 use Rattle.history_text.specs.declared.event.ReplyParts.{ReplyParts}
 use Rattle.reg_arena.specs.Lists.{In}
-use Rattle.reg_arena.specs.Events.{Asked, asked_by, replied_by, is_call}
+use Rattle.reg_arena.specs.Events.{Asked, asked_by, replied_by, failed_by, ended_by, open_asked, is_call, is_crash, is_crash_kind}
 use Rattle.reg_arena.specs.Refusals.{AreAccepted, event_refusal, refused}
-use Rattle.reg_arena.specs.History.{History, history_of, events_after, event_after, event_value, register_names, register_number}
-use Rattle.reg_arena.specs.Shown.{key_at, by_process}
-use Rattle.reg_arena.specs.Threads.{IsCallAt}
+use Rattle.reg_arena.specs.History.{History, IsRecorded, history_of, events_after, event_after, asked_for, event_value, kind_asked, register_names, register_number, what_by}
+use Rattle.reg_arena.specs.Operations.{is_a_call, is_a_fail}
+use Rattle.reg_arena.specs.declared.ids.RegId.{RegId}
+use Rattle.reg_arena.specs.declared.event.What.{What}
+use Rattle.reg_arena.specs.declared.event.What.TheVariants.{Call, Reply, Fail, Crash}
+use Rattle.reg_arena.specs.declared.standing.Open.{Open}
+use Rattle.history_text.specs.declared.event.Kind.{Kind}
+use Rattle.history_text.specs.declared.event.Kind.TheVariants.{CallRead, CallWrite, Reply as AReply, Fail as AFail, Crash as ACrash}
+use Rattle.reg_arena.specs.Shown.{key_at, by_process, by_register, by_value}
+use Rattle.reg_arena.specs.Threads.{IsCall, IsCallAt, IsAppendable}
 use Rattle.std.specs.Prelude.{Result, Ok, Err}
 use Rattle.std.specs.Result.{IsErrAnd}
 use Rattle.reg_arena.specs.declared.refusal.BuildError.{BuildError}
 use Rattle.reg_arena.specs.declared.refusal.BuildError.TheVariants.{Memory}
-use Rattle.reg_arena.specs.Step.{IsNumber, IsOpen, IsStep}
+use Rattle.reg_arena.specs.Step.{IsNumber, IsOpenCall, IsStep}
 use Rattle.reg_arena.specs.declared.ids.EvId.{EvId}
 use Rattle.reg_arena.specs.declared.event.Event.{Event}
 use Rattle.reg_arena.proofs.Links.{slice_get-push, slice_get-push_other}
 use Rattle.reg_arena.proofs.Append.{call-keep, key-back, key-within}
 use Rattle.reg_arena.proofs.Numbers.{is-In, place-in, place-out, names-replied, names-known, names-new}
-use Rattle.reg_arena.proofs.Accepted.{free-of, asked-call, asked-reply, asked-value}
+use Rattle.reg_arena.proofs.Accepted.{free-of, asked-call, asked-end, asked-value, reply-asks, reply-ends, fail-ends}
 use Rattle.reg_arena.proofs.Turns.{value-of-call}
 use Rattle.reg_arena.proofs.Open.{open-some, number-stays}
-use Rattle.reg_arena.proofs.Refused.{events-length, reply-calls}
+use Rattle.reg_arena.proofs.Named.{event-register}
+use Rattle.reg_arena.proofs.Refused.{events-length, crash-none}
 
 take-length : {X : Type 0} (xs : List X) → take (length xs) xs ≡ xs
 take-length [] = refl
@@ -71,18 +80,61 @@ pub next-history : (es : List LineEvent) (e : LineEvent) (names : List (List ℕ
     → record { names = names; events = events } ≡ history_of (es ++ e ∷ [])
 next-history es e names events ev n h q = ap (λ ns. history_by ns events) n ∙ ap (history_by (register_names (es ++ e ∷ []))) (h ∙ (ap (λ v. (history_of es).events ++ v ∷ []) q ∙ sym (events-push [] es e)))
 
-abbrev pub event_by : LineEvent → ℕ → Bool → OpKind → Option Val → Event
-event_by e r b k v = record { line = e.line; process = e.process; register = record { 0 = r }; is_call = b; kind = k; value = v }
+abbrev pub event_by : LineEvent → Option RegId → What → Option Val → Event
+event_by e r w v = record { line = e.line; process = e.process; register = r; what = w; value = v }
+
+abbrev pub numbered : ℕ → Option RegId
+numbered n = Some (record { 0 = n })
+
+-- an event by what its call asks for
+asked-event : (es : List LineEvent) (e : LineEvent) (a : Asked) → asked_for es e ≡ Some a → event_by e (numbered (register_number es a.register)) (what_by a.kind e.kind) (event_value a a.kind e) ≡ event_after es e
+asked-event es e a q = ap (λ (o : Option Asked). event_by e (option_map (λ (c : Asked). record { 0 = register_number es c.register }) o) (what_by (kind_asked o) e.kind) (option_and_then (λ (c : Asked). event_value c c.kind e) o)) (sym q)
+
+what-asked : (kind : OpKind) (k : Kind) (a : Asked) → asked_by k ≡ Some a → what_by kind k ≡ Call kind
+what-asked kind (CallRead name) a h = refl
+what-asked kind (CallWrite name n) a h = refl
+what-asked kind (AReply parts) a h = absurd (cc (h))
+what-asked kind (AFail parts) a h = absurd (cc (h))
+what-asked kind ACrash a h = absurd (cc (h))
+
+what-replied : (kind : OpKind) (k : Kind) (parts : ReplyParts) → replied_by k ≡ Some parts → what_by kind k ≡ Reply kind
+what-replied kind (CallRead name) parts h = absurd (cc (h))
+what-replied kind (CallWrite name n) parts h = absurd (cc (h))
+what-replied kind (AReply p) parts h = refl
+what-replied kind (AFail p) parts h = absurd (cc (h))
+what-replied kind ACrash parts h = absurd (cc (h))
+
+what-failed : (kind : OpKind) (k : Kind) (parts : ReplyParts) → failed_by k ≡ Some parts → what_by kind k ≡ Fail kind
+what-failed kind (CallRead name) parts h = absurd (cc (h))
+what-failed kind (CallWrite name n) parts h = absurd (cc (h))
+what-failed kind (AReply p) parts h = absurd (cc (h))
+what-failed kind (AFail p) parts h = refl
+what-failed kind ACrash parts h = absurd (cc (h))
+
+-- a crash
+pub crash-event_is : (es : List LineEvent) (e : LineEvent) → is_crash e ≡ true → event_by e None Crash None ≡ event_after es e
+crash-event_is es e h =
+    let n = crash-none e.kind h in
+    let none : asked_for es e ≡ None = ap (λ o. option_or o (option_and_then (λ (_ : ReplyParts). open_asked es e.process) (ended_by e.kind))) n.0 ∙ ap (option_and_then (λ (_ : ReplyParts). open_asked es e.process)) (ap (λ o. option_or o (failed_by e.kind)) n.1 ∙ n.2) in
+    ap (λ w. event_by e None w None) (what-crash e.kind h)
+    ∙ ap (λ (o : Option Asked). event_by e (option_map (λ (c : Asked). record { 0 = register_number es c.register }) o) (what_by (kind_asked o) e.kind) (option_and_then (λ (c : Asked). event_value c c.kind e) o)) (sym none)
+  where
+    what-crash : (k : Kind) → is_crash_kind k ≡ true → Crash ≡ what_by ReadOp k
+    what-crash (CallRead name) h = absurd (false≢true h)
+    what-crash (CallWrite name n) h = absurd (false≢true h)
+    what-crash (AReply parts) h = absurd (false≢true h)
+    what-crash (AFail parts) h = absurd (false≢true h)
+    what-crash ACrash h = refl
 
 -- ---- a call
 
 module _ (es : List LineEvent) (e : LineEvent) (a : Asked) (asks : asked_by e.kind ≡ Some a) (number : Option ℕ) (n : IsNumber (register_names es) a.register number) where
-  pub call-event_is : event_by e (unwrap_or number (length (register_names es))) true a.kind a.value ≡ event_after es e
+  pub call-event_is : event_by e (numbered (unwrap_or number (length (register_names es)))) (Call a.kind) a.value ≡ event_after es e
   call-event_is =
-      ap (λ r. event_by e r true a.kind a.value) (number-is number n)
-      ∙ (ap (λ b. event_by e (register_number es a.register) b a.kind a.value) (sym (ap is_some asks))
-      ∙ (ap (event_by e (register_number es a.register) (is_call e) a.kind) (sym (value-of-call a e asks))
-      ∙ ap (λ (c : Asked). event_by e (register_number es c.register) (is_call e) c.kind (event_value c c.kind e)) (sym (asked-call es e a asks))))
+      ap (λ r. event_by e (numbered r) (Call a.kind) a.value) (number-is number n)
+      ∙ (ap (λ w. event_by e (numbered (register_number es a.register)) w a.value) (sym (what-asked a.kind e.kind a asks))
+      ∙ (ap (event_by e (numbered (register_number es a.register)) (what_by a.kind e.kind)) (sym (value-of-call a e asks))
+      ∙ asked-event es e a (asked-call es e a asks)))
     where
       number-is : (o : Option ℕ) → IsNumber (register_names es) a.register o → unwrap_or o (length (register_names es)) ≡ register_number es a.register
       number-is None n = sym n
@@ -98,76 +150,111 @@ module _ (es : List LineEvent) (e : LineEvent) (a : Asked) (asks : asked_by e.ki
   names-of_new q = sym (names-new es e a asks (λ i. let p = (place-in a.register (register_names es) i).0 in omega (arith, p, subst (IsNumber (register_names es) a.register) q n)))
 
 -- a call is its own
-pub own-call : (events : List Event) (ev : Event) → ev.is_call ≡ true → IsCallAt (events ++ ev ∷ []) (length events) (length events)
-own-call events ev c = record {
-  call = (ev, slice_get-push events ev, c);
-  process = refl;
-  order = omega arith;
-  between = λ j lo hi q. omega arith;
-  own = λ x. refl;
+pub own-call : (events : List Event) (ev : Event) (id : EvId) (kind : OpKind) → ev.what ≡ Call kind → length events ≡ id.0 → IsAppendable events ev id
+own-call events ev id kind c at = record {
+  call = λ _. subst (IsCallAt (events ++ ev ∷ []) (length events)) at (record {
+    call = (ev, slice_get-push events ev, ap is_a_call c);
+    process = refl;
+    order = omega arith;
+    between = λ j lo hi q. omega arith;
+    own = λ x. refl;
+  });
+  same = λ f. absurd (false≢true (sym (ap is_a_fail c) ∙ f));
 }
 
--- ---- a reply
+-- a crash has none
+pub no-call : (events : List Event) (ev : Event) (id : EvId) → ev.what ≡ Crash → IsAppendable events ev id
+no-call events ev id c = record { call = λ ne. absurd (ne c); same = λ f. absurd (false≢true (sym (ap is_a_fail c) ∙ f)) }
 
-module _ (es : List LineEvent) (acc : AreAccepted es) (e : LineEvent) (parts : ReplyParts) (replies : replied_by e.kind ≡ Some parts) (j : EvId) (call : Event) (h : IsOpen (history_of es).events e.process (Some j)) (at : slice_get (history_of es).events j.0 ≡ Some call) where
-  pub reply-event_is : (v : Option Val) → (call.kind ≡ ReadOp → v ≡ parts.value) → (call.kind ≡ WriteOp → v ≡ call.value) → event_by e call.register.0 false call.kind v ≡ event_after es e
-  reply-event_is v read write =
-      let x = open-some es acc e.process j h in
-      let a = x.2 in
-      let i = x.3 in
-      let was = i.there in
-      let same : x.0 ≡ call = cc (was, at) in
-      let none = reply-calls e.kind parts replies in
-      let kind : call.kind ≡ a.kind = ap (λ (z : Event). z.kind) (sym same) ∙ i.says.says.kind in
-      let register : call.register.0 ≡ register_number es a.register = ap (λ (z : Event). z.register.0) (sym same) ∙ (i.says.says.register ∙ sym (number-stays es acc j.0 x.1 a i.before i.asks).1) in
-      let value : call.value ≡ a.value = ap (λ (z : Event). z.value) (sym same) ∙ i.says.value in
-      ap (λ r. event_by e r false call.kind v) register
-      ∙ (ap (λ k. event_by e (register_number es a.register) false k v) kind
-      ∙ (ap (event_by e (register_number es a.register) false a.kind) (value-is a kind value a.kind refl)
-      ∙ (ap (λ b. event_by e (register_number es a.register) b a.kind (event_value a a.kind e)) (sym (ap is_some none))
-      ∙ ap (λ (c : Asked). event_by e (register_number es c.register) (is_call e) c.kind (event_value c c.kind e)) (sym (asked-reply es e a none i.asked)))))
+-- ---- a reply or a fail
+
+-- the register of an open call has a name
+pub open-named : (h : History) → IsRecorded h → (p : ℕ) (o : Open) → IsOpenCall h.events p o → o.register.0 < length h.names
+open-named h rec p o q = event-register h rec o.call.0 o.register.0 (ap (option_and_then by_register) q.there ∙ ap (option_map {U = ℕ} (λ (r : RegId). r.0)) q.register)
+
+module _ (es : List LineEvent) (acc : AreAccepted es) (e : LineEvent) (o : Open) (h : IsOpenCall (history_of es).events e.process o) where
+  -- what the open call asks for, in the event's words
+  open-number : (c : LineEvent) × (a : Asked) × (open_asked es e.process ≡ Some a) × (o.register.0 ≡ register_number es a.register) × (o.kind ≡ a.kind) × (o.value ≡ a.value) × (asked_by c.kind ≡ Some a)
+  open-number =
+      let x = open-some es acc e.process o h in
+      let i = x.2 in
+      (x.0, x.1, i.asked, i.register ∙ sym (number-stays es acc o.call.0 x.0 x.1 i.before i.asks).1, i.kind, i.value, i.asks)
+
+  ended-event : (parts : ReplyParts) → ended_by e.kind ≡ Some parts → (w : What) (v : Option Val) → ((a : Asked) → o.kind ≡ a.kind → o.value ≡ a.value → w ≡ what_by a.kind e.kind) → ((a : Asked) → o.kind ≡ a.kind → o.value ≡ a.value → v ≡ event_value a a.kind e) → event_by e (Some o.register) w v ≡ event_after es e
+  ended-event parts ends w v what value =
+      let x = open-number in
+      ap (λ n. event_by e (numbered n) w v) x.3
+      ∙ (ap (λ w. event_by e (numbered (register_number es x.1.register)) w v) (what x.1 x.4 x.5)
+      ∙ (ap (event_by e (numbered (register_number es x.1.register)) (what_by x.1.kind e.kind)) (value x.1 x.4 x.5)
+      ∙ asked-event es e x.1 (asked-end es e parts x.1 ends x.2)))
+
+  pub reply-event_is : (parts : ReplyParts) → replied_by e.kind ≡ Some parts → (v : Option Val) → (o.kind ≡ ReadOp → v ≡ parts.value) → (o.kind ≡ WriteOp → v ≡ o.value) → event_by e (Some o.register) (Reply o.kind) v ≡ event_after es e
+  reply-event_is parts replies v read write =
+      ended-event parts (reply-ends e.kind parts replies) (Reply o.kind) v
+      (λ a k w. ap Reply k ∙ sym (what-replied a.kind e.kind parts replies))
+      (λ a k w. value-is a k w a.kind refl)
     where
-      value-is : (a : Asked) → call.kind ≡ a.kind → call.value ≡ a.value → (k : OpKind) → a.kind ≡ k → v ≡ event_value a k e
+      value-is : (a : Asked) → o.kind ≡ a.kind → o.value ≡ a.value → (k : OpKind) → a.kind ≡ k → v ≡ event_value a k e
       value-is a kind value ReadOp q = read (kind ∙ q) ∙ sym (ap (option_and_then (λ (p : ReplyParts). p.value)) replies)
       value-is a kind value WriteOp q = write (kind ∙ q) ∙ value
 
-  -- the register of an open call has a name
-  pub open-register : call.register.0 < length (register_names es)
-  open-register =
-      let x = open-some es acc e.process j h in
-      let i = x.3 in
-      let was = i.there in
-      let same : x.0 ≡ call = cc (was, at) in
-      let s = number-stays es acc j.0 x.1 x.2 i.before i.asks in
-      let p = (place-in x.2.register (register_names es) s.0).0 in
-      let r : call.register.0 ≡ register_number es x.2.register = ap (λ (z : Event). z.register.0) (sym same) ∙ (i.says.says.register ∙ sym s.1) in
-      omega (arith, p, r)
+  pub fail-event_is : (parts : ReplyParts) → failed_by e.kind ≡ Some parts → event_by e (Some o.register) (Fail o.kind) o.value ≡ event_after es e
+  fail-event_is parts fails =
+      let x = open-number in
+      ap (λ n. event_by e (numbered n) (Fail o.kind) o.value) x.3
+      ∙ (ap (λ w. event_by e (numbered (register_number es x.1.register)) w o.value) (ap Fail x.4 ∙ sym (what-failed x.1.kind e.kind parts fails))
+      ∙ (ap (event_by e (numbered (register_number es x.1.register)) (what_by x.1.kind e.kind)) (x.5 ∙ value-is x.0 x.1 x.6 x.1.kind refl)
+      ∙ asked-event es e x.1 (asked-end es e parts x.1 (fail-ends e.kind parts fails) x.2)))
+    where
+      unreplied : (k : Kind) → failed_by k ≡ Some parts → replied_by k ≡ None
+      unreplied (CallRead name) h = refl
+      unreplied (CallWrite name n) h = refl
+      unreplied (AReply p) h = absurd (cc (h))
+      unreplied (AFail p) h = refl
+      unreplied ACrash h = refl
+
+      value-is : (c : LineEvent) (a : Asked) → asked_by c.kind ≡ Some a → (k : OpKind) → a.kind ≡ k → a.value ≡ event_value a k e
+      value-is c a asks ReadOp q = (asked-value c.kind a asks).0 q ∙ sym (ap (option_and_then (λ (p : ReplyParts). p.value)) (unreplied e.kind fails))
+      value-is c a asks WriteOp q = refl
 
   -- an open write has a value
-  pub open-write : call.kind ≡ WriteOp → (v : Val) × (call.value ≡ Some v)
+  pub open-write : o.kind ≡ WriteOp → (v : Val) × (o.value ≡ Some v)
   open-write w =
-      let x = open-some es acc e.process j h in
-      let i = x.3 in
-      let was = i.there in
-      let same : x.0 ≡ call = cc (was, at) in
-      let k = (asked-value x.1.kind x.2 i.asks).1 (sym (ap (λ (z : Event). z.kind) (sym same) ∙ i.says.says.kind) ∙ w) in
-      (Int k.0, ap (λ (z : Event). z.value) (sym same) ∙ (i.says.value ∙ k.2))
+      let x = open-number in
+      let k = (asked-value x.0.kind x.1 x.6).1 (sym x.4 ∙ w) in
+      (Int k.0, x.5 ∙ k.2)
 
-  pub names-of_reply : register_names es ≡ register_names (es ++ e ∷ [])
-  names-of_reply = sym (names-replied es e (reply-calls e.kind parts replies))
+  pub names-of_end : (parts : ReplyParts) → ended_by e.kind ≡ Some parts → register_names es ≡ register_names (es ++ e ∷ [])
+  names-of_end parts ends = sym (names-replied es e (reply-asks e.kind parts ends))
 
--- the open call of a reply's process is the reply's
-pub open-call : (events : List Event) (ev : Event) (j : EvId) → ev.is_call ≡ false → IsOpen events ev.process (Some j) → IsCallAt (events ++ ev ∷ []) (length events) j.0
-open-call events ev j reply h =
-    let l = key-within by_process events j.0 ev.process h.0.0 in
+-- a crash names no register
+pub names-of_crash : (es : List LineEvent) (e : LineEvent) → is_crash e ≡ true → register_names es ≡ register_names (es ++ e ∷ [])
+names-of_crash es e h = sym (names-replied es e (crash-none e.kind h).0)
+
+-- the open call of the process of a reply or a fail is its call
+pub open-call : (events : List Event) (ev : Event) (o : Open) → is_a_call ev.what ≡ false → IsOpenCall events ev.process o → IsCallAt (events ++ ev ∷ []) (length events) o.call.0
+open-call events ev o ends h =
+    let j = o.call in
+    let last = h.last in
+    let l = key-within by_process events j.0 ev.process last.0 in
     let here : key_at by_process (events ++ ev ∷ []) (length events) ≡ Some ev.process = ap (option_and_then by_process) (slice_get-push events ev) in
     record {
-      call = call-keep events ev j.0 h.1;
-      process = ap (option_and_then by_process) (slice_get-push_other events ev j.0 (λ q. omega arith)) ∙ (h.0.0 ∙ sym here);
+      call = call-keep events ev j.0 (h.event, h.there, ap is_a_call h.what);
+      process = ap (option_and_then by_process) (slice_get-push_other events ev j.0 (λ q. omega arith)) ∙ (last.0 ∙ sym here);
       order = omega arith;
-      between = λ i lo hi q. elim (key-back by_process events ev i ev.process (q ∙ here)) [ inl x ↦ omega (arith, x.0) | inr x ↦ let m = h.0.1 i x in omega arith ];
-      own = λ x. absurd (let new = slice_get-push events ev in let was = x.1 in let same : ev ≡ x.0 = cc (new, was) in let call = x.2 in let z = ap (λ (v : Event). v.is_call) same in cc (call, z, reply));
+      between = λ i lo hi q. elim (key-back by_process events ev i ev.process (q ∙ here)) [ inl x ↦ omega (arith, x.0) | inr x ↦ let m = last.1 i x in omega arith ];
+      own = λ x. absurd (let new = slice_get-push events ev in let was = x.1 in let same : ev ≡ x.0 = cc (new, was) in false≢true (sym ends ∙ (ap (λ (v : Event). is_a_call v.what) same ∙ x.2)));
     }
+
+pub reply-call : (events : List Event) (ev : Event) (o : Open) (kind : OpKind) → ev.what ≡ Reply kind → IsOpenCall events ev.process o → IsAppendable events ev o.call
+reply-call events ev o kind w h = record { call = λ _. open-call events ev o (ap is_a_call w) h; same = λ f. absurd (false≢true (sym (ap is_a_fail w) ∙ f)) }
+
+pub fail-call : (events : List Event) (ev : Event) (o : Open) (kind : OpKind) → ev.what ≡ Fail kind → ev.register ≡ Some o.register → ev.value ≡ o.value → IsOpenCall events ev.process o → IsAppendable events ev o.call
+fail-call events ev o kind w register value h = record {
+  call = λ _. open-call events ev o (ap is_a_call w) h;
+  same = λ f. ap (option_and_then by_value) h.there ∙ (ap (λ r. option_and_then (λ (v : Val). option_map (λ (r : RegId). (r.0, v)) r) h.event.value) (h.register ∙ sym register)
+      ∙ ap (option_and_then (λ (v : Val). option_map (λ (r : RegId). (r.0, v)) ev.register)) (h.value ∙ sym value));
+}
 
 -- want of memory says nothing of the event
 pub memory-step : (es : List LineEvent) (e : LineEvent) (r : Result History BuildError) → IsErrAnd r (λ x. x ≡ Memory) → IsStep es e r

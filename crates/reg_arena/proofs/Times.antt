@@ -1,95 +1,147 @@
 -- The times and the write of a register's value, by the entry in the arena.
-use Rattle.std.proofs.Common.{◌≡◌, ℕ, ◌<◌, length, slice_get, Option, Some, None, List, refl, sym, ap, subst, ◌∙◌, arith, option_map, option_and_then}
+use Rattle.std.proofs.Common.{◌≡◌, ℕ, ◌^◌, ◌<◌, nat_lt, cond, Bool, true, false, length, take, slice_get, Option, Some, None, List, refl, sym, ap, subst, ◌∙◌, arith, option_map, option_and_then}
 use Rattle.history_text.specs.declared.event.Val.{Val}
 use Rattle.history_text.specs.declared.event.Val.TheVariants.{Null, Int}
-use Rattle.reg_arena.specs.History.{History, IsRecorded}
-use Rattle.reg_arena.specs.Shown.{IsLastCall, IsFirstReply, IsFirstOf, key_at, by_value}
-use Rattle.reg_arena.specs.Threads.{AreThreads, HasTimes, by_reply, last_time, reply_time, value_entry}
+use Rattle.reg_arena.specs.History.{History, IsRecorded, asked_for, event_value}
+use Rattle.reg_arena.specs.Events.{Asked}
+use Rattle.history_text.specs.declared.event.LineEvent.{LineEvent}
+use Rattle.reg_arena.proofs.Accepted.{IsLineAt, line-at, asking}
+use Rattle.reg_arena.specs.Shown.{IsLastCall, IsFirstReply, IsFirstOf, key_at, by_register, by_value}
+use Rattle.reg_arena.specs.Threads.{AreThreads, HasTimes, IsCallOf, IsLastRead, by_read, by_reply, by_write, last_time, later, reply_time, value_entry, write_called, write_kept}
+use Rattle.reg_arena.specs.declared.ids.EvId.{EvId}
 use Rattle.reg_arena.specs.declared.event.Event.{Event}
 use Rattle.reg_arena.specs.declared.ends.Entry.{Entry}
+use Rattle.reg_arena.specs.declared.ends.Write.{Write}
+use Rattle.reg_arena.specs.declared.ends.Write.TheVariants.{Unwritten, Written, Failed}
 use Rattle.reg_arena.specs.declared.threads.Threads.{Threads}
-use Rattle.reg_arena.proofs.Append.{key-within}
-use Rattle.reg_arena.proofs.Named.{operation-has-register}
-use Rattle.reg_arena.proofs.OfValue.{event-member, last-call_some, last-call_null, last-call_none, first-reply_null, first-reply_none, first-reply_entry}
+use Rattle.reg_arena.proofs.Append.{key-along, key-within, read-value}
+use Rattle.reg_arena.proofs.ByEvent.{element, kept-none, kept-write}
+use Rattle.reg_arena.proofs.ByValue.{key-by, key-parts}
+use Rattle.reg_arena.proofs.Named.{event-register}
+use Rattle.reg_arena.proofs.OfValue.{last-call_is, first-reply_null, first-reply_none, first-reply_entry}
 
 pub null-int : (n : _) → Int n ≡ Null → ⊥
 null-int n h = cc (h)
+
+-- what didn't fail was called
+kept-called : (w : Write) (id : EvId) → write_kept w ≡ Some id → write_called w ≡ Some id
+kept-called Unwritten id h = absurd (cc (h))
+kept-called (Written w) id h = h
+kept-called (Failed w) id h = absurd (cc (h))
+
+-- the later of two fits where both do
+pub later-fits : (a b : Option EvId) → ((id : EvId) → a ≡ Some id → id.0 < 2 ^ 20) → ((id : EvId) → b ≡ Some id → id.0 < 2 ^ 20) → (id : EvId) → later a b ≡ Some id → id.0 < 2 ^ 20
+later-fits None b f g id h = g id h
+later-fits (Some a) None f g id h = f id h
+later-fits (Some a) (Some b) f g id h = go (nat_lt a.0 b.0) h
+  where
+    go : (t : Bool) → Some (cond t b a) ≡ Some id → id.0 < 2 ^ 20
+    go true h = g id h
+    go false h = f id h
 
 -- the times of an entry fit
 pub has-times : (t : Threads) → AreThreads t → (k : ℕ × Val) (y : Entry) → value_entry t.values.keys t.entries.items k ≡ Some y → HasTimes y
 has-times t a k y q =
     let e = a.entries k y q in
-    let l = key-within by_value t.events.items e.some.0 k e.some.1 in
-    let c = (a.calls e.some.0 y.last_call e.some.2).order in
-    record { call = omega (arith, l, c, a.room); reply = λ id r. let f = subst (IsFirstOf by_reply t.events.items k) r e.reply in let w = key-within by_reply t.events.items id.0 k f.1 in omega (arith, w, a.room) }
+    record {
+      write = λ id r. let f = subst (IsFirstOf by_write t.events.items k) (kept-called y.write id r) e.write in let w = key-within by_write t.events.items id.0 k f.1 in omega (arith, w, a.room);
+      read = λ id r. read id (subst (IsLastRead t.events.items t.calls.items k) r e.read);
+      reply = λ id r. let f = subst (IsFirstOf by_reply t.events.items k) r e.reply in let w = key-within by_reply t.events.items id.0 k f.1 in omega (arith, w, a.room);
+    }
+  where
+    read : (id : EvId) → IsLastRead t.events.items t.calls.items k (Some id) → id.0 < 2 ^ 20
+    read id l =
+        let i = l.0.0 in
+        let w = key-within by_read t.events.items i k l.0.1 in
+        let e = element t.events.items i w in
+        let c = subst (IsCallOf t.events.items i e.0) l.0.2 (a.calls i e.0 e.1) in
+        let o = c.1.order in
+        omega (arith, w, o, a.room)
 
 module _ (names : List (List ℕ)) (t : Threads) (a : AreThreads t) (rec : IsRecorded (record { names = names; events = t.events.items })) where
   no-event : (k : ℕ × Val) → value_entry t.values.keys t.entries.items k ≡ None → (i : ℕ) → key_at by_value t.events.items i ≡ Some k → ⊥
   no-event k q i h = a.values.none k (ap (option_map (λ (y : Entry). y.ends)) q) i h
 
   pub last-time : (k : ℕ × Val) → k.0 < length names → IsLastCall (record { names = names; events = t.events.items }) k.0 k.1 (last_time k.1 (value_entry t.values.keys t.entries.items k))
-  last-time k l = go (value_entry t.values.keys t.entries.items k) refl k.1 refl
+  last-time k l = go (value_entry t.values.keys t.entries.items k) refl
     where
-      go : (o : Option Entry) → value_entry t.values.keys t.entries.items k ≡ o → (v : Val) → k.1 ≡ v → IsLastCall (record { names = names; events = t.events.items }) k.0 k.1 (last_time k.1 (value_entry t.values.keys t.entries.items k))
-      go (Some y) q v w =
-          subst (λ o. IsLastCall (record { names = names; events = t.events.items }) k.0 k.1 (last_time k.1 o)) (sym q) (last-call_some (record { names = names; events = t.events.items }) rec k t.calls.items a.call_column a.calls y (a.entries k y q))
-      go None q Null w =
+      go : (o : Option Entry) → value_entry t.values.keys t.entries.items k ≡ o → IsLastCall (record { names = names; events = t.events.items }) k.0 k.1 (last_time k.1 (value_entry t.values.keys t.entries.items k))
+      go (Some y) q =
           subst (λ o. IsLastCall (record { names = names; events = t.events.items }) k.0 k.1 (last_time k.1 o)) (sym q)
-          (subst (λ v. IsLastCall (record { names = names; events = t.events.items }) k.0 k.1 (last_time v None)) (sym w) (last-call_null (record { names = names; events = t.events.items }) rec k t.calls.items a.call_column a.calls (no-event k q) w l))
-      go None q (Int n) w =
+          (last-call_is (record { names = names; events = t.events.items }) rec k t.calls.items a.calls (write_kept y.write) y.last_read l (kept-write t a k y q) (a.entries k y q).read)
+      go None q =
           subst (λ o. IsLastCall (record { names = names; events = t.events.items }) k.0 k.1 (last_time k.1 o)) (sym q)
-          (subst (λ v. IsLastCall (record { names = names; events = t.events.items }) k.0 k.1 (last_time v None)) (sym w) (last-call_none (record { names = names; events = t.events.items }) rec k t.calls.items a.call_column a.calls (no-event k q) (λ z. null-int n (sym w ∙ z))))
+          (last-call_is (record { names = names; events = t.events.items }) rec k t.calls.items a.calls None None l (kept-none t a k q) (λ i x. no-event k q i (key-along by_read by_value t.events.items k (λ e. read-value e k) i x)))
 
   pub first-time : (k : ℕ × Val) → k.0 < length names → IsFirstReply (record { names = names; events = t.events.items }) k.0 k.1 (reply_time k.1 (value_entry t.values.keys t.entries.items k))
   first-time k l = go k.1 refl (value_entry t.values.keys t.entries.items k) refl
     where
       go : (v : Val) → k.1 ≡ v → (o : Option Entry) → value_entry t.values.keys t.entries.items k ≡ o → IsFirstReply (record { names = names; events = t.events.items }) k.0 k.1 (reply_time k.1 (value_entry t.values.keys t.entries.items k))
       go Null w o q =
-          subst (λ v. IsFirstReply (record { names = names; events = t.events.items }) k.0 k.1 (reply_time v (value_entry t.values.keys t.entries.items k))) (sym w) (first-reply_null (record { names = names; events = t.events.items }) rec k t.calls.items a.call_column a.calls w l)
+          subst (λ v. IsFirstReply (record { names = names; events = t.events.items }) k.0 k.1 (reply_time v (value_entry t.values.keys t.entries.items k))) (sym w) (first-reply_null (record { names = names; events = t.events.items }) rec k w l)
       go (Int n) w None q =
           subst (λ v. IsFirstReply (record { names = names; events = t.events.items }) k.0 k.1 (reply_time v (value_entry t.values.keys t.entries.items k))) (sym w)
-          (subst (λ o. IsFirstReply (record { names = names; events = t.events.items }) k.0 k.1 (reply_time (Int n) o)) (sym q) (first-reply_none (record { names = names; events = t.events.items }) rec k t.calls.items a.call_column a.calls (no-event k q) (λ z. null-int n (sym w ∙ z))))
+          (subst (λ o. IsFirstReply (record { names = names; events = t.events.items }) k.0 k.1 (reply_time (Int n) o)) (sym q) (first-reply_none (record { names = names; events = t.events.items }) rec k (no-event k q) (λ z. null-int n (sym w ∙ z))))
       go (Int n) w (Some y) q =
           subst (λ v. IsFirstReply (record { names = names; events = t.events.items }) k.0 k.1 (reply_time v (value_entry t.values.keys t.entries.items k))) (sym w)
-          (subst (λ o. IsFirstReply (record { names = names; events = t.events.items }) k.0 k.1 (reply_time (Int n) o)) (sym q) (first-reply_entry (record { names = names; events = t.events.items }) rec k t.calls.items a.call_column a.calls y (λ z. null-int n (sym w ∙ z)) (a.entries k y q)))
+          (subst (λ o. IsFirstReply (record { names = names; events = t.events.items }) k.0 k.1 (reply_time (Int n) o)) (sym q) (first-reply_entry (record { names = names; events = t.events.items }) rec k y.first_reply (λ z. null-int n (sym w ∙ z)) (a.entries k y q).reply))
 
 -- the register of an event with a value has a name
 pub key-known : (h : History) → IsRecorded h → (i : ℕ) (k : ℕ × Val) → key_at by_value h.events i ≡ Some k → k.0 < length h.names
 key-known h rec i k q =
-    let x = event-member h rec i k q in
-    let r = operation-has-register h rec x.1 x.3.there in
-    let e = x.3.register in
-    omega (arith, r, e)
+    event-register h rec i k.0 (along (slice_get h.events i) q)
+  where
+    along : (o : Option Event) → option_and_then by_value o ≡ Some k → option_and_then by_register o ≡ Some k.0
+    along None w = absurd (cc (w))
+    along (Some e) w = (key-parts e k w).0
 
--- the key of an event that has a value
-pub key-of : (events : List Event) (i : ℕ) (e : Event) (v : Val) (k : ℕ × Val) → slice_get events i ≡ Some e → e.value ≡ Some v → key_at by_value events i ≡ Some k → (e.register.0, v) ≡ k
+-- the value of the key of an event
+pub key-of : (events : List Event) (i : ℕ) (e : Event) (v : Val) (k : ℕ × Val) → slice_get events i ≡ Some e → e.value ≡ Some v → key_at by_value events i ≡ Some k → (by_register e ≡ Some k.0) × (v ≡ k.1)
 key-of events i e v k at q h =
-    let w : by_value e ≡ Some k = sym (ap (option_and_then by_value) at) ∙ h in
-    let u : by_value e ≡ Some (e.register.0, v) = ap (option_map {U = ℕ × Val} (λ x. (e.register.0, x))) q in
-    cc (w, u)
+    let p = key-parts e k (sym (ap (option_and_then by_value) at) ∙ h) in
+    let w = p.1 in
+    (p.0, cc (w, q))
 
-pub key-there : (events : List Event) (i : ℕ) (e : Event) (v : Val) → slice_get events i ≡ Some e → e.value ≡ Some v → key_at by_value events i ≡ Some (e.register.0, v)
-key-there events i e v at q = ap (option_and_then by_value) at ∙ ap (option_map {U = ℕ × Val} (λ x. (e.register.0, x))) q
+-- an event with a value has a register
+pub key-there : (h : History) → IsRecorded h → (i : ℕ) (e : Event) (v : Val) → slice_get h.events i ≡ Some e → e.value ≡ Some v → key_at by_value h.events i ≡ None → ⊥
+key-there h rec i e v at has none = go (asked_for (take i rec.events) line.0) refl
+  where
+    line : (le : LineEvent) × IsLineAt rec.events i e le
+    line = line-at rec.events rec.accepted i e (ap (λ (g : History). slice_get g.events i) (sym rec.is) ∙ at)
+
+    go : (o : Option Asked) → asked_for (take i rec.events) line.0 ≡ o → ⊥
+    go None q =
+        let value = ap (λ (x : Event). x.value) line.1.is ∙ ap (option_and_then (λ (c : Asked). event_value c c.kind line.0)) q in
+        cc (value, has)
+    go (Some a) q =
+        let says = asking (take i rec.events) line.0 a e line.1.is q in
+        let key = key-by e _ v says.register has in
+        let here = ap (option_and_then by_value) at ∙ key in
+        cc (here, none)
 
 -- ---- by an event
 
-module _ (names : List (List ℕ)) (t : Threads) (a : AreThreads t) (rec : IsRecorded (record { names = names; events = t.events.items })) (i : ℕ) (e : Event) (v : Val) (at : slice_get t.events.items i ≡ Some e) (has : e.value ≡ Some v) where
-  entry-there : (o : Option Entry) → o ≡ option_and_then (value_entry t.values.keys t.entries.items) (key_at by_value t.events.items i) → o ≡ value_entry t.values.keys t.entries.items (e.register.0, v)
-  entry-there o q = q ∙ ap (option_and_then (value_entry t.values.keys t.entries.items)) (key-there t.events.items i e v at has)
-
+module _ (names : List (List ℕ)) (t : Threads) (a : AreThreads t) (rec : IsRecorded (record { names = names; events = t.events.items })) (i : ℕ) where
   pub times-there : (o : Option Entry) → o ≡ option_and_then (value_entry t.values.keys t.entries.items) (key_at by_value t.events.items i) → (y : Entry) → o ≡ Some y → HasTimes y
-  times-there o q y h = has-times t a (e.register.0, v) y (sym (entry-there o q) ∙ h)
+  times-there o q y h = go (key_at by_value t.events.items i) refl
+    where
+      go : (k : Option (ℕ × Val)) → key_at by_value t.events.items i ≡ k → HasTimes y
+      go None w = absurd (let z = ap (option_and_then (value_entry t.values.keys t.entries.items)) w in cc (q, z, h))
+      go (Some k) w = has-times t a k y (sym (q ∙ ap (option_and_then (value_entry t.values.keys t.entries.items)) w) ∙ h)
 
-  pub last-of_event : (o : Option Entry) (r : Option ℕ) → o ≡ option_and_then (value_entry t.values.keys t.entries.items) (key_at by_value t.events.items i) → r ≡ last_time v o → (k : ℕ × Val) → key_at by_value t.events.items i ≡ Some k → IsLastCall (record { names = names; events = t.events.items }) k.0 k.1 r
-  last-of_event o r q w k h =
-      let same = key-of t.events.items i e v k at has h in
-      let known = key-known (record { names = names; events = t.events.items }) rec i k h in
-      let is : r ≡ last_time k.1 (value_entry t.values.keys t.entries.items k) = w ∙ (ap (last_time v) (entry-there o q) ∙ ap (λ (k : ℕ × Val). last_time k.1 (value_entry t.values.keys t.entries.items k)) same) in
-      subst (IsLastCall (record { names = names; events = t.events.items }) k.0 k.1) (sym is) (last-time names t a rec k known)
+  module _ (e : Event) (v : Val) (at : slice_get t.events.items i ≡ Some e) (has : e.value ≡ Some v) (k : ℕ × Val) (h : key_at by_value t.events.items i ≡ Some k) where
+    entry-there : (o : Option Entry) → o ≡ option_and_then (value_entry t.values.keys t.entries.items) (key_at by_value t.events.items i) → o ≡ value_entry t.values.keys t.entries.items k
+    entry-there o q = q ∙ ap (option_and_then (value_entry t.values.keys t.entries.items)) h
 
-  pub first-of_event : (o : Option Entry) (r : Option ℕ) → o ≡ option_and_then (value_entry t.values.keys t.entries.items) (key_at by_value t.events.items i) → r ≡ reply_time v o → (k : ℕ × Val) → key_at by_value t.events.items i ≡ Some k → IsFirstReply (record { names = names; events = t.events.items }) k.0 k.1 r
-  first-of_event o r q w k h =
-      let same = key-of t.events.items i e v k at has h in
-      let known = key-known (record { names = names; events = t.events.items }) rec i k h in
-      let is : r ≡ reply_time k.1 (value_entry t.values.keys t.entries.items k) = w ∙ (ap (reply_time v) (entry-there o q) ∙ ap (λ (k : ℕ × Val). reply_time k.1 (value_entry t.values.keys t.entries.items k)) same) in
-      subst (IsFirstReply (record { names = names; events = t.events.items }) k.0 k.1) (sym is) (first-time names t a rec k known)
+    known : k.0 < length names
+    known = key-known (record { names = names; events = t.events.items }) rec i k h
+
+    pub last-of_event : (o : Option Entry) (r : Option ℕ) → o ≡ option_and_then (value_entry t.values.keys t.entries.items) (key_at by_value t.events.items i) → r ≡ last_time v o → IsLastCall (record { names = names; events = t.events.items }) k.0 k.1 r
+    last-of_event o r q w =
+        let is : r ≡ last_time k.1 (value_entry t.values.keys t.entries.items k) = w ∙ (ap (last_time v) (entry-there o q) ∙ ap (λ v. last_time v (value_entry t.values.keys t.entries.items k)) (key-of t.events.items i e v k at has h).1) in
+        subst (IsLastCall (record { names = names; events = t.events.items }) k.0 k.1) (sym is) (last-time names t a rec k known)
+
+    pub first-of_event : (o : Option Entry) (r : Option ℕ) → o ≡ option_and_then (value_entry t.values.keys t.entries.items) (key_at by_value t.events.items i) → r ≡ reply_time v o → IsFirstReply (record { names = names; events = t.events.items }) k.0 k.1 r
+    first-of_event o r q w =
+        let is : r ≡ reply_time k.1 (value_entry t.values.keys t.entries.items k) = w ∙ (ap (reply_time v) (entry-there o q) ∙ ap (λ v. reply_time v (value_entry t.values.keys t.entries.items k)) (key-of t.events.items i e v k at has h).1) in
+        subst (IsFirstReply (record { names = names; events = t.events.items }) k.0 k.1) (sym is) (first-time names t a rec k known)

@@ -1,14 +1,19 @@
 -- What an accepted history is: the names of its registers, and its events.
-use Rattle.std.specs.Prelude.{◌≡◌, ℕ, List, [], ◌∷◌, ◌++◌, filter, filter_map, not, bytes_eq, unwrap_or, Option, None, option_map, option_and_then}
+use Rattle.std.specs.Prelude.{◌≡◌, ℕ, List, [], ◌∷◌, ◌++◌, filter, filter_map, not, bytes_eq, Option, Some, None, option_map, option_and_then}
 use Rattle.std.specs.Option.{option_or}
 use Rattle.std.specs.List.{position_or_len}
 use Rattle.history_text.specs.declared.event.Val.{Val}
 use Rattle.history_text.specs.declared.event.OpKind.{OpKind}
 use Rattle.history_text.specs.declared.event.OpKind.TheVariants.{ReadOp, WriteOp}
+use Rattle.history_text.specs.declared.event.Kind.{Kind}
+use Rattle.history_text.specs.declared.event.Kind.TheVariants.{CallRead, CallWrite, Reply, Fail, Crash}
 use Rattle.history_text.specs.declared.event.LineEvent.{LineEvent}
-use Rattle.reg_arena.specs.Events.{Asked, asked_by, replied_by, open_asked, is_call}
+use Rattle.reg_arena.specs.Events.{Asked, asked_by, replied_by, ended_by, open_asked}
 use Rattle.reg_arena.specs.Refusals.{AreAccepted}
+use Rattle.reg_arena.specs.declared.ids.RegId.{RegId}
 use Rattle.reg_arena.specs.declared.event.Event.{Event}
+use Rattle.reg_arena.specs.declared.event.What.{What}
+use Rattle.reg_arena.specs.declared.event.What.TheVariants.{Call, Reply as ReplyTo, Fail as FailOf, Crash as Crashes}
 
 pub record History : Type 0 where
   pub names : List (List ℕ)
@@ -27,14 +32,24 @@ register_names events = first_names (filter_map (λ e. option_map (λ call. call
 abbrev pub register_number : List LineEvent → List ℕ → ℕ
 register_number before name = position_or_len (bytes_eq name) (register_names before)
 
-abbrev pub nothing_asked : Asked
-nothing_asked = record { register = []; kind = ReadOp; value = None }
+-- what the call of an event asks for: a call's own, and a reply's or a fail's from the call that is open; a crash has no call
+abbrev pub asked_for : List LineEvent → LineEvent → Option Asked
+asked_for before e = option_or (asked_by e.kind) (option_and_then (λ _. open_asked before e.process) (ended_by e.kind))
 
--- what the call of an event asks for: a call's own, and a reply's from the call that is open; an accepted event has one
-abbrev pub asked_for : List LineEvent → LineEvent → Asked
-asked_for before e = unwrap_or (option_or (asked_by e.kind) (open_asked before e.process)) nothing_asked
+-- what an event is, where its call asks for this kind
+abbrev pub what_by : OpKind → Kind → What
+what_by kind (CallRead name) = Call kind
+what_by kind (CallWrite name n) = Call kind
+what_by kind (Reply parts) = ReplyTo kind
+what_by kind (Fail parts) = FailOf kind
+what_by kind Crash = Crashes
 
--- a write's call and reply have the written value, a read's reply the one that it gives, a read's call none
+-- the kind of the call; a crash has none
+abbrev pub kind_asked : Option Asked → OpKind
+kind_asked None = ReadOp
+kind_asked (Some call) = call.kind
+
+-- a write's call, its reply and its fail have the written value, a read's reply the one that it gives, a read's call and its fail none
 abbrev pub event_value : Asked → OpKind → LineEvent → Option Val
 event_value call ReadOp e = option_and_then (λ parts. parts.value) (replied_by e.kind)
 event_value call WriteOp e = call.value
@@ -44,10 +59,9 @@ abbrev pub event_after : List LineEvent → LineEvent → Event
 event_after before e = let call = asked_for before e in record {
   line = e.line;
   process = e.process;
-  register = record { 0 = register_number before call.register };
-  is_call = is_call e;
-  kind = call.kind;
-  value = event_value call call.kind e;
+  register = option_map (λ call. record { 0 = register_number before call.register }) call;
+  what = what_by (kind_asked call) e.kind;
+  value = option_and_then (λ call. event_value call call.kind e) call;
 }
 
 abbrev pub events_after : List LineEvent → List LineEvent → List Event

@@ -9,3 +9,4 @@ pub mod Shown
 pub mod Walking
 pub mod Threads
 pub mod Step
+pub mod Built

@@ -1,11 +1,14 @@
--- The operations of a history: each register's initial write, and each call with the next event of its process.
-use Rattle.std.specs.Prelude.{◌≡◌, ℕ, zero, suc, ◌+◌, ◌<◌, ◌≤◌, ◌==◌, cond, Bool, true, false, List, [], ◌∷◌, ◌++◌, length, Option, Some, None, ◌⊎◌}
+-- The operations of a history: each register's initial write, and each call that didn't fail, with its reply.
+use Rattle.std.specs.Prelude.{◌≡◌, ℕ, zero, suc, ◌+◌, ◌<◌, ◌≤◌, ◌==◌, ◌&&◌, not, cond, Bool, true, false, List, [], ◌∷◌, ◌++◌, length, Option, Some, None, option_and_then, ◌⊎◌}
 use Rattle.std.specs.List.{filter}
 use Rattle.history_text.specs.declared.event.Val.{Val}
 use Rattle.history_text.specs.declared.event.Val.TheVariants.{Null}
 use Rattle.history_text.specs.declared.event.OpKind.{OpKind}
 use Rattle.history_text.specs.declared.event.OpKind.TheVariants.{ReadOp, WriteOp}
+use Rattle.reg_arena.specs.declared.ids.RegId.{RegId}
 use Rattle.reg_arena.specs.declared.event.Event.{Event}
+use Rattle.reg_arena.specs.declared.event.What.{What}
+use Rattle.reg_arena.specs.declared.event.What.TheVariants.{Call, Reply, Fail, Crash}
 use Rattle.reg_arena.specs.Lists.{In}
 use Rattle.reg_arena.specs.History.{History}
 
@@ -20,6 +23,38 @@ pub record Operation : Type 0 where
   pub kind : OpKind
   pub value : Option Val
 
+-- ---- what an event is
+
+abbrev pub is_a_call : What → Bool
+is_a_call (Call kind) = true
+is_a_call (Reply kind) = false
+is_a_call (Fail kind) = false
+is_a_call Crash = false
+
+abbrev pub is_a_reply : What → Bool
+is_a_reply (Call kind) = false
+is_a_reply (Reply kind) = true
+is_a_reply (Fail kind) = false
+is_a_reply Crash = false
+
+abbrev pub is_a_fail : What → Bool
+is_a_fail (Call kind) = false
+is_a_fail (Reply kind) = false
+is_a_fail (Fail kind) = true
+is_a_fail Crash = false
+
+-- the kind of the call; a crash has none, and is never asked for it
+abbrev pub kind_in : What → OpKind
+kind_in (Call kind) = kind
+kind_in (Reply kind) = kind
+kind_in (Fail kind) = kind
+kind_in Crash = ReadOp
+
+-- the number of the register; a crash has none, and is never asked for it
+abbrev pub number_in : Option RegId → ℕ
+number_in None = 0
+number_in (Some register) = register.0
+
 -- ---- from events to operations
 
 abbrev pub writes : OpKind → Bool
@@ -31,17 +66,30 @@ abbrev pub next_of : ℕ → ℕ → List Event → Option (ℕ × Event)
 next_of p s [] = None
 next_of p s (e ∷ es) = cond (e.process == p) (Some (s, e)) (next_of p (suc s) es)
 
--- The operation of the call e at time t, by the next event of its process, which is its reply; n is the time of a missing reply. A write has the value of its call, a read that of its reply.
+-- the next event of a call's process, if that is its reply
+abbrev pub reply_in : Option (ℕ × Event) → Option (ℕ × Event)
+reply_in next = option_and_then (λ r. cond (is_a_reply r.1.what) (Some r) None) next
+
+-- whether a call failed, by the next event of its process
+abbrev pub has_failed : Option (ℕ × Event) → Bool
+has_failed None = false
+has_failed (Some r) = is_a_fail r.1.what
+
+-- whether an event begins an operation, by the next event of its process: it is a call that didn't fail
+abbrev pub begins : Event → Option (ℕ × Event) → Bool
+begins e next = is_a_call e.what && not (has_failed next)
+
+-- The operation of the call e at time t, by its reply; n is the time of a missing reply. A write has the value of its call, a read that of its reply.
 abbrev pub operation : ℕ → ℕ → Event → Option (ℕ × Event) → Operation
-operation n t e None = record { line = e.line; call = t; reply = n; completed = false; process = Some e.process; register = e.register.0; kind = e.kind; value = e.value }
-operation n t e (Some r) = record { line = e.line; call = t; reply = r.0; completed = true; process = Some e.process; register = e.register.0; kind = e.kind; value = cond (writes e.kind) e.value r.1.value }
+operation n t e None = record { line = e.line; call = t; reply = n; completed = false; process = Some e.process; register = number_in e.register; kind = kind_in e.what; value = e.value }
+operation n t e (Some r) = record { line = e.line; call = t; reply = r.0; completed = true; process = Some e.process; register = number_in e.register; kind = kind_in e.what; value = cond (writes (kind_in e.what)) e.value r.1.value }
 
 -- the operations of the calls among events, the first of which has time s
 abbrev pub calls_from : ℕ → ℕ → List Event → List Operation
 calls_from n s [] = []
-calls_from n s (e ∷ es) = cond e.is_call (operation n s e (next_of e.process (suc s) es) ∷ calls_from n (suc s) es) (calls_from n (suc s) es)
+calls_from n s (e ∷ es) = cond (begins e (next_of e.process (suc s) es)) (operation n s e (reply_in (next_of e.process (suc s) es)) ∷ calls_from n (suc s) es) (calls_from n (suc s) es)
 
--- the calls of a history by time: event i has time i + 2, a missing reply the time after all events
+-- the calls of a history that didn't fail, by time: event i has time i + 2, a missing reply the time after all events
 abbrev pub calls : List Event → List Operation
 calls events = calls_from (length events + 2) 2 events
 

@@ -10,10 +10,10 @@ use Rattle.history_text.specs.declared.event.Val.TheVariants.{Int}
 use Rattle.history_text.specs.declared.event.LineEvent.{LineEvent}
 use Rattle.history_text.specs.declared.fault.LineFault.{LineFault}
 use Rattle.history_text.specs.declared.event.Kind.{Kind}
-use Rattle.history_text.specs.declared.event.Kind.TheVariants.{CallRead, CallWrite, Reply}
+use Rattle.history_text.specs.declared.event.Kind.TheVariants.{CallRead, CallWrite, Reply, Fail, Crash}
 use Rattle.history_text.specs.declared.event.ReplyParts.{ReplyParts}
 use Rattle.reg_arena.specs.Lists.{first_with}
-use Rattle.reg_arena.specs.Events.{Asked, asked_by, replied_by, open_call, open_asked, reply_agrees}
+use Rattle.reg_arena.specs.Events.{Asked, asked_by, replied_by, failed_by, ended_by, open_call, open_asked, crashed_at, reply_agrees, fail_agrees}
 use Rattle.reg_arena.specs.declared.refusal.LineRefusal.{LineRefusal}
 use Rattle.reg_arena.specs.declared.refusal.BuildError.{BuildError}
 use Rattle.reg_arena.specs.declared.refusal.BuildError.TheVariants.{Refused, Memory}
@@ -34,29 +34,35 @@ refused e number other = record { line = e.line; number = number; other = other 
 abbrev pub call_while_open : List LineEvent → LineEvent → Option LineRefusal
 call_while_open before e = option_and_then (λ _. option_map (λ call. refused e 9 (Some call.line)) (open_call before e.process)) (asked_by e.kind)
 
--- 10: a reply without an open call
-abbrev pub reply_without_call : List LineEvent → LineEvent → Option LineRefusal
-reply_without_call before e = option_and_then (λ _. cond (is_none (open_call before e.process)) (Some (refused e 10 None)) None) (replied_by e.kind)
+-- 10: a reply or a fail without an open call; after a crash there is another reason
+abbrev pub end_without_call : List LineEvent → LineEvent → Option LineRefusal
+end_without_call before e = option_and_then (λ _. cond (is_none (open_call before e.process) && is_none (crashed_at before e.process)) (Some (refused e 10 None)) None) (ended_by e.kind)
 
--- a reply that fails a test with its open call
-abbrev pub reply_failing : (Asked → ReplyParts → Bool) → ℕ → List LineEvent → LineEvent → Option LineRefusal
-reply_failing fails number before e = option_and_then (λ reply. option_and_then (λ call. cond (fails call reply) (Some (refused e number None)) None) (open_asked before e.process)) (replied_by e.kind)
+-- what is said of an open call fails a test
+abbrev pub failing : (Asked → ReplyParts → Bool) → ℕ → List LineEvent → LineEvent → Option ReplyParts → Option LineRefusal
+failing fails number before e said = option_and_then (λ parts. option_and_then (λ call. cond (fails call parts) (Some (refused e number None)) None) (open_asked before e.process)) said
 
 -- 11: a reply that doesn't agree with its call
 abbrev pub reply_disagrees : List LineEvent → LineEvent → Option LineRefusal
-reply_disagrees before e = reply_failing (λ call reply. not (reply_agrees call reply)) 11 before e
+reply_disagrees before e = failing (λ call reply. not (reply_agrees call reply)) 11 before e (replied_by e.kind)
+
+-- 11: a fail that doesn't
+abbrev pub fail_disagrees : List LineEvent → LineEvent → Option LineRefusal
+fail_disagrees before e = failing (λ call fail. not (fail_agrees call fail)) 11 before e (failed_by e.kind)
 
 -- 12: a read's reply without a value
 abbrev pub reply_without_value : List LineEvent → LineEvent → Option LineRefusal
-reply_without_value before e = reply_failing (λ call reply. is_none call.value && is_none reply.value) 12 before e
+reply_without_value before e = failing (λ call reply. is_none call.value && is_none reply.value) 12 before e (replied_by e.kind)
 
 -- whether the event is a call that writes the value v to the register of this name
 abbrev pub writes_to : List ℕ → Val → Kind → Bool
 writes_to name v (CallRead n) = false
 writes_to name v (CallWrite n m) = bytes_eq n name && value_eq (Int m) v
 writes_to name v (Reply parts) = false
+writes_to name v (Fail parts) = false
+writes_to name v Crash = false
 
--- 13: a write of a value that an earlier write call gave to the same register
+-- 13: a write of a value that an earlier write call gave to the same register, also if that call failed
 abbrev pub value_written : List LineEvent → LineEvent → Option LineRefusal
 value_written before e = option_and_then (λ call. option_and_then (λ v. option_map (λ w. refused e 13 (Some w.line)) (first_with (λ w. writes_to call.register v w.kind) before)) call.value) (asked_by e.kind)
 
@@ -64,15 +70,23 @@ value_written before e = option_and_then (λ call. option_and_then (λ v. option
 abbrev pub too_many : List LineEvent → LineEvent → Option LineRefusal
 too_many before e = cond (nat_le MAX_EVENTS (length before)) (Some (refused e 14 None)) None
 
+-- 19: an event of a process that crashed
+abbrev pub after_crash : List LineEvent → LineEvent → Option LineRefusal
+after_crash before e = option_map (λ crash. refused e 19 (Some crash.line)) (crashed_at before e.process)
+
 -- ---- the refusal of a line, and of a history
 
 abbrev pub first_some : {A : Type 0} → List (Option A) → Option A
 first_some [] = None
 first_some (o ∷ os) = option_or o (first_some os)
 
+-- the reasons that are left of any event, 14 and 19
+abbrev pub late_refusal : List LineEvent → LineEvent → Option LineRefusal
+late_refusal before e = option_or (too_many before e) (after_crash before e)
+
 -- the refusal of an event after others: of the reasons that apply, the one of least number
 abbrev pub event_refusal : List LineEvent → LineEvent → Option LineRefusal
-event_refusal before e = first_some (call_while_open before e ∷ reply_without_call before e ∷ reply_disagrees before e ∷ reply_without_value before e ∷ value_written before e ∷ too_many before e ∷ [])
+event_refusal before e = first_some (call_while_open before e ∷ end_without_call before e ∷ reply_disagrees before e ∷ fail_disagrees before e ∷ reply_without_value before e ∷ value_written before e ∷ late_refusal before e ∷ [])
 
 -- of a line: its own fault, or its event's refusal after the events of the lines before it
 abbrev pub line_refusal : List Line → Line → Option LineRefusal
@@ -82,7 +96,7 @@ line_refusal before (Ok e) = event_refusal (events_of before) e
 abbrev pub refusal_at : List Line → ℕ → Option LineRefusal
 refusal_at lines i = option_and_then (line_refusal (take i lines)) (slice_get lines i)
 
--- the history is refused for the least faulty line
+-- the history is refused for the first faulty line
 pub record IsRefusal (lines : List Line) (r : LineRefusal) : Type 0 where
   pub place : ℕ
   pub there : refusal_at lines place ≡ Some r

@@ -1,14 +1,28 @@
 -- What the accessors and the walks of an arena give.
-use Rattle.std.specs.Prelude.{◌≡◌, ℕ, ◌+◌, ◌-◌, ◌<◌, ◌≤◌, ◌⊎◌, cond, true, false, List, length, slice_get, Option, Some, None, option_map, option_and_then}
+use Rattle.std.specs.Prelude.{◌≡◌, ℕ, ◌+◌, ◌-◌, ◌<◌, ◌≤◌, ◌⊎◌, ◌||◌, cond, Bool, true, suc, List, length, drop, slice_get, Option, Some, None, option_map, option_and_then}
 use Rattle.history_text.specs.declared.event.Val.{Val}
 use Rattle.reg_arena.specs.Lists.{In}
 use Rattle.reg_arena.specs.History.{History}
-use Rattle.reg_arena.specs.Operations.{Operation, operations, IsWrite, IsCompleted}
+use Rattle.reg_arena.specs.Operations.{Operation, operations, next_of, begins, is_a_reply, IsWrite, IsCompleted}
 use Rattle.reg_arena.specs.declared.ids.EvId.{EvId}
 use Rattle.reg_arena.specs.declared.ids.Oper.{Oper}
 use Rattle.reg_arena.specs.declared.ids.Oper.TheVariants.{Initial, Called}
 use Rattle.reg_arena.specs.declared.event.Event.{Event}
+use Rattle.reg_arena.specs.declared.event.What.TheVariants.{Call, Reply}
 use Rattle.reg_arena.specs.declared.op.Op.{Op}
+
+-- ---- what the three families of walks go by
+
+-- a crash has no register
+abbrev pub by_register : Event → Option ℕ
+by_register e = option_map (λ r. r.0) e.register
+
+abbrev pub by_process : Event → Option ℕ
+by_process e = Some e.process
+
+-- nor a value
+abbrev pub by_value : Event → Option (ℕ × Val)
+by_value e = option_and_then (λ v. option_map (λ r. (r.0, v)) e.register) e.value
 
 -- ---- operations and their names
 
@@ -25,13 +39,18 @@ pub record IsNamed (h : History) (name : Oper) (o : Operation) : Type 0 where
   pub one : In o (operations h)
   pub named : name_of o ≡ name
 
-abbrev pub IsCall : List Event → ℕ → Type 0
-IsCall events i = (e : Event) × (slice_get events i ≡ Some e) × (e.is_call ≡ true)
+-- whether the event e at place i begins an operation: it is a call that didn't fail
+abbrev pub begins_at : List Event → ℕ → Event → Bool
+begins_at events i e = begins e (next_of e.process (suc (i + 2)) (drop (suc i) events))
+
+-- whether the event e at place i belongs to an operation, as its call or as its reply
+abbrev pub belongs_at : List Event → ℕ → Event → Bool
+belongs_at events i e = is_a_reply e.what || begins_at events i e
 
 -- a name that an operation of the history has
 abbrev pub IsOper : History → Oper → Type 0
 IsOper h (Initial r) = r.0 < length h.names
-IsOper h (Called i) = IsCall h.events i.0
+IsOper h (Called i) = (e : Event) × (slice_get h.events i.0 ≡ Some e) × (begins_at h.events i.0 e ≡ true)
 
 -- an operation as `op` gives it
 abbrev pub op_shown : Operation → Op
@@ -49,17 +68,22 @@ op_shown o = record {
 abbrev pub IsEventOf : ℕ → Operation → Type 0
 IsEventOf i o = (o.call ≡ i + 2) ⊎ ((o.completed ≡ true) × (o.reply ≡ i + 2))
 
+-- the operation of this name is the one that the event at place i belongs to; without a name there is none
+abbrev pub IsOperOf : History → ℕ → Option Oper → Type 0
+IsOperOf h i None = (o : Operation) → In o (operations h) → IsEventOf i o → ⊥
+IsOperOf h i (Some name) = (o : Operation) × IsNamed h name o × IsEventOf i o
+
 -- the event at place i is e, and it is the call or the reply of the operation o
 pub record IsEventIn (h : History) (i : ℕ) (e : Event) (o : Operation) : Type 0 where
   pub at : slice_get h.events i ≡ Some e
   pub one : In o (operations h)
-  pub register : o.register ≡ e.register.0
+  pub register : by_register e ≡ Some o.register
   pub process : o.process ≡ Some e.process
-  pub kind : o.kind ≡ e.kind
+  pub is : (e.what ≡ Call o.kind) ⊎ (e.what ≡ Reply o.kind)
   -- a call has its operation's line and time, and a write's call its value
-  pub call : e.is_call ≡ true → (o.line ≡ e.line) × (o.call ≡ i + 2) × (IsWrite o → o.value ≡ e.value)
+  pub call : e.what ≡ Call o.kind → (o.line ≡ e.line) × (o.call ≡ i + 2) × (IsWrite o → o.value ≡ e.value)
   -- a reply has its operation's last time and its value
-  pub reply : e.is_call ≡ false → IsCompleted o × (o.reply ≡ i + 2) × (o.value ≡ e.value)
+  pub reply : e.what ≡ Reply o.kind → IsCompleted o × (o.reply ≡ i + 2) × (o.value ≡ e.value)
 
 -- ---- what is asked of a register and a value
 
@@ -91,16 +115,6 @@ IsFirstReply h r v (Some t) = ((o : Operation) × IsMember h r v o × IsComplete
 abbrev pub IsLeastFrom : (ℕ → Type 0) → ℕ → Option EvId → Type 0
 IsLeastFrom P n None = (i : ℕ) → n ≤ i → P i → ⊥
 IsLeastFrom P n (Some j) = (n ≤ j.0) × P j.0 × ((i : ℕ) → n ≤ i → i < j.0 → P i → ⊥)
-
--- what the three families of walks go by
-abbrev pub by_register : Event → Option ℕ
-by_register e = Some e.register.0
-
-abbrev pub by_process : Event → Option ℕ
-by_process e = Some e.process
-
-abbrev pub by_value : Event → Option (ℕ × Val)
-by_value e = option_map (λ v. (e.register.0, v)) e.value
 
 -- the key of the event at place i, where there is one
 abbrev pub key_at : {K : Type 0} → (Event → Option K) → List Event → ℕ → Option K

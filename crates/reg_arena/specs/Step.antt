@@ -1,15 +1,20 @@
 -- What the building of an arena does with one event; `events` and `h` are what the events before it gave.
-use Rattle.std.specs.Prelude.{◌≡◌, ℕ, ◌<◌, ◌++◌, ◌∷◌, [], List, length, bytes_eq, Option, Some, None, Result, Ok, Err}
+use Rattle.std.specs.Prelude.{◌≡◌, ℕ, ◌<◌, ◌++◌, ◌∷◌, [], List, length, slice_get, bytes_eq, Option, Some, None, Result, Ok, Err}
 use Rattle.std.specs.declared.alloc.AllocError.{AllocError}
 use Rattle.std.specs.List.{position_or_len}
 use Rattle.history_text.specs.declared.event.Val.{Val}
 use Rattle.history_text.specs.declared.event.LineEvent.{LineEvent}
 use Rattle.reg_arena.specs.declared.ids.EvId.{EvId}
 use Rattle.reg_arena.specs.declared.event.Event.{Event}
+use Rattle.reg_arena.specs.declared.event.What.TheVariants.{Call, Crash}
+use Rattle.reg_arena.specs.declared.standing.Open.{Open}
+use Rattle.reg_arena.specs.declared.standing.Standing.{Standing}
+use Rattle.reg_arena.specs.declared.standing.Standing.TheVariants.{Opened, Crashed, Free}
+use Rattle.reg_arena.specs.declared.refusal.LineRefusal.{LineRefusal}
 use Rattle.reg_arena.specs.declared.refusal.BuildError.{BuildError}
 use Rattle.reg_arena.specs.declared.refusal.BuildError.TheVariants.{Refused, Memory}
-use Rattle.reg_arena.specs.Shown.{IsCall, IsFirstOf, by_process, by_value}
-use Rattle.reg_arena.specs.Threads.{IsLastOf, by_write}
+use Rattle.reg_arena.specs.Shown.{IsFirstOf, by_process, by_value}
+use Rattle.reg_arena.specs.Threads.{IsCall, IsLastOf, by_write}
 use Rattle.reg_arena.specs.History.{History, history_of}
 use Rattle.reg_arena.specs.Refusals.{AreAccepted, event_refusal}
 
@@ -18,10 +23,23 @@ abbrev pub IsNumber : List (List ℕ) → List ℕ → Option ℕ → Type 0
 IsNumber names name None = position_or_len (bytes_eq name) names ≡ length names
 IsNumber names name (Some r) = (position_or_len (bytes_eq name) names ≡ r) × (r < length names)
 
--- the call that a process has open: its last event, where that is a call
-abbrev pub IsOpen : List Event → ℕ → Option EvId → Type 0
-IsOpen events p None = (j : EvId) → IsLastOf by_process events p (Some j) → IsCall events j.0 → ⊥
-IsOpen events p (Some j) = IsLastOf by_process events p (Some j) × IsCall events j.0
+abbrev pub IsCrash : List Event → ℕ → Type 0
+IsCrash events i = (e : Event) × (slice_get events i ≡ Some e) × (e.what ≡ Crash)
+
+-- the call that a process has open, as its event says: its last event, where that is a call
+pub record IsOpenCall (events : List Event) (p : ℕ) (open_one : Open) : Type 0 where
+  pub event : Event
+  pub there : slice_get events open_one.call.0 ≡ Some event
+  pub last : IsLastOf by_process events p (Some open_one.call)
+  pub what : event.what ≡ Call open_one.kind
+  pub register : event.register ≡ Some open_one.register
+  pub value : event.value ≡ open_one.value
+
+-- how a process stands: by its last event it has a call open, or crashed, or it has neither
+abbrev pub IsStanding : List Event → ℕ → Standing → Type 0
+IsStanding events p (Opened open_one) = IsOpenCall events p open_one
+IsStanding events p (Crashed j) = IsLastOf by_process events p (Some j) × IsCrash events j.0
+IsStanding events p Free = (j : EvId) → IsLastOf by_process events p (Some j) → (IsCall events j.0 → ⊥) × (IsCrash events j.0 → ⊥)
 
 -- the last event of the register and value; a new register has none, nor has a read's call, which has no value
 abbrev pub IsLastWith : List Event → Option ℕ → Option Val → Option EvId → Type 0
@@ -46,6 +64,10 @@ pub record IsTaken (h : History) (e : LineEvent) : Type 0 where
 abbrev pub OnOkAfter : History → LineEvent → Result History AllocError → Type 0
 OnOkAfter h e (Ok g) = (before : List LineEvent) → AreAccepted before → h ≡ history_of before → g ≡ history_of (before ++ e ∷ [])
 OnOkAfter h e (Err x) = Unit {0}
+
+-- the refusal of the event, whatever accepted events gave the history
+abbrev pub IsRefusedAfter : History → LineEvent → LineRefusal → Type 0
+IsRefusedAfter h e r = (before : List LineEvent) → AreAccepted before → h ≡ history_of before → event_refusal before e ≡ Some r
 
 -- the refusal of the event after those before it, or the history with it
 abbrev pub IsStep : List LineEvent → LineEvent → Result History BuildError → Type 0

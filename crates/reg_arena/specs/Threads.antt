@@ -1,18 +1,26 @@
 -- The threaded lists of an arena: each family is the filter of the one list of events, ascending.
-use Rattle.std.specs.Prelude.{◌≡◌, ℕ, ◌+◌, ◌^◌, ◌<◌, ◌≤◌, ◌⊎◌, ◌&&◌, Bool, nat_lt, nat_eq, cond, ℤ, List, length, slice_get, Option, Some, None, option_map, option_and_then}
+use Rattle.std.specs.Prelude.{◌≡◌, ℕ, ◌+◌, ◌^◌, ◌<◌, ◌≤◌, ◌⊎◌, ◌&&◌, not, Bool, true, false, nat_lt, nat_eq, cond, ℤ, List, [], ◌∷◌, ◌++◌, length, set, slice_get, Option, Some, None, option_map, option_and_then}
 use Rattle.std.specs.List.{position}
 use Rattle.std.specs.Ordering.{int_eq}
 use Rattle.std.specs.Option.{option_eq, option_or}
 use Rattle.indexmap.specs.IndexMap.{get}
 use Rattle.history_text.specs.declared.event.Val.{Val}
 use Rattle.history_text.specs.declared.event.Val.TheVariants.{Null, Int}
+use Rattle.history_text.specs.declared.event.OpKind.TheVariants.{ReadOp, WriteOp}
 use Rattle.reg_arena.specs.declared.ids.EvId.{EvId}
+use Rattle.reg_arena.specs.declared.ids.RegId.{RegId}
 use Rattle.reg_arena.specs.declared.event.Event.{Event}
+use Rattle.reg_arena.specs.declared.event.What.{What}
+use Rattle.reg_arena.specs.declared.event.What.TheVariants.{Call, Reply, Fail, Crash}
 use Rattle.reg_arena.specs.declared.ends.Ends.{Ends}
 use Rattle.reg_arena.specs.declared.ends.Entry.{Entry}
+use Rattle.reg_arena.specs.declared.ends.Write.{Write}
+use Rattle.reg_arena.specs.declared.ends.Write.TheVariants.{Unwritten, Written, Failed}
+use Rattle.reg_arena.specs.declared.ends.TheConstants.{NO_CALL}
+use Rattle.reg_arena.specs.Operations.{is_a_call, is_a_fail, is_a_reply, kind_in, writes}
 use Rattle.reg_arena.specs.declared.processes.Processes.{Processes}
 use Rattle.reg_arena.specs.declared.threads.Threads.{Threads}
-use Rattle.reg_arena.specs.Shown.{IsLeastFrom, IsFirstOf, IsCall, key_at, by_register, by_process, by_value}
+use Rattle.reg_arena.specs.Shown.{IsLeastFrom, IsFirstOf, begins_at, belongs_at, key_at, by_register, by_process, by_value}
 
 -- ---- one family of lists
 
@@ -41,6 +49,11 @@ pub record IsJoined {K : Type 0} (k : K) (n : EvId) (link new_link : ℕ → Opt
 abbrev pub IsJoinedBy : {K : Type 0} → Option K → EvId → (ℕ → Option EvId) → (ℕ → Option EvId) → (K → Option Ends) → (K → Option Ends) → Type 0
 IsJoinedBy {K} None n link new_link ends new_ends = ((i : ℕ) → new_link i ≡ link i) × ((q : K) → new_ends q ≡ ends q)
 IsJoinedBy (Some k) n link new_link ends new_ends = IsJoined k n link new_link ends new_ends
+
+-- how many registers there are with this one; a crash has none
+abbrev pub end_of : Option RegId → ℕ
+end_of None = 0
+end_of (Some register) = register.0 + 1
 
 -- ---- processes and the ends of their lists
 
@@ -80,18 +93,63 @@ value_ends keys entries k = option_map (λ e. e.ends) (value_entry keys entries 
 abbrev pub event_number : List (ℕ × Option ℤ) → Event → Option ℕ
 event_number keys e = option_and_then (value_number keys) (by_value e)
 
+-- the later one, where there are two
+abbrev pub later : Option EvId → Option EvId → Option EvId
+later None b = b
+later (Some a) None = Some a
+later (Some a) (Some b) = Some (cond (nat_lt a.0 b.0) b a)
+
+-- the call of the write, failed or not
+abbrev pub write_called : Write → Option EvId
+write_called Unwritten = None
+write_called (Written id) = Some id
+write_called (Failed id) = Some id
+
+-- the call of a write that didn't fail
+abbrev pub write_kept : Write → Option EvId
+write_kept Unwritten = None
+write_kept (Written id) = Some id
+write_kept (Failed id) = None
+
+-- after a call: the first one is the write
+abbrev pub with_call : Write → EvId → Write
+with_call Unwritten n = Written n
+with_call (Written id) n = Written id
+with_call (Failed id) n = Failed id
+
+-- after a fail of this call
+abbrev pub with_fail : Write → EvId → Write
+with_fail Unwritten call = Unwritten
+with_fail (Written id) call = cond (nat_eq id.0 call.0) (Failed id) (Written id)
+with_fail (Failed id) call = Failed id
+
+-- what an event n, whose call is the event `call`, does to each part of an entry
+abbrev pub write_with : Write → What → EvId → EvId → Write
+write_with w (Call kind) n call = with_call w n
+write_with w (Reply kind) n call = w
+write_with w (Fail kind) n call = with_fail w call
+write_with w Crash n call = w
+
+abbrev pub reply_with : Option EvId → What → EvId → Option EvId
+reply_with first (Call kind) n = first
+reply_with first (Reply kind) n = option_or first (Some n)
+reply_with first (Fail kind) n = first
+reply_with first Crash n = first
+
+abbrev pub read_with : Option EvId → What → EvId → Option EvId
+read_with last (Call kind) call = last
+read_with last (Reply ReadOp) call = later last (Some call)
+read_with last (Reply WriteOp) call = last
+read_with last (Fail kind) call = last
+read_with last Crash call = last
+
 -- the entry of a list of one event, with the event of its call
 abbrev pub entry_alone : Event → EvId → EvId → Entry
-entry_alone e n call = record { ends = record { first = n; last = n }; write = cond e.is_call (Some n) None; first_reply = cond e.is_call None (Some n); last_call = call }
+entry_alone e n call = record { ends = record { first = n; last = n }; write = write_with Unwritten e.what n call; first_reply = reply_with None e.what n; last_read = read_with None e.what call }
 
 -- the entry of a list with one more event behind it
 abbrev pub entry_with : Entry → Event → EvId → EvId → Entry
-entry_with y e n call = record {
-  ends = record { first = y.ends.first; last = n };
-  write = option_or y.write (entry_alone e n call).write;
-  first_reply = option_or y.first_reply (entry_alone e n call).first_reply;
-  last_call = cond (nat_lt y.last_call.0 call.0) call y.last_call;
-}
+entry_with y e n call = record { ends = record { first = y.ends.first; last = n }; write = write_with y.write e.what n call; first_reply = reply_with y.first_reply e.what n; last_read = read_with y.last_read e.what call }
 
 abbrev pub entry_after : Option Entry → Event → EvId → EvId → Entry
 entry_after None e n call = entry_alone e n call
@@ -116,12 +174,18 @@ abbrev pub IsAlike : List Event → Event → Option EvId → Type 0
 IsAlike events e None = (k : ℕ × Val) → by_value e ≡ Some k → IsLastOf by_value events k None
 IsAlike events e (Some j) = (k : ℕ × Val) × (by_value e ≡ Some k) × (key_at by_value events j.0 ≡ Some k)
 
--- the writes' calls by register and value, and the replies
+-- the writes' calls by register and value, the replies, and the reads' replies
 abbrev pub by_write : Event → Option (ℕ × Val)
-by_write e = cond e.is_call (by_value e) None
+by_write e = cond (is_a_call e.what) (by_value e) None
 
 abbrev pub by_reply : Event → Option (ℕ × Val)
-by_reply e = cond e.is_call None (by_value e)
+by_reply e = cond (is_a_reply e.what) (by_value e) None
+
+abbrev pub by_read : Event → Option (ℕ × Val)
+by_read e = cond (is_a_reply e.what && not (writes (kind_in e.what))) (by_value e) None
+
+abbrev pub IsCall : List Event → ℕ → Type 0
+IsCall events i = (e : Event) × (slice_get events i ≡ Some e) × (is_a_call e.what ≡ true)
 
 -- the event at place c is the call of the event at place i: it is that event, or the event of its process before it
 pub record IsCallAt (events : List Event) (i c : ℕ) : Type 0 where
@@ -131,18 +195,56 @@ pub record IsCallAt (events : List Event) (i c : ℕ) : Type 0 where
   pub between : (j : ℕ) → c < j → j < i → key_at by_process events j ≡ key_at by_process events i → ⊥
   pub own : IsCall events i → c ≡ i
 
+-- the call in the column of calls, where there is one
+abbrev pub call_at : List EvId → ℕ → Option EvId
+call_at calls i = option_and_then (λ c. cond (nat_eq c.0 NO_CALL) None (Some c)) (slice_get calls i)
+
+-- no call, in the column of calls
+abbrev pub no_call : EvId
+no_call = record { 0 = NO_CALL }
+
+-- the column of calls with one more event, which has this call
+abbrev pub calls_with : List EvId → What → EvId → List EvId
+calls_with calls (Call kind) call = calls ++ call ∷ []
+calls_with calls (Reply kind) call = calls ++ call ∷ []
+calls_with calls (Fail kind) call = set calls call.0 no_call ++ no_call ∷ []
+calls_with calls Crash call = calls ++ no_call ∷ []
+
+-- c is the call of the operation that the event e at place i belongs to; without a call there is no such operation
+abbrev pub IsCallOf : List Event → ℕ → Event → Option EvId → Type 0
+IsCallOf events i e None = belongs_at events i e ≡ false
+IsCallOf events i e (Some c) = (belongs_at events i e ≡ true) × IsCallAt events i c.0
+
+-- what is asked of an event that is appended with the event of its call: a fail has the register and value of its call
+pub record IsAppendable (events : List Event) (e : Event) (c : EvId) : Type 0 where
+  pub call : (e.what ≡ Crash → ⊥) → IsCallAt (events ++ e ∷ []) (length events) c.0
+  pub same : is_a_fail e.what ≡ true → key_at by_value events c.0 ≡ by_value e
+
+-- the greatest call of the completed reads of a register and value
+abbrev pub IsLastRead : List Event → List EvId → ℕ × Val → Option EvId → Type 0
+IsLastRead events calls k None = (i : ℕ) → key_at by_read events i ≡ Some k → ⊥
+IsLastRead events calls k (Some c) = ((i : ℕ) × (key_at by_read events i ≡ Some k) × (call_at calls i ≡ Some c)) × ((i : ℕ) (d : EvId) → key_at by_read events i ≡ Some k → call_at calls i ≡ Some d → d.0 ≤ c.0)
+
 -- what an entry tells of its register and value
 pub record IsEntry (events : List Event) (calls : List EvId) (k : ℕ × Val) (y : Entry) : Type 0 where
-  pub write : IsFirstOf by_write events k y.write
+  pub write : IsFirstOf by_write events k (write_called y.write)
+  pub kept : (w : EvId) → write_called y.write ≡ Some w → call_at calls w.0 ≡ write_kept y.write
   pub reply : IsFirstOf by_reply events k y.first_reply
-  pub some : (i : ℕ) × (key_at by_value events i ≡ Some k) × (slice_get calls i ≡ Some y.last_call)
-  pub last : (i : ℕ) (c : EvId) → key_at by_value events i ≡ Some k → slice_get calls i ≡ Some c → c.0 ≤ y.last_call.0
+  pub read : IsLastRead events calls k y.last_read
+
+-- the first write call of a register and value, if it begins an operation
+abbrev pub IsKeptWrite : List Event → ℕ × Val → Option EvId → Type 0
+IsKeptWrite events k None = (w : EvId) (e : Event) → IsFirstOf by_write events k (Some w) → slice_get events w.0 ≡ Some e → begins_at events w.0 e ≡ false
+IsKeptWrite events k (Some w) = IsFirstOf by_write events k (Some w) × ((e : Event) → slice_get events w.0 ≡ Some e → begins_at events w.0 e ≡ true)
+
+-- the call of the initial write
+abbrev pub initial_call : Val → Option ℕ
+initial_call Null = Some 0
+initial_call (Int n) = None
 
 -- the greatest call by an entry; the initial write is called at 0
 abbrev pub last_time : Val → Option Entry → Option ℕ
-last_time v (Some y) = Some (y.last_call.0 + 2)
-last_time Null None = Some 0
-last_time (Int n) None = None
+last_time v y = option_or (option_map (λ id. id.0 + 2) (option_and_then (λ y. later (write_kept y.write) y.last_read) y)) (initial_call v)
 
 -- the first reply by an entry; the initial write replies at 1
 abbrev pub reply_time : Val → Option Entry → Option ℕ
@@ -151,7 +253,8 @@ reply_time (Int n) y = option_map (λ id. id.0 + 2) (option_and_then (λ y. y.fi
 
 -- the times of an entry's events fit 32 bits
 pub record HasTimes (y : Entry) : Type 0 where
-  pub call : y.last_call.0 < 2 ^ 20
+  pub write : (id : EvId) → write_kept y.write ≡ Some id → id.0 < 2 ^ 20
+  pub read : (id : EvId) → y.last_read ≡ Some id → id.0 < 2 ^ 20
   pub reply : (id : EvId) → y.first_reply ≡ Some id → id.0 < 2 ^ 20
 
 -- ---- all
@@ -162,7 +265,7 @@ pub record AreThreads (t : Threads) : Type 0 where
   pub processes : IsThreaded (key_at by_process t.events.items) (link_at t.in_process.items) (process_ends t.processes)
   pub values : IsThreaded (key_at by_value t.events.items) (link_at t.in_value.items) (value_ends t.values.keys t.entries.items)
   -- each event's call
-  pub calls : (i : ℕ) (c : EvId) → slice_get t.calls.items i ≡ Some c → IsCallAt t.events.items i c.0
+  pub calls : (i : ℕ) (e : Event) → slice_get t.events.items i ≡ Some e → IsCallOf t.events.items i e (call_at t.calls.items i)
   -- each value's entry, and the number of each event's
   pub entries : (k : ℕ × Val) (y : Entry) → value_entry t.values.keys t.entries.items k ≡ Some y → IsEntry t.events.items t.calls.items k y
   pub numbered : length t.values.keys ≡ length t.entries.items

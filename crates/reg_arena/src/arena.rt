@@ -3,8 +3,10 @@ ghost use Rattle.std.specs.Prelude.{◌≡◌, ◌<◌, ◌≤◌, ◌^◌, ◌�
 ghost use Rattle.history_text.specs.Limits.{IsName};
 ghost use Rattle.reg_arena.specs.History.{IsRecorded};
 ghost use Rattle.reg_arena.specs.Operations.{Operation, Precedes};
-ghost use Rattle.reg_arena.specs.Shown.{IsEventOf, IsFirstOf, IsNamed, IsNextOf, IsOper, IsWriteOf, by_process, by_register, by_value, key_at, op_shown};
+ghost use Rattle.reg_arena.specs.Shown.{IsFirstOf, IsNamed, IsNextOf, IsOper, IsOperOf, IsWriteOf, begins_at, by_process, by_register, by_value, key_at, op_shown};
+ghost use Rattle.reg_arena.specs.declared.event.Event.{Event as AnEvent};
 
+use crate::ends::NO_CALL;
 use crate::event::Event;
 use crate::ids::{EvId, Oper, RegId};
 use crate::names::Names;
@@ -87,12 +89,25 @@ impl Arena {
         }
     }
 
-    /// The operation that the event belongs to, as its call or as its reply.
-    pub fn op_of(&self, id: EvId) -> Oper
+    /// The operation that the event belongs to, as its call or as its reply. A crash, a fail and the call that failed belong to none.
+    pub fn op_of(&self, id: EvId) -> Option<Oper>
         requires { id.0 < length self.now.events }
-        ensures { (o : Operation) × IsNamed self.now result o × IsEventOf id.0 o }
+        ensures { IsOperOf self.now id.0 result }
     {
-        Oper::Called(self.threads.calls[id.0 as usize])
+        let call = self.threads.calls[id.0 as usize];
+        if call.0 == NO_CALL {
+            None
+        } else {
+            Some(Oper::Called(call))
+        }
+    }
+
+    /// Whether the event begins an operation: it is a call that didn't fail.
+    pub fn begins(&self, id: EvId) -> bool
+        requires { id.0 < length self.now.events }
+        ensures { (e : AnEvent) → slice_get self.now.events id.0 ≡ Some e → result ≡ begins_at self.now.events id.0 e }
+    {
+        self.threads.calls[id.0 as usize].0 == id.0
     }
 
     /// Whether the reply of the one comes before the call of the other.
@@ -119,10 +134,11 @@ impl Arena {
         }
     }
 
-    /// The next event of the same register.
+    /// The next event of the same register; of a crash, which has no register, `None`.
     pub fn next_in_register(&self, id: EvId) -> Option<EvId>
         requires { id.0 < length self.now.events }
-        ensures { IsNextOf by_register self.now.events id.0 result }
+        ensures next { IsNextOf by_register self.now.events id.0 result }
+        ensures none { key_at by_register self.now.events id.0 ≡ None → result ≡ None }
     {
         self.threads.in_register[id.0 as usize]
     }
@@ -145,7 +161,7 @@ impl Arena {
         self.threads.in_process[id.0 as usize]
     }
 
-    /// The first event of a register with a value; a read's call has none.
+    /// The first event of a register with a value. A read's call, a failed read's fail and a crash have none.
     pub fn first_with_value(&self, register: RegId, value: Val) -> Option<EvId>
         ensures { IsFirstOf by_value self.now.events (register.0, value) result }
     {
@@ -155,7 +171,7 @@ impl Arena {
         }
     }
 
-    /// The next event of the same register and value; of a read's call, which has no value, `None`.
+    /// The next event of the same register and value; of an event without a value `None`.
     pub fn next_with_value(&self, id: EvId) -> Option<EvId>
         requires { id.0 < length self.now.events }
         ensures next { IsNextOf by_value self.now.events id.0 result }
@@ -164,7 +180,7 @@ impl Arena {
         self.threads.in_value[id.0 as usize]
     }
 
-    /// The write of a value to a register: of `Null` the initial write.
+    /// The write of a value to a register, which didn't fail: of `Null` the initial write.
     pub fn write_of(&self, register: RegId, value: Val) -> Option<Oper>
         requires { register.0 < length self.now.names }
         ensures { IsWriteOf self.now register.0 value result }

@@ -1,22 +1,27 @@
 //! From lines to an arena: each event is refused, or taken into the history so far.
 //!
-//! The arena is handed on by value, since a contract may be asked of it wherever it can be seen; the calls that do so are inlined, so that none copies it.
-ghost use Rattle.std.specs.Prelude.{◌≡◌, [], ℕ, List, Option, length, cond, nat_le, IfOk, IfErr, Some, None};
+//! Each step takes the arena by value and gives back the next one. If the arena were lent, its invariant would have to hold even after an
+//! append that ran out of memory half way. The steps are inlined, so that none of them copies it.
+ghost use Rattle.std.specs.Prelude.{◌≡◌, [], ℕ, List, Option, length, cond, nat_le, flat_map, IfOk, IfErr, Some, None, true};
 ghost use Rattle.history_text.specs.declared.event.LineEvent.{LineEvent as ALineEvent};
+ghost use Rattle.history_text.specs.declared.event.ReplyParts.{ReplyParts as AReplyParts};
 ghost use Rattle.history_text.specs.declared.event.Val.{Val as AVal};
-ghost use Rattle.reg_arena.specs.Events.{Asked, asked_by, replied_by};
+ghost use Rattle.reg_arena.specs.Built.{IsBuilt, IsBuiltWith};
+ghost use Rattle.reg_arena.specs.Events.{Asked, asked_by, ended_by, failed_by, is_crash, replied_by};
 ghost use Rattle.reg_arena.specs.History.{history_of};
-ghost use Rattle.reg_arena.specs.Refusals.{AreAccepted, IsBuildError, IsWellFormed, event_refusal, events_of};
-ghost use Rattle.reg_arena.specs.Step.{IsLastWith, IsNumber, IsOpen, IsStep, IsTaken, IsWritten, OnOkAfter};
+ghost use Rattle.reg_arena.specs.Refusals.{AreAccepted, IsBuildError, Line, IsWellFormed, event_refusal, events_of, late_refusal};
+ghost use Rattle.reg_arena.specs.Step.{IsLastWith, IsNumber, IsRefusedAfter, IsStanding, IsStep, IsTaken, IsWritten, OnOkAfter};
+ghost use Rattle.reg_arena.specs.declared.standing.Standing.TheVariants.{Crashed, Opened};
 
-use crate::agrees::reply_agrees;
+use crate::agrees::{fail_agrees, reply_agrees};
 use crate::arena::Arena;
-use crate::event::Event;
+use crate::event::{Event, What};
 use crate::hash_key::HashKey;
 use crate::ids::{EvId, RegId};
 use crate::names::Names;
 use crate::refusal::{BuildError, LineRefusal};
 use crate::seeded::Seeded;
+use crate::standing::{Open, Standing};
 use crate::threads::Threads;
 use history_text::{Kind, LineEvent, LineFault, MAX_EVENTS, Name, OpKind, ReplyParts, Val};
 use std::alloc::{AllocError, Global};
@@ -32,8 +37,20 @@ fn refused(line: u32, number: u8, other: Option<u32>) -> LineRefusal
     }
 }
 
+/// Lines as the only part.
+fn one_part(
+    alloc: Global,
+    lines: Vec<Result<LineEvent, LineFault>>,
+) -> Result<Vec<Vec<Result<LineEvent, LineFault>>>, AllocError>
+    ensures { IfOk result (λ parts. flat_map (λ part. part.items) parts.items ≡ lines.items) }
+{
+    let mut parts = Vec::with_capacity(alloc, 1)?;
+    parts.push(lines)?;
+    Ok(parts)
+}
+
 impl Arena {
-    /// `build_keyed` with a digest of the lines as the key, for callers that have no random bytes.
+    /// `build_keyed` of lines in one part, with a digest of them as the key, for callers that have no random bytes.
     ///
     /// # Errors
     /// As of [`Arena::build_keyed`].
@@ -44,26 +61,45 @@ impl Arena {
         ensures ok { IfOk result (λ a. IsWellFormed events.items × (a ≡ history_of (events_of events.items))) }
         ensures err { IfErr result (λ e. IsBuildError events.items e) }
     {
-        let key = HashKey::digest(&events);
-        Arena::build_keyed(alloc, key, events)
+        let parts = one_part(alloc, events)?;
+        let key = HashKey::digest(&parts);
+        Arena::build_keyed(alloc, key, parts)
     }
 
-    /// The arena of all events of the lines, or the refusal of the least faulty line, with the least number that applies there. The key of its hashes
-    /// changes neither.
+    /// The arena of all events of the lines, which come in parts, one behind the other; or the refusal of the first faulty line, with the least number
+    /// that applies there. The key of its hashes changes neither. Each part is dropped when its events are taken in.
     ///
     /// # Errors
-    /// `Refused` where the history isn't well formed, and `Memory` where a growth was refused; what was built and the lines are then dropped.
+    /// `Refused` if the history isn't well formed, and `Memory` if a growth was refused; what was built and the lines are then dropped.
     pub fn build_keyed(
         alloc: Global,
         key: HashKey,
-        events: Vec<Result<LineEvent, LineFault>>,
+        parts: Vec<Vec<Result<LineEvent, LineFault>>>,
     ) -> Result<Self, BuildError>
-        ensures ok { IfOk result (λ a. IsWellFormed events.items × (a ≡ history_of (events_of events.items))) }
-        ensures err { IfErr result (λ e. IsBuildError events.items e) }
+        ensures ok { IfOk result (λ a. IsWellFormed (flat_map (λ part. part.items) parts.items) × (a ≡ history_of (events_of (flat_map (λ part. part.items) parts.items)))) }
+        ensures err { IfErr result (λ e. IsBuildError (flat_map (λ part. part.items) parts.items) e) }
     {
-        let count = events.len().min(MAX_EVENTS);
+        let mut count = 0;
+        for part in &parts {
+            count = MAX_EVENTS.min(count + MAX_EVENTS.min(part.len()));
+        }
         let mut arena = Arena::new(alloc, count, Seeded::new(key))?;
-        for line in &events {
+        for part in parts {
+            arena = arena.with_lines(alloc, &part)?;
+        }
+        Ok(arena)
+    }
+
+    /// The arena with the events of more lines behind the others, or the refusal of the first faulty one of these.
+    fn with_lines(
+        self,
+        alloc: Global,
+        lines: &[Result<LineEvent, LineFault>],
+    ) -> Result<Self, BuildError>
+        ensures { (before : List Line) → IsBuilt before self → IsBuiltWith before lines.now result }
+    {
+        let mut arena = self;
+        for line in lines {
             match line {
                 Err(fault) => {
                     return Err(BuildError::Refused(refused(fault.line, fault.number(), None)));
@@ -95,6 +131,8 @@ impl Arena {
                 self.call(alloc, event, name, OpKind::WriteOp, Some(Val::Int(*n)))
             }
             Kind::Reply(parts) => self.reply(event, parts),
+            Kind::Fail(parts) => self.fail(event, parts),
+            Kind::Crash => self.crash(event),
         }
     }
 
@@ -125,12 +163,77 @@ impl Arena {
         requires { replied_by event.now.kind ≡ Some parts.now }
         ensures { (es : List ALineEvent) → AreAccepted es → self ≡ history_of es → IsStep es event.now result }
     {
-        let Some(call) = self.open_call(event.process) else {
-            return Err(BuildError::Refused(refused(event.line, 10, None)));
+        let opened = match self.ended_call(event) {
+            Ok(opened) => opened,
+            Err(refusal) => return Err(BuildError::Refused(refusal)),
         };
-        match self.reply_refusal(event, parts, call) {
+        match self.reply_refusal(event, parts, opened) {
             Some(refusal) => Err(BuildError::Refused(refusal)),
-            None => Ok(self.with_reply(event, parts, call)?),
+            None => Ok(self.with_reply(event, parts, opened)?),
+        }
+    }
+
+    /// A step by a fail.
+    fn fail(self, event: &LineEvent, parts: &ReplyParts) -> Result<Self, BuildError>
+        requires { failed_by event.now.kind ≡ Some parts.now }
+        ensures { (es : List ALineEvent) → AreAccepted es → self ≡ history_of es → IsStep es event.now result }
+    {
+        let opened = match self.ended_call(event) {
+            Ok(opened) => opened,
+            Err(refusal) => return Err(BuildError::Refused(refusal)),
+        };
+        match self.fail_refusal(event, parts, opened) {
+            Some(refusal) => Err(BuildError::Refused(refusal)),
+            None => Ok(self.with_fail(event, opened)?),
+        }
+    }
+
+    /// A step by a crash, which needs no open call.
+    fn crash(self, event: &LineEvent) -> Result<Self, BuildError>
+        requires { is_crash event.now ≡ true }
+        ensures { (es : List ALineEvent) → AreAccepted es → self ≡ history_of es → IsStep es event.now result }
+    {
+        match self.late_refusal(event, self.standing(event.process)) {
+            Some(refusal) => Err(BuildError::Refused(refusal)),
+            None => Ok(self.with_crash(event)?),
+        }
+    }
+
+    /// How a process stands by its last event.
+    #[inline(always)]
+    fn standing(&self, process: u32) -> Standing
+        ensures { IsStanding self.now.events process result }
+    {
+        let Some(last) = self.threads.last_of_process(process) else {
+            return Standing::Free;
+        };
+        let event = self.event(last);
+        match event.what {
+            What::Call(kind) => match event.register {
+                Some(register) => Standing::Opened(Open {
+                    call: last,
+                    register,
+                    kind,
+                    value: event.value,
+                }),
+                None => Standing::Free,
+            },
+            What::Crash => Standing::Crashed(last),
+            What::Reply(_) | What::Fail(_) => Standing::Free,
+        }
+    }
+
+    /// The open call that a reply or a fail ends, or the refusal of that event where there is none.
+    #[inline(always)]
+    fn ended_call(&self, event: &LineEvent) -> Result<Open, LineRefusal>
+        requires { (parts : AReplyParts) × (ended_by event.now.kind ≡ Some parts) }
+        ensures ok { IfOk result (λ o. IsStanding self.now.events event.now.process (Opened o)) }
+        ensures err { IfErr result (λ r. IsRefusedAfter self.now event.now r) }
+    {
+        match self.standing(event.process) {
+            Standing::Opened(opened) => Ok(opened),
+            Standing::Crashed(crash) => Err(self.crash_refusal(event, crash)),
+            Standing::Free => Err(refused(event.line, 10, None)),
         }
     }
 
@@ -139,13 +242,14 @@ impl Arena {
         requires { (asked : Asked) × (number : Option ℕ) × (asked_by event.now.kind ≡ Some asked) × IsNumber self.now.names asked.register number × IsLastWith self.now.events number asked.value last }
         ensures { (es : List ALineEvent) → AreAccepted es → self.now ≡ history_of es → result ≡ event_refusal es event.now }
     {
-        if let Some(call) = self.open_call(event.process) {
-            return Some(refused(event.line, 9, Some(self.event(call).line)));
+        let standing = self.standing(event.process);
+        if let Standing::Opened(opened) = standing {
+            return Some(refused(event.line, 9, Some(self.event(opened.call).line)));
         }
         if let Some(write) = self.written(last) {
             return Some(refused(event.line, 13, Some(self.event(write).line)));
         }
-        self.too_many(event)
+        self.late_refusal(event, standing)
     }
 
     /// The refusal of a reply to an open call, where there is one.
@@ -153,21 +257,65 @@ impl Arena {
         &self,
         event: &LineEvent,
         parts: &ReplyParts,
-        call: EvId,
+        opened: Open,
     ) -> Option<LineRefusal>
         requires reply { replied_by event.now.kind ≡ Some parts.now }
-        requires open { IsOpen self.now.events event.now.process (Some call) }
+        requires opened { IsStanding self.now.events event.now.process (Opened opened) }
         ensures { (es : List ALineEvent) → AreAccepted es → self.now ≡ history_of es → result ≡ event_refusal es event.now }
     {
-        let open = self.threads.events[call.0 as usize];
-        let name = self.name(open.register);
-        if !reply_agrees(parts, name, open.kind, open.value) {
+        // The arena's invariant is known once a field is used.
+        let _ = &self.names;
+        let name = self.name(opened.register);
+        if !reply_agrees(parts, name, opened.kind, opened.value) {
             return Some(refused(event.line, 11, None));
         }
-        if open.value.is_none() && parts.value.is_none() {
+        if opened.value.is_none() && parts.value.is_none() {
             return Some(refused(event.line, 12, None));
         }
         self.too_many(event)
+    }
+
+    /// The refusal of a fail of an open call, where there is one.
+    fn fail_refusal(
+        &self,
+        event: &LineEvent,
+        parts: &ReplyParts,
+        opened: Open,
+    ) -> Option<LineRefusal>
+        requires fail { failed_by event.now.kind ≡ Some parts.now }
+        requires opened { IsStanding self.now.events event.now.process (Opened opened) }
+        ensures { (es : List ALineEvent) → AreAccepted es → self.now ≡ history_of es → result ≡ event_refusal es event.now }
+    {
+        // The arena's invariant is known once a field is used.
+        let _ = &self.names;
+        let name = self.name(opened.register);
+        if !fail_agrees(parts, name, opened.kind, opened.value) {
+            return Some(refused(event.line, 11, None));
+        }
+        self.too_many(event)
+    }
+
+    /// The refusal of an event, where neither its kind nor its call is a reason: it is past the limit, or its process crashed.
+    fn late_refusal(&self, event: &LineEvent, standing: Standing) -> Option<LineRefusal>
+        requires { IsStanding self.now.events event.now.process standing }
+        ensures { (es : List ALineEvent) → AreAccepted es → self.now ≡ history_of es → result ≡ late_refusal es event.now }
+    {
+        match standing {
+            Standing::Crashed(crash) => Some(self.crash_refusal(event, crash)),
+            Standing::Opened(_) => self.too_many(event),
+            Standing::Free => self.too_many(event),
+        }
+    }
+
+    /// The refusal of an event after the crash of its process: it is past the limit, or else it names the crash.
+    fn crash_refusal(&self, event: &LineEvent, crash: EvId) -> LineRefusal
+        requires { IsStanding self.now.events event.now.process (Crashed crash) }
+        ensures { (es : List ALineEvent) → AreAccepted es → self.now ≡ history_of es → Some result ≡ late_refusal es event.now }
+    {
+        match self.too_many(event) {
+            Some(refusal) => refusal,
+            None => refused(event.line, 19, Some(self.event(crash).line)),
+        }
     }
 
     /// The refusal of an event past the limit.
@@ -176,18 +324,6 @@ impl Arena {
     {
         if self.threads.events.len() >= MAX_EVENTS {
             Some(refused(event.line, 14, None))
-        } else {
-            None
-        }
-    }
-
-    /// The call that a process has open.
-    fn open_call(&self, process: u32) -> Option<EvId>
-        ensures { IsOpen self.now.events process result }
-    {
-        let last = self.threads.last_of_process(process)?;
-        if self.event(last).is_call {
-            Some(last)
         } else {
             None
         }
@@ -209,7 +345,7 @@ impl Arena {
         ensures { (number : Option ℕ) (value : Option AVal) → IsLastWith self.now.events number value last → IsWritten self.now.events number value result }
     {
         match last {
-            Some(last) => self.threads.write_of_event(last),
+            Some(last) => self.threads.written_by(last),
             None => None,
         }
     }
@@ -242,9 +378,8 @@ impl Arena {
         let event = Event {
             line: event.line,
             process: event.process,
-            register: RegId(number.unwrap_or(count)),
-            is_call: true,
-            kind,
+            register: Some(RegId(number.unwrap_or(count))),
+            what: What::Call(kind),
             value,
         };
         threads.append(event, id, last)?;
@@ -257,32 +392,72 @@ impl Arena {
         self,
         event: &LineEvent,
         parts: &ReplyParts,
-        call: EvId,
+        opened: Open,
     ) -> Result<Self, AllocError>
         requires reply { replied_by event.now.kind ≡ Some parts.now }
-        requires open { IsOpen self.events event.now.process (Some call) }
+        requires opened { IsStanding self.events event.now.process (Opened opened) }
         requires taken { IsTaken self event.now }
         ensures { OnOkAfter self event.now result }
     {
         let Arena { names, mut threads } = self;
-        let open = threads.events[call.0 as usize];
         // A write's call has the value of its reply, so that nothing is looked up.
-        let (value, alike) = match open.kind {
+        let (value, alike) = match opened.kind {
             OpKind::ReadOp => (
                 parts.value,
-                threads.last_of_value(open.register, parts.value),
+                threads.last_of_value(opened.register, parts.value),
             ),
-            OpKind::WriteOp => (open.value, Some(call)),
+            OpKind::WriteOp => (opened.value, Some(opened.call)),
         };
         let event = Event {
             line: event.line,
             process: event.process,
-            register: open.register,
-            is_call: false,
-            kind: open.kind,
+            register: Some(opened.register),
+            what: What::Reply(opened.kind),
             value,
         };
-        threads.append(event, call, alike)?;
+        threads.append(event, opened.call, alike)?;
+        Ok(Arena { names, threads })
+    }
+
+    /// Appends a fail that isn't refused.
+    fn with_fail(self, event: &LineEvent, opened: Open) -> Result<Self, AllocError>
+        requires fail { (parts : AReplyParts) × (failed_by event.now.kind ≡ Some parts) }
+        requires opened { IsStanding self.events event.now.process (Opened opened) }
+        requires taken { IsTaken self event.now }
+        ensures { OnOkAfter self event.now result }
+    {
+        let Arena { names, mut threads } = self;
+        let alike = match opened.value {
+            Some(_) => Some(opened.call),
+            None => None,
+        };
+        let event = Event {
+            line: event.line,
+            process: event.process,
+            register: Some(opened.register),
+            what: What::Fail(opened.kind),
+            value: opened.value,
+        };
+        threads.append(event, opened.call, alike)?;
+        Ok(Arena { names, threads })
+    }
+
+    /// Appends a crash that isn't refused.
+    fn with_crash(self, event: &LineEvent) -> Result<Self, AllocError>
+        requires crash { is_crash event.now ≡ true }
+        requires taken { IsTaken self event.now }
+        ensures { OnOkAfter self event.now result }
+    {
+        let Arena { names, mut threads } = self;
+        let id = EvId(threads.events.len() as u32);
+        let event = Event {
+            line: event.line,
+            process: event.process,
+            register: None,
+            what: What::Crash,
+            value: None,
+        };
+        threads.append(event, id, None)?;
         Ok(Arena { names, threads })
     }
 }

@@ -2,7 +2,7 @@
 ghost use Rattle.std.specs.Prelude.{◌≡◌, ◌<◌, ℕ, length, option_and_then, None, Some};
 ghost use Rattle.history_text.specs.declared.event.Val.{Val as AVal};
 ghost use Rattle.reg_arena.specs.Shown.{IsFirstOf, by_process, by_value, key_at};
-ghost use Rattle.reg_arena.specs.Threads.{AreThreads, IsAlike, IsLastOf, by_write, event_number, value_entry};
+ghost use Rattle.reg_arena.specs.Threads.{AreThreads, IsAlike, IsKeptWrite, IsLastOf, by_write, event_number, value_entry};
 ghost use Rattle.reg_arena.specs.declared.event.Event.{Event as AnEvent};
 ghost use Rattle.reg_arena.specs.declared.ids.EvId.{EvId as AnEvId};
 
@@ -49,25 +49,37 @@ impl Threads {
         }
     }
 
-    /// The call of the write of a value to a register.
+    /// The call of the write of a value to a register, if it didn't fail.
     pub(crate) fn write(&self, register: RegId, value: Val) -> Option<EvId>
         requires { AreThreads self.now }
-        ensures { IsFirstOf by_write self.now.events.items (register.0, value) result }
+        ensures { IsKeptWrite self.now.events.items (register.0, value) result }
     {
         match self.entry(register, value) {
-            Some(entry) => entry.write,
+            Some(entry) => entry.write.kept(),
             None => None,
         }
     }
 
-    /// The call of the write of an event's value to its register.
+    /// The call of the write of an event's value to its register, if it didn't fail.
     pub(crate) fn write_of_event(&self, id: EvId) -> Option<EvId>
+        requires threads { AreThreads self.now }
+        requires within { id.0 < length self.now.events.items }
+        ensures { (k : ℕ × AVal) → key_at by_value self.now.events.items id.0 ≡ Some k → IsKeptWrite self.now.events.items k result }
+    {
+        match self.entry_of(id) {
+            Some(entry) => entry.write.kept(),
+            None => None,
+        }
+    }
+
+    /// The call that wrote an event's value to its register, failed or not.
+    pub(crate) fn written_by(&self, id: EvId) -> Option<EvId>
         requires threads { AreThreads self.now }
         requires within { id.0 < length self.now.events.items }
         ensures { (k : ℕ × AVal) → key_at by_value self.now.events.items id.0 ≡ Some k → IsFirstOf by_write self.now.events.items k result }
     {
         match self.entry_of(id) {
-            Some(entry) => entry.write,
+            Some(entry) => entry.write.called(),
             None => None,
         }
     }

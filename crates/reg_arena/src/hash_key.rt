@@ -12,23 +12,25 @@ pub struct HashKey {
 }
 
 impl HashKey {
-    /// Two words of the system's random bytes; where the system gives none, the digest of the lines.
-    pub fn drawn(rt: &impl RandomSource, lines: &[Result<LineEvent, LineFault>]) -> Self {
+    /// Two words of the system's random bytes; if the system gives none, the digest of the lines, which come in parts.
+    pub fn drawn(rt: &impl RandomSource, parts: &[Vec<Result<LineEvent, LineFault>>]) -> Self {
         match (random_word(rt), random_word(rt)) {
             (Ok(first), Ok(second)) => HashKey { first, second },
-            _ => HashKey::digest(lines),
+            _ => HashKey::digest(parts),
         }
     }
 
-    /// A digest of all calls and replies. It reads each one's process, kind, name and value, so that none of them can be changed under the same key.
+    /// A digest of all events. It reads the process, kind, name and value of each, so that a change to any of them changes the key.
     ///
     /// It is SipHash's and no fold: the last value of a history is free, and could be chosen so that a fold ends in a key that was picked beforehand.
-    pub(crate) fn digest(lines: &[Result<LineEvent, LineFault>]) -> Self {
+    pub(crate) fn digest(parts: &[Vec<Result<LineEvent, LineFault>>]) -> Self {
         let mut state = DefaultHasher::new();
-        for line in lines {
-            if let Ok(event) = line {
-                event.process.hash(&mut state);
-                read(&event.kind, &mut state);
+        for part in parts {
+            for line in part {
+                if let Ok(event) = line {
+                    event.process.hash(&mut state);
+                    read(&event.kind, &mut state);
+                }
             }
         }
         let first = state.finish();
@@ -67,5 +69,7 @@ fn read(kind: &Kind, state: &mut DefaultHasher) {
                 value.hash(state);
             }
         },
+        Kind::Fail(_) => 5_u8.hash(state),
+        Kind::Crash => 6_u8.hash(state),
     }
 }

@@ -1,9 +1,12 @@
 //! Tests of process numbers on both sides of the table's limit, and of the key of the hashes.
 use super::*;
 use crate::tests::{add_process, arena_of, lines, walks};
+use history_text::{LineEvent, LineFault};
+use std::alloc::{AllocError, Global};
 use std::io;
 use std::random::RandomSource;
 use std::test::Fail;
+use std::thread::Threads;
 
 /// Processes on both sides of the table's limit, which is the number of events, 12. Of them 1, 13 and 25 leave the same when divided by it, and so do 0 and 12.
 const MIXED: &str =
@@ -59,14 +62,30 @@ impl RandomSource for Refusing {
     }
 }
 
+// The lines of a history in short, each of them a part, and a part without lines.
+fn parts(
+    rt: &(impl Threads + Sync),
+    alloc: Global,
+    history: &str,
+) -> Result<Vec<Vec<Result<LineEvent, LineFault>>>, AllocError> {
+    let mut parts = Vec::new(alloc);
+    parts.push(Vec::new(alloc))?;
+    for line in lines(rt, alloc, history)? {
+        let mut part = Vec::new(alloc);
+        part.push(line)?;
+        parts.push(part)?;
+    }
+    Ok(parts)
+}
+
 #[test]
 fn a_key_is_drawn_or_a_digest(rt: HostRuntime) -> Result<(), Fail> {
-    let lines = lines(&rt, rt.alloc(), "p1 W x 5; p1 ok")?;
-    let drawn = HashKey::drawn(&Alike { byte: 0x5A }, &lines);
+    let parts = parts(&rt, rt.alloc(), "p1 W x 5; p1 ok")?;
+    let drawn = HashKey::drawn(&Alike { byte: 0x5A }, &parts);
     assert_eq!(rt; drawn.first, 0x5A5A_5A5A_5A5A_5A5A);
     assert_eq!(rt; drawn.second, 0x5A5A_5A5A_5A5A_5A5A);
-    let digest = HashKey::digest(&lines);
-    let undrawn = HashKey::drawn(&Refusing, &lines);
+    let digest = HashKey::digest(&parts);
+    let undrawn = HashKey::drawn(&Refusing, &parts);
     assert_eq!(rt; undrawn.first, digest.first);
     assert_eq!(rt; undrawn.second, digest.second);
     Ok(())
@@ -91,10 +110,10 @@ const DIFFERENT: [&str; 11] = [
 fn a_digest_reads_every_part(rt: HostRuntime) -> Result<(), Fail> {
     let alloc = rt.alloc();
     for one in 0..DIFFERENT.len() {
-        let digest = HashKey::digest(&lines(&rt, alloc, DIFFERENT[one])?);
+        let digest = HashKey::digest(&parts(&rt, alloc, DIFFERENT[one])?);
         assert_ne!(rt; digest.first, digest.second, "{}", DIFFERENT[one]);
         for other in 0..one {
-            let before = HashKey::digest(&lines(&rt, alloc, DIFFERENT[other])?);
+            let before = HashKey::digest(&parts(&rt, alloc, DIFFERENT[other])?);
             assert_ne!(rt; digest.first, before.first, "{one} and {other}");
             assert_ne!(rt; digest.second, before.second, "{one} and {other}");
         }
@@ -121,7 +140,7 @@ fn no_key_changes_an_answer(rt: HostRuntime) -> Result<(), Fail> {
         (0x5A5A, 0xA5A5),
     ] {
         let key = HashKey { first, second };
-        match Arena::build_keyed(alloc, key, lines(&rt, alloc, KEYED)?) {
+        match Arena::build_keyed(alloc, key, parts(&rt, alloc, KEYED)?) {
             Ok(arena) => {
                 let mut text = walks(alloc, &arena)?;
                 add_process(&mut text, alloc, &arena, 70_000)?;

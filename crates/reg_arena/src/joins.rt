@@ -1,7 +1,8 @@
 //! How an event joins one list of each family: the last event of the list gets its link, and the new one has none.
-ghost use Rattle.std.specs.Prelude.{◌≡◌, ◌<◌, ◌≤◌, ◌^◌, ◌+◌, ℕ, length, slice_get, max, Some, OnOk, IfOk};
+ghost use Rattle.std.specs.Prelude.{◌≡◌, ◌<◌, ◌≤◌, ◌^◌, ◌+◌, ℕ, length, slice_get, max, Some, option_map, OnOk, IfOk};
 ghost use Rattle.history_text.specs.declared.event.Val.{Val as AVal};
-ghost use Rattle.reg_arena.specs.Threads.{IsJoined, IsJoinedBy, IsEnteredBy, event_number, link_at, process_ends, value_ends, value_entry, value_number, whole};
+ghost use Rattle.reg_arena.specs.Threads.{IsJoined, IsJoinedBy, IsEnteredBy, end_of, event_number, link_at, process_ends, value_ends, value_entry, value_number, whole};
+ghost use Rattle.reg_arena.specs.Operations.{number_in};
 ghost use Rattle.reg_arena.specs.Shown.{by_value};
 ghost use Rattle.reg_arena.specs.declared.ends.Ends.{Ends};
 
@@ -37,8 +38,29 @@ pub(crate) fn join_process(
     Ok(())
 }
 
-/// Joins event `id` to the list of its register, which is known or the next.
+/// Joins event `id` to the list of its register, which is known or the next, where it has a register.
 pub(crate) fn join_register(
+    links: &mut Vec<Option<EvId>>,
+    registers: &mut Vec<Ends>,
+    register: Option<RegId>,
+    id: EvId,
+) -> Result<(), AllocError>
+    requires within { (e : Ends) → slice_get registers.old.items (number_in register) ≡ Some e → e.last.0 < length links.old.items }
+    requires next { number_in register ≤ length registers.old.items }
+    ensures joined { OnOk result (IsJoinedBy (option_map (λ r. r.0) register) id (link_at links.old.items) (link_at links.new.items) (slice_get registers.old.items) (slice_get registers.new.items)) }
+    ensures registers { OnOk result (length registers.new.items ≡ max (length registers.old.items) (end_of register)) }
+    ensures count { OnOk result (length links.new.items ≡ length links.old.items + 1) }
+{
+    match register {
+        Some(register) => link_register(links, registers, register, id)?,
+        None => {}
+    }
+    links.push(None)?;
+    Ok(())
+}
+
+/// Links event `id` behind the last event of its register, which is known or the next.
+fn link_register(
     links: &mut Vec<Option<EvId>>,
     registers: &mut Vec<Ends>,
     register: RegId,
@@ -48,7 +70,7 @@ pub(crate) fn join_register(
     requires next { register.0 ≤ length registers.old.items }
     ensures joined { OnOk result (IsJoined register.0 id (link_at links.old.items) (link_at links.new.items) (slice_get registers.old.items) (slice_get registers.new.items)) }
     ensures registers { OnOk result (length registers.new.items ≡ max (length registers.old.items) (register.0 + 1)) }
-    ensures count { OnOk result (length links.new.items ≡ length links.old.items + 1) }
+    ensures count { OnOk result (length links.new.items ≡ length links.old.items) }
 {
     let number = register.0 as usize;
     if number < registers.len() {
@@ -64,7 +86,6 @@ pub(crate) fn join_register(
             last: id,
         })?;
     }
-    links.push(None)?;
     Ok(())
 }
 
@@ -102,20 +123,20 @@ pub(crate) fn join_value(
     ensures kept { OnOk result ((q : ℕ × AVal) (n : ℕ) → value_number values.old.keys q ≡ Some n → value_number values.new.keys q ≡ Some n) }
     ensures count { OnOk result (length links.new.items ≡ length links.old.items + 1) }
 {
-    let number = match (number, event.value) {
-        (Some(number), _) => {
+    let number = match (number, event.value, event.register) {
+        (Some(number), _, _) => {
             let entry = entries[number as usize];
             links[entry.ends.last.0 as usize] = Some(id);
             entries[number as usize] = entry.with(event, id, call);
             Some(number)
         }
-        (None, Some(value)) => {
+        (None, Some(value), Some(register)) => {
             let number = entries.len() as u32;
-            values.insert((event.register.0, whole(value)))?;
+            values.insert((register.0, whole(value)))?;
             entries.push(Entry::new(event, id, call))?;
             Some(number)
         }
-        (None, None) => None,
+        (None, Some(_), None) | (None, None, _) => None,
     };
     links.push(None)?;
     Ok(number)

@@ -3,11 +3,12 @@ ghost use Rattle.std.specs.Prelude.{◌≡◌, ◌<◌, ◌-◌, ◌⊎◌, ℕ,
 ghost use Rattle.history_text.specs.declared.event.Val.{Val as AVal};
 ghost use Rattle.reg_arena.specs.Lists.{In};
 ghost use Rattle.reg_arena.specs.declared.event.Event.{Event};
+ghost use Rattle.reg_arena.specs.declared.event.What.TheVariants.{Call, Reply};
 ghost use Rattle.reg_arena.specs.declared.ids.Oper.{Oper as AnOper};
 ghost use Rattle.reg_arena.specs.History.{History, IsRecorded};
 ghost use Rattle.reg_arena.specs.Lamport.{HasSingleWriter};
 ghost use Rattle.reg_arena.specs.Operations.{IsCompleted, IsHistory, IsWrite, Operation, Precedes, initial_write, of_register, operations};
-ghost use Rattle.reg_arena.specs.Shown.{IsEventIn, IsEventOf, IsNamed, IsOper, name_of};
+ghost use Rattle.reg_arena.specs.Shown.{IsEventIn, IsEventOf, IsNamed, IsOper, belongs_at, name_of};
 
 /// The operations of each register of an accepted history satisfy the facts on which the laws above stand.
 pub fn accepted_is_history()
@@ -25,16 +26,17 @@ pub fn names_are_unique()
     ensures one { (h : History) → IsRecorded h → (name : AnOper) (o p : Operation) → IsNamed h name o → IsNamed h name p → o ≡ p }
 {}
 
-/// Each event belongs to one operation.
+/// Each reply, and each call that didn't fail, belongs to one operation, and no other event belongs to any.
 pub fn events_have_operations()
-    ensures some { (h : History) → IsRecorded h → (i : ℕ) (e : Event) → slice_get h.events i ≡ Some e → (o : Operation) × IsEventIn h i e o }
+    ensures some { (h : History) → IsRecorded h → (i : ℕ) (e : Event) → slice_get h.events i ≡ Some e → belongs_at h.events i e ≡ true → (o : Operation) × IsEventIn h i e o }
+    ensures none { (h : History) → IsRecorded h → (i : ℕ) (e : Event) → slice_get h.events i ≡ Some e → belongs_at h.events i e ≡ false → (o : Operation) → In o (operations h) → IsEventOf i o → ⊥ }
     ensures one { (h : History) → IsRecorded h → (i : ℕ) (o p : Operation) → In o (operations h) → In p (operations h) → IsEventOf i o → IsEventOf i p → o ≡ p }
 {}
 
 /// Each operation that a process called has its call among the events, and its reply if it is completed.
 pub fn operations_have_events()
-    ensures call { (h : History) → IsRecorded h → (o : Operation) (p : ℕ) → In o (operations h) → o.process ≡ Some p → (e : Event) × IsEventIn h (o.call - 2) e o × (e.is_call ≡ true) }
-    ensures reply { (h : History) → IsRecorded h → (o : Operation) (p : ℕ) → In o (operations h) → o.process ≡ Some p → IsCompleted o → (e : Event) × IsEventIn h (o.reply - 2) e o × (e.is_call ≡ false) }
+    ensures call { (h : History) → IsRecorded h → (o : Operation) (p : ℕ) → In o (operations h) → o.process ≡ Some p → (e : Event) × IsEventIn h (o.call - 2) e o × (e.what ≡ Call o.kind) }
+    ensures reply { (h : History) → IsRecorded h → (o : Operation) (p : ℕ) → In o (operations h) → o.process ≡ Some p → IsCompleted o → (e : Event) × IsEventIn h (o.reply - 2) e o × (e.what ≡ Reply o.kind) }
 {}
 
 /// A write and a completed operation have a value.

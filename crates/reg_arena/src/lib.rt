@@ -1,4 +1,4 @@
-//! Well-formed histories: the lines of a history go in, and one arena of all its events comes out, or the refusal of the least faulty line.
+//! Well-formed histories: the lines of a history go in, and one arena of all its events comes out, or the refusal of the first faulty line.
 //!
 //! What the floor above may rely on: [`Arena::build_keyed`] accepts and refuses exactly as the definitions say, whatever the key of its hashes, and the
 //! arena's model is the history of the accepted events. Each walk of the arena is the filter of the one list of events, ascending: by register, by process,
@@ -6,8 +6,8 @@
 //! every accepted history. All calls but `build_keyed` and `build` take no memory and always answer.
 //!
 //! Read it in this order: `ids`, `event`, `op` and `refusal`, which are what is asked and answered; `hash_key` and `seeded`, which make the hashes; `ends`,
-//! `processes`, `joins`, `threads` and `entries`, the lists that run through the events; `names`; `arena`, `called` and `members`, which answer; `agrees` and
-//! `build`; `laws`.
+//! `processes`, `joins`, `threads` and `entries`, the lists that run through the events; `names`; `arena`, `called` and `members`, which answer; `agrees`,
+//! `standing` and `build`; `laws`.
 #![tactic(auto)]
 
 mod agrees;
@@ -29,6 +29,7 @@ mod op;
 mod processes;
 mod refusal;
 mod seeded;
+mod standing;
 #[cfg(test)]
 mod tables;
 #[cfg(test)]
@@ -36,7 +37,7 @@ mod tests;
 mod threads;
 
 pub use arena::Arena;
-pub use event::Event;
+pub use event::{Event, What};
 pub use hash_key::HashKey;
 pub use ids::{EvId, Oper, RegId};
 pub use laws::{

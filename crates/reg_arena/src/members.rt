@@ -27,7 +27,7 @@ impl Arena {
         reply_time(value, self.threads.entry(register, value))
     }
 
-    /// The write of an event's value to its register, with no look-up; of a read's call, which has no value, `None`.
+    /// The write of an event's value to its register, with no look-up; of an event without a value `None`.
     pub fn write_of_event(&self, id: EvId) -> Option<Oper>
         requires { id.0 < length self.now.events }
         ensures write { (k : ℕ × AVal) → key_at by_value self.now.events id.0 ≡ Some k → IsWriteOf self.now k.0 k.1 result }
@@ -36,7 +36,7 @@ impl Arena {
         let event = self.event(id);
         let value = event.value?;
         match value {
-            Val::Null => Some(Oper::Initial(event.register)),
+            Val::Null => Some(Oper::Initial(event.register?)),
             Val::Int(_) => match self.threads.write_of_event(id) {
                 Some(write) => Some(Oper::Called(write)),
                 None => None,
@@ -44,7 +44,7 @@ impl Arena {
         }
     }
 
-    /// `last_call` of the register and value of an event, with no look-up; of a read's call, which has no value, `None`.
+    /// `last_call` of the register and value of an event, with no look-up; of an event without a value `None`.
     pub fn last_call_of(&self, id: EvId) -> Option<u32>
         requires { id.0 < length self.now.events }
         ensures last { (k : ℕ × AVal) → key_at by_value self.now.events id.0 ≡ Some k → IsLastCall self.now k.0 k.1 result }
@@ -56,7 +56,7 @@ impl Arena {
         }
     }
 
-    /// `first_reply` of the register and value of an event, with no look-up; of a read's call, which has no value, `None`.
+    /// `first_reply` of the register and value of an event, with no look-up; of an event without a value `None`.
     pub fn first_reply_of(&self, id: EvId) -> Option<u32>
         requires { id.0 < length self.now.events }
         ensures first { (k : ℕ × AVal) → key_at by_value self.now.events id.0 ≡ Some k → IsFirstReply self.now k.0 k.1 result }
@@ -74,8 +74,12 @@ fn last_time(value: Val, entry: Option<Entry>) -> Option<u32>
     requires { (y : AnEntry) → entry ≡ Some y → HasTimes y }
     ensures { result ≡ last_time value entry }
 {
-    match (entry, value) {
-        (Some(entry), _) => Some(entry.last_call.0 + 2),
+    let last = match entry {
+        Some(entry) => entry.last_call(),
+        None => None,
+    };
+    match (last, value) {
+        (Some(call), _) => Some(call.0 + 2),
         (None, Val::Null) => Some(0),
         (None, Val::Int(_)) => None,
     }

@@ -4,14 +4,14 @@ ghost use Rattle.reg_arena.specs.declared.refusal.BuildError.TheVariants.{Memory
 
 use std::alloc::AllocError;
 
-/// The refusal of the least faulty line.
+/// The refusal of the first faulty line.
 #[derive(Clone, Copy, Debug, PartialEq, Eq)]
 pub struct LineRefusal {
     /// The line, from 1.
     pub line: u32,
-    /// The least number of a refusal that applies there, 1 to 14.
+    /// The lowest number of a refusal that applies there, 1 to 14 or 19.
     pub number: u8,
-    /// The line of the open call (9), or of the earlier write (13).
+    /// The line of the open call (9), of the earlier write (13), or of the crash (19).
     pub other: Option<u32>,
 }
 

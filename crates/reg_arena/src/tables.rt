@@ -2,8 +2,8 @@
 use super::*;
 use history_text::Val;
 
-/// A history in short, its least faulty line, the number of the refusal there, and the other line that it names.
-pub(crate) const REFUSALS: [(&str, u32, u8, Option<u32>); 16] = [
+/// A history in short, its first faulty line, the number of the refusal there, and the other line that it names.
+pub(crate) const REFUSALS: [(&str, u32, u8, Option<u32>); 31] = [
     ("p1 W x 5; p1 ok; p1 W x 5", 3, 13, Some(1)),
     ("p1 ok", 1, 10, None),
     ("p1 W x 1; p1 W x 2; {\"process\":2,\"ev", 2, 9, Some(1)),
@@ -39,6 +39,34 @@ pub(crate) const REFUSALS: [(&str, u32, u8, Option<u32>); 16] = [
     ("p65537 R x; p1 R x; p65537 R y", 3, 9, Some(1)),
     ("p1 R x; p65537 = 1", 2, 10, None),
     ("p65536 R x; p0 = 1", 2, 10, None),
+    // A failed write's value stays taken, and its process may call again.
+    ("p1 W x 5; p1 fail; p1 W x 5", 3, 13, Some(1)),
+    ("p1 W x 5; p1 fail; p1 fail", 3, 10, None),
+    ("p1 fail", 1, 10, None),
+    // A fail disagrees as a reply does, and a failed read has no value.
+    ("p1 W x 5; p1 fail = 6", 2, 11, None),
+    (
+        "p1 W x 5; {\"process\":1,\"event\":\"fail\",\"register\":\"y\"}",
+        2,
+        11,
+        None,
+    ),
+    (
+        "p1 R x; {\"process\":1,\"event\":\"fail\",\"op\":\"write\"}",
+        2,
+        11,
+        None,
+    ),
+    ("p1 R x; p1 fail = 5", 2, 11, None),
+    // After a crash each event names it, if no smaller number applies.
+    ("p1 W x 5; p1 crash; p1 ok", 3, 19, Some(2)),
+    ("p1 R x; p1 crash;; p1 R x", 4, 19, Some(2)),
+    ("p1 crash; p1 fail", 2, 19, Some(1)),
+    ("p1 crash; p2 R x; p1 crash", 3, 19, Some(1)),
+    ("p1 W x 5; p1 crash; p1 = 6", 3, 19, Some(2)),
+    ("p1 W x 5; p1 ok; p2 crash; p2 W x 5", 4, 13, Some(1)),
+    ("p1 W x 5; p1 crash; p2 W x 5", 3, 13, Some(1)),
+    ("p1 R x; p1 fail; p1 R x; p1 R x", 4, 9, Some(3)),
 ];
 
 /// Of each event of `p1 W x 5; p2 R x; p2 = null; p1 ok; p1 W x 7; p2 R y`, which have the times 2 to 7, the operation; the call of line 5 has no reply.
@@ -79,6 +107,34 @@ pub(crate) const VALUES: [(Val, Option<Oper>, Option<u32>, Option<u32>); 5] = [
     (Val::Int(7), Some(Oper::Called(EvId(4))), Some(6), None),
     (Val::Int(9), None, Some(7), Some(8)),
     (Val::Int(8), None, None, None),
+];
+
+/// A failed write with a read of its value before it and one that ends after it, a write that fails unread, a failed read, and a write that a crash leaves open.
+pub(crate) const FAILED: &str =
+    "p2 R x; p2 = 5; p2 R x; p1 W x 5; p1 fail; p2 = 5; p1 W x 6; p1 fail; p3 R x; p1 W x 7; p1 crash; p3 fail";
+
+/// An event of this history, its operation, and whether it begins one.
+pub(crate) const FAILED_OPERATIONS: [(u32, Option<Oper>, bool); 12] = [
+    (0, Some(Oper::Called(EvId(0))), true),
+    (1, Some(Oper::Called(EvId(0))), false),
+    (2, Some(Oper::Called(EvId(2))), true),
+    (3, None, false),
+    (4, None, false),
+    (5, Some(Oper::Called(EvId(2))), false),
+    (6, None, false),
+    (7, None, false),
+    (8, None, false),
+    (9, Some(Oper::Called(EvId(9))), true),
+    (10, None, false),
+    (11, None, false),
+];
+
+/// A value of this history's register, its write, the greatest call and the first reply.
+pub(crate) const FAILED_VALUES: [(Val, Option<Oper>, Option<u32>, Option<u32>); 4] = [
+    (Val::Null, Some(Oper::Initial(RegId(0))), Some(0), Some(1)),
+    (Val::Int(5), None, Some(4), Some(3)),
+    (Val::Int(6), None, None, None),
+    (Val::Int(7), Some(Oper::Called(EvId(9))), Some(11), None),
 ];
 
 /// An event, and the same of its value.

@@ -1,14 +1,17 @@
 ghost use Rattle.std.specs.Prelude.{◌<◌, length};
 
 use super::*;
-use crate::tables::{EVENTS, OPERATIONS, REFUSALS, VALUED, VALUES};
+use crate::tables::{
+    EVENTS, FAILED, FAILED_OPERATIONS, FAILED_VALUES, OPERATIONS, REFUSALS, VALUED, VALUES,
+};
 use history_text::{Kind, LineEvent, LineFault, MAX_INPUT, Name, ReplyParts, Val, read_lines};
 use std::alloc::{AllocError, Global};
 use std::process::Abort;
 use std::test::Fail;
 use std::thread::Threads;
 
-// The line of an event in short: `p1 W x 5` and `p2 R x` are calls, `p1 ok` and `p2 = 5` replies, and any other text stands for itself.
+// The line of an event in short: `p1 W x 5` and `p2 R x` are calls, `p1 ok` and `p2 = 5` replies, `p1 fail`, `p1 fail = 5` and `p1 crash` fails and a crash, and any other
+// text stands for itself.
 fn line_of(alloc: Global, event: &str) -> Result<String, AllocError> {
     let mut words = event.split_whitespace();
     let process = words.next().unwrap_or("").trim_start_matches('p');
@@ -26,6 +29,12 @@ fn line_of(alloc: Global, event: &str) -> Result<String, AllocError> {
         "=" => format!(in alloc;
             "{{\"process\":{process},\"event\":\"reply\",\"value\":{third}}}\n"
         ),
+        "fail" if third == "=" => format!(in alloc;
+            "{{\"process\":{process},\"event\":\"fail\",\"value\":{value}}}\n"
+        ),
+        "fail" | "crash" => {
+            format!(in alloc; "{{\"process\":{process},\"event\":\"{what}\"}}\n")
+        }
         _ => format!(in alloc; "{event}\n"),
     }
 }
@@ -171,6 +180,16 @@ fn walks_meet_every_event(rt: HostRuntime) -> Result<(), Fail> {
             "register 0: 1 2 3 4 | | | | 2 3 4 |; register 1: | | | | |; p1: 2 3; p2: 1 4; p3:; p4:; ",
         ),
         (
+            "a failed write between two reads of its value, and a crash",
+            "p2 R x; p2 = 5; p1 W x 5; p1 fail; p3 R x; p3 = 5; p1 R y; p1 crash; p2 crash",
+            "register 0: 1 2 3 4 5 6 | | | | 2 3 4 6 |; register 1: 7 | | | | |; p1: 3 4 7 8; p2: 1 2 9; p3: 5 6; p4:; ",
+        ),
+        (
+            "failed reads, one of which gives null",
+            "p1 R x; p1 fail; p2 R x; p2 fail = null; p1 R x",
+            "register 0: 1 2 3 4 5 | | | | |; register 1: | | | | |; p1: 1 2 5; p2: 3 4; p3:; p4:; ",
+        ),
+        (
             "a value that nobody wrote, null, and pending calls",
             "p2 R x; p2 = 9; p2 R x; p2 = null; p1 W x 5; p2 R x",
             "register 0: 1 2 3 4 5 6 | 4 | | | 5 | 2; register 1: | | | | |; p1: 5; p2: 1 2 3 4 6; p3:; p4:; ",
@@ -215,11 +234,14 @@ pub(crate) fn arena_of(
     }
 }
 
-// The operation of an event.
-fn op_at(arena: &Arena, id: EvId) -> Op
+// The operation of an event, where it belongs to one.
+fn op_at(arena: &Arena, id: EvId) -> Option<Op>
     requires { id.0 < length arena.now.events }
 {
-    arena.op(arena.op_of(id))
+    match arena.op_of(id) {
+        Some(oper) => Some(arena.op(oper)),
+        None => None,
+    }
 }
 
 #[test]
@@ -232,8 +254,13 @@ fn operations_have_their_times(rt: HostRuntime) -> Result<(), Fail> {
     )?;
     for (event, want) in OPERATIONS {
         if event < arena.event_count() {
-            let got = format!(in alloc; "{:?}", op_at(&arena, EvId(event)))?;
-            assert_eq!(rt; got.as_str(), want, "event {event}");
+            match op_at(&arena, EvId(event)) {
+                Some(op) => {
+                    let got = format!(in alloc; "{op:?}")?;
+                    assert_eq!(rt; got.as_str(), want, "event {event}");
+                }
+                None => assert!(rt; false, "event {event} has no operation"),
+            }
         }
     }
     assert_eq!(rt; arena.event_count(), 6);
@@ -287,12 +314,63 @@ fn events_have_the_writes_and_times_of_their_values(rt: HostRuntime) -> Result<(
     Ok(())
 }
 
+// Fails and crashes, the calls that failed and those that a crash left open.
+#[test]
+fn failed_calls_are_no_operations(rt: HostRuntime) -> Result<(), Fail> {
+    let arena = arena_of(&rt, rt.alloc(), FAILED)?;
+    for (event, oper, begins) in FAILED_OPERATIONS {
+        if event < arena.event_count() {
+            let id = EvId(event);
+            assert_eq!(rt; arena.op_of(id), oper, "operation of event {event}");
+            assert_eq!(rt; arena.begins(id), begins, "event {event} begins one");
+        }
+    }
+    if arena.event_count() != 12 {
+        return Err(Fail::from(AllocError));
+    }
+    // The crash has no register, and the call that it left open is pending.
+    assert_eq!(rt; arena.next_in_register(EvId(10)), None);
+    assert_eq!(rt; arena.next_with_value(EvId(10)), None);
+    assert_eq!(rt; arena.next_in_process(EvId(9)), Some(EvId(10)));
+    match op_at(&arena, EvId(9)) {
+        Some(op) => assert_eq!(rt; op.reply, None),
+        None => assert!(rt; false, "the last write has no operation"),
+    }
+    Ok(())
+}
+
+#[test]
+fn failed_writes_leave_their_values_to_reads(rt: HostRuntime) -> Result<(), Fail> {
+    let arena = arena_of(&rt, rt.alloc(), FAILED)?;
+    if arena.register_count() == 0 {
+        return Err(Fail::from(AllocError));
+    }
+    let x = RegId(0);
+    for (value, write, last_call, first_reply) in FAILED_VALUES {
+        assert_eq!(rt; arena.write_of(x, value), write, "write of {value:?}");
+        assert_eq!(rt;
+            arena.last_call(x, value),
+            last_call,
+            "last call of {value:?}"
+        );
+        assert_eq!(rt;
+            arena.first_reply(x, value),
+            first_reply,
+            "first reply of {value:?}"
+        );
+    }
+    Ok(())
+}
+
 // Whether the operation of one event precedes that of another.
 fn precedes(arena: &Arena, one: u32, other: u32) -> bool
     requires one { one < length arena.now.events }
     requires other { other < length arena.now.events }
 {
-    arena.precedes(arena.op_of(EvId(one)), arena.op_of(EvId(other)))
+    match (arena.op_of(EvId(one)), arena.op_of(EvId(other))) {
+        (Some(one), Some(other)) => arena.precedes(one, other),
+        _ => false,
+    }
 }
 
 #[test]

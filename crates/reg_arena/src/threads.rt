@@ -1,9 +1,10 @@
 //! Events in one list, and beside it the links of three families of lists: of each register, of each process, and of each register and value.
-ghost use Rattle.std.specs.Prelude.{◌≡◌, ◌<◌, ◌≤◌, ◌^◌, ◌+◌, ◌++◌, ◌∷◌, [], length, max, OnOk, IfOk};
-ghost use Rattle.reg_arena.specs.Threads.{AreThreads, IsAlike, IsCallAt};
+ghost use Rattle.std.specs.Prelude.{◌≡◌, ◌<◌, ◌≤◌, ◌^◌, ◌+◌, ◌++◌, ◌∷◌, [], true, length, max, OnOk, IfOk};
+ghost use Rattle.reg_arena.specs.Threads.{AreThreads, IsAlike, IsAppendable, calls_with, end_of};
+ghost use Rattle.reg_arena.specs.Operations.{is_a_fail, number_in};
 
-use crate::ends::{Ends, Entry};
-use crate::event::Event;
+use crate::ends::{Ends, Entry, NO_CALL};
+use crate::event::{Event, What};
 use crate::ids::EvId;
 use crate::joins::{join_process, join_register, join_value};
 use crate::processes::Processes;
@@ -15,7 +16,7 @@ use std::alloc::{AllocError, Global};
 #[derive(Drop)]
 pub(crate) struct Threads {
     pub(crate) events: Vec<Event>,
-    /// The event of each event's call.
+    /// The call of the operation that each event belongs to, or `NO_CALL`.
     pub(crate) calls: Vec<EvId>,
     /// The next event of the same register, of the same process, and of the same register and value.
     pub(crate) in_register: Vec<Option<EvId>>,
@@ -52,6 +53,8 @@ impl Threads {
     }
 
     /// Appends an event with the event of its call, and joins it to its lists. `alike` is an event of the same register and value, where there is one.
+    ///
+    /// A crash has no call, and `call` is then not read. A fail takes the call that it ends from the operations.
     pub(crate) fn append(
         &mut self,
         event: Event,
@@ -59,12 +62,12 @@ impl Threads {
         alike: Option<EvId>,
     ) -> Result<(), AllocError>
         requires threads { AreThreads self.old }
-        requires register { event.register.0 ≤ length self.old.registers.items }
+        requires register { number_in event.register ≤ length self.old.registers.items }
         requires room { length self.old.events.items < 2 ^ 20 }
-        requires call { IsCallAt (self.old.events.items ++ event ∷ []) (length self.old.events.items) call.0 }
+        requires call { IsAppendable self.old.events.items event call }
         requires alike { IsAlike self.old.events.items event alike }
         ensures threads { OnOk result (AreThreads self.new) }
-        ensures registers { OnOk result (length self.new.registers.items ≡ max (length self.old.registers.items) (event.register.0 + 1)) }
+        ensures registers { OnOk result (length self.new.registers.items ≡ max (length self.old.registers.items) (end_of event.register)) }
         ensures events { OnOk result (self.new.events.items ≡ self.old.events.items ++ event ∷ []) }
     {
         let id = EvId(self.events.len() as u32);
@@ -86,8 +89,24 @@ impl Threads {
             call,
         )?;
         self.events.push(event)?;
-        self.calls.push(call)?;
+        join_call(&mut self.calls, event.what, call)?;
         self.numbers.push(number)?;
         Ok(())
     }
+}
+
+/// Adds the call of an event to the column of calls.
+fn join_call(calls: &mut Vec<EvId>, what: What, call: EvId) -> Result<(), AllocError>
+    requires { is_a_fail what ≡ true → call.0 < length calls.old.items }
+    ensures { OnOk result (calls.new.items ≡ calls_with calls.old.items what call) }
+{
+    match what {
+        What::Call(_) | What::Reply(_) => calls.push(call)?,
+        What::Fail(_) => {
+            calls[call.0 as usize] = EvId(NO_CALL);
+            calls.push(EvId(NO_CALL))?;
+        }
+        What::Crash => calls.push(EvId(NO_CALL))?,
+    }
+    Ok(())
 }

@@ -7,7 +7,9 @@ use Rattle.reg_arena.specs.Lists.{In}
 use Rattle.reg_arena.specs.History.{History, IsRecorded}
 use Rattle.reg_arena.specs.Lamport.{HasSingleWriter, HasOldValue, HasOverlappedValue, IsOldWrite}
 use Rattle.reg_arena.specs.Operations.{Operation, IsCompletedRead, Overlaps, is_write, of_register, operations}
-use Rattle.reg_arena.specs.Shown.{IsNamed, IsOper, IsWriteOf, by_value, key_at, op_shown}
+use Rattle.reg_arena.specs.Shown.{IsNamed, IsOper, IsWriteOf, by_register, by_value, key_at, op_shown}
+use Rattle.reg_arena.specs.declared.event.Event.{Event}
+use Rattle.reg_arena.specs.declared.ids.RegId.{RegId}
 use Rattle.reg_arena.specs.declared.ids.Oper.{Oper}
 use Rattle.reg_arena.specs.declared.op.Op.{Op}
 use Rattle.reg_arena.proofs.Recorded.{of_register-In, In-of_register, accepted-history}
@@ -21,6 +23,14 @@ use Rattle.reg_lamport.specs.declared.gathering.ReadEntry.{ReadEntry}
 -- what is named is an operation's name
 pub named-oper : (h : History) (name : Oper) (o : Operation) → IsNamed h name o → IsOper h name
 named-oper h name o n = subst (IsOper h) n.named (has-oper h o n.one)
+
+-- an event with a register and a value has both as its key
+keyed : (e : Event) (r : ℕ) (v : Val) → by_register e ≡ Some r → e.value ≡ Some v → by_value e ≡ Some (r, v)
+keyed e r v own q = ap (λ (b : Option Val). option_and_then {U = ℕ × Val} (λ (x : Val). option_map {U = ℕ × Val} (λ (n : RegId). (n.0, x)) e.register) b) q ∙ go e.register own
+  where
+    go : (a : Option RegId) → option_map {U = ℕ} (λ (n : RegId). n.0) a ≡ Some r → option_map {U = ℕ × Val} (λ (n : RegId). (n.0, v)) a ≡ Some (r, v)
+    go None h = absurd (cc (h))
+    go (Some n) h = let p : n.0 ≡ r = cc (h) in ap (λ m. Some (m, v)) p
 
 module _ (h : History) (rec : IsRecorded h) (r : ℕ) (o : Operation) (i : In o (of_register r (operations h))) (read : IsCompletedRead o) where
   pub value-there : (v : Val) × (o.value ≡ Some v)
@@ -48,8 +58,7 @@ module _ (h : History) (rec : IsRecorded h) (r : ℕ) (o : Operation) (i : In o 
       let e = operation-has-reply h rec o p.0 x.0 p.1 read.completed in
       let same : o.reply ≡ n = cc (sym shown-reply, ap (λ (z : Op). z.reply) is, shown) in
       let at = ap (option_and_then by_value) e.1.at in
-      let with_value = ap (option_map (λ (v : Val). (e.0.register.0, v))) (sym (e.1.reply e.2).2 ∙ value-there.1) in
-      let key : key_at by_value h.events (o.reply - 2) ≡ Some (r, value-there.0) = at ∙ (with_value ∙ ap (λ n. Some (n, value-there.0)) (sym e.1.register ∙ x.1)) in
+      let key : key_at by_value h.events (o.reply - 2) ≡ Some (r, value-there.0) = at ∙ keyed e.0 r value-there.0 (e.1.register ∙ ap Some x.1) (sym (e.1.reply e.2).2 ∙ value-there.1) in
       subst (λ m. (2 ≤ m) × (m - 2 < length h.events) × (key_at by_value h.events (m - 2) ≡ Some (r, value-there.0))) same (omega arith, slice_get_within h.events (o.reply - 2) e.0 e.1.at, key)
 
   -- ---- the write of its value

@@ -5,7 +5,7 @@ use Rattle.std.proofs.lemmas.List.Elements.{filter-append}
 use Rattle.reg_arena.specs.Lists.{In, Before}
 use Rattle.reg_arena.specs.History.{History}
 use Rattle.reg_arena.specs.Lamport.{is_completed_read, completed_reads}
-use Rattle.reg_arena.specs.Operations.{Operation, operation, operations, next_of, calls, calls_from, initial_write, initial_writes, of_register}
+use Rattle.reg_arena.specs.Operations.{Operation, operation, operations, next_of, reply_in, begins, kind_in, number_in, calls, calls_from, initial_write, initial_writes, of_register}
 use Rattle.reg_arena.specs.Walking.{called_at}
 use Rattle.reg_arena.specs.declared.event.Event.{Event}
 use Rattle.reg_arena.proofs.Recorded.{filter-In, of_register-In, In-of_register, append-In, In-right, initials-In}
@@ -28,23 +28,23 @@ In-called h r o i =
     In-of_register r (operations h) o (In-right o (initial_writes (length h.names)) (calls h.events) x.0) x.1
 
 pub called_at-process : (es : List Event) (i : ℕ) (e : Event) → (called_at es i e).process ≡ Some e.process
-called_at-process es i e = go (length es + 2) (i + 2) (next_of e.process (suc (i + 2)) (drop (suc i) es))
+called_at-process es i e = go (length es + 2) (i + 2) (reply_in (next_of e.process (suc (i + 2)) (drop (suc i) es)))
   where
     go : (n t : ℕ) (r : Option (ℕ × Event)) → (operation n t e r).process ≡ Some e.process
     go n t None = refl
     go n t (Some r) = refl
 
-pub called_at-kind : (es : List Event) (i : ℕ) (e : Event) → (called_at es i e).kind ≡ e.kind
-called_at-kind es i e = go (length es + 2) (i + 2) (next_of e.process (suc (i + 2)) (drop (suc i) es))
+pub called_at-kind : (es : List Event) (i : ℕ) (e : Event) → (called_at es i e).kind ≡ kind_in e.what
+called_at-kind es i e = go (length es + 2) (i + 2) (reply_in (next_of e.process (suc (i + 2)) (drop (suc i) es)))
   where
-    go : (n t : ℕ) (r : Option (ℕ × Event)) → (operation n t e r).kind ≡ e.kind
+    go : (n t : ℕ) (r : Option (ℕ × Event)) → (operation n t e r).kind ≡ kind_in e.what
     go n t None = refl
     go n t (Some r) = refl
 
-pub called_at-register : (es : List Event) (i : ℕ) (e : Event) → (called_at es i e).register ≡ e.register.0
-called_at-register es i e = go (length es + 2) (i + 2) (next_of e.process (suc (i + 2)) (drop (suc i) es))
+pub called_at-register : (es : List Event) (i : ℕ) (e : Event) → (called_at es i e).register ≡ number_in e.register
+called_at-register es i e = go (length es + 2) (i + 2) (reply_in (next_of e.process (suc (i + 2)) (drop (suc i) es)))
   where
-    go : (n t : ℕ) (r : Option (ℕ × Event)) → (operation n t e r).register ≡ e.register.0
+    go : (n t : ℕ) (r : Option (ℕ × Event)) → (operation n t e r).register ≡ number_in e.register
     go n t None = refl
     go n t (Some r) = refl
 
@@ -53,11 +53,11 @@ time n t e None = refl
 time n t e (Some r) = refl
 
 pub called_at-call : (es : List Event) (i : ℕ) (e : Event) → (called_at es i e).call ≡ i + 2
-called_at-call es i e = time (length es + 2) (i + 2) e (next_of e.process (suc (i + 2)) (drop (suc i) es))
+called_at-call es i e = time (length es + 2) (i + 2) e (reply_in (next_of e.process (suc (i + 2)) (drop (suc i) es)))
 
 -- a pending call has as its reply the time after all events
 pub called_at-pending : (es : List Event) (i : ℕ) (e : Event) → (called_at es i e).completed ≡ false → (called_at es i e).reply ≡ length es + 2
-called_at-pending es i e = go (length es + 2) (i + 2) (next_of e.process (suc (i + 2)) (drop (suc i) es))
+called_at-pending es i e = go (length es + 2) (i + 2) (reply_in (next_of e.process (suc (i + 2)) (drop (suc i) es)))
   where
     go : (n t : ℕ) (r : Option (ℕ × Event)) → (operation n t e r).completed ≡ false → (operation n t e r).reply ≡ n
     go n t None h = refl
@@ -88,16 +88,16 @@ Before-filter p x y (z ∷ xs) h = go (p z) h (Before-filter p x y xs)
 late : (n s : ℕ) (es : List Event) (a : Operation) → In a (calls_from n s es) → s ≤ a.call
 late n s es a i =
     let x = is-called n s es a i in
-    let t : a.call ≡ s + x.0 = ap (λ (o : Operation). o.call) x.4 ∙ time n (s + x.0) x.1 (next_of x.1.process (suc (s + x.0)) (drop (suc x.0) es)) in
+    let t : a.call ≡ s + x.0 = ap (λ (o : Operation). o.call) x.2.2 ∙ time n (s + x.0) x.1 (reply_in (next_of x.1.process (suc (s + x.0)) (drop (suc x.0) es))) in
     omega (arith, t)
 
 ascend : (n s : ℕ) (es : List Event) (a b : Operation) → Before a b (calls_from n s es) → a.call < b.call
 ascend n s [] a b h = elim h [ ]
-ascend n s (e ∷ es) a b h = go e.is_call h (ascend n (suc s) es a b)
+ascend n s (e ∷ es) a b h = go (begins e (next_of e.process (suc s) es)) h (ascend n (suc s) es a b)
   where
-    go : (c : Bool) → Before a b (cond c (operation n s e (next_of e.process (suc s) es) ∷ calls_from n (suc s) es) (calls_from n (suc s) es)) → (Before a b (calls_from n (suc s) es) → a.call < b.call) → a.call < b.call
+    go : (c : Bool) → Before a b (cond c (operation n s e (reply_in (next_of e.process (suc s) es)) ∷ calls_from n (suc s) es) (calls_from n (suc s) es)) → (Before a b (calls_from n (suc s) es) → a.call < b.call) → a.call < b.call
     go true (inl k) rest =
-        let t : a.call ≡ s = ap (λ (o : Operation). o.call) k.0 ∙ time n s e (next_of e.process (suc s) es) in
+        let t : a.call ≡ s = ap (λ (o : Operation). o.call) k.0 ∙ time n s e (reply_in (next_of e.process (suc s) es)) in
         omega (arith, t, late n (suc s) es b k.1)
     go true (inr k) rest = rest k
     go false k rest = rest k

@@ -7,14 +7,14 @@ use Rattle.reg_arena.specs.Lists.{In, Before}
 use Rattle.reg_arena.specs.History.{History, IsRecorded}
 use Rattle.reg_arena.specs.Lamport.{is_completed_read, completed_reads}
 use Rattle.reg_arena.specs.Operations.{Operation, operations, calls, initial_write, initial_writes, of_register, is_write}
-use Rattle.reg_arena.specs.Shown.{IsNamed, IsFirstOf, IsNextOf, by_register, op_shown}
+use Rattle.reg_arena.specs.Shown.{IsNamed, IsFirstOf, IsNextOf, begins_at, by_register, op_shown}
 use Rattle.reg_arena.specs.Walking.{called_at, calls_at, IsOnWalk}
 use Rattle.reg_arena.specs.declared.ids.EvId.{EvId}
 use Rattle.reg_arena.specs.declared.ids.RegId.{RegId}
 use Rattle.reg_arena.specs.declared.ids.Oper.TheVariants.{Initial, Called}
 use Rattle.reg_arena.specs.declared.event.Event.{Event}
 use Rattle.reg_arena.proofs.Recorded.{of_register-In, In-of_register, append-In, In-left, In-right, initials-In, accepted-history}
-use Rattle.reg_arena.proofs.Named.{operation-has-register, initial-there}
+use Rattle.reg_arena.proofs.Named.{calls-have-registers, operation-has-register, initial-there}
 use Rattle.reg_arena.proofs.Walking.{walk-begins, walk-goes, walk-first, walk-next}
 use Rattle.reg_lamport.specs.declared.gathering.ReadEntry.{ReadEntry}
 use Rattle.reg_lamport.specs.Gathering.{Gathered, nothing_met, settled, write_met, read_met, any_read_met, entry_of, call_met}
@@ -80,13 +80,13 @@ module _ (h : History) (rec : IsRecorded h) (r : ℕ) where
         ]
       ]
 
-  -- ---- the first call, and an event that is none
+  -- ---- the first call, and an event that begins no operation
 
   pub gathering-begins : (register : RegId) (next : Option EvId) → register.0 ≡ r → IsFirstOf by_register h.events r next → IsGathering h r (nothing_met register) next
   gathering-begins register next same first = record {
     on = walk-first r h.events next first;
     seen = [];
-    split = walk-begins r h.events next first;
+    split = walk-begins r h.events next (calls-have-registers h rec) first;
     front = [];
     fresh = [];
     front_reads = [];
@@ -115,12 +115,12 @@ module _ (h : History) (rec : IsRecorded h) (r : ℕ) where
       named : In (initial_write r) (of_register r (operations h)) → IsNamed h (Initial register) (initial_write r)
       named i = record { one = (of_register-In r (operations h) (initial_write r) i).0; named = ap (λ n. Initial (record { 0 = n })) (sym same) }
 
-  module _ (g : Gathered) (i : EvId) (e : Event) (next : Option EvId) (so_far : IsGathering h r g (Some i)) (at : slice_get h.events i.0 ≡ Some e) (own : e.register.0 ≡ r) (n : IsNextOf by_register h.events i.0 next) where
-    pub gathering-skips : e.is_call ≡ false → IsGathering h r g next
+  module _ (g : Gathered) (i : EvId) (e : Event) (next : Option EvId) (so_far : IsGathering h r g (Some i)) (at : slice_get h.events i.0 ≡ Some e) (own : by_register e ≡ Some r) (n : IsNextOf by_register h.events i.0 next) where
+    pub gathering-skips : begins_at h.events i.0 e ≡ false → IsGathering h r g next
     gathering-skips none = record {
       on = walk-next r h.events i next so_far.on n;
       seen = so_far.seen;
-      split = so_far.split ∙ ap (λ xs. so_far.seen ++ xs) (walk-goes r h.events i e next at own n ∙ ap (λ b. cond b (called_at h.events i.0 e ∷ calls_at h.events r next) (calls_at h.events r next)) none);
+      split = so_far.split ∙ ap (λ xs. so_far.seen ++ xs) (walk-goes r h.events i e next (calls-have-registers h rec) at own n ∙ ap (λ b. cond b (called_at h.events i.0 e ∷ calls_at h.events r next) (calls_at h.events r next)) none);
       front = so_far.front;
       fresh = so_far.fresh;
       front_reads = so_far.front_reads;
@@ -135,14 +135,14 @@ module _ (h : History) (rec : IsRecorded h) (r : ℕ) where
 
     -- ---- a call
 
-    module _ (o : Operation) (call : e.is_call ≡ true) (named : IsNamed h (Called i) o) (same : o ≡ called_at h.events i.0 e) where
+    module _ (o : Operation) (call : begins_at h.events i.0 e ≡ true) (named : IsNamed h (Called i) o) (same : o ≡ called_at h.events i.0 e) where
       abbrev met : List Operation
       met = initial_write r ∷ so_far.seen
 
       splits : of_register r (calls h.events) ≡ so_far.seen ++ o ∷ calls_at h.events r next
       splits =
           so_far.split
-          ∙ (ap (λ xs. so_far.seen ++ xs) (walk-goes r h.events i e next at own n ∙ ap (λ b. cond b (called_at h.events i.0 e ∷ calls_at h.events r next) (calls_at h.events r next)) call)
+          ∙ (ap (λ xs. so_far.seen ++ xs) (walk-goes r h.events i e next (calls-have-registers h rec) at own n ∙ ap (λ b. cond b (called_at h.events i.0 e ∷ calls_at h.events r next) (calls_at h.events r next)) call)
           ∙ ap (λ x. so_far.seen ++ x ∷ calls_at h.events r next) (sym same))
 
       now : IsMoment (of_register r (operations h)) (initial_write r ∷ so_far.seen) o

@@ -2,17 +2,18 @@
 use Rattle.std.proofs.Common.{◌≡◌, ℕ, ◌&&◌, ◌==◌, cond, Bool, true, false, not, List, ◌∷◌, suc, ◌+◌, drop, length, slice_get, Option, Some, None, ◌⊎◌, inl, inr, refl, sym, ap, subst, ◌∙◌}
 use Rattle.std.proofs.lemmas.Bool.{eqb-true, eq-eqb, false≢true}
 use Rattle.reg_arena.specs.Lists.{In}
-use Rattle.reg_arena.specs.History.{History}
+use Rattle.reg_arena.specs.History.{History, IsRecorded}
 use Rattle.reg_arena.specs.Lamport.{HasSingleWriter}
-use Rattle.reg_arena.specs.Operations.{Operation, operations, calls, calls_from, of_register, IsWrite, writes}
-use Rattle.reg_arena.specs.Shown.{IsFirstOf, IsNextOf, by_register}
+use Rattle.reg_arena.specs.Operations.{Operation, operations, calls, calls_from, of_register, IsWrite, kind_in, writes}
+use Rattle.reg_arena.specs.Shown.{IsFirstOf, IsNextOf, begins_at, by_register}
 use Rattle.reg_arena.specs.Walking.{called_at, calls_at, IsOnWalk}
 use Rattle.reg_arena.proofs.Recorded.{of_register-In, In-of_register}
 use Rattle.reg_arena.proofs.Belonging.{called-one}
-use Rattle.reg_arena.proofs.Walking.{drop-at, walk-begins, walk-goes, walk-first, walk-next, event-at}
+use Rattle.reg_arena.proofs.Named.{calls-have-registers}
+use Rattle.reg_arena.proofs.Walking.{HaveRegisters, number-known, drop-at, walk-begins, walk-goes, walk-first, walk-next, event-at}
 use Rattle.reg_arena.specs.declared.ids.EvId.{EvId}
 use Rattle.reg_arena.specs.declared.event.Event.{Event}
-use Rattle.reg_lamport.specs.Writers.{calls_write, is_another}
+use Rattle.reg_lamport.specs.Writers.{begins_write, is_another}
 use Rattle.reg_lamport.proofs.Calls.{called-In, In-called, called_at-process, called_at-register, called_at-kind}
 
 -- ---- a call of the register
@@ -25,29 +26,29 @@ called-somebody h r o i q =
     let n : None ≡ Some c.1.process = sym q ∙ c.2.process in
     cc (n)
 
--- what a walk still meets is the call at its event, or met later
-pub meets : (r : ℕ) (es : List Event) (i : EvId) (e : Event) (next : Option EvId) (o : Operation) → slice_get es i.0 ≡ Some e → e.register.0 ≡ r → IsNextOf by_register es i.0 next
-    → In o (calls_at es r (Some i)) → ((e.is_call ≡ true) × (o ≡ called_at es i.0 e)) ⊎ In o (calls_at es r next)
-meets r es i e next o at own n h = go e.is_call refl (subst (In o) (walk-goes r es i e next at own n) h)
+-- what a walk still meets is the operation that its event begins, or met later
+pub meets : (r : ℕ) (es : List Event) (i : EvId) (e : Event) (next : Option EvId) (o : Operation) → HaveRegisters es → slice_get es i.0 ≡ Some e → by_register e ≡ Some r → IsNextOf by_register es i.0 next
+    → In o (calls_at es r (Some i)) → ((begins_at es i.0 e ≡ true) × (o ≡ called_at es i.0 e)) ⊎ In o (calls_at es r next)
+meets r es i e next o has at own n h = go (begins_at es i.0 e) refl (subst (In o) (walk-goes r es i e next has at own n) h)
   where
-    go : (b : Bool) → e.is_call ≡ b → In o (cond b (called_at es i.0 e ∷ calls_at es r next) (calls_at es r next)) → ((e.is_call ≡ true) × (o ≡ called_at es i.0 e)) ⊎ In o (calls_at es r next)
+    go : (b : Bool) → begins_at es i.0 e ≡ b → In o (cond b (called_at es i.0 e ∷ calls_at es r next) (calls_at es r next)) → ((begins_at es i.0 e ≡ true) × (o ≡ called_at es i.0 e)) ⊎ In o (calls_at es r next)
     go true d (inl q) = inl (d, q)
     go true d (inr j) = inr j
     go false d j = inr j
 
--- the call at its event is one
-pub met : (r : ℕ) (es : List Event) (i : EvId) (e : Event) → slice_get es i.0 ≡ Some e → e.register.0 ≡ r → e.is_call ≡ true → In (called_at es i.0 e) (calls_at es r (Some i))
+-- the operation that its event begins is one
+pub met : (r : ℕ) (es : List Event) (i : EvId) (e : Event) → slice_get es i.0 ≡ Some e → by_register e ≡ Some r → begins_at es i.0 e ≡ true → In (called_at es i.0 e) (calls_at es r (Some i))
 met r es i e at own call =
     let n = length es + 2 in
     let o = called_at es i.0 e in
     In-of_register r (calls_from n (i.0 + 2) (drop i.0 es)) o
     (subst (λ xs. In o (calls_from n (i.0 + 2) xs)) (sym (drop-at es i.0 e at))
     (subst (λ b. In o (cond b (o ∷ calls_from n (suc (i.0 + 2)) (drop (suc i.0) es)) (calls_from n (suc (i.0 + 2)) (drop (suc i.0) es)))) (sym call) (inl refl)))
-    (called_at-register es i.0 e ∙ own)
+    (called_at-register es i.0 e ∙ number-known e r own)
 
 -- and what is met later is among what is met from here
-pub met-later : (r : ℕ) (es : List Event) (i : EvId) (e : Event) (next : Option EvId) (o : Operation) → slice_get es i.0 ≡ Some e → e.register.0 ≡ r → IsNextOf by_register es i.0 next → In o (calls_at es r next) → In o (calls_at es r (Some i))
-met-later r es i e next o at own n h = subst (In o) (sym (walk-goes r es i e next at own n)) (go e.is_call)
+pub met-later : (r : ℕ) (es : List Event) (i : EvId) (e : Event) (next : Option EvId) (o : Operation) → HaveRegisters es → slice_get es i.0 ≡ Some e → by_register e ≡ Some r → IsNextOf by_register es i.0 next → In o (calls_at es r next) → In o (calls_at es r (Some i))
+met-later r es i e next o has at own n h = subst (In o) (sym (walk-goes r es i e next has at own n)) (go (begins_at es i.0 e))
   where
     go : (b : Bool) → In o (cond b (called_at es i.0 e ∷ calls_at es r next) (calls_at es r next))
     go true = inr h
@@ -62,9 +63,9 @@ pub record IsWriterSoFar (h : History) (r : ℕ) (writer : Option ℕ) (next : O
   pub own : (o : Operation) → In o (of_register r (calls h.events)) → IsWrite o → In o (calls_at h.events r next) ⊎ (o.process ≡ writer)
   pub known : (q : ℕ) → writer ≡ Some q → (o : Operation) × In o (of_register r (calls h.events)) × IsWrite o × (o.process ≡ Some q)
 
-pub writer-begins : (h : History) (r : ℕ) (next : Option EvId) → IsFirstOf by_register h.events r next → IsWriterSoFar h r None next
-writer-begins h r next first =
-    let e = walk-begins r h.events next first in
+pub writer-begins : (h : History) → IsRecorded h → (r : ℕ) (next : Option EvId) → IsFirstOf by_register h.events r next → IsWriterSoFar h r None next
+writer-begins h rec r next first =
+    let e = walk-begins r h.events next (calls-have-registers h rec) first in
     record {
       on = walk-first r h.events next first;
       inside = λ o i. subst (In o) (sym e) i;
@@ -76,23 +77,23 @@ both-true : (a b : Bool) → (a && b) ≡ true → (a ≡ true) × (b ≡ true)
 both-true true b h = (refl, h)
 both-true false b h = absurd (false≢true h)
 
-module _ (h : History) (r : ℕ) (writer : Option ℕ) (i : EvId) (e : Event) (so_far : IsWriterSoFar h r writer (Some i)) (at : slice_get h.events i.0 ≡ Some e) where
-  own-event : e.register.0 ≡ r
-  own-event = let x = event-at r h.events i so_far.on in let same : x.0 ≡ e = let a = x.1 in cc (a, at) in ap (λ (v : Event). v.register.0) (sym same) ∙ x.2
+module _ (h : History) (rec : IsRecorded h) (r : ℕ) (writer : Option ℕ) (i : EvId) (e : Event) (so_far : IsWriterSoFar h r writer (Some i)) (at : slice_get h.events i.0 ≡ Some e) where
+  own-event : by_register e ≡ Some r
+  own-event = let x = event-at r h.events i so_far.on in let same : x.0 ≡ e = let a = x.1 in cc (a, at) in ap by_register (sym same) ∙ x.2
 
-  is-met : calls_write e ≡ true → In (called_at h.events i.0 e) (of_register r (calls h.events)) × IsWrite (called_at h.events i.0 e)
+  is-met : begins_write h.events i.0 e ≡ true → In (called_at h.events i.0 e) (of_register r (calls h.events)) × IsWrite (called_at h.events i.0 e)
   is-met w =
-      let x = both-true e.is_call (writes e.kind) w in
+      let x = both-true (begins_at h.events i.0 e) (writes (kind_in e.what)) w in
       (so_far.inside (called_at h.events i.0 e) (met r h.events i e at own-event x.0), ap writes (called_at-kind h.events i.0 e) ∙ x.1)
 
-  -- an event that calls no write leaves the writer
-  pub writer-stays : (next : Option EvId) → IsNextOf by_register h.events i.0 next → calls_write e ≡ false → IsWriterSoFar h r writer next
+  -- an event that begins no write leaves the writer
+  pub writer-stays : (next : Option EvId) → IsNextOf by_register h.events i.0 next → begins_write h.events i.0 e ≡ false → IsWriterSoFar h r writer next
   writer-stays next n none = record {
     on = walk-next r h.events i next so_far.on n;
-    inside = λ o j. so_far.inside o (met-later r h.events i e next o at own-event n j);
+    inside = λ o j. so_far.inside o (met-later r h.events i e next o (calls-have-registers h rec) at own-event n j);
     own = λ o j w. elim (so_far.own o j w) [
       | inr p ↦ inr p
-      | inl k ↦ elim (meets r h.events i e next o at own-event n k) [
+      | inl k ↦ elim (meets r h.events i e next o (calls-have-registers h rec) at own-event n k) [
         | inr l ↦ inl l
         | inl c ↦ absurd (false≢true (sym none ∙ writes-call c.0 (ap writes (sym (ap (λ (z : Operation). z.kind) c.1 ∙ called_at-kind h.events i.0 e)) ∙ w)))
       ]
@@ -100,17 +101,17 @@ module _ (h : History) (r : ℕ) (writer : Option ℕ) (i : EvId) (e : Event) (s
     known = so_far.known;
   }
     where
-      writes-call : e.is_call ≡ true → writes e.kind ≡ true → calls_write e ≡ true
-      writes-call a b = ap (λ c. c && writes e.kind) a ∙ b
+      writes-call : begins_at h.events i.0 e ≡ true → writes (kind_in e.what) ≡ true → begins_write h.events i.0 e ≡ true
+      writes-call a b = ap (λ c. c && writes (kind_in e.what)) a ∙ b
 
   -- the call of a write by the writer, or the first
-  pub writer-goes : (next : Option EvId) → IsNextOf by_register h.events i.0 next → calls_write e ≡ true → is_another writer e.process ≡ false → IsWriterSoFar h r (Some e.process) next
+  pub writer-goes : (next : Option EvId) → IsNextOf by_register h.events i.0 next → begins_write h.events i.0 e ≡ true → is_another writer e.process ≡ false → IsWriterSoFar h r (Some e.process) next
   writer-goes next n w same = record {
     on = walk-next r h.events i next so_far.on n;
-    inside = λ o j. so_far.inside o (met-later r h.events i e next o at own-event n j);
+    inside = λ o j. so_far.inside o (met-later r h.events i e next o (calls-have-registers h rec) at own-event n j);
     own = λ o j u. elim (so_far.own o j u) [
       | inr p ↦ inr (from writer refl o j p)
-      | inl k ↦ elim (meets r h.events i e next o at own-event n k) [
+      | inl k ↦ elim (meets r h.events i e next o (calls-have-registers h rec) at own-event n k) [
         | inr l ↦ inl l
         | inl c ↦ inr (ap (λ (z : Operation). z.process) c.1 ∙ called_at-process h.events i.0 e)
       ]
@@ -129,7 +130,7 @@ module _ (h : History) (r : ℕ) (writer : Option ℕ) (i : EvId) (e : Event) (s
           p ∙ (q ∙ ap Some (eqb-true _ _ (not-false (k == e.process) b)))
 
   -- the call of a write by another process
-  pub not-single : calls_write e ≡ true → is_another writer e.process ≡ true → HasSingleWriter (of_register r (operations h)) → ⊥
+  pub not-single : begins_write h.events i.0 e ≡ true → is_another writer e.process ≡ true → HasSingleWriter (of_register r (operations h)) → ⊥
   not-single w other single = go writer refl
     where
       differ : (c : Bool) → not c ≡ true → c ≡ true → ⊥

@@ -1,11 +1,12 @@
 -- Who calls the writes of a register.
-use Rattle.std.specs.Prelude.{ℕ, ◌&&◌, ◌==◌, Bool, false, not, Option, Some, None}
-use Rattle.reg_arena.specs.Operations.{writes}
+use Rattle.std.specs.Prelude.{ℕ, ◌&&◌, ◌==◌, Bool, false, not, List, Option, Some, None}
+use Rattle.reg_arena.specs.Operations.{kind_in, writes}
+use Rattle.reg_arena.specs.Shown.{begins_at}
 use Rattle.reg_arena.specs.declared.event.Event.{Event}
 
--- the event is the call of a write
-abbrev pub calls_write : Event → Bool
-calls_write e = e.is_call && writes e.kind
+-- the event e at place i is the call of a write that didn't fail
+abbrev pub begins_write : List Event → ℕ → Event → Bool
+begins_write events i e = begins_at events i e && writes (kind_in e.what)
 
 -- a process other than the writer, where one is known
 abbrev pub is_another : Option ℕ → ℕ → Bool

@@ -50,7 +50,7 @@ pub fn reads(alloc: Global, arena: &Arena, register: RegId) -> Result<ReadList, 
     let mut gathering = Gathering::new(alloc, register);
     let mut next = arena.first_of_register(register);
     while let Some(id) = next {
-        if arena.event(id).is_call {
+        if arena.begins(id) {
             gathering = gathering.with_call(id, &arena.op(Oper::Called(id)), end)?;
         }
         next = arena.next_in_register(id);

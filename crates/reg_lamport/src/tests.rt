@@ -19,6 +19,16 @@ const OK: &str = r#"{"process":1,"event":"reply"}"#;
 
 const OTHER_OK: &str = r#"{"process":2,"event":"reply"}"#;
 
+const FAIL: &str = r#"{"process":1,"event":"fail"}"#;
+
+const OTHER_FAIL: &str = r#"{"process":2,"event":"fail"}"#;
+
+const READ_FAIL: &str = r#"{"process":3,"event":"fail"}"#;
+
+const CRASH: &str = r#"{"process":1,"event":"crash"}"#;
+
+const READ_CRASH: &str = r#"{"process":3,"event":"crash"}"#;
+
 const READ: &str = r#"{"process":3,"event":"call","op":"read","register":"x"}"#;
 
 const NULL: &str = r#"{"process":3,"event":"reply","value":null}"#;
@@ -82,7 +92,7 @@ fn verdict(
 }
 
 // A name, the lines of a history, and its verdict.
-const VERDICTS: [(&str, &[&str], &str); 15] = [
+const VERDICTS: [(&str, &[&str], &str); 22] = [
     ("no event", &[], "0 safe 0 regular 0"),
     (
         "a new value, then the old one, while the write is open",
@@ -150,6 +160,41 @@ const VERDICTS: [(&str, &[&str], &str); 15] = [
         "1 safe 5 regular 5",
     ),
     ("a pending read", &[WRITE_1, OK, READ], "0 safe 0 regular 0"),
+    (
+        "a failed write of another process",
+        &[WRITE_1, OK, OTHER_W2, OTHER_FAIL, READ, GOT1],
+        "1 safe 0 regular 0",
+    ),
+    (
+        "the value of a failed write",
+        &[WRITE_1, FAIL, READ, GOT1],
+        "1 safe 3 regular 3",
+    ),
+    (
+        "the value of a failed write, before it fails",
+        &[WRITE_1, OK, WRITE_2, READ, GOT2, FAIL],
+        "1 safe 4 regular 4",
+    ),
+    (
+        "the value before a failed write",
+        &[WRITE_1, OK, WRITE_2, FAIL, READ, GOT1],
+        "1 safe 0 regular 0",
+    ),
+    (
+        "a failed read",
+        &[WRITE_1, OK, READ, READ_FAIL],
+        "0 safe 0 regular 0",
+    ),
+    (
+        "the value of a crashed process's write, then the one before",
+        &[WRITE_1, CRASH, READ, GOT1, READ, NULL],
+        "2 safe 0 regular 0",
+    ),
+    (
+        "a read whose process crashed",
+        &[WRITE_1, OK, READ, READ_CRASH],
+        "0 safe 0 regular 0",
+    ),
 ];
 
 #[test]

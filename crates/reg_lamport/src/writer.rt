@@ -1,16 +1,18 @@
 //! Whether a register has a single writer.
-ghost use Rattle.std.specs.Prelude.{◌≡◌, ◌↔◌, IsTrue};
+ghost use Rattle.std.specs.Prelude.{◌≡◌, ◌↔◌, IsTrue, Some, slice_get};
 ghost use Rattle.reg_arena.specs.Lamport.{HasSingleWriter};
 ghost use Rattle.reg_arena.specs.Operations.{of_register, operations};
-ghost use Rattle.reg_lamport.specs.Writers.{calls_write, is_another as another};
+ghost use Rattle.reg_lamport.specs.Writers.{begins_write as begins, is_another as another};
 
 use history_text::OpKind;
-use reg_arena::{Arena, Event, RegId};
+use reg_arena::{Arena, EvId, Event, RegId, What};
 
-fn is_write_call(event: &Event) -> bool
-    ensures { result ≡ calls_write event.now }
+/// Whether the event begins a write: it is the call of one that didn't fail.
+fn begins_write(arena: &Arena, id: EvId, event: &Event) -> bool
+    requires { slice_get arena.now.events id.0 ≡ Some event.now }
+    ensures { result ≡ begins arena.now.events id.0 event.now }
 {
-    event.is_call && event.kind == OpKind::WriteOp
+    event.what == What::Call(OpKind::WriteOp) && arena.begins(id)
 }
 
 /// Whether the process isn't the writer, where one is known.
@@ -27,11 +29,13 @@ fn is_another(writer: Option<u32>, process: u32) -> bool
 pub fn single_writer(arena: &Arena, register: RegId) -> bool
     ensures { IsTrue result ↔ HasSingleWriter (of_register register.0 (operations arena.now)) }
 {
+    // It is an accepted history, so each of its calls has a register.
+    let _count = arena.event_count();
     let mut writer = None;
     let mut next = arena.first_of_register(register);
     while let Some(id) = next {
         let event = arena.event(id);
-        if is_write_call(&event) {
+        if begins_write(arena, id, &event) {
             if is_another(writer, event.process) {
                 return false;
             }

@@ -4,7 +4,7 @@ use Rattle.std.proofs.lemmas.Bool.{eqb-true}
 use Rattle.std.proofs.lemmas.List.Sums.{length-filter, count_by-le-length}
 use Rattle.reg_arena.specs.History.{History}
 use Rattle.reg_arena.specs.Lamport.{completed_reads, is_completed_read}
-use Rattle.reg_arena.specs.Operations.{Operation, operation, next_of, operations, of_register, initial_writes, calls_from, calls, register_of}
+use Rattle.reg_arena.specs.Operations.{Operation, operation, next_of, reply_in, begins, operations, of_register, initial_writes, calls_from, calls, register_of}
 use Rattle.reg_arena.specs.declared.event.Event.{Event}
 use Rattle.reg_lamport.specs.Reads.{ListedReads, IsEntryOf}
 use Rattle.reg_lamport.proofs.Zipped.{zip-length}
@@ -75,9 +75,9 @@ initial-count (suc n) = let e = initial-count n in omega (arith, e)
 
 calls-few : (m s : ℕ) (es : List Event) → length (calls_from m s es) ≤ length es
 calls-few m s [] = omega arith
-calls-few m s (e ∷ es) = go e.is_call (calls-few m (suc s) es)
+calls-few m s (e ∷ es) = go (begins e (next_of e.process (suc s) es)) (calls-few m (suc s) es)
   where
-    go : (b : Bool) → length (calls_from m (suc s) es) ≤ length es → length (cond b (operation m s e (next_of e.process (suc s) es) ∷ calls_from m (suc s) es) (calls_from m (suc s) es)) ≤ suc (length es)
+    go : (b : Bool) → length (calls_from m (suc s) es) ≤ length es → length (cond b (operation m s e (reply_in (next_of e.process (suc s) es)) ∷ calls_from m (suc s) es) (calls_from m (suc s) es)) ≤ suc (length es)
     go true f = omega (arith, f)
     go false f = omega (arith, f)
 

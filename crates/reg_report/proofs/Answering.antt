@@ -1,16 +1,37 @@
--- The report of the lines of an input within its limit is the answer to the input.
-use Rattle.std.proofs.Common.{◌≡◌, ◌≤◌, ℕ, List, length, Bool, true, false, nat_lt, Ok, Err, refl, arith}
-use Rattle.std.specs.Prelude.{MatchBool}
+-- The answer to an input within its limit is the answer to its lines.
+use Rattle.std.proofs.Common.{◌≡◌, ◌≤◌, ℕ, List, length, Bool, true, false, nat_lt, Ok, Err, inl, inr, refl, sym, subst, arith}
+use Rattle.std.specs.Prelude.{MatchBool, Result}
+use Rattle.std.specs.Result.{IsErrAnd, IfErr}
 use Rattle.std.proofs.lemmas.Bool.{ltb-true}
 use Rattle.history_text.specs.declared.limits.TheConstants.{MAX_INPUT}
 use Rattle.history_text.specs.Reading.{history_lines}
-use Rattle.reg_report.specs.Answer.{IsAnswer, IsAnswerToLines}
-use Rattle.reg_report.specs.declared.refusal.Refusal.TheVariants.{TooLong}
+use Rattle.reg_arena.specs.Refusals.{Line, IsBuildError}
+use Rattle.reg_arena.specs.declared.refusal.BuildError.{BuildError}
+use Rattle.reg_arena.specs.declared.refusal.BuildError.TheVariants.{Refused, Memory}
+use Rattle.reg_report.specs.Answer.{IsAnswer, IsAnswerToLines, IsRefused}
+use Rattle.reg_report.specs.Refusals.{of_build}
+use Rattle.reg_report.specs.declared.refusal.Refusal.{Refusal}
+use Rattle.reg_report.specs.declared.refusal.Refusal.TheVariants.{NoRoom, TooLong}
 use Rattle.reg_report.specs.declared.report.Report.{Report}
 
-pub answer-within : (first : Bool) (input : List ℕ) (report : Report) → length input ≤ MAX_INPUT → IsAnswerToLines first (history_lines input) (Ok report) → IsAnswer first input (Ok report)
-answer-within first input report within answered = go (nat_lt MAX_INPUT (length input)) refl
+pub answer-within : (first : Bool) (input : List ℕ) (answer : Result Report Refusal) → length input ≤ MAX_INPUT → IsAnswerToLines first (history_lines input) answer → IsAnswer first input answer
+answer-within first input answer within answered = go (nat_lt MAX_INPUT (length input)) refl
   where
-    go : (b : Bool) → nat_lt MAX_INPUT (length input) ≡ b → MatchBool b (Ok report ≡ Err TooLong) (IsAnswerToLines first (history_lines input) (Ok report))
+    go : (b : Bool) → nat_lt MAX_INPUT (length input) ≡ b → MatchBool b (answer ≡ Err TooLong) (IsAnswerToLines first (history_lines input) answer)
     go true e = let l = ltb-true MAX_INPUT (length input) e in absurd (omega (arith, l, within))
     go false e = answered
+
+-- what refuses the lines of an input refuses the input
+refused-within : (first : Bool) (input : List ℕ) (e : BuildError) → length input ≤ MAX_INPUT → IsBuildError (history_lines input) e → IsRefused first input (of_build e)
+refused-within first input (Refused r) within refused = inr (answer-within first input (Err (of_build (Refused r))) within refused)
+refused-within first input Memory within refused = inl refl
+
+-- the error of a build that is passed on
+pub refused-by-build : {A : Type 0} (first : Bool) (input : List ℕ) (lines : List Line) (e : BuildError) (r : Result A Refusal) → length input ≤ MAX_INPUT → lines ≡ history_lines input → IsBuildError lines e → IsErrAnd r (λ refusal. refusal ≡ of_build e) → IfErr r (IsRefused first input)
+refused-by-build first input lines e (Ok a) within same refused passed = absurd passed
+refused-by-build first input lines e (Err refusal) within same refused passed = subst (IsRefused first input) (sym passed) (refused-within first input e within (subst (λ ls. IsBuildError ls e) same refused))
+
+-- the want of memory that is passed on
+pub refused-without-memory : {A : Type 0} (first : Bool) (input : List ℕ) (r : Result A Refusal) → IsErrAnd r (λ refusal. refusal ≡ NoRoom) → IfErr r (IsRefused first input)
+refused-without-memory first input (Ok a) passed = absurd passed
+refused-without-memory first input (Err refusal) passed = inl passed

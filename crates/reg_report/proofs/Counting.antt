@@ -1,7 +1,8 @@
 -- A count of calls over all events, and the lines of the registers one after another.
 use Rattle.std.proofs.Common.{◌≡◌, ℕ, zero, suc, ◌+◌, ◌≤◌, cond, Bool, true, false, List, [], ◌∷◌, ◌++◌, length, drop, slice_get, Some, inl, inr, refl, sym, ap, subst, ◌∙◌, arith}
 use Rattle.reg_arena.specs.History.{History}
-use Rattle.reg_arena.specs.Operations.{operation, next_of, calls_from, calls}
+use Rattle.reg_arena.specs.Operations.{operation, next_of, reply_in, calls_from, calls}
+use Rattle.reg_arena.specs.Shown.{begins_at}
 use Rattle.reg_arena.specs.declared.event.Event.{Event}
 use Rattle.reg_arena.proofs.Walking.{drop-at}
 use Rattle.reg_pieces.proofs.Pushed.{length-push, push-cases}
@@ -17,31 +18,31 @@ pub record IsCount (es : List Event) (count i : ℕ) : Type 0 where
 pub count-begins : (es : List Event) → IsCount es 0 0
 count-begins es = record { total = omega arith; few = omega arith }
 
-step : (es : List Event) (i : ℕ) (e : Event) → slice_get es i ≡ Some e → length (calls_from (length es + 2) (i + 2) (drop i es)) ≡ cond {A = ℕ} e.is_call 1 0 + length (calls_from (length es + 2) (i + 1 + 2) (drop (i + 1) es))
+step : (es : List Event) (i : ℕ) (e : Event) → slice_get es i ≡ Some e → length (calls_from (length es + 2) (i + 2) (drop i es)) ≡ cond {A = ℕ} (begins_at es i e) 1 0 + length (calls_from (length es + 2) (i + 1 + 2) (drop (i + 1) es))
 step es i e at =
     let t : suc (i + 2) ≡ i + 1 + 2 = omega arith in
     let u : suc i ≡ i + 1 = omega arith in
     ap (λ xs. length (calls_from (length es + 2) (i + 2) xs)) (drop-at es i e at)
-    ∙ (one e.is_call (calls_from (length es + 2) (suc (i + 2)) (drop (suc i) es))
-    ∙ (ap (λ m. cond e.is_call 1 0 + length (calls_from (length es + 2) m (drop (suc i) es))) t ∙ ap (λ m. cond e.is_call 1 0 + length (calls_from (length es + 2) (i + 1 + 2) (drop m es))) u))
+    ∙ (one (begins_at es i e) (calls_from (length es + 2) (suc (i + 2)) (drop (suc i) es))
+    ∙ (ap (λ m. cond (begins_at es i e) 1 0 + length (calls_from (length es + 2) m (drop (suc i) es))) t ∙ ap (λ m. cond (begins_at es i e) 1 0 + length (calls_from (length es + 2) (i + 1 + 2) (drop m es))) u))
   where
-    one : (b : Bool) (xs : List _) → length (cond b (operation (length es + 2) (i + 2) e (next_of e.process (suc (i + 2)) (drop (suc i) es)) ∷ xs) xs) ≡ cond b 1 0 + length xs
+    one : (b : Bool) (xs : List _) → length (cond b (operation (length es + 2) (i + 2) e (reply_in (next_of e.process (suc (i + 2)) (drop (suc i) es))) ∷ xs) xs) ≡ cond b 1 0 + length xs
     one true xs = omega arith
     one false xs = omega arith
 
 chosen : (a b : Bool) → a ≡ b → cond {A = ℕ} a 1 0 ≡ cond {A = ℕ} b 1 0
 chosen a b e = ap (λ c. cond {A = ℕ} c 1 0) e
 
-pub count-call : (es : List Event) (count i : ℕ) (e : Event) → IsCount es count i → slice_get es i ≡ Some e → e.is_call ≡ true → IsCount es (count + 1) (i + 1)
+pub count-call : (es : List Event) (count i : ℕ) (e : Event) → IsCount es count i → slice_get es i ≡ Some e → begins_at es i e ≡ true → IsCount es (count + 1) (i + 1)
 count-call es count i e c at call =
     let s = step es i e at in
-    let one = chosen e.is_call true call in
+    let one = chosen (begins_at es i e) true call in
     record { total = omega (arith, c.total, s, one); few = omega (arith, c.few) }
 
-pub count-reply : (es : List Event) (count i : ℕ) (e : Event) → IsCount es count i → slice_get es i ≡ Some e → e.is_call ≡ false → IsCount es count (i + 1)
-count-reply es count i e c at call =
+pub count-other : (es : List Event) (count i : ℕ) (e : Event) → IsCount es count i → slice_get es i ≡ Some e → begins_at es i e ≡ false → IsCount es count (i + 1)
+count-other es count i e c at call =
     let s = step es i e at in
-    let none = chosen e.is_call false call in
+    let none = chosen (begins_at es i e) false call in
     record { total = omega (arith, c.total, s, none); few = omega (arith, c.few) }
 
 pub count-ends : (es : List Event) (count i : ℕ) → IsCount es count i → length es ≤ i → count ≡ length (calls es)

@@ -5,8 +5,8 @@ use Rattle.std.proofs.lemmas.Bool.{eq-eqb, ne_eqb}
 use Rattle.std.proofs.lemmas.List.{length-set, length-replicate}
 use Rattle.std.proofs.lemmas.List.Sums.{sum_by-cons, length-filter, count_by-le-length}
 use Rattle.reg_arena.specs.History.{History}
-use Rattle.reg_arena.specs.Operations.{Operation, operation, next_of, calls_from, calls, of_register, is_write, writes}
-use Rattle.reg_arena.specs.Shown.{IsNamed, op_shown}
+use Rattle.reg_arena.specs.Operations.{Operation, operation, next_of, reply_in, begins, calls_from, calls, of_register, is_write, writes}
+use Rattle.reg_arena.specs.Shown.{IsNamed, begins_at, op_shown}
 use Rattle.reg_arena.specs.Walking.{called_at}
 use Rattle.reg_arena.proofs.ByEvent.{element}
 use Rattle.reg_arena.proofs.Links.{slice_get-set, slice_get-set_other, decide_eq}
@@ -52,21 +52,21 @@ counting-begins h ts n q few = record {
 -- ---- it goes on
 
 left-at : (h : History) (r n : ℕ) (e : Event) → slice_get h.events n ≡ Some e
-    → calls_left h r n ≡ of_register r (cond e.is_call (called_at h.events n e ∷ calls_from (length h.events + 2) (n + 1 + 2) (drop (n + 1) h.events)) (calls_from (length h.events + 2) (n + 1 + 2) (drop (n + 1) h.events)))
+    → calls_left h r n ≡ of_register r (cond (begins_at h.events n e) (called_at h.events n e ∷ calls_from (length h.events + 2) (n + 1 + 2) (drop (n + 1) h.events)) (calls_from (length h.events + 2) (n + 1 + 2) (drop (n + 1) h.events)))
 left-at h r n e at =
     let es = h.events in
     let t : suc (n + 2) ≡ n + 1 + 2 = omega arith in
     let u : suc n ≡ n + 1 = omega arith in
     ap (λ xs. of_register r (calls_from (length es + 2) (n + 2) xs)) (drop-at es n e at)
-    ∙ (ap (λ m. of_register r (cond e.is_call (called_at es n e ∷ calls_from (length es + 2) m (drop (suc n) es)) (calls_from (length es + 2) m (drop (suc n) es)))) t
-    ∙ ap (λ m. of_register r (cond e.is_call (called_at es n e ∷ calls_from (length es + 2) (n + 1 + 2) (drop m es)) (calls_from (length es + 2) (n + 1 + 2) (drop m es)))) u)
+    ∙ (ap (λ m. of_register r (cond (begins_at es n e) (called_at es n e ∷ calls_from (length es + 2) m (drop (suc n) es)) (calls_from (length es + 2) m (drop (suc n) es)))) t
+    ∙ ap (λ m. of_register r (cond (begins_at es n e) (called_at es n e ∷ calls_from (length es + 2) (n + 1 + 2) (drop m es)) (calls_from (length es + 2) (n + 1 + 2) (drop m es)))) u)
 
-left-reply : (h : History) (r n : ℕ) (e : Event) → slice_get h.events n ≡ Some e → e.is_call ≡ false → calls_left h r n ≡ calls_left h r (n + 1)
-left-reply h r n e at reply =
+left-other : (h : History) (r n : ℕ) (e : Event) → slice_get h.events n ≡ Some e → begins_at h.events n e ≡ false → calls_left h r n ≡ calls_left h r (n + 1)
+left-other h r n e at other =
     let xs = calls_from (length h.events + 2) (n + 1 + 2) (drop (n + 1) h.events) in
-    left-at h r n e at ∙ ap (λ b. of_register r (cond b (called_at h.events n e ∷ xs) xs)) reply
+    left-at h r n e at ∙ ap (λ b. of_register r (cond b (called_at h.events n e ∷ xs) xs)) other
 
-left-call : (h : History) (r n : ℕ) (e : Event) → slice_get h.events n ≡ Some e → e.is_call ≡ true
+left-call : (h : History) (r n : ℕ) (e : Event) → slice_get h.events n ≡ Some e → begins_at h.events n e ≡ true
     → calls_left h r n ≡ cond ((called_at h.events n e).register == r) (called_at h.events n e ∷ calls_left h r (n + 1)) (calls_left h r (n + 1))
 left-call h r n e at call =
     let xs = calls_from (length h.events + 2) (n + 1 + 2) (drop (n + 1) h.events) in
@@ -80,9 +80,9 @@ skip h r n t q c = record {
   open_calls = c.open_calls ∙ ap (λ xs. t.pending + count_by is_pending xs) q;
 }
 
--- an event that is no call adds nothing
-pub counting-skips : (h : History) (n : ℕ) (ts : List Tally) (e : Event) → AreCounting h n ts → slice_get h.events n ≡ Some e → e.is_call ≡ false → AreCounting h (n + 1) ts
-counting-skips h n ts e c at reply = record { count = c.count; each = λ r t q. skip h r n t (left-reply h r n e at reply) (c.each r t q) }
+-- an event that begins no operation adds nothing
+pub counting-skips : (h : History) (n : ℕ) (ts : List Tally) (e : Event) → AreCounting h n ts → slice_get h.events n ≡ Some e → begins_at h.events n e ≡ false → AreCounting h (n + 1) ts
+counting-skips h n ts e c at other = record { count = c.count; each = λ r t q. skip h r n t (left-other h r n e at other) (c.each r t q) }
 
 writes-shown : (o : Operation) → writes (op_shown o).kind ≡ is_write o
 writes-shown o = refl
@@ -117,7 +117,7 @@ more h r n t a p q shown c =
       open_calls = c.open_calls ∙ (ap (λ xs. t.pending + count_by is_pending xs) q ∙ (ap (λ m. t.pending + m) (count-cons is_pending a rest) ∙ (one-more (is_pending a) t.pending (count_by is_pending rest) ∙ ap (λ b. cond b (t.pending + 1) t.pending + count_by is_pending rest) u)));
     }
 
-pub counting-adds : (h : History) (n : ℕ) (ts us : List Tally) (e : Event) (a : Operation) (p : Op) → AreCounting h n ts → slice_get h.events n ≡ Some e → e.is_call ≡ true
+pub counting-adds : (h : History) (n : ℕ) (ts us : List Tally) (e : Event) (a : Operation) (p : Op) → AreCounting h n ts → slice_get h.events n ≡ Some e → begins_at h.events n e ≡ true
     → IsNamed h (Called (record { 0 = n })) a → p ≡ op_shown a → ((t : Tally) → slice_get ts a.register ≡ Some t → us ≡ set ts a.register (counted p t)) → a.register < length h.names → AreCounting h (n + 1) us
 counting-adds h n ts us e a p c at call named shown new within =
     let x = element ts a.register (omega (arith, c.count, within)) in
@@ -169,9 +169,9 @@ counting-ends h n ts l c = record { count = c.count; each = λ r t q. ends r t (
 
 calls-few : (n s : ℕ) (es : List Event) → length (calls_from n s es) ≤ length es
 calls-few n s [] = omega arith
-calls-few n s (e ∷ es) = go e.is_call (calls-few n (suc s) es)
+calls-few n s (e ∷ es) = go (begins e (next_of e.process (suc s) es)) (calls-few n (suc s) es)
   where
-    go : (b : Bool) → length (calls_from n (suc s) es) ≤ length es → length (cond b (operation n s e (next_of e.process (suc s) es) ∷ calls_from n (suc s) es) (calls_from n (suc s) es)) ≤ suc (length es)
+    go : (b : Bool) → length (calls_from n (suc s) es) ≤ length es → length (cond b (operation n s e (reply_in (next_of e.process (suc s) es)) ∷ calls_from n (suc s) es) (calls_from n (suc s) es)) ≤ suc (length es)
     go true l = omega arith
     go false l = omega arith
 

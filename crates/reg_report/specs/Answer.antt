@@ -12,7 +12,7 @@ use Rattle.reg_report.specs.declared.outcome.Outcome.TheVariants.{Atomic, NotAto
 use Rattle.reg_report.specs.declared.refusal.Refusal.{Refusal}
 use Rattle.reg_report.specs.declared.refusal.Refusal.TheVariants.{At, TooLong, InputFailed, NoRoom, OutputFailed}
 
--- of the lines of an input: the report of their history that is asked for where they are well formed, and else the refusal of the least faulty one; `first` says that the first register that isn't atomic is all that is asked for
+-- Of the lines of an input: the report of their history if they are well formed, otherwise the refusal of the first faulty one. `first` says that only the first register that isn't atomic is asked for.
 abbrev pub IsAnswerToLines : Bool → List Line → Result Report Refusal → Type 0
 IsAnswerToLines first lines (Ok report) = IsWellFormed lines × IsReportBy first (history_of (events_of lines)) report
 IsAnswerToLines first lines (Err (At line number other)) = IsRefusal lines (record { line = line; number = number; other = other })

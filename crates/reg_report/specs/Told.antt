@@ -1,6 +1,7 @@
 -- What the laws of histories tell of an accepted history.
-use Rattle.std.specs.Prelude.{◌≡◌, ℕ, ◌<◌, ◌-◌, length, true, Some}
+use Rattle.std.specs.Prelude.{◌≡◌, ℕ, ◌<◌, ◌-◌, length, Some}
 use Rattle.reg_arena.specs.declared.event.Event.{Event}
+use Rattle.reg_arena.specs.declared.event.What.TheVariants.{Call}
 use Rattle.reg_arena.specs.declared.ids.Oper.{Oper}
 use Rattle.reg_arena.specs.Lists.{In}
 use Rattle.reg_arena.specs.History.{History}
@@ -13,4 +14,4 @@ pub record IsTold (h : History) : Type 0 where
   pub numbered : (o : Operation) → In o (operations h) → o.register < length h.names
   pub oper : (o : Operation) → In o (operations h) → IsOper h (name_of o)
   pub named : (name : Oper) (o p : Operation) → IsNamed h name o → IsNamed h name p → o ≡ p
-  pub call : (o : Operation) (p : ℕ) → In o (operations h) → o.process ≡ Some p → (e : Event) × IsEventIn h (o.call - 2) e o × (e.is_call ≡ true)
+  pub call : (o : Operation) (p : ℕ) → In o (operations h) → o.process ≡ Some p → (e : Event) × IsEventIn h (o.call - 2) e o × (e.what ≡ Call o.kind)

@@ -7,7 +7,7 @@ use crate::first::first_report;
 use crate::history::history_report;
 use crate::refusal::Refusal;
 use crate::report::Report;
-use history_text::{MAX_INPUT, read_lines};
+use history_text::{MAX_INPUT, read_lines_in_parts};
 use reg_arena::{Arena, HashKey};
 use reg_pieces::{Gate, Settings, do_pieces, first_faulty, plan};
 use std::alloc::{AllocError, Global};
@@ -38,8 +38,8 @@ fn report_by<R: Threads + Sync, G: Gate + Sync>(
 /// ask. Workers do its pieces, past the gate; neither their number, nor the cut, nor the gate changes the report.
 ///
 /// # Errors
-/// `TooLong` where the input has more than [`MAX_INPUT`] bytes, whatever memory there is; `At` for the least faulty
-/// line where the history isn't well formed; `NoRoom` where memory was refused. What was made is dropped then.
+/// `TooLong` if the input has more than [`MAX_INPUT`] bytes, whatever memory there is; `At` for the first faulty
+/// line if the history isn't well formed; `NoRoom` if memory was refused. What was made is dropped then.
 pub fn check<R: Threads + RandomSource + Sync, G: Gate + Sync>(
     rt: &R,
     alloc: Global,
@@ -54,8 +54,8 @@ pub fn check<R: Threads + RandomSource + Sync, G: Gate + Sync>(
     if input.len() > MAX_INPUT {
         return Err(Refusal::TooLong);
     }
-    let lines = read_lines(rt, alloc, input)?;
-    let key = HashKey::drawn(rt, &lines);
-    let arena = Arena::build_keyed(alloc, key, lines)?;
+    let parts = read_lines_in_parts(rt, alloc, input)?;
+    let key = HashKey::drawn(rt, &parts);
+    let arena = Arena::build_keyed(alloc, key, parts)?;
     Ok(report_by(rt, alloc, &arena, settings, gate)?)
 }

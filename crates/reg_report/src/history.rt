@@ -27,13 +27,13 @@ pub(crate) struct Reported {
     pub(crate) orders: Option<Orders>,
 }
 
-/// The number of calls.
+/// The number of operations that were called.
 pub(crate) fn count_operations(arena: &Arena) -> u32
     ensures { result ≡ length (calls arena.now.events) }
 {
     let mut count = 0;
     for number in 0..arena.event_count() {
-        if arena.event(EvId(number)).is_call {
+        if arena.begins(EvId(number)) {
             count += 1;
         }
     }

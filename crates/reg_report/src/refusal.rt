@@ -8,8 +8,8 @@ use std::alloc::AllocError;
 /// Why there is no report. Nothing was written then, but for `OutputFailed`.
 #[derive(Clone, Copy, Debug, PartialEq, Eq)]
 pub enum Refusal {
-    /// The history isn't well formed: its least faulty line (from 1), the least number that applies there (1 to 14),
-    /// and for 9 and 13 the other line.
+    /// The history isn't well formed: its first faulty line (from 1), the lowest number that applies there (1 to 14 or 19),
+    /// and for 9, 13 and 19 the other line.
     At {
         line: u32,
         number: u8,
@@ -53,7 +53,7 @@ impl From<AllocError> for Refusal {
 }
 
 impl Refusal {
-    /// The number of the refusal, 1 to 18.
+    /// The number of the refusal, 1 to 19.
     pub fn number(&self) -> u8
         ensures { result ≡ number_of self.now }
     {
@@ -76,7 +76,7 @@ impl Refusal {
         }
     }
 
-    /// The line of the open call (9), or of the earlier write (13).
+    /// The line of the open call (9), of the earlier write (13), or of the crash (19).
     pub fn other(&self) -> Option<u32>
         ensures { result ≡ other_of self.now }
     {

@@ -1,4 +1,4 @@
-//! How many calls each register has.
+//! How many calls each register has, without those that failed.
 ghost use Rattle.std.specs.Prelude.{◌≡◌, ◌<◌, length, replicate, set, slice_get, Some, IfOk};
 ghost use Rattle.reg_report.specs.Tally.{AreTallies, HasRoom, counted, no_calls};
 ghost use Rattle.reg_report.specs.declared.tally.Tally.{Tally as ATally};
@@ -8,7 +8,7 @@ use history_text::OpKind;
 use reg_arena::{Arena, EvId, Op, Oper};
 use std::alloc::{AllocError, Global};
 
-/// The calls of a register, pending ones too.
+/// The calls of a register that didn't fail, pending ones too.
 #[derive(Clone, Copy, Debug, PartialEq, Eq)]
 pub(crate) struct Tally {
     pub(crate) writes: u32,
@@ -69,7 +69,7 @@ fn add(tallies: &mut Vec<Tally>, op: &Op)
     tallies[register] = tally.and(op);
 }
 
-/// Counts the calls of each register, in one pass over the events.
+/// Counts the calls of each register that didn't fail, in one pass over the events.
 pub(crate) fn count_calls(alloc: Global, arena: &Arena) -> Result<Vec<Tally>, AllocError>
     ensures { IfOk result (λ tallies. AreTallies arena.now tallies.items) }
 {
@@ -77,7 +77,7 @@ pub(crate) fn count_calls(alloc: Global, arena: &Arena) -> Result<Vec<Tally>, Al
     let mut tallies = none_counted(alloc, arena.register_count())?;
     for number in 0..arena.event_count() {
         let id = EvId(number);
-        if arena.event(id).is_call {
+        if arena.begins(id) {
             add(&mut tallies, &arena.op(Oper::Called(id)));
         }
     }

@@ -8,7 +8,7 @@ fn reason(number: u8) -> &'static str {
         2 => "not JSON",
         3 => "not an object",
         4 => "process is not a whole number from 0 to 4294967295",
-        5 => "event is neither call nor reply",
+        5 => "event is not call, reply, fail or crash",
         6 => "op is neither read nor write",
         7 => "register is not a text of 1 to 255 bytes",
         8 => "value does not fit the event",
@@ -17,7 +17,8 @@ fn reason(number: u8) -> &'static str {
         11 => "reply disagrees with its call",
         12 => "a read's reply has no value",
         13 => "value already written to this register at line",
-        _ => "more than 1048576 events",
+        14 => "more than 1048576 events",
+        _ => "the process crashed at line",
     }
 }
 

@@ -19,10 +19,6 @@ module _ (h : History) (r : ℕ) (y : IsRegister h r) (i : ℕ) (o : Operation) 
   is : o ≡ a
   is = same h r y i o op b a k (inl e)
 
-  -- its time is the event's
-  pub called_then : op.call ≡ i + 2
-  called_then = ap (λ (x : Op). x.call) b.shown ∙ (ap (λ (x : Operation). x.call) is ∙ e)
-
   pub not_write : op.kind ≡ WriteOp → ⊥
   not_write q = false≢true (sym d.read ∙ (ap (λ (x : Operation). is_write x) (sym is) ∙ ap writes (ap (λ (x : Op). x.kind) (sym b.shown) ∙ q)))
 

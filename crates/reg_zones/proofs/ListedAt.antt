@@ -26,9 +26,6 @@ module _ (h : History) (r : ℕ) (y : IsRegister h r) (i : ℕ) (o : Operation) 
   is : (a : Operation) → IsListed (of_register r (operations h)) a → a.call ≡ i + 2 → o ≡ a
   is a l e = same h r y i o op b a (listed-in (of_register r (operations h)) a l) (inl e)
 
-  pub not_called : (op.call ≡ i + 2 → ⊥) → IsListedAt (of_register r (operations h)) (i + 2) None
-  not_called n a l e = n (ap (λ (x : Op). x.call) b.shown ∙ (ap (λ (x : Operation). x.call) (is a l e) ∙ e))
-
   pub not_counted : (IsWrite o ⊎ IsCompleted o → ⊥) → IsListedAt (of_register r (operations h)) (i + 2) None
   not_counted n a l e = n (subst (λ (x : Operation). IsWrite x ⊎ IsCompleted x) (sym (is a l e)) (listed-member (of_register r (operations h)) a l).counts)
 
@@ -41,7 +38,7 @@ module _ (h : History) (r : ℕ) (y : IsRegister h r) (i : ℕ) (o : Operation) 
       ]
 
   -- the entry that is made here is that of the event's operation
-  pub listed_here : (v : Val) (zone : Zone) (low t : ℕ) (oper : Oper) → o.value ≡ Some v → IsWrite o ⊎ IsCompleted o → IsZoneFound h r v (Some zone) → op.call ≡ i + 2 → low ≡ min zone.f zone.s → t ≡ turn o → oper ≡ name_of o → IsListedAt (of_register r (operations h)) (i + 2) (Some (record { low = low; turn = t; call = op.call; oper = oper }))
+  pub listed_here : (v : Val) (zone : Zone) (low t : ℕ) (oper : Oper) → o.value ≡ Some v → IsWrite o ⊎ IsCompleted o → IsZoneFound h r v (Some zone) → o.call ≡ i + 2 → low ≡ min zone.f zone.s → t ≡ turn o → oper ≡ name_of o → IsListedAt (of_register r (operations h)) (i + 2) (Some (record { low = low; turn = t; call = op.call; oper = oper }))
   listed_here v zone low t oper q counts f called l s n =
       let ops = of_register r (operations h) in
       let call : op.call ≡ o.call = ap (λ (x : Op). x.call) b.shown in
@@ -54,4 +51,4 @@ module _ (h : History) (r : ℕ) (y : IsRegister h r) (i : ℕ) (o : Operation) 
       let c : ℕ → Entry = λ n. record { low = low_end ops o.value; turn = n; call = op.call; oper = oper } in
       let d : ℕ → Entry = λ n. record { low = low_end ops o.value; turn = turn o; call = n; oper = oper } in
       let e : Oper → Entry = λ n. record { low = low_end ops o.value; turn = turn o; call = o.call; oper = n } in
-      (o, listed, sym call ∙ called, ap a low_is ∙ (ap c s ∙ (ap d call ∙ ap e n)))
+      (o, listed, called, ap a low_is ∙ (ap c s ∙ (ap d call ∙ ap e n)))

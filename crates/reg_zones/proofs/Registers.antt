@@ -1,15 +1,17 @@
 -- The events of a register and its operations belong together.
-use Rattle.std.proofs.Common.{◌≡◌, ℕ, ◌+◌, ◌-◌, ◌<◌, ◌≤◌, ◌==◌, List, Option, Some, None, length, ◌⊎◌, inl, inr, refl, sym, ap, subst, ◌∙◌, arith, option_and_then}
-use Rattle.std.proofs.lemmas.Bool.{eqb-true, eq-eqb, cases_Bool, cases_lt}
+use Rattle.std.proofs.Common.{◌≡◌, ℕ, ◌+◌, ◌-◌, ◌<◌, ◌≤◌, ◌==◌, true, false, List, Option, Some, None, unwrap_or, length, ◌⊎◌, inl, inr, refl, sym, ap, subst, ◌∙◌, arith, option_and_then}
+use Rattle.std.proofs.lemmas.Bool.{eqb-true, eq-eqb, cases_Bool, cases_lt, false≢true}
 use Rattle.std.proofs.lemmas.Option.{slice_get_within}
 use Rattle.std.specs.List.{slice_get}
 use Rattle.history_text.specs.declared.event.Val.{Val}
 use Rattle.reg_arena.specs.declared.event.Event.{Event}
+use Rattle.reg_arena.specs.declared.ids.EvId.{EvId}
+use Rattle.reg_arena.specs.declared.ids.Oper.{Oper}
 use Rattle.reg_arena.specs.declared.ids.Oper.TheVariants.{Initial, Called}
 use Rattle.reg_arena.specs.Lists.{In}
 use Rattle.reg_arena.specs.History.{History}
 use Rattle.reg_arena.specs.Operations.{Operation, IsWrite, IsCompleted, is_write, of_register, operations, initial_write}
-use Rattle.reg_arena.specs.Shown.{IsEventIn, IsEventOf, IsMember, IsFirstReply, IsLastCall, by_register, key_at, name_by, name_of}
+use Rattle.reg_arena.specs.Shown.{IsEventIn, IsEventOf, IsMember, IsNamed, IsOper, IsOperOf, IsFirstReply, IsLastCall, begins_at, belongs_at, by_register, key_at, name_by, name_of}
 use Rattle.reg_zones.specs.Clusters.{IsKept, IsInCluster, first_reply, last_call, low_end, HasFirstReply, HasLastCall}
 use Rattle.reg_zones.specs.Register.{IsRegister}
 use Rattle.reg_zones.proofs.Places.{In-filter, filter-In}
@@ -46,7 +48,7 @@ module _ (h : History) (r : ℕ) (y : IsRegister h r) where
       let p = event-process i o k t in
       let j = of_register-In r (operations h) o k in
       let at : (n : ℕ) (e : Event) → IsEventIn h n e o → n ≡ i → key_at by_register h.events i ≡ Some r =
-      λ n e s q. subst (λ m. key_at by_register h.events m ≡ Some r) q (ap (option_and_then by_register) s.at ∙ ap (λ m. Some m) (sym s.register ∙ j.1)) in
+      λ n e s q. subst (λ m. key_at by_register h.events m ≡ Some r) q (ap (option_and_then by_register) s.at ∙ (s.register ∙ ap Some j.1)) in
       elim t [
         | inl c ↦ let e = y.call o p.0 j.0 p.1 in at (o.call - 2) e.0 e.1 (omega (arith, c))
         | inr c ↦ let e = y.reply o p.0 j.0 p.1 c.0 in at (o.reply - 2) e.0 e.1 (omega (arith, c.1))
@@ -54,18 +56,36 @@ module _ (h : History) (r : ℕ) (y : IsRegister h r) where
 
   -- an event of the register is of an operation of the register
   pub event-of : (i : ℕ) (e : Event) (o : Operation) → IsEventIn h i e o → IsEventOf i o
-  event-of i e o s = elim (cases_Bool e.is_call) [ inl c ↦ inl (s.call c).1 | inr c ↦ let q = s.reply c in inr (q.0, q.1) ]
+  event-of i e o s = elim s.is [ inl c ↦ inl (s.call c).1 | inr c ↦ let q = s.reply c in inr (q.0, q.1) ]
 
   pub key-operation : (i : ℕ) (o : Operation) → key_at by_register h.events i ≡ Some r → In o (operations h) → IsEventOf i o → In o (of_register r (operations h))
   key-operation i o k j t = go (slice_get h.events i) refl k
     where
       go : (s : Option Event) → slice_get h.events i ≡ s → option_and_then by_register s ≡ Some r → In o (of_register r (operations h))
       go None q n = absurd (cc n)
-      go (Some e) q n =
-          let x = y.event i e q in
-          let same = y.one i x.0 o x.1.one j (event-of i e x.0 x.1) t in
-          let reg : e.register.0 ≡ r = cc n in
-          In-of_register r (operations h) o j (ap (λ (a : Operation). a.register) (sym same) ∙ (x.1.register ∙ reg))
+      go (Some e) q n = elim (cases_Bool (belongs_at h.events i e)) [
+        | inl c ↦
+            let x = y.event i e q c in
+            let same = y.one i x.0 o x.1.one j (event-of i e x.0 x.1) t in
+            let a = x.1.register in
+            let reg : x.0.register ≡ r = cc (a, n) in
+            In-of_register r (operations h) o j (ap (λ (a : Operation). a.register) (sym same) ∙ reg)
+        | inr c ↦ absurd (y.none i e q c o j t)
+      ]
+
+  -- the operation that an event of the register begins
+  pub begun : (id : EvId) (o : Operation) → key_at by_register h.events id.0 ≡ Some r → IsNamed h (Called id) o → In o (of_register r (operations h)) × (o.call ≡ id.0 + 2)
+  begun id o k n = elim (cases_process o.process) [
+    | inl q ↦ absurd (let m = ap (λ p. name_by p o) q in let w = n.named in cc (m, w))
+    | inr p ↦
+        let w : Called (record { 0 = o.call - 2 }) ≡ Called id = sym (ap (λ q. name_by q o) p.1) ∙ n.named in
+        let v : record { 0 = o.call - 2 } ≡ id = cc (w) in
+        let u : o.call - 2 ≡ id.0 = ap (λ (x : EvId). x.0) v in
+        let e = y.call o p.0 n.one p.1 in
+        let own : key_at by_register h.events id.0 ≡ Some o.register = subst (λ m. key_at by_register h.events m ≡ Some o.register) u (ap (option_and_then by_register) e.1.at ∙ e.1.register) in
+        let reg : o.register ≡ r = cc (own, k) in
+        (In-of_register r (operations h) o n.one reg, (e.1.call e.2).1 ∙ ap (λ m. m + 2) u)
+  ]
 
   -- ---- names
 
@@ -78,6 +98,20 @@ module _ (h : History) (r : ℕ) (y : IsRegister h r) where
         (λ l. ap (λ q. name_by q a) n ∙ ap (λ m. Initial (record { 0 = m })) j.1, λ l. absurd (omega (arith, l, ap (λ (o : Operation). o.call) e)))
     | inr p ↦ (λ l. absurd (omega (arith, l, y.history.called a p.0 k p.1)), λ l. ap (λ q. name_by q a) p.1)
   ]
+
+  -- an event that begins no operation calls none
+  pub none-begun : (i : ℕ) (e : Event) (o : Operation) → slice_get h.events i ≡ Some e → begins_at h.events i e ≡ false → In o (of_register r (operations h)) → o.call ≡ i + 2 → ⊥
+  none-begun i e o at none k c =
+      let named = subst (IsOper h) ((call-name o k).1 (omega (arith, c))) (y.oper o (of_register-In r (operations h) o k).0) in
+      let q : o.call - 2 ≡ i = omega (arith, c) in
+      let x = subst (λ m. (f : Event) × (slice_get h.events m ≡ Some f) × (begins_at h.events m f ≡ true)) q named in
+      let same : x.0 ≡ e = let a = x.1 in cc (a, at) in
+      false≢true (sym none ∙ (ap (begins_at h.events i) (sym same) ∙ x.2))
+
+  -- the name that the arena gives an event's operation
+  pub found-name : (i : ℕ) (found : Option Oper) (other : Oper) → IsOperOf h i found → (a : Operation) → In a (operations h) → IsEventOf i a → name_of a ≡ unwrap_or found other
+  found-name i None other f a j t = absurd (f a j t)
+  found-name i (Some name) other f a j t = ap name_of (y.one i a f.0 j f.1.one t f.2) ∙ f.1.named
 
   -- the initial write alone replies before all events
   pub early-reply : (a : Operation) → In a (of_register r (operations h)) → a.reply < 2 → name_of a ≡ Initial (record { 0 = r })
@@ -153,11 +187,15 @@ module _ (h : History) (r : ℕ) (y : IsRegister h r) where
       let same = y.one i a.0 o (of_register-In r (operations h) a.0 a.1.within).0 j at t in
       subst (IsInCluster (of_register r (operations h)) w.value) same a.1
 
+  -- at an event of no operation no low end is
+  pub unmet_low_end : (i : ℕ) (w : Operation) → ((a : Operation) → In a (of_register r (operations h)) → IsEventOf i a → ⊥) → IsKept (of_register r (operations h)) w → low_end (of_register r (operations h)) w.value ≡ i + 2 → ⊥
+  unmet_low_end i w none k e =
+      let a = low_end-at w k in
+      none a.0 a.1.within (elim a.2 [ inl c ↦ inl (c ∙ e) | inr c ↦ inr (c.0, c.1 ∙ e) ])
+
   -- where no event of the register is, no low end is
   pub no_low_end : (i : ℕ) (w : Operation) → (key_at by_register h.events i ≡ Some r → ⊥) → IsKept (of_register r (operations h)) w → low_end (of_register r (operations h)) w.value ≡ i + 2 → ⊥
-  no_low_end i w none k e =
-      let a = low_end-at w k in
-      none (event-key i a.0 a.1.within (elim a.2 [ inl c ↦ inl (c ∙ e) | inr c ↦ inr (c.0, c.1 ∙ e) ]))
+  no_low_end i w none k e = unmet_low_end i w (λ a j t. none (event-key i a j t)) k e
 
   -- before all events there is the initial cluster's low end alone
   pub initial_low : (w : Operation) → IsKept (of_register r (operations h)) w → low_end (of_register r (operations h)) w.value < 2 → w ≡ initial_write r

@@ -4,6 +4,7 @@ use Rattle.history_text.specs.declared.event.Val.{Val}
 use Rattle.history_text.specs.declared.event.Val.TheVariants.{Null, Int}
 use Rattle.history_text.specs.declared.event.OpKind.TheVariants.{ReadOp, WriteOp}
 use Rattle.reg_arena.specs.declared.event.Event.{Event}
+use Rattle.reg_arena.specs.declared.event.What.TheVariants.{Call, Reply}
 use Rattle.reg_arena.specs.declared.ids.Oper.TheVariants.{Initial, Called}
 use Rattle.reg_arena.specs.Operations.{Operation, of_register, operations, initial_write}
 use Rattle.reg_zones.specs.declared.placed.Placed.{Placed}
@@ -15,16 +16,16 @@ written n = Some (Int (pos n))
 
 -- the calls and replies of a process on one register
 abbrev write : ℕ → ℕ → Event
-write p n = record { line = 0; process = p; register = record { 0 = 0 }; is_call = true; kind = WriteOp; value = written n }
+write p n = record { line = 0; process = p; register = Some (record { 0 = 0 }); what = Call WriteOp; value = written n }
 
 abbrev wrote : ℕ → ℕ → Event
-wrote p n = record { line = 0; process = p; register = record { 0 = 0 }; is_call = false; kind = WriteOp; value = written n }
+wrote p n = record { line = 0; process = p; register = Some (record { 0 = 0 }); what = Reply WriteOp; value = written n }
 
 abbrev read : ℕ → Event
-read p = record { line = 0; process = p; register = record { 0 = 0 }; is_call = true; kind = ReadOp; value = None }
+read p = record { line = 0; process = p; register = Some (record { 0 = 0 }); what = Call ReadOp; value = None }
 
 abbrev got : ℕ → ℕ → Event
-got p n = record { line = 0; process = p; register = record { 0 = 0 }; is_call = false; kind = ReadOp; value = written n }
+got p n = record { line = 0; process = p; register = Some (record { 0 = 0 }); what = Reply ReadOp; value = written n }
 
 abbrev register : List Event → List Operation
 register events = of_register 0 (operations (record { names = (120 ∷ []) ∷ []; events = events }))

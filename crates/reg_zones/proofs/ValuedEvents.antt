@@ -1,13 +1,14 @@
 -- Which event has the value of an operation.
-use Rattle.std.proofs.Common.{◌≡◌, ℕ, ◌-◌, ◌≤◌, Bool, true, false, cond, Some, None, inl, inr, refl, sym, ap, subst, ◌∙◌, arith, option_and_then, option_map}
+use Rattle.std.proofs.Common.{◌≡◌, ℕ, ◌-◌, ◌≤◌, Bool, true, false, cond, Option, Some, None, inl, inr, refl, sym, ap, subst, ◌∙◌, arith, option_and_then, option_map}
 use Rattle.std.proofs.lemmas.Bool.{false≢true}
 use Rattle.history_text.specs.declared.event.Val.{Val}
 use Rattle.reg_arena.specs.declared.event.Event.{Event}
+use Rattle.reg_arena.specs.declared.ids.RegId.{RegId}
 use Rattle.reg_arena.specs.declared.op.Op.{Op}
 use Rattle.reg_arena.specs.Lists.{In}
 use Rattle.reg_arena.specs.History.{History}
 use Rattle.reg_arena.specs.Operations.{Operation, IsWrite, IsCompleted, IsCompletedRead, is_write, of_register, operations}
-use Rattle.reg_arena.specs.Shown.{IsEventIn, IsEventOf, by_value, key_at, op_shown}
+use Rattle.reg_arena.specs.Shown.{IsEventIn, IsEventOf, by_register, by_value, key_at, op_shown}
 use Rattle.reg_zones.specs.Register.{IsRegister}
 use Rattle.reg_zones.specs.Sweep.{IsBelonging}
 use Rattle.reg_zones.proofs.Registers.{of_register-In, event-process, cases_process}
@@ -27,9 +28,17 @@ shown-pending o e = go o.completed refl e
     go true d q = absurd (cc q)
     go false d q = d
 
+-- an event with a register and a value has both as its key
+keyed : (e : Event) (r : ℕ) (v : Val) → by_register e ≡ Some r → e.value ≡ Some v → by_value e ≡ Some (r, v)
+keyed e r v own q = ap (λ (b : Option Val). option_and_then {U = ℕ × Val} (λ (x : Val). option_map {U = ℕ × Val} (λ (n : RegId). (n.0, x)) e.register) b) q ∙ go e.register own
+  where
+    go : (a : Option RegId) → option_map {U = ℕ} (λ (n : RegId). n.0) a ≡ Some r → option_map {U = ℕ × Val} (λ (n : RegId). (n.0, v)) a ≡ Some (r, v)
+    go None h = absurd (cc (h))
+    go (Some n) h = let p : n.0 ≡ r = cc (h) in ap (λ m. Some (m, v)) p
+
 -- the key of an event with the register and the value of an operation
 pub value-key : (h : History) (i : ℕ) (e : Event) (o : Operation) (v : Val) → IsEventIn h i e o → e.value ≡ Some v → key_at by_value h.events i ≡ Some (o.register, v)
-value-key h i e o v s q = ap (option_and_then by_value) s.at ∙ (ap (option_map (λ (v : Val). (e.register.0, v))) q ∙ ap (λ n. Some (n, v)) (sym s.register))
+value-key h i e o v s q = ap (option_and_then by_value) s.at ∙ keyed e o.register v s.register q
 
 -- the reply of a completed read is an event with its value
 module _ (h : History) (r : ℕ) (y : IsRegister h r) (a : Operation) (k : In a (of_register r (operations h))) (d : IsCompletedRead a) where

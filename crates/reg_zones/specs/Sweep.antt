@@ -1,5 +1,5 @@
 -- Zones as the code has them, and what is found at each event of a register.
-use Rattle.std.specs.Prelude.{◌≡◌, ℕ, ◌<◌, ◌⊎◌, List, length, Option, Some, None}
+use Rattle.std.specs.Prelude.{◌≡◌, ℕ, ◌+◌, ◌<◌, ◌⊎◌, List, length, Option, Some, None}
 use Rattle.history_text.specs.declared.event.Val.{Val}
 use Rattle.reg_arena.specs.declared.ids.EvId.{EvId}
 use Rattle.reg_arena.specs.declared.ids.Oper.{Oper}
@@ -27,6 +27,16 @@ pub record IsBelonging (h : History) (r i : ℕ) (o : Operation) (op : Op) : Typ
   pub one : In o (of_register r (operations h))
   pub event : IsEventOf i o
   pub shown : op ≡ op_shown o
+
+-- the operation of register r to which the event at place i belongs, with its name, if there is one
+abbrev pub IsOperationOf : History → ℕ → ℕ → Option (Oper × Op) → Type 0
+IsOperationOf h r i None = (o : Operation) → In o (of_register r (operations h)) → IsEventOf i o → ⊥
+IsOperationOf h r i (Some x) = (o : Operation) × IsBelonging h r i o x.1 × (x.0 ≡ name_of o)
+
+-- the operation of register r that is called by the event at place i, with its name, if there is one
+abbrev pub IsCalledBy : History → ℕ → ℕ → Option (Oper × Op) → Type 0
+IsCalledBy h r i None = (o : Operation) → In o (of_register r (operations h)) → o.call ≡ i + 2 → ⊥
+IsCalledBy h r i (Some x) = (o : Operation) × IsBelonging h r i o x.1 × (x.0 ≡ name_of o) × (o.call ≡ i + 2)
 
 -- ---- zones
 

@@ -4,7 +4,7 @@ ghost use Rattle.reg_arena.specs.Operations.{initial_write, of_register, operati
 ghost use Rattle.reg_arena.specs.Shown.{by_register, key_at};
 ghost use Rattle.reg_zones.specs.Entries.{IsListedAt, IsListing, entry_of};
 
-use crate::told::{operation_of, told};
+use crate::told::{operation_called, told};
 use crate::valued::valued_event;
 use crate::zone::{zone_at, zone_of};
 use history_text::OpKind;
@@ -68,10 +68,7 @@ fn listed_at(arena: &Arena, register: RegId, id: EvId) -> Option<Entry>
     ensures { IsListedAt (of_register register.0 (operations arena.now)) (id.0 + 2) result }
 {
     told(arena, register);
-    let (oper, op) = operation_of(arena, register, id);
-    if op.call != id.0 + 2 {
-        return None;
-    }
+    let (oper, op) = operation_called(arena, register, id)?;
     let valued = valued_event(arena, register, op, id)?;
     let zone = zone_at(arena, valued)?;
     let turn = match op.kind {

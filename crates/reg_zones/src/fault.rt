@@ -76,9 +76,10 @@ fn replied_at(arena: &Arena, register: RegId, time: u32) -> Oper
     ensures { (a : Operation) → In a (of_register register.0 (operations arena.now)) → IsCompleted a → a.reply ≡ time → name_of a ≡ result }
 {
     told(arena, register);
+    let initial = Oper::Initial(register);
     if time < 2 {
-        Oper::Initial(register)
+        initial
     } else {
-        arena.op_of(EvId(time - 2))
+        arena.op_of(EvId(time - 2)).unwrap_or(initial)
     }
 }

@@ -92,7 +92,7 @@ fn low_end_at(arena: &Arena, register: RegId, id: EvId) -> Option<Cluster>
     ensures { IsLowEndAt (of_register register.0 (operations arena.now)) (id.0 + 2) result }
 {
     told(arena, register);
-    let (_, op) = operation_of(arena, register, id);
+    let (_, op) = operation_of(arena, register, id)?;
     let valued = valued_event(arena, register, op, id)?;
     let zone = zone_at(arena, valued)?;
     if zone.low() != id.0 + 2 {

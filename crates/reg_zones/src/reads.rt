@@ -6,7 +6,7 @@ ghost use Rattle.reg_zones.specs.Faults.{IsFault};
 ghost use Rattle.reg_zones.specs.Sweep.{AreInTime, AreWritten, IsEarlyAt, IsReadCalledAt, IsReadOfRegister, IsUnwrittenAt};
 
 use crate::fault::Fault;
-use crate::told::{operation, operation_of, told};
+use crate::told::{operation, operation_called, told};
 use history_text::{OpKind, Val};
 use reg_arena::{Arena, EvId, Oper, RegId};
 
@@ -101,10 +101,7 @@ fn read_called_at(arena: &Arena, register: RegId, id: EvId) -> Option<Read>
     ensures { IsReadCalledAt (of_register register.0 (operations arena.now)) (id.0 + 2) result }
 {
     told(arena, register);
-    let (oper, op) = operation_of(arena, register, id);
-    if op.call != id.0 + 2 {
-        return None;
-    }
+    let (oper, op) = operation_called(arena, register, id)?;
     match (op.kind, op.reply, op.value) {
         (OpKind::ReadOp, Some(reply), Some(value)) => Some(Read { oper, value, reply }),
         _ => None,

@@ -9,7 +9,7 @@ use std::process::Abort;
 use std::test::Fail;
 
 // A name, a history and its verdict: the fault with the lines of its operations, or the order with the points, as lines.
-const ROWS: [(&str, &str, &str); 17] = [
+const ROWS: [(&str, &str, &str); 22] = [
     (
         "a write and its read",
         "1 W 5; 1 ok; 2 R; 2 = 5",
@@ -24,6 +24,27 @@ const ROWS: [(&str, &str, &str); 17] = [
         "a pending write that nobody read",
         "1 W 5; 2 R; 2 = null",
         "0@0 2@2 ",
+    ),
+    (
+        "a write that failed",
+        "1 W 5; 1 fail; 2 R; 2 = null",
+        "0@0 3@3 ",
+    ),
+    (
+        "the value of a write that failed",
+        "1 W 5; 1 fail; 2 R; 2 = 5",
+        "unwritten 3",
+    ),
+    ("a read that failed", "1 W 5; 1 ok; 2 R; 2 fail", "0@0 1@1 "),
+    (
+        "a read of what a crashed process was writing",
+        "1 W 5; 1 crash; 2 R; 2 = 5",
+        "0@0 1@1 3@3 ",
+    ),
+    (
+        "what a crashed process was writing, and nobody read",
+        "1 W 5; 1 crash; 2 R; 2 = null",
+        "0@0 3@3 ",
     ),
     (
         "a write within its read",
@@ -90,7 +111,7 @@ const ROWS: [(&str, &str, &str); 17] = [
 ];
 
 // A line of a history of one register, in short: `1 W 5` and `2 R` are calls of processes 1 and 2, `1 ok` and `2 = 5`
-// are replies.
+// are replies, `1 fail` is a fail and `2 crash` a crash.
 fn event(alloc: Global, line: u32, text: &str) -> Result<Option<LineEvent>, AllocError> {
     let mut words = text.split_whitespace();
     let process = words.next().and_then(|word| word.parse::<u32>().ok());
@@ -104,6 +125,8 @@ fn event(alloc: Global, line: u32, text: &str) -> Result<Option<LineEvent>, Allo
         ("R", _) => Kind::CallRead(Name::new(alloc, "x")?),
         ("=", Some(value)) => reply(Some(Val::Int(value))),
         ("=", None) => reply(Some(Val::Null)),
+        ("fail", _) => Kind::Fail(parts(None)),
+        ("crash", _) => Kind::Crash,
         _ => reply(None),
     };
     Ok(Some(LineEvent {
@@ -114,11 +137,15 @@ fn event(alloc: Global, line: u32, text: &str) -> Result<Option<LineEvent>, Allo
 }
 
 fn reply(value: Option<Val>) -> Kind {
-    Kind::Reply(ReplyParts {
+    Kind::Reply(parts(value))
+}
+
+fn parts(value: Option<Val>) -> ReplyParts {
+    ReplyParts {
         op: None,
         register: None,
         value,
-    })
+    }
 }
 
 fn arena_of(alloc: Global, history: &str) -> Result<Arena, BuildError> {
@@ -190,7 +217,7 @@ fn kept_zone(arena: &Arena, id: EvId) -> Option<Zone>
     requires { id.0 < length arena.now.events }
 {
     names_told(arena);
-    let oper = arena.op_of(id);
+    let oper = arena.op_of(id)?;
     if is_kept(arena, oper) {
         Some(zone_of(arena, oper))
     } else {

@@ -2,9 +2,9 @@
 ghost use Rattle.std.specs.Prelude.{◌≡◌, ◌<◌, Some, length};
 ghost use Rattle.reg_arena.specs.declared.ids.Oper.{Oper as AnOper};
 ghost use Rattle.reg_arena.specs.Operations.{Operation};
-ghost use Rattle.reg_arena.specs.Shown.{IsNamed, IsOper, by_register, key_at, name_of};
+ghost use Rattle.reg_arena.specs.Shown.{IsNamed, IsOper, by_register, key_at};
 ghost use Rattle.reg_zones.specs.Register.{IsRegister};
-ghost use Rattle.reg_zones.specs.Sweep.{IsBelonging, IsOperation};
+ghost use Rattle.reg_zones.specs.Sweep.{IsCalledBy, IsOperation, IsOperationOf};
 
 use reg_arena::{
     Arena, EvId, Op, Oper, RegId, accepted_is_history, events_have_operations, initial_is_there,
@@ -33,15 +33,30 @@ pub(crate) fn names_told(arena: &Arena)
     names_are_unique();
 }
 
-/// The operation of a register to which an event belongs, with its name.
-pub(crate) fn operation_of(arena: &Arena, register: RegId, id: EvId) -> (Oper, Op)
+/// The operation of a register to which an event belongs, with its name. A fail belongs to none, nor does the call that failed.
+pub(crate) fn operation_of(arena: &Arena, register: RegId, id: EvId) -> Option<(Oper, Op)>
     requires register { register.0 < length arena.now.names }
     requires here { key_at by_register arena.now.events id.0 ≡ Some register.0 }
-    ensures { (o : Operation) × IsBelonging arena.now register.0 id.0 o result.1 × (result.0 ≡ name_of o) }
+    ensures { IsOperationOf arena.now register.0 id.0 result }
 {
     told(arena, register);
-    let oper = arena.op_of(id);
-    (oper, arena.op(oper))
+    let oper = arena.op_of(id)?;
+    Some((oper, arena.op(oper)))
+}
+
+/// The operation of a register that an event calls, with its name, if it calls one.
+pub(crate) fn operation_called(arena: &Arena, register: RegId, id: EvId) -> Option<(Oper, Op)>
+    requires register { register.0 < length arena.now.names }
+    requires here { key_at by_register arena.now.events id.0 ≡ Some register.0 }
+    ensures { IsCalledBy arena.now register.0 id.0 result }
+{
+    told(arena, register);
+    if arena.begins(id) {
+        let oper = Oper::Called(id);
+        Some((oper, arena.op(oper)))
+    } else {
+        None
+    }
 }
 
 /// The operation of this name, of which the arena tells all.

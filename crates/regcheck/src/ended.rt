@@ -9,7 +9,7 @@ pub enum Ended {
     Atomic,
     /// Some register isn't.
     NotAtomic,
-    /// There is no report; with the number of the refusal, 1 to 18.
+    /// There is no report; with the number of the refusal, 1 to 19.
     Refused(u8),
     /// The words of the command line were refused, or asked for help or the version.
     BadWords,
@@ -23,7 +23,7 @@ pub fn status(ended: Ended) -> u8
     match ended {
         Ended::Atomic => 0,
         Ended::NotAtomic => 1,
-        Ended::Refused(number) if number <= 15 => 2,
+        Ended::Refused(number) if number <= 15 || number == 19 => 2,
         Ended::Refused(_) => 4,
         Ended::BadWords => 3,
     }

@@ -13,8 +13,8 @@ fn statuses(rt: HostRuntime) -> Result<(), Fail> {
     ] {
         assert_eq!(rt; status(ended), want, "{ended:?}");
     }
-    for number in 1..=18u8 {
-        let want = if number < 16 { 2 } else { 4 };
+    for number in 1..=19u8 {
+        let want = if number < 16 || number > 18 { 2 } else { 4 };
         assert_eq!(rt; status(Ended::Refused(number)), want, "{number}");
     }
     Ok(())

@@ -1,5 +1,5 @@
 -- What a call answers, and what it leaves in the place for the report (this project's own interface; docs/embedding.md).
-use Rattle.std.specs.Prelude.{◌≡◌, ◌⊎◌, ◌++◌, ℕ, List, false, length, drop, nat_le, if◌then◌else◌, Option, Some, None, Ok}
+use Rattle.std.specs.Prelude.{◌≡◌, ◌⊎◌, ◌++◌, ℕ, List, false, length, drop, nat_le, ◌==◌, ◌||◌, if◌then◌else◌, Option, Some, None, Ok}
 use Rattle.reg_report.specs.Answer.{IsAnswer, IsRefused}
 use Rattle.reg_report.specs.Refusals.{number_of, line_of, other_of}
 use Rattle.reg_report.specs.Run.{IsOutcome}
@@ -29,7 +29,7 @@ line_or_0 None = 0
 
 -- the status of a refusal, as the program has it
 abbrev pub status_of_refusal : Refusal → ℕ
-status_of_refusal refusal = if nat_le (number_of refusal) 15 then REFUSED else NO_MEMORY
+status_of_refusal refusal = if nat_le (number_of refusal) 15 || number_of refusal == 19 then REFUSED else NO_MEMORY
 
 -- what is said of a refusal
 abbrev pub answer_of_refusal : Refusal → Answer

@@ -12,11 +12,11 @@ use reg_report::{Refusal, Report};
 pub struct Answer {
     /// [`ATOMIC`], [`NOT_ATOMIC`], [`REFUSED`], [`NO_MEMORY`] or [`TOO_SMALL`].
     pub status: u32,
-    /// The number of the refusal, 1 to 15, or 17 if memory ran out; 0 if there is a report.
+    /// The number of the refusal, 1 to 15 or 19, or 17 if memory ran out; 0 if there is a report.
     pub number: u32,
     /// The refused line, from 1; 0 if no line is refused.
     pub line: u32,
-    /// The line of the open call (refusal 9) or of the earlier write (refusal 13); else 0.
+    /// The line of the open call (refusal 9), of the earlier write (refusal 13) or of the crash (refusal 19); else 0.
     pub other: u32,
     /// The bytes of the report, whether there is room for them or not; 0 if there is none.
     pub length: u64,
@@ -28,7 +28,11 @@ pub(crate) fn refused(refusal: &Refusal) -> Answer
 {
     let number = refusal.number();
     Answer {
-        status: if number <= 15 { REFUSED } else { NO_MEMORY },
+        status: if number <= 15 || number == 19 {
+            REFUSED
+        } else {
+            NO_MEMORY
+        },
         number: u32::from(number),
         line: refusal.line().unwrap_or(0),
         other: refusal.other().unwrap_or(0),

@@ -97,7 +97,7 @@ const NO_EVENTS: (&str, &str, Outcome) = (
 );
 
 // The report of a history by so many workers.
-fn expect_first(
+pub(crate) fn expect_first(
     rt: &(impl Threads + RandomSource + AllocGlobal + Abort + Sync),
     row: (&str, &str, Outcome),
     workers: u32,

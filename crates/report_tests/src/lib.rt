@@ -4,11 +4,14 @@
 //!
 //! Read it in this order: `rows`, the histories with their answers; `histories`, what is answered to each; `messages`, what is
 //! said of lines of other numbers; `ends`, where little comes at a time or something fails; `workers`, where several work
-//! at once; `first`, where the first register that isn't atomic is all that is asked for.
+//! at once; `first`, where the first register that isn't atomic is all that is asked for; `fails`, where calls fail and
+//! processes crash.
 #![tactic(auto)]
 
 #[cfg(test)]
 mod ends;
+#[cfg(test)]
+mod fails;
 #[cfg(test)]
 mod first;
 #[cfg(test)]

@@ -59,7 +59,7 @@ fn expect_lines(rt: &(impl AllocGlobal + Abort), number: u8, reason: &str) -> Re
 // A refusal says the same of each line but for the number of the line.
 #[test]
 fn each_line_by_its_number(rt: HostRuntime) -> Result<(), Fail> {
-    for number in 1..=14u8 {
+    for number in [1, 2, 3, 4, 5, 6, 7, 8, 9, 10, 11, 12, 13, 14, 19u8] {
         let first = said(rt.alloc(), 1, number, None)?;
         let (begin, reason) = first.as_str().split_once(": ").ok_or("no reason")?;
         assert_eq!(rt; begin, "line 1", "{number}");

@@ -335,7 +335,7 @@ pub(crate) const REFUSALS: [(&str, &str, &str, u8); 15] = [
         10,
     ),
     (
-        "the least faulty line, not the least number",
+        "the first faulty line, not the lowest number",
         r#"{"process":1,"event":"call","op":"write","register":"x","value":1}
 {"process":1,"event":"call","op":"write","register":"x","value":2}
 {"process":2,"ev
@@ -405,9 +405,9 @@ pub(crate) const REFUSALS: [(&str, &str, &str, u8); 15] = [
     ),
     (
         "an unknown event",
-        r#"{"process":1,"event":"fail"}
+        r#"{"process":1,"event":"failed"}
 "#,
-        "line 1: event is neither call nor reply",
+        "line 1: event is not call, reply, fail or crash",
         5,
     ),
     (

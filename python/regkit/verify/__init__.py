@@ -20,12 +20,10 @@ from contextlib import contextmanager
 from typing import Iterator, NamedTuple, Optional
 
 from regkit.verify.claims import Unreadable, Wrong, check_report, read_rows
-from regkit.verify.operations import REASONS, History, Refused, read_history
+from regkit.verify.operations import History, Refused, read_history
 
 __all__ = ["Unreadable", "Verified", "Wrong", "verify", "verify_refusal"]
 
-# Reason 5 of a regcheck that doesn't read `fail` and `crash`.
-EARLIER = "event is neither call nor reply"
 # Refusals of one run that say nothing of the history.
 OF_THE_RUN = ("input could not be read", "no memory or no thread", "output could not be written")
 
@@ -85,7 +83,7 @@ def verify_refusal(history: bytes, refusal: str) -> Verified:
     try:
         read_history(history, limits=True)
     except Refused as refused:
-        if refused.text != said.replace(EARLIER, REASONS[5]):
+        if refused.text != said:
             raise Wrong(f"the history is refused with other words: {refused.text}") from None
         return Verified(None, refusal=said)
     raise Wrong("no line of the history is faulty, so it isn't refused")

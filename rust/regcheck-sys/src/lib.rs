@@ -62,11 +62,11 @@ pub struct Checked {
 pub enum Error {
     /// The history is refused.
     Refused {
-        /// The number of the refusal, 1 to 15.
+        /// The number of the refusal, 1 to 15 or 19.
         number: u32,
         /// The refused line, from 1, if a line is refused.
         line: Option<u32>,
-        /// The line of the open call (9) or of the earlier write (13).
+        /// The line of the open call (9), of the earlier write (13) or of the crash (19).
         other: Option<u32>,
     },
     /// Memory ran out.
@@ -124,7 +124,7 @@ fn reason(number: u32) -> &'static str {
         2 => "not JSON",
         3 => "not an object",
         4 => "process is not a whole number from 0 to 4294967295",
-        5 => "event is neither call nor reply",
+        5 => "event is not call, reply, fail or crash",
         6 => "op is neither read nor write",
         7 => "register is not a text of 1 to 255 bytes",
         8 => "value does not fit the event",
@@ -134,6 +134,7 @@ fn reason(number: u32) -> &'static str {
         12 => "a read's reply has no value",
         13 => "value already written to this register at line",
         14 => "more than 1048576 events",
+        19 => "the process crashed at line",
         _ => "input is longer than 67108864 bytes",
     }
 }

@@ -9,3 +9,9 @@ returns-in-WriteCall c = rw c.in-WriteCall.is c.writeln-in-WriteCall.ensures.byt
 
 pub returns-in-WriteReply : goal.returns-in-WriteReply
 returns-in-WriteReply c = rw c.in-WriteReply.is c.writeln-in-WriteReply.ensures.bytes
+
+pub returns-in-Fail : goal.returns-in-Fail
+returns-in-Fail c = rw c.in-Fail.is c.writeln-in-Fail.ensures.bytes
+
+pub returns-in-Crash : goal.returns-in-Crash
+returns-in-Crash c = rw c.in-Crash.is c.writeln-in-Crash.ensures.bytes

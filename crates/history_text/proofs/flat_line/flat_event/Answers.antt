@@ -1,8 +1,10 @@
 -- A flat object with a process and an event has the event that its members say.
-use Rattle.std.proofs.Common.{◌≡◌, ℕ, ◌≤◌, Bool, true, false, List, length, Some, option_map, codes, Ok, refl, ap, ◌∙◌, subst, IfSome, le-leb}
+use Rattle.std.proofs.Common.{◌≡◌, ℕ, ◌≤◌, List, length, Some, option_map, codes, Ok, refl, ap, ◌∙◌, subst, IfSome, le-leb}
 use Rattle.serde_json.specs.Data.{object, Members}
 use Rattle.serde_json.specs.Find.{get_member}
 use Rattle.history_text.specs.declared.event.Kind.{Kind}
+use Rattle.history_text.specs.declared.event.EventWord.{EventWord}
+use Rattle.history_text.specs.declared.event.EventWord.TheVariants as word
 use Rattle.history_text.specs.declared.flat_members.Found.{Found}
 use Rattle.history_text.specs.Flat.{Holds, IsFlat, process_data, event_data}
 use Rattle.history_text.specs.Limits.{MAX_LINE, MAX_PROCESS}
@@ -11,22 +13,24 @@ use Rattle.history_text.specs.Reading.{kind_of, line_form}
 use Rattle.history_text.proofs.Reading.{json_of-read, line_form-read}
 use Rattle.history_text.proofs.flat_line.flat_event.Goals as goal
 
-event_word : (b : Bool) → event_form (Some (event_data b)) ≡ Some b
-event_word true = refl
-event_word false = refl
+event_word : (w : EventWord) → event_form (Some (event_data w)) ≡ Some w
+event_word word.Call = refl
+event_word word.Reply = refl
+event_word word.Fail = refl
+event_word word.Crash = refl
 
-event_made : (n p : ℕ) (b : Bool) (kind : Kind) (bytes : List ℕ) (f : Found) → length bytes ≤ MAX_LINE → IsFlat bytes f → f.process ≡ Some p → f.is_call ≡ Some b
-    → ((ms : Members) → Holds ms f → kind_of (object ms) b ≡ Ok kind) → line_form n bytes ≡ Ok (record { line = n; process = p; kind = kind })
-event_made n p b kind bytes f short flat process call kinds =
+event_made : (n p : ℕ) (w : EventWord) (kind : Kind) (bytes : List ℕ) (f : Found) → length bytes ≤ MAX_LINE → IsFlat bytes f → f.process ≡ Some p → f.event ≡ Some w
+    → ((ms : Members) → Holds ms f → kind_of (object ms) w ≡ Ok kind) → line_form n bytes ≡ Ok (record { line = n; process = p; kind = kind })
+event_made n p w kind bytes f short flat process event kinds =
     let ms = flat.1.0 in
     let h = flat.1.2 in
     let numbered : get_member (codes "process") ms ≡ Some (process_data p) = h.process ∙ ap (option_map process_data) process in
-    let worded : get_member (codes "event") ms ≡ Some (event_data b) = h.is_call ∙ ap (option_map event_data) call in
+    let worded : get_member (codes "event") ms ≡ Some (event_data w) = h.event ∙ ap (option_map event_data) event in
     let fits : p ≤ MAX_PROCESS = subst (λ o. IfSome o (λ q. q ≤ MAX_PROCESS)) process h.limit in
     line_form-read n bytes (object ms) short (json_of-read bytes (object ms) flat.0 flat.1.1)
-    ∙ rw (numbered, worded, le-leb p MAX_PROCESS fits, event_word b, kinds ms h)
+    ∙ rw (numbered, worded, le-leb p MAX_PROCESS fits, event_word w, kinds ms h)
 
 pub returns : goal.returns
 returns c =
-    event_made c.args.line c.in-Some-process.process c.in-Some-is_call.is_call c.in-Some-2.kind c.args.bytes.now c.in-Some.found c.requires c.in-Some.ensures
-    c.in-Some-process.is c.in-Some-is_call.is (rw c.in-Some-2.is at c.in_ok-kind.ensures)
+    event_made c.args.line c.in-Some-process.process c.in-Some-event.event c.in-Some-2.kind c.args.bytes.now c.in-Some.found c.requires c.in-Some.ensures
+    c.in-Some-process.is c.in-Some-event.is (rw c.in-Some-2.is at c.in_ok-kind.ensures)

@@ -8,7 +8,7 @@ returns-in-Some c =
 
 pub returns-in-Some-named : goal.returns-in-Some-named
 returns-in-Some-named c =
-    adds_event c.args.found c.args.text.now c.in-Some-named.behind.now c.in_ok-is_call.rest.now c.in_ok-is_call.is_call c.in-Some-named.ensures c.in_ok-is_call.ensures
+    adds_event c.args.found c.args.text.now c.in-Some-named.behind.now c.in_ok-event.rest.now c.in_ok-event.event c.in-Some-named.ensures c.in_ok-event.ensures
 
 pub returns-in-Some-named-2 : goal.returns-in-Some-named-2
 returns-in-Some-named-2 c =

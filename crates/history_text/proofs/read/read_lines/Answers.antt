@@ -1,27 +1,35 @@
--- The lines read, by whatever thread, are those of all spans in order, and so those of the definition.
-use Rattle.std.proofs.Common.{◌≡◌, ◌∙◌, sym, subst}
-use Rattle.std.specs.Prelude.{IfOk, slice_range}
-use Rattle.rayon.proofs.ListFacts.{IfOk-then}
-use Rattle.rayon.proofs.ToStd.{slice-AllZip}
-use Rattle.history_text.specs.Lines.{line_spans}
-use Rattle.history_text.specs.Reading.{line_reading, IsAscending}
+-- The parts, one behind the other, are the lines of the definition.
+use Rattle.std.proofs.Common.{ℕ, ◌≡◌, ◌+◌, ◌<◌, ◌++◌, ◌∷◌, [], List, length, ap, sym, subst, flat_map, ◌∙◌, refl, arith}
+use Rattle.std.proofs.lemmas.List.{append_assoc, append-nil}
+use Rattle.history_text.specs.Reading.{IsAscending, history_lines}
 use Rattle.history_text.proofs.Ascending.{lines-ascend}
-use Rattle.history_text.proofs.InOrder.{collected}
-use Rattle.history_text.proofs.Numbered.{read-spans}
+use Rattle.history_text.proofs.read.read_lines.Given as given
 use Rattle.history_text.proofs.read.read_lines.Goals as goal
 
-pub returns : goal.returns
-returns g c =
-    let h = c.in_ok-collect.ensures in
-    let chain = rw (c.map.ensures.base, c.map.ensures.f) at h.1 in
-    let bytes = c.args.bytes.now in
-    let spans = line_spans bytes in
-    let shown = chain.1 ∙ c.par_iter.ensures ∙ c.in_ok-spans.ensures.lines in
-    let result = c.in_ok-collect.field-0 in
-    let read = collected _ (λ s. line_reading s.line (slice_range bytes s.from s.to)) (λ v. v.items) spans h.0 result
-    (slice-AllZip chain.0 spans shown (λ s y. IfOk y (λ r. r ≡ line_reading s.line (slice_range bytes s.from s.to))) h.0 chain.2)
-    h.2 in
-    record {
-      lines = IfOk-then result _ _ read (λ v e. e ∙ read-spans bytes);
-      ascending = IfOk-then result _ _ read (λ v e. subst IsAscending (sym (e ∙ read-spans bytes)) (lines-ascend bytes));
-    }
+pub loop-part-init : goal.loop-part-init
+loop-part-init g c = record { read = rw (c.new-lines.ensures.items, c.into_iter-part-iterator.ensures.into_iter_gives.0) c.in_ok-part-items.ensures }
+
+-- a list of no length is empty
+none_left : {X : Type 0} (xs : List X) → length xs ≡ 0 → xs ≡ []
+none_left [] e = refl
+none_left (x ∷ xs) e = absurd (omega (arith, e))
+
+pub loop-part-preserved : goal.loop-part-preserved
+loop-part-preserved g c =
+    let part = c.in-Some.part in
+    let rest = c.next.new.self.rest.items in
+    let lines = c.loop-part.lines.items in
+    let e = c.in_ok-append.ensures.items in
+    record { read = ap (λ xs. xs ++ flat_map (λ p. p.items) rest) {y = lines ++ part.items} e ∙ append_assoc lines part.items (flat_map (λ p. p.items) rest) ∙ ap (λ xs. lines ++ flat_map (λ p. p.items) xs) (sym c.in-Some.ensures.steps.0) ∙ c.loop-part.invariant.read }
+
+joined : (g : given.Over) (c : goal.After-drop-part-iterator-2 g) → c.loop-part.lines.items ≡ history_lines c.args.bytes.now
+joined g c =
+    let rest = c.loop-part.part-iterator.rest in
+    let none : rest.items ≡ [] = none_left rest.items (sym rest.ok.0 ∙ c.in-None.ensures.steps.0) in
+    sym (append-nil c.loop-part.lines.items) ∙ ap (λ xs. c.loop-part.lines.items ++ flat_map (λ p. p.items) xs) (sym none) ∙ c.loop-part.invariant.read
+
+pub returns-clause-lines : goal.returns-clause-lines
+returns-clause-lines g c = joined g c
+
+pub returns-clause-ascending : goal.returns-clause-ascending
+returns-clause-ascending g c = subst IsAscending (sym (joined g c)) (lines-ascend c.args.bytes.now)

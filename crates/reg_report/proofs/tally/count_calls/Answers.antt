@@ -1,11 +1,17 @@
-use Rattle.std.proofs.Common.{ap, arith}
+use Rattle.std.proofs.Common.{◌∙◌, ap, sym, arith}
+use Rattle.reg_arena.proofs.ByEvent.{element}
 use Rattle.reg_arena.specs.declared.op.Op.{Op}
 use Rattle.reg_report.proofs.Tallying.{counting-begins, counting-ends, counting-skips, counting-adds, tally-room}
-use Rattle.reg_report.proofs.tally.count_calls.Goals.{then-event, else-event}
+use Rattle.reg_report.proofs.tally.count_calls.Goals.{then-begins, else-begins}
 use Rattle.reg_report.proofs.tally.count_calls.Goals as goal
 
 pub loop-number-init : goal.loop-number-init
 loop-number-init c = counting-begins c.args.arena.now c.in_ok-tallies.tallies.items c.register_count.result c.in_ok-tallies.ensures c.register_count.ensures.count
+
+pub op-requires : goal.op-requires
+op-requires c =
+    let x = element c.args.arena.now.events c.loop-number.number (omega (arith, c.loop-number-test.true, c.event_count-number-end.ensures.count)) in
+    (x.0, x.1, sym (c.begins.ensures x.0 x.1) ∙ c.if-begins.true)
 
 pub add-requires-clause-within : goal.add-requires-clause-within
 add-requires-clause-within c =
@@ -15,19 +21,21 @@ add-requires-clause-within c =
     omega (arith, within, register, c.loop-number.invariant.count)
 
 pub add-requires-clause-room : goal.add-requires-clause-room
-add-requires-clause-room c = λ t q. tally-room c.args.arena.now c.loop-number.number c.loop-number.tallies.items c.loop-number.invariant c.event.ensures.bound _ t q
+add-requires-clause-room c = λ t q. tally-room c.args.arena.now c.loop-number.number c.loop-number.tallies.items c.loop-number.invariant (omega (arith, c.event_count-number-end.ensures.count, c.event_count-number-end.ensures.bound)) _ t q
 
 pub loop-number-preserved : goal.loop-number-preserved
 loop-number-preserved c =
     let h = c.args.arena.now in
     let n = c.loop-number.number in
     let ts = c.loop-number.tallies.items in
-    elim c.if-event.branch [
-      | then-event w ↦
+    let x = element h.events n (omega (arith, c.loop-number-test.true, c.event_count-number-end.ensures.count)) in
+    let is = c.begins.ensures x.0 x.1 in
+    elim c.if-begins.branch [
+      | then-begins w ↦
           let o = w.op.ensures in
           let register = ap (λ (x : Op). x.register.0) o.2 in
-          rw w.tallies-is (counting-adds h n ts w.add.new.tallies.items c.event.result o.0 w.op.result c.loop-number.invariant c.event.ensures.at w.if-event.true o.1 o.2 (rw register at w.add.ensures) (c.told.ensures.numbered o.0 o.1.one))
-      | else-event w ↦ rw w.tallies-is (counting-skips h n ts c.event.result c.loop-number.invariant c.event.ensures.at w.if-event.false)
+          rw w.tallies-is (counting-adds h n ts w.add.new.tallies.items x.0 o.0 w.op.result c.loop-number.invariant x.1 (sym is ∙ w.if-begins.true) o.1 o.2 (rw register at w.add.ensures) (c.told.ensures.numbered o.0 o.1.one))
+      | else-begins w ↦ rw w.tallies-is (counting-skips h n ts x.0 c.loop-number.invariant x.1 (sym is ∙ w.if-begins.false))
     ]
 
 pub returns : goal.returns

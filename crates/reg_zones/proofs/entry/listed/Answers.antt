@@ -29,11 +29,11 @@ loop-next-preserved c =
           let pushed = w.in_ok-push-2.ensures in
           let items = ap (λ (v : Vec Entry Global). v.items) w.entries-is ∙ pushed.items in
           subst (λ (xs : List Entry). IsListingSoFar h.events r ops xs next) (sym items)
-          (listing-push h r c.told.ensures c.loop-next.entries.items w.in-Some-listed_at.entry c.in-Some.id next found so_far c.next_in_register-next.ensures)
+          (listing-push h r c.told.ensures c.loop-next.entries.items w.in-Some-listed_at.entry c.in-Some.id next found so_far c.next_in_register-next.ensures.next)
       | in_default-listed_at w ↦
           let none = w.in_default-listed_at.ensures in
           subst (λ (v : Vec Entry Global). IsListingSoFar h.events r ops v.items next) (sym w.entries-is)
-          (listing-skip h r c.told.ensures c.loop-next.entries.items c.in-Some.id next none so_far c.next_in_register-next.ensures)
+          (listing-skip h r c.told.ensures c.loop-next.entries.items c.in-Some.id next none so_far c.next_in_register-next.ensures.next)
     ]
 
 pub next_in_register-next-requires : goal.next_in_register-next-requires
@@ -42,7 +42,7 @@ next_in_register-next-requires c = key-within c.args.arena.now.events c.in-Some.
 pub loop-next-smaller : goal.loop-next-smaller
 loop-next-smaller c =
     let n = length c.args.arena.now.events in
-    let l = ahead-smaller c.args.arena.now.events c.args.register.0 c.in-Some.id c.next_in_register-next.result (c.loop-next.invariant.walk.here c.in-Some.id c.in-Some.is) c.next_in_register-next.ensures in
+    let l = ahead-smaller c.args.arena.now.events c.args.register.0 c.in-Some.id c.next_in_register-next.result (c.loop-next.invariant.walk.here c.in-Some.id c.in-Some.is) c.next_in_register-next.ensures.next in
     subst (λ (o : Option EvId). ahead n c.next_in_register-next.result < ahead n o) (sym c.in-Some.is) l
 
 pub returns : goal.returns

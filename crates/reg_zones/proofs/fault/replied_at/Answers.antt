@@ -1,7 +1,6 @@
-use Rattle.std.proofs.Common.{◌-◌, inr, ap, ◌∙◌, arith}
+use Rattle.std.proofs.Common.{◌-◌, inr, sym, ◌∙◌, arith}
 use Rattle.reg_arena.specs.Operations.{operations}
-use Rattle.reg_arena.specs.Shown.{name_of}
-use Rattle.reg_zones.proofs.Registers.{early-reply, reply-event, of_register-In}
+use Rattle.reg_zones.proofs.Registers.{early-reply, found-name, reply-event, of_register-In}
 use Rattle.reg_zones.proofs.fault.replied_at.Goals as goal
 
 pub op_of-requires : goal.op_of-requires
@@ -15,6 +14,5 @@ returns-then-time-lt2 c a k d e = early-reply c.args.arena.now c.args.register.0
 
 pub returns-else-time-lt2 : goal.returns-else-time-lt2
 returns-else-time-lt2 c a k d e =
-    let o = c.op_of.ensures in
     let j = (of_register-In c.args.register.0 (operations c.args.arena.now) a k).0 in
-    ap name_of (c.told.ensures.one (c.args.time - 2) a o.0 j o.1.one (inr (d, omega (arith, e, c.if-time-lt2.false))) o.2) ∙ o.1.named
+    found-name c.args.arena.now c.args.register.0 c.told.ensures (c.args.time - 2) c.op_of.result _ c.op_of.ensures a j (inr (d, omega (arith, e, c.if-time-lt2.false))) ∙ sym c.unwrap_or.ensures

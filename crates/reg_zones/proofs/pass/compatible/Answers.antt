@@ -40,7 +40,7 @@ next_in_register-next-requires c = key-within c.args.arena.now.events c.in-Some.
 pub loop-next-smaller : goal.loop-next-smaller
 loop-next-smaller c =
     let n = length c.args.arena.now.events in
-    let l = ahead-smaller c.args.arena.now.events c.args.register.0 c.in-Some.id c.next_in_register-next.result (c.loop-next.invariant.walk.here c.in-Some.id c.in-Some.is) c.next_in_register-next.ensures in
+    let l = ahead-smaller c.args.arena.now.events c.args.register.0 c.in-Some.id c.next_in_register-next.result (c.loop-next.invariant.walk.here c.in-Some.id c.in-Some.is) c.next_in_register-next.ensures.next in
     subst (λ (o : Option EvId). ahead n c.next_in_register-next.result < ahead n o) (sym c.in-Some.is) l
 
 pub loop-next-preserved : goal.loop-next-preserved
@@ -50,8 +50,8 @@ loop-next-preserved c =
     let at = c.loop-next.invariant.walk.here c.in-Some.id c.in-Some.is in
     let walk = subst (IsWalk h.events r (λ _. Unit {0})) c.in-Some.is c.loop-next.invariant.walk in
     record {
-      walk = walk-more h.events r (λ _. Unit {0}) c.in-Some.id c.next_in_register-next.result walk tt c.next_in_register-next.ensures;
-      passing = passed h r c.told.ensures c.in_ok-last.last c.in-Some.id c.next_in_register-next.result at c.in_ok-last.ensures.ok c.next_in_register-next.ensures;
+      walk = walk-more h.events r (λ _. Unit {0}) c.in-Some.id c.next_in_register-next.result walk tt c.next_in_register-next.ensures.next;
+      passing = passed h r c.told.ensures c.in_ok-last.last c.in-Some.id c.next_in_register-next.result at c.in_ok-last.ensures.ok c.next_in_register-next.ensures.next;
     }
 
 pub returns-clause-ok : goal.returns-clause-ok

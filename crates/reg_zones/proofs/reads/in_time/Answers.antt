@@ -13,14 +13,14 @@ loop-next-preserved c =
     let Q = λ (i : ℕ). IsEarlyAt (of_register c.args.register.0 (operations c.args.arena.now)) (i + 2) None in
     let w = subst (IsWalk c.args.arena.now.events c.args.register.0 Q) c.in-Some.is c.loop-next.invariant in
     let none = c.in_default-early_at.ensures in
-    walk-more c.args.arena.now.events c.args.register.0 Q c.in-Some.id c.next_in_register-next.result w none c.next_in_register-next.ensures
+    walk-more c.args.arena.now.events c.args.register.0 Q c.in-Some.id c.next_in_register-next.result w none c.next_in_register-next.ensures.next
 
 pub next_in_register-next-requires : goal.next_in_register-next-requires
 next_in_register-next-requires c = key-within c.args.arena.now.events c.in-Some.id.0 c.args.register.0 (c.loop-next.invariant.here c.in-Some.id c.in-Some.is)
 
 pub loop-next-smaller : goal.loop-next-smaller
 loop-next-smaller c =
-    let l = ahead-smaller c.args.arena.now.events c.args.register.0 c.in-Some.id c.next_in_register-next.result (c.loop-next.invariant.here c.in-Some.id c.in-Some.is) c.next_in_register-next.ensures in
+    let l = ahead-smaller c.args.arena.now.events c.args.register.0 c.in-Some.id c.next_in_register-next.result (c.loop-next.invariant.here c.in-Some.id c.in-Some.is) c.next_in_register-next.ensures.next in
     subst (λ n. ahead (length c.args.arena.now.events) c.next_in_register-next.result < ahead (length c.args.arena.now.events) n) (sym c.in-Some.is) l
 
 pub returns-in-Some-early_at-clause-err : goal.returns-in-Some-early_at-clause-err

@@ -1,20 +1,26 @@
 use Rattle.std.proofs.Common.{◌≡◌, sym, subst}
-use Rattle.reg_arena.specs.Operations.{Operation}
+use Rattle.reg_arena.specs.Operations.{Operation, operations}
 use Rattle.reg_arena.specs.Shown.{op_shown}
+use Rattle.reg_zones.specs.Sweep.{IsOperationOf}
 use Rattle.reg_zones.proofs.Walks.{key-within}
 use Rattle.reg_zones.proofs.Kept.{named-oper}
-use Rattle.reg_zones.proofs.Registers.{key-operation}
+use Rattle.reg_zones.proofs.Registers.{key-operation, of_register-In}
 use Rattle.reg_zones.proofs.told.operation_of.Goals as goal
 
-pub op_of-oper-requires : goal.op_of-oper-requires
-op_of-oper-requires c = key-within c.args.arena.now.events c.args.id.0 c.args.register.0 c.requires.here
+pub op_of-requires : goal.op_of-requires
+op_of-requires c = key-within c.args.arena.now.events c.args.id.0 c.args.register.0 c.requires.here
+
+pub returns-in_err-oper : goal.returns-in_err-oper
+returns-in_err-oper c =
+    let none = c.in_err-oper.ensures in
+    subst (IsOperationOf c.args.arena.now c.args.register.0 c.args.id.0) (sym c.from_residual.ensures) (λ o k t. none o (of_register-In c.args.register.0 (operations c.args.arena.now) o k).0 t)
 
 pub op-requires : goal.op-requires
-op-requires c = let o = c.op_of-oper.ensures in named-oper c.args.arena.now c.args.register.0 c.told.ensures _ o.0 o.1
+op-requires c = let o = c.in_ok-oper.ensures in named-oper c.args.arena.now c.args.register.0 c.told.ensures _ o.0 o.1
 
 pub returns : goal.returns
 returns c =
-    let o = c.op_of-oper.ensures in
+    let o = c.in_ok-oper.ensures in
     let p = c.op.ensures in
     let e = c.told.ensures.named _ p.0 o.0 p.1 o.1 in (
       o.0,

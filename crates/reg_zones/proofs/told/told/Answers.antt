@@ -8,6 +8,7 @@ returns c =
       history = c.accepted_is_history.ensures h y c.args.register.0;
       initial = c.initial_is_there.ensures h c.args.register.0 c.requires;
       event = c.events_have_operations.ensures.some h y;
+      none = c.events_have_operations.ensures.none h y;
       one = c.events_have_operations.ensures.one h y;
       call = c.operations_have_events.ensures.call h y;
       reply = c.operations_have_events.ensures.reply h y;

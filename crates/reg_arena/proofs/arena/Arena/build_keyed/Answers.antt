@@ -1,37 +1,38 @@
--- The arena is the history of the lines so far, none of which is faulty.
-use Rattle.std.proofs.Common.{◌≤◌, List, length, take, slice_get, Some, refl, sym, ap, ◌∙◌, arith}
-use Rattle.std.proofs.lemmas.Option.{slice_get_read}
-use Rattle.reg_arena.specs.Refusals.{Line, events_of}
-use Rattle.reg_arena.specs.History.{history_of}
-use Rattle.reg_arena.proofs.Reading.{take-all, is-more, accepted-more, free-more, refused-event, refused-line, well-formed, error-passed}
+-- The arena is the history of the parts so far, none of whose lines is faulty.
+use Rattle.std.proofs.Common.{ℕ, ◌≡◌, ◌++◌, ◌∷◌, [], List, length, flat_map, refl, sym, ap, subst, ◌∙◌, arith}
+use Rattle.reg_arena.specs.Built.{IsBuilt, IsBuiltWith}
+use Rattle.reg_arena.specs.Refusals.{Line, IsBuildError}
+use Rattle.reg_arena.proofs.Reading.{nothing-built, all-built, next-part, error-of-all}
 use Rattle.reg_arena.proofs.arena.Arena.build_keyed.Goals as goal
 
-pub returns-in-Err-clause-err : goal.returns-in-Err-clause-err
-returns-in-Err-clause-err c =
-    let at = ap (λ (xs : List Line). slice_get xs c.loop-line.line-index) (sym c.deref-line-items.ensures.value) ∙ slice_get_read c.deref-line-items.result.now _ c.loop-line.line-index c.line-item.result refl (omega (arith, c.loop-line-test.true, ap length c.deref-line-items.ensures.value)) c.line-item.is ∙ ap Some c.in-Err.is in
-    refused-line c.args.events.items c.loop-line.line-index c.in-Err.fault c.refused.result at (rw c.number.ensures at c.refused.ensures) c.loop-line.invariant.free
+pub loop-part-2-init : goal.loop-part-2-init
+loop-part-2-init c = record { built = ([], nothing-built c.in_ok-arena.arena c.in_ok-arena.ensures, ap (flat_map (λ part. part.items)) c.into_iter-part-iterator.ensures.into_iter_gives.0) }
 
-pub returns-in_err-arena-in-Ok-clause-err : goal.returns-in_err-arena-in-Ok-clause-err
-returns-in_err-arena-in-Ok-clause-err c =
-    let at = ap (λ (xs : List Line). slice_get xs c.loop-line.line-index) (sym c.deref-line-items.ensures.value) ∙ slice_get_read c.deref-line-items.result.now _ c.loop-line.line-index c.line-item.result refl (omega (arith, c.loop-line-test.true, ap length c.deref-line-items.ensures.value)) c.line-item.is ∙ ap Some c.in-Ok.is in
-    let i = c.loop-line.invariant in
-    error-passed c.args.events.items c.from_residual-in_err-arena-in-Ok.result c.in_err-arena-in-Ok.field-0.0 c.from_residual-in_err-arena-in-Ok.ensures.1
-    (refused-event c.args.events.items c.loop-line.line-index c.in-Ok.event at c.in_err-arena-in-Ok.field-0.0 i.free (c.in_err-arena-in-Ok.ensures _ i.accepted i.is))
+pub returns-in_err-arena-2-clause-err : goal.returns-in_err-arena-2-clause-err
+returns-in_err-arena-2-clause-err c =
+    let so_far = c.loop-part-2.invariant.built in
+    let rest = c.next.new.self.rest.items in
+    let whole = next-part (λ part. part.items) so_far.0 c.in-Some.part rest c.loop-part-2.part-iterator.rest.items (flat_map (λ part. part.items) c.args.parts.items) c.in-Some.ensures.steps.0 so_far.2 in
+    let refused = c.in_err-arena-2.ensures so_far.0 so_far.1 (flat_map (λ part. part.items) rest) in
+    let here = subst (λ lines. IsBuildError (so_far.0 ++ lines ++ flat_map (λ part. part.items) rest) c.in_err-arena-2.field-0.0) c.deref.ensures.value refused in
+    error-of-all (flat_map (λ part. part.items) c.args.parts.items) c.from_residual-in_err-arena-2.result c.in_err-arena-2.field-0.0 c.from_residual-in_err-arena-2.ensures.1
+    (subst (λ lines. IsBuildError lines c.in_err-arena-2.field-0.0) whole here)
 
-pub loop-line-preserved : goal.loop-line-preserved
-loop-line-preserved c =
-    let at = ap (λ (xs : List Line). slice_get xs c.loop-line.line-index) (sym c.deref-line-items.ensures.value) ∙ slice_get_read c.deref-line-items.result.now _ c.loop-line.line-index c.line-item.result refl (omega (arith, c.loop-line-test.true, ap length c.deref-line-items.ensures.value)) c.line-item.is ∙ ap Some c.in-Ok.is in
-    let i = c.loop-line.invariant in
-    let s = c.in_ok-arena-in-Ok.ensures (events_of (take c.loop-line.line-index c.args.events.items)) i.accepted i.is in
-    record {
-      is = is-more c.args.events.items c.loop-line.line-index c.in-Ok.event at c.in_ok-arena-in-Ok.arena s.1;
-      accepted = accepted-more c.args.events.items c.loop-line.line-index c.in-Ok.event at i.accepted s.0;
-      free = free-more c.args.events.items c.loop-line.line-index c.in-Ok.event at i.free s.0;
-    }
+pub loop-part-2-preserved : goal.loop-part-2-preserved
+loop-part-2-preserved c =
+    let so_far = c.loop-part-2.invariant.built in
+    let rest = c.next.new.self.rest.items in
+    let whole = next-part (λ part. part.items) so_far.0 c.in-Some.part rest c.loop-part-2.part-iterator.rest.items (flat_map (λ part. part.items) c.args.parts.items) c.in-Some.ensures.steps.0 so_far.2 in
+    record { built = (so_far.0 ++ c.in-Some.part.items, subst (λ lines. IsBuilt (so_far.0 ++ lines) c.in_ok-arena-2.arena) c.deref.ensures.value (c.in_ok-arena-2.ensures so_far.0 so_far.1), whole) }
+
+-- a list of no length is empty
+none-left : {X : Type 0} (xs : List X) → length xs ≡ 0 → xs ≡ []
+none-left [] e = refl
+none-left (x ∷ xs) e = absurd (omega (arith, e))
 
 pub returns-clause-ok : goal.returns-clause-ok
 returns-clause-ok c =
-    let l : length c.args.events.items ≤ c.loop-line.line-index = omega (arith, c.loop-line-test.false, ap length c.deref-line-items.ensures.value) in (
-      well-formed c.args.events.items c.loop-line.line-index l c.loop-line.invariant.free,
-      c.loop-line.invariant.is ∙ ap (λ xs. history_of (events_of xs)) (take-all c.args.events.items c.loop-line.line-index l),
-    )
+    let so_far = c.loop-part-2.invariant.built in
+    let rest = c.loop-part-2.part-iterator.rest in
+    let none = none-left rest.items (sym rest.ok.0 ∙ c.in-None.ensures.steps.0) in
+    all-built so_far.0 (flat_map (λ part. part.items) c.args.parts.items) c.loop-part-2.arena so_far.1 (ap (λ parts. so_far.0 ++ flat_map (λ part. part.items) parts) (sym none) ∙ so_far.2)

@@ -1,11 +1,15 @@
-use Rattle.std.proofs.Common.{◌≡◌, ℕ, ◌<◌, take, None}
-use Rattle.reg_arena.specs.Refusals.{AreAccepted, events_of, refusal_at}
-use Rattle.reg_arena.specs.History.{history_of}
+use Rattle.std.proofs.Common.{◌≡◌, ◌≤◌, ◌^◌, ◌++◌, List, flat_map}
+use Rattle.reg_arena.specs.Refusals.{Line}
+use Rattle.reg_arena.specs.Built.{IsBuilt}
 use Rattle.reg_arena.proofs.arena.Arena.build_keyed.Given as goal
 
-abbrev pub invariant-loop-line : goal.invariant-loop-line
-invariant-loop-line l = record {
-  is : l.arena ≡ history_of (events_of (take l.line-index l.fn.events.items));
-  accepted : AreAccepted (events_of (take l.line-index l.fn.events.items));
-  free : (i : ℕ) → i < l.line-index → refusal_at l.fn.events.items i ≡ None;
+abbrev pub invariant-loop-part : goal.invariant-loop-part
+invariant-loop-part l = record {
+  bound : l.count ≤ 2 ^ 20;
+}
+
+-- the arena is of some lines, behind which stand the parts that are left
+abbrev pub invariant-loop-part-2 : goal.invariant-loop-part-2
+invariant-loop-part-2 l = record {
+  built : (before : List Line) × IsBuilt before l.arena × (before ++ flat_map (λ part. part.items) l.part-iterator.rest.items ≡ flat_map (λ part. part.items) l.fn.parts.items);
 }

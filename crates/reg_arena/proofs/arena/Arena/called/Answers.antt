@@ -1,30 +1,34 @@
-use Rattle.std.proofs.Common.{sym, subst, arith, ap, ◌∙◌, cond, option_and_then}
-use Rattle.std.proofs.lemmas.Option.{slice_get_within}
+use Rattle.std.proofs.Common.{sym, subst, arith, ap, ◌∙◌, cond}
 use Rattle.reg_arena.specs.Operations.{writes}
-use Rattle.reg_arena.specs.Shown.{IsNextOf, by_process}
-use Rattle.reg_arena.proofs.Append.{key-within}
+use Rattle.reg_arena.specs.Walking.{IsReplyOf}
+use Rattle.reg_arena.proofs.ByEvent.{element}
+use Rattle.std.proofs.lemmas.Option.{slice_get_within}
 use Rattle.reg_arena.proofs.ByCall.{pending, replied}
 use Rattle.reg_arena.proofs.arena.Arena.called.Goals as goal
-use Rattle.reg_arena.proofs.arena.Arena.called.Goals.{in-ReadOp, in-WriteOp}
+use Rattle.reg_arena.proofs.arena.Arena.called.Goals.{in-None, in-Some+in-ReadOp, in-Some+in-WriteOp}
 
-pub event-reply-requires : goal.event-reply-requires
-event-reply-requires c =
-    let n = subst (IsNextOf by_process c.args.self.now.events c.args.id.0) c.in-Some.is c.next_in_process.ensures in
-    key-within by_process c.args.self.now.events c.in-Some.next.0 c.event-event.result.process (n c.event-event.result.process (ap (option_and_then by_process) c.event-event.ensures.at)).1
+pub overflow_add-reply : goal.overflow_add-reply
+overflow_add-reply c = let l = c.reply_to.ensures.within c.in-Some.reply c.in-Some.is in omega (arith, l, c.event-event.ensures.bound)
 
-pub overflow_add-result-in-Some : goal.overflow_add-result-in-Some
-overflow_add-result-in-Some c = let l = slice_get_within c.args.self.now.events c.args.id.0 _ c.requires.1 in omega (arith, c.event-event.ensures.bound)
+pub event-requires : goal.event-requires
+event-requires c = c.reply_to.ensures.within c.in-Some.reply c.in-Some.is
 
-pub overflow_add-result-in-Some-2 : goal.overflow_add-result-in-Some-2
-overflow_add-result-in-Some-2 c = let l = slice_get_within c.args.self.now.events c.in-Some.next.0 _ c.event-reply.ensures.at in omega (arith, c.event-event.ensures.bound)
+pub overflow_add-reply-in-WriteOp : goal.overflow_add-reply-in-WriteOp
+overflow_add-reply-in-WriteOp c = let l = c.reply_to.ensures.within c.in-Some.reply c.in-Some.is in omega (arith, l, c.event-event.ensures.bound)
 
-pub returns-in-None : goal.returns-in-None
-returns-in-None c = pending c.args.self.now c.args.id c.event-event.result c.event-event.ensures.at c.requires (subst (IsNextOf by_process c.args.self.now.events c.args.id.0) c.in-None.is c.next_in_process.ensures)
+pub overflow_add-result : goal.overflow_add-result
+overflow_add-result c = let l = slice_get_within c.args.self.now.events c.args.id.0 _ c.event-event.ensures.at in omega (arith, l, c.event-event.ensures.bound)
 
-pub returns-after-event : goal.returns-after-event
-returns-after-event c = replied c.args.self.now c.args.id c.event-event.result c.event-event.ensures.at c.requires c.in-Some.next c.event-reply.result c.match-event.value
-    (subst (IsNextOf by_process c.args.self.now.events c.args.id.0) c.in-Some.is c.next_in_process.ensures) c.event-reply.ensures.at
-    (elim c.match-event.branch [
-      | in-ReadOp w ↦ w.value-is ∙ ap (λ k. cond (writes k) c.event-event.result.value c.event-reply.result.value) (sym w.in-ReadOp.is)
-      | in-WriteOp w ↦ w.value-is ∙ ap (λ k. cond (writes k) c.event-event.result.value c.event-reply.result.value) (sym w.in-WriteOp.is)
-    ])
+pub returns : goal.returns
+returns c = elim c.match-reply_to.branch [
+  | in-None w ↦ rw (w.reply-is, c.kind-kind.ensures) (pending c.args.self.now c.args.id c.event-event.result c.event-event.ensures.at c.requires c.unwrap_or.result c.unwrap_or.ensures (subst (IsReplyOf c.args.self.now.events c.args.id.0) w.in-None.is c.reply_to.ensures.reply))
+  | in-Some+in-ReadOp w ↦
+      rw (w.reply-is, c.kind-kind.ensures) (replied c.args.self.now c.args.id c.event-event.result c.event-event.ensures.at c.requires c.unwrap_or.result c.unwrap_or.ensures w.in-Some.reply w.event.result w.event.result.value
+      (subst (IsReplyOf c.args.self.now.events c.args.id.0) w.in-Some.is c.reply_to.ensures.reply) w.event.ensures.at
+      (ap (λ k. cond (writes k) c.event-event.result.value w.event.result.value) (sym (sym c.kind-kind.ensures ∙ w.in-ReadOp.is))))
+  | in-Some+in-WriteOp w ↦
+      let r = element c.args.self.now.events w.in-Some.reply.0 (c.reply_to.ensures.within w.in-Some.reply w.in-Some.is) in
+      rw (w.reply-is, c.kind-kind.ensures) (replied c.args.self.now c.args.id c.event-event.result c.event-event.ensures.at c.requires c.unwrap_or.result c.unwrap_or.ensures w.in-Some.reply r.0 c.event-event.result.value
+      (subst (IsReplyOf c.args.self.now.events c.args.id.0) w.in-Some.is c.reply_to.ensures.reply) r.1
+      (ap (λ k. cond (writes k) c.event-event.result.value r.0.value) (sym (sym c.kind-kind.ensures ∙ w.in-WriteOp.is))))
+]

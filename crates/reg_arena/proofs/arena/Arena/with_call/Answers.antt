@@ -1,10 +1,10 @@
 -- The history with one call more is the definition's.
-use Rattle.std.proofs.Common.{◌≡◌, ◌++◌, ◌∷◌, [], length, length-append, unwrap_or, true, ap, sym, subst, ◌∙◌, refl, arith}
+use Rattle.std.proofs.Common.{◌≡◌, ◌++◌, ◌∷◌, [], length, length-append, unwrap_or, Some, ap, sym, subst, ◌∙◌, refl, arith}
 use Rattle.reg_arena.specs.History.{History}
 use Rattle.reg_arena.specs.Step.{IsLastWith, IsNumber}
 use Rattle.reg_arena.specs.declared.event.Event.{Event}
-use Rattle.reg_arena.specs.Threads.{IsCallAt}
-use Rattle.reg_arena.proofs.Step.{accepted-push, room-of, next-history, event_by, call-event_is, names-of_known, names-of_new, own-call}
+use Rattle.reg_arena.specs.declared.event.What.TheVariants.{Call}
+use Rattle.reg_arena.proofs.Step.{accepted-push, room-of, next-history, event_by, numbered, call-event_is, names-of_known, names-of_new, own-call}
 use Rattle.reg_arena.proofs.ByEvent.{alike-call}
 use Rattle.reg_arena.proofs.arena.Arena.with_call.Goals as goal
 use Rattle.reg_arena.proofs.arena.Arena.with_call.Goals.{in-Some, in-None+in_ok-names-in-None}
@@ -21,13 +21,13 @@ append-requires-clause-room c =
 pub append-requires-clause-call : goal.append-requires-clause-call
 append-requires-clause-call c =
     let n : length c.self.inside.threads.events.items ≡ c.len.result = omega (arith, c.len.ensures) in
-    let ev : Event = event_by c.args.event.now c.unwrap_or.result true c.args.kind c.args.value in
-    subst (λ m. IsCallAt (c.self.inside.threads.events.items ++ ev ∷ []) (length c.self.inside.threads.events.items) m) n (own-call c.self.inside.threads.events.items ev refl)
+    let ev : Event = event_by c.args.event.now (Some (record { 0 = c.unwrap_or.result })) (Call c.args.kind) c.args.value in
+    own-call c.self.inside.threads.events.items ev (record { 0 = c.len.result }) c.args.kind refl n
 
 pub append-requires-clause-alike : goal.append-requires-clause-alike
 append-requires-clause-alike c =
     let register = c.unwrap_or.ensures ∙ ap (unwrap_or c.args.number) (c.len-count.ensures ∙ c.self.invariant.1) in
-    alike-call c.self.inside.threads c.self.invariant.0 (event_by c.args.event.now c.unwrap_or.result true c.args.kind c.args.value) c.args.number c.args.last register
+    alike-call c.self.inside.threads c.self.invariant.0 (event_by c.args.event.now (Some (record { 0 = c.unwrap_or.result })) (Call c.args.kind) c.args.value) (record { 0 = c.unwrap_or.result }) c.args.number c.args.last refl register
     (subst (λ (h : History). IsLastWith h.events c.args.number c.args.value c.args.last) (sym c.self.view_is) c.requires.last)
 
 pub returns : goal.returns
@@ -35,13 +35,13 @@ returns c = λ before acc q.
     let h = c.self.view_is ∙ q in
     let names = ap (λ (h : History). h.names) h in
     let n = subst (λ (h : History). IsNumber h.names c.args.name.now c.args.number) q c.requires.number in
-    next-history before c.args.event.now _ _ (event_by c.args.event.now c.unwrap_or.result true c.args.kind c.args.value)
+    next-history before c.args.event.now _ _ (event_by c.args.event.now (Some (record { 0 = c.unwrap_or.result })) (Call c.args.kind) c.args.value)
     (elim c.match-number.branch [
       | in-Some w ↦ w.names-is ∙ (names ∙ names-of_known before c.args.event.now _ c.requires.asked c.args.number n w.in-Some.field-0 w.in-Some.is)
       | in-None+in_ok-names-in-None w ↦ w.names-is ∙ (w.in_ok-names-in-None.ensures ∙ (ap (λ ns. ns ++ c.args.name.now ∷ []) names ∙ names-of_new before c.args.event.now _ c.requires.asked c.args.number n w.in-None.is))
     ])
-    (c.in_ok-append.ensures.events ∙ ap (λ (h : History). h.events ++ event_by c.args.event.now c.unwrap_or.result true c.args.kind c.args.value ∷ []) h)
-    (ap (λ r. event_by c.args.event.now r true c.args.kind c.args.value) (c.unwrap_or.ensures ∙ ap (unwrap_or c.args.number) (c.len-count.ensures ∙ ap length names))
+    (c.in_ok-append.ensures.events ∙ ap (λ (h : History). h.events ++ event_by c.args.event.now (Some (record { 0 = c.unwrap_or.result })) (Call c.args.kind) c.args.value ∷ []) h)
+    (ap (λ r. event_by c.args.event.now (numbered r) (Call c.args.kind) c.args.value) (c.unwrap_or.ensures ∙ ap (unwrap_or c.args.number) (c.len-count.ensures ∙ ap length names))
     ∙ call-event_is before c.args.event.now _ c.requires.asked c.args.number n)
 
 pub invariant_of-result : goal.invariant_of-result

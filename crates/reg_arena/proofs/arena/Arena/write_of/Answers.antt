@@ -1,7 +1,7 @@
 use Rattle.std.proofs.Common.{sym, subst, ◌∙◌, Some, None}
 use Rattle.reg_arena.specs.History.{History, IsRecorded}
-use Rattle.reg_arena.specs.Shown.{IsWriteOf, IsFirstOf}
-use Rattle.reg_arena.specs.Threads.{by_write}
+use Rattle.reg_arena.specs.Shown.{IsWriteOf}
+use Rattle.reg_arena.specs.Threads.{IsKeptWrite}
 use Rattle.reg_arena.specs.declared.ids.Oper.TheVariants.{Initial}
 use Rattle.reg_arena.proofs.OfValue.{write-is, write-none, write-initial}
 use Rattle.reg_arena.proofs.Times.{null-int}
@@ -13,9 +13,9 @@ returns-in-Null c = subst (λ v. IsWriteOf c.args.self.now c.args.register.0 v (
 pub returns-in-Some : goal.returns-in-Some
 returns-in-Some c =
     write-is c.args.self.now (subst IsRecorded c.self.view_is c.self.invariant.2) c.args.register.0 c.args.value c.in-Some.id
-    (subst (λ (h : History). IsFirstOf by_write h.events (c.args.register.0, c.args.value) (Some c.in-Some.id)) c.self.view_is c.in-Some.ensures)
+    (subst (λ (h : History). IsKeptWrite h.events (c.args.register.0, c.args.value) (Some c.in-Some.id)) c.self.view_is c.in-Some.ensures)
 
 pub returns-in-None : goal.returns-in-None
 returns-in-None c =
     write-none c.args.self.now (subst IsRecorded c.self.view_is c.self.invariant.2) c.args.register.0 c.args.value (λ z. null-int _ (sym c.in-Int.is ∙ z))
-    (subst (λ (h : History). IsFirstOf by_write h.events (c.args.register.0, c.args.value) None) c.self.view_is c.in-None.ensures)
+    (subst (λ (h : History). IsKeptWrite h.events (c.args.register.0, c.args.value) None) c.self.view_is c.in-None.ensures)

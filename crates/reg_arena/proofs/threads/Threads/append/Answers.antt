@@ -5,7 +5,7 @@ use Rattle.reg_arena.specs.declared.ids.EvId.{EvId}
 use Rattle.reg_arena.specs.declared.ends.Entry.{Entry}
 use Rattle.reg_arena.specs.Shown.{key_at, by_register, by_process, by_value}
 use Rattle.reg_arena.specs.Threads.{value_entry, value_number}
-use Rattle.reg_arena.proofs.Append.{ends-within, family, calls-push, entries-push, numbers-push}
+use Rattle.reg_arena.proofs.Append.{end-known, ends-within, family, calls-push, calls-length, fail-within, entries-push, numbers-push}
 use Rattle.reg_arena.proofs.threads.Threads.append.Goals as goal
 
 pub join_register-requires-clause-within : goal.join_register-requires-clause-within
@@ -33,16 +33,19 @@ returns-clause-threads c =
       registers = rw items (family by_register es e n c.args.self.now.in_register.items c.join_register.new.links.items _ _ at t.register_column t.registers c.in_ok-join_register.ensures.joined);
       processes = rw items (family by_process es e n c.args.self.now.in_process.items c.join_process.new.links.items _ _ at t.process_column t.processes c.in_ok-join_process.ensures.joined);
       values = rw items (family by_value es e n c.args.self.now.in_value.items c.join_value.new.links.items _ _ at t.value_column t.values c.in_ok-number.ensures.joined);
-      calls = rw (items, c.in_ok-push-2.ensures.items) (calls-push es e c.args.self.now.calls.items c.args.call t.call_column t.calls c.requires.call);
-      entries = rw (items, c.in_ok-push-2.ensures.items) (entries-push es e n c.args.self.now.calls.items c.args.call at t.call_column _ _ none t.entries c.in_ok-number.ensures.entered);
+      calls = rw (items, c.in_ok-join_call.ensures) (calls-push es e n c.args.self.now.calls.items c.args.call at t.call_column c.requires.room c.requires.call t.calls);
+      entries = rw (items, c.in_ok-join_call.ensures) (entries-push es e n c.args.self.now.calls.items c.args.call at t.call_column c.requires.room c.requires.call _ _ none t.entries c.in_ok-number.ensures.entered);
       numbered = c.in_ok-number.ensures.numbered;
-      numbers = rw (items, c.in_ok-push-3.ensures.items) (numbers-push es e c.args.self.now.numbers.items c.in_ok-number.number (value_number c.args.self.now.values.keys) (value_number c.join_value.new.values.keys) t.number_column t.numbers no_number c.in_ok-number.ensures.kept c.in_ok-number.ensures.number);
+      numbers = rw (items, c.in_ok-push-2.ensures.items) (numbers-push es e c.args.self.now.numbers.items c.in_ok-number.number (value_number c.args.self.now.values.keys) (value_number c.join_value.new.values.keys) t.number_column t.numbers no_number c.in_ok-number.ensures.kept c.in_ok-number.ensures.number);
       register_column = rw items (omega (arith, length-append es (e ∷ []), c.in_ok-join_register.ensures.count, t.register_column));
       process_column = rw items (omega (arith, length-append es (e ∷ []), c.in_ok-join_process.ensures.count, t.process_column));
       value_column = rw items (omega (arith, length-append es (e ∷ []), c.in_ok-number.ensures.count, t.value_column));
-      call_column = rw (items, c.in_ok-push-2.ensures.items) (omega (arith, length-append es (e ∷ []), length-append c.args.self.now.calls.items (c.args.call ∷ []), t.call_column));
-      number_column = rw (items, c.in_ok-push-3.ensures.items) (omega (arith, length-append es (e ∷ []), length-append c.args.self.now.numbers.items (c.in_ok-number.number ∷ []), t.number_column));
-      known = rw items (omega (arith, length-append es (e ∷ []), c.in_ok-join_register.ensures.registers, c.requires.register, t.known));
+      call_column = rw (items, c.in_ok-join_call.ensures) (omega (arith, length-append es (e ∷ []), calls-length c.args.self.now.calls.items e.what c.args.call, t.call_column));
+      number_column = rw (items, c.in_ok-push-2.ensures.items) (omega (arith, length-append es (e ∷ []), length-append c.args.self.now.numbers.items (c.in_ok-number.number ∷ []), t.number_column));
+      known = rw items (omega (arith, length-append es (e ∷ []), c.in_ok-join_register.ensures.registers, end-known e.register, c.requires.register, t.known));
       few = rw items (omega (arith, length-append es (e ∷ []), c.in_ok-number.ensures.few, t.few));
       room = rw items (omega (arith, length-append es (e ∷ []), c.requires.room));
     }
+
+pub join_call-requires : goal.join_call-requires
+join_call-requires c = λ f. let l = fail-within c.args.self.now.events.items c.args.event c.args.call c.requires.call f in omega (arith, l, c.requires.threads.call_column)

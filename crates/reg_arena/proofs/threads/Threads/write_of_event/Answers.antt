@@ -1,11 +1,14 @@
-use Rattle.std.proofs.Common.{sym, ap, ◌∙◌, option_map, option_and_then}
-use Rattle.reg_arena.specs.declared.ends.Entry.{Entry}
-use Rattle.reg_arena.specs.Shown.{by_value}
-use Rattle.reg_arena.specs.Threads.{by_write, value_entry}
-use Rattle.reg_arena.proofs.Append.{key-along, write-value}
+use Rattle.std.proofs.Common.{sym, ap, subst, ◌∙◌, option_and_then}
+use Rattle.reg_arena.specs.Threads.{IsKeptWrite, value_entry}
+use Rattle.reg_arena.proofs.ByEvent.{kept-write, kept-none}
 use Rattle.reg_arena.proofs.threads.Threads.write_of_event.Goals as goal
 
+pub returns-in-Some : goal.returns-in-Some
+returns-in-Some c = λ k q.
+    let some = sym (ap (option_and_then (value_entry c.args.self.now.values.keys c.args.self.now.entries.items)) q) ∙ sym c.in-Some.ensures in
+    subst (IsKeptWrite c.args.self.now.events.items k) (sym c.kept.ensures) (kept-write c.args.self.now c.requires.threads k c.in-Some.entry some)
+
 pub returns-in-None : goal.returns-in-None
-returns-in-None c = λ k q i _ h.
+returns-in-None c = λ k q.
     let none = sym (ap (option_and_then (value_entry c.args.self.now.values.keys c.args.self.now.entries.items)) q) ∙ sym c.in-None.ensures in
-    c.requires.threads.values.none k (ap (option_map (λ (y : Entry). y.ends)) none) i (key-along by_write by_value c.args.self.now.events.items k (λ e. write-value e k) i h)
+    kept-none c.args.self.now c.requires.threads k none

@@ -1,0 +1,26 @@
+-- A fail of an open call is refused as the definition says, by what the arena tells of the call.
+use Rattle.std.proofs.Common.{◌≡◌, ◌<◌, cond, nat_le, length, slice_get, true, false, Some, None, inl, inr, refl, sym, ap, subst, ◌∙◌, arith}
+use Rattle.history_text.specs.declared.limits.TheConstants.{MAX_EVENTS}
+use Rattle.reg_arena.specs.Refusals.{refused}
+use Rattle.reg_arena.specs.History.{History, IsRecorded}
+use Rattle.reg_arena.specs.Step.{IsOpenCall}
+use Rattle.reg_arena.proofs.Named.{event-register}
+use Rattle.reg_arena.proofs.Step.{open-named}
+use Rattle.reg_arena.proofs.Refused.{fail-tested}
+use Rattle.reg_arena.proofs.arena.Arena.fail_refusal.Goals as goal
+
+pub name-name-requires : goal.name-name-requires
+name-name-requires c = open-named c.args.self.now (subst IsRecorded c.self.view_is c.self.invariant.2) c.args.event.now.process c.args.opened c.requires.opened
+
+pub returns-then-not-fail_agrees : goal.returns-then-not-fail_agrees
+returns-then-not-fail_agrees c = λ es acc q.
+    let o = subst (λ (h : History). IsOpenCall h.events c.args.event.now.process c.args.opened) q c.requires.opened in
+    let name = ap (λ (h : History). slice_get h.names c.args.opened.register.0) (sym q) ∙ c.name-name.ensures.at in
+    ap Some c.refused.ensures ∙ sym (fail-tested es c.args.event.now acc c.args.opened c.name-name.result.now o name c.args.parts.now c.requires.fail c.fail_agrees.result false c.fail_agrees.ensures c.if-not-fail_agrees.true)
+
+pub returns : goal.returns
+returns c = λ es acc q.
+    let o = subst (λ (h : History). IsOpenCall h.events c.args.event.now.process c.args.opened) q c.requires.opened in
+    let name = ap (λ (h : History). slice_get h.names c.args.opened.register.0) (sym q) ∙ c.name-name.ensures.at in
+    c.too_many.ensures ∙ (ap (λ (h : History). cond (nat_le MAX_EVENTS (length h.events)) (Some (refused c.args.event.now 14 None)) None) q
+    ∙ sym (fail-tested es c.args.event.now acc c.args.opened c.name-name.result.now o name c.args.parts.now c.requires.fail c.fail_agrees.result true c.fail_agrees.ensures c.if-not-fail_agrees.false))
