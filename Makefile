@@ -7,6 +7,7 @@
 # make bench-library: time small calls, and 2^20 events against the program with one worker.
 # make picture-test: look at pages of `regkit draw` in a headless browser, and keep the screenshots in SHOTS=...
 # make bench: time it on generated histories, in three to fifteen minutes.
+# make bench-compare: time it and an older build, OLD=..., in turn.
 # make install: all of the next two below PREFIX, within DESTDIR.
 # make install-programs: the programs, man pages, documents, examples and completions. make install-library: the library.
 # make dist: the release in dist/: a tarball, a Debian package, their bill of materials and their sums.
@@ -24,19 +25,18 @@ PYTHON := $(shell find python/regkit -name '*.py')
 PROGRAM := bin/regcheck
 DOCUMENTS = $(DESTDIR)$(PREFIX)/share/doc/regcheck
 
-.PHONY: all run try test fuzz picture-test bench library embed-test bench-library install install-programs install-library dist dist-library clean
+.PHONY: all run try test fuzz picture-test bench bench-compare library embed-test bench-library install install-programs install-library dist dist-library clean
 
 all: bin/regcheck
 
 # `rt run` proves every crate, builds the program and leaves it in out/; its stored input keeps it from waiting for ours.
+# What it says goes to a log in bin/, and a line for each crate to standard error.
 bin/regcheck: $(SOURCES) crates.txt
-	cd crates/regcheck && rt run < stdin > /dev/null
-	mkdir -p bin
+	cd crates/regcheck && $(CURDIR)/packaging/prove $(CURDIR)/bin/regcheck.log rt run < stdin
 	cp crates/regcheck/out/regcheck bin/regcheck
 
 bin/history_generator: $(SOURCES) crates.txt
-	cd crates/history_generator && rt run -- sequential > /dev/null
-	mkdir -p bin
+	cd crates/history_generator && $(CURDIR)/packaging/prove $(CURDIR)/bin/history_generator.log rt run -- sequential
 	cp crates/history_generator/out/history_generator bin/history_generator
 
 library: bin/libregcheck.a bin/libregcheck.so bin/regcheck.pc
@@ -44,8 +44,7 @@ library: bin/libregcheck.a bin/libregcheck.so bin/regcheck.pc
 # The archive of a static library leaves out the C part of the toolchain's allocator; here it is put in, and its names are
 # hidden, so that nothing but the one call can clash with a name of the program that links it.
 bin/libregcheck.a: $(SOURCES) crates.txt
-	cd crates/regcheck_c && rt lib > /dev/null
-	mkdir -p bin
+	cd crates/regcheck_c && $(CURDIR)/packaging/prove $(CURDIR)/bin/regcheck_c.log rt lib
 	ld -r -u regcheck_report -o bin/regcheck.o crates/regcheck_c/out/libregcheck_c.a "$$(dirname "$$(rt doc)")/c/liblibc_c.a"
 	objcopy --keep-global-symbol=regcheck_report bin/regcheck.o
 	rm -f $@
@@ -99,6 +98,9 @@ picture-test: bin/regcheck bin/history_generator
 
 bench: bin/regcheck bin/history_generator
 	bench/run
+
+bench-compare: bin/regcheck bin/history_generator
+	bench/compare $(OLD)
 
 bin/regkit: $(PYTHON) python/make_archive
 	mkdir -p bin

@@ -5,7 +5,7 @@ ghost use Rattle.byte_ends.specs.Adapters.{source_over, sink_over};
 use crate::ends::{IoFail, Sink, Source};
 use std::io::{ErrorKind, Read, Write};
 
-/// A reader as a source. It tells the bytes that it has left where the reader does.
+/// A reader as a source. It tells the bytes that it has left if the reader does.
 #[derive(Drop)]
 pub struct FromReader<R: Read + Drop> {
     inner: R,
@@ -43,7 +43,7 @@ impl<R: Read + Drop> Source for FromReader<R> {
     }
 }
 
-/// A writer as a sink. It tells the bytes that it has taken where the writer does.
+/// A writer as a sink. It tells the bytes that it has taken if the writer does.
 #[derive(Drop)]
 pub struct FromWriter<W: Write + Drop> {
     inner: W,

@@ -7,9 +7,9 @@ ghost use Rattle.byte_ends.specs.Ends.{Counts};
 #[derive(Clone, Copy, Debug, PartialEq, Eq)]
 pub struct IoFail;
 
-/// What bytes come from. It counts its failures, and contracts see the bytes that it has left, where it tells them.
+/// What bytes come from. It counts its failures, and contracts see the bytes that it has left, if it tells them.
 pub trait Source {
-    // The bytes that it has left, where it tells them.
+    // The bytes that it has left, if it tells them.
     ghost left: { Self → Option (List ℕ) } = { λ _. None };
 
     // How many times it has failed.
@@ -19,7 +19,7 @@ pub trait Source {
     /// isn't empty, is the end.
     ///
     /// # Errors
-    /// `IoFail` where no byte could be had; then none is lost, and the failures are one more.
+    /// `IoFail` if no byte could be had; then none is lost, and the failures are one more.
     fn pull(&mut self, into: &mut [u8]) -> Result<usize, IoFail>
         requires { failed self.old < 2 ^ 64 - 1 }
         ensures bound { IfOk result (λ count. count ≤ length into.new) }
@@ -31,21 +31,21 @@ pub trait Source {
         ensures { result ≡ failed self.now };
 }
 
-/// What bytes go to. It counts its failures, and contracts see the bytes that it has taken, where it tells them.
+/// What bytes go to. It counts its failures, and contracts see the bytes that it has taken, if it tells them.
 pub trait Sink {
-    // The bytes that it has taken, where it tells them.
+    // The bytes that it has taken, if it tells them.
     ghost taken: { Self → Option (List ℕ) } = { λ _. None };
 
     // How many times it has failed.
     ghost failed: { Self → ℕ };
 
-    // A flush came after the last push, where it tells that.
+    // A flush came after the last push, if it tells that.
     ghost is_flushed: { Self → Type 0 } = { λ _. Unit {0} };
 
-    /// Takes a beginning of the bytes, and says how many: at least one where there is one.
+    /// Takes a beginning of the bytes, and says how many: at least one if there is one.
     ///
     /// # Errors
-    /// `IoFail` where no byte could be taken; then none is taken, and the failures are one more.
+    /// `IoFail` if no byte could be taken; then none is taken, and the failures are one more.
     fn push(&mut self, bytes: &[u8]) -> Result<usize, IoFail>
         requires { failed self.old < 2 ^ 64 - 1 }
         ensures bound { IfOk result (λ count. count ≤ length bytes.now) }
@@ -56,7 +56,7 @@ pub trait Sink {
     /// Sees the bytes off that it has taken.
     ///
     /// # Errors
-    /// `IoFail` where that failed; then the failures are one more.
+    /// `IoFail` if that failed; then the failures are one more.
     fn flush(&mut self) -> Result<(), IoFail>
         requires { failed self.old < 2 ^ 64 - 1 }
         ensures bytes { Keeps (taken self.old) (taken self.new) }

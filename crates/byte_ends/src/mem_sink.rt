@@ -7,7 +7,7 @@ use crate::ends::{IoFail, Sink};
 use std::alloc::{AllocError, Global};
 use std::marker::Model;
 
-/// So many bytes of memory as a sink, which fails when it is full, and at a flush where it is told to.
+/// So many bytes of memory as a sink, which fails when it is full, and at a flush if it is told to.
 #[derive(Drop)]
 pub struct MemSink {
     buffer: Vec<u8>,
@@ -30,11 +30,11 @@ impl Model for MemSink {
 }
 
 impl MemSink {
-    /// A sink with memory for `room` bytes, which takes up to `step` of them at a push, and fails at each flush where
+    /// A sink with memory for `room` bytes, which takes up to `step` of them at a push, and fails at each flush if
     /// `flush_fails`.
     ///
     /// # Errors
-    /// `AllocError` where memory was refused.
+    /// `AllocError` if memory was refused.
     pub fn new(
         alloc: Global,
         room: usize,

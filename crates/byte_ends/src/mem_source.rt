@@ -1,4 +1,4 @@
-//! A source over memory, which gives its bytes in pieces and fails where it is told to.
+//! A source over memory, which gives its bytes in pieces and fails if it is told to.
 ghost use Rattle.std.specs.Prelude.{◌≡◌, ◌<◌, ◌≤◌, ◌-◌, ◌^◌, ◌↔◌, min, Some, IfOk, IsErr, length, option_map};
 ghost use Rattle.std.specs.Io.KnownBytes.{ReadConsumes};
 ghost use Rattle.byte_ends.specs.Ends.{Counts};
@@ -6,7 +6,7 @@ ghost use Rattle.byte_ends.specs.Ends.{Counts};
 use crate::ends::{IoFail, Source};
 use std::marker::Model;
 
-/// A slice as a source, which gives it in pieces, and fails at one pull where it is told to.
+/// A slice as a source, which gives it in pieces, and fails at one pull if it is told to.
 #[derive(Drop)]
 pub struct MemSource<'a> {
     rest: &'a [u8],

@@ -41,7 +41,7 @@ impl History {
         Ok(())
     }
 
-    /// Where one more event is wanted, adds the call of a read that stays pending, by a process without an open call.
+    /// If one more event is wanted, adds the call of a read that stays pending, by a process without an open call.
     pub(crate) fn fill(&mut self, process: u32) -> Result<(), AllocError>
         ensures { OnOk result (self.new.left ≡ self.old.left - 1) }
     {

@@ -54,7 +54,7 @@ pub const NAMES: [&str; 14] = [
 ];
 
 impl Kind {
-    /// The kind of a name, where there is one.
+    /// The kind of a name, if there is one.
     pub fn named(name: &str) -> Option<Self>
         ensures some { IfSome result (λ kind. name_of kind ≡ name.now) }
         ensures none { IsNone result → (kind : Kind) → name_of kind ≢ name.now }

@@ -46,7 +46,7 @@ impl Memory {
         }
     }
 
-    /// Changes the register with a number, where there is one.
+    /// Changes the register with a number, if there is one.
     pub(crate) fn set(&mut self, number: u32, register: Register)
         ensures { self.new.registers.items ≡ slice_set self.old.registers.items number register }
     {

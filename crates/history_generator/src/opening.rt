@@ -66,7 +66,7 @@ fn record_all(history: &mut History, events: &[Event]) -> Result<(), AllocError>
     Ok(())
 }
 
-/// Begins the history with the fault of its kind, where it has one that fits the events wanted, and leaves the memory
+/// Begins the history with the fault of its kind, if it has one that fits the events wanted, and leaves the memory
 /// as it is then.
 pub(crate) fn open(
     kind: Kind,

@@ -1,6 +1,6 @@
 //! Clients that take turns at random. A turn is a call, an effect or a reply, so that an operation takes effect at one
 //! instant between its call and its reply, on the registers in memory: the order of these instants is a legal order,
-//! and the history is atomic. Where a client died or crashed, its operation took effect before, or is dropped. A call
+//! and the history is atomic. If a client died or crashed, its operation took effect before, or is dropped. A call
 //! that fails never takes effect. Of the kinds that aren't atomic, a rule of `served_write` or `served_read` breaks this.
 ghost use Rattle.std.specs.Prelude.{◌≡◌, ◌<◌, ◌+◌, ◌-◌, ◌^◌, length, slice_get, slice_set, Some};
 ghost use Rattle.history_generator.specs.declared.client.Stage.TheVariants.{Idle, Failed};
@@ -88,7 +88,7 @@ impl Simulation {
         self.random.random_ratio(1, 2)
     }
 
-    /// Whether the client's next operation on the register is a write. Where values may be old, each register has one
+    /// Whether the client's next operation on the register is a write. If values may be old, each register has one
     /// client that writes it.
     fn chooses_write(&mut self, client: u32, register: u32) -> bool {
         match self.settings.kind {

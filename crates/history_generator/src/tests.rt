@@ -9,7 +9,7 @@ use std::random::RandomSource;
 use std::test::Fail;
 use std::thread::Threads;
 
-// Events, seed, and processes and registers where they aren't left to the kind.
+// Events, seed, and processes and registers if they aren't left to the kind.
 const ASKED: [(u32, u64, Option<u32>, Option<u32>); 7] = [
     (6, 0, None, None),
     (7, 1, None, None),
@@ -117,7 +117,7 @@ fn expect_counts(
     Ok(())
 }
 
-// Another seed gives another history, where there is a choice.
+// Another seed gives another history, if there is a choice.
 #[test]
 fn seeds(rt: HostRuntime) -> Result<(), Fail> {
     let alloc = rt.alloc();

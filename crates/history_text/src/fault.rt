@@ -23,12 +23,12 @@ pub enum LineKind {
     BadValue,
 }
 
-/// The least fault of one line.
+/// The lowest-numbered fault of one line.
 #[derive(Clone, Copy, Debug, PartialEq, Eq)]
 pub struct LineFault {
     /// The line's number, from 1.
     pub line: u32,
-    /// The fault, the least of those that the line has.
+    /// The fault, the lowest-numbered of those that the line has.
     pub kind: LineKind,
 }
 

@@ -1,8 +1,8 @@
-//! One line: its event, or the least fault that applies to it.
+//! One line: its event, or the lowest-numbered fault that applies to it.
 //!
 //! `flat_line` reads the common form of a line with no tree. Every other line, and each one that has a
 //! fault, is read as a JSON value here. Faults are looked for by ascending number, so the first that is
-//! found is the least.
+//! found is the lowest-numbered.
 ghost use Rattle.serde_json.specs.View.{view};
 ghost use Rattle.history_text.specs.Reading.{call_kind, parts_form, kind_of, event_of, line_form, line_reading};
 ghost use Rattle.history_text.specs.Memory.{Gives, GivesLine};
@@ -20,13 +20,13 @@ use std::alloc::Global;
 /// Why a line gave no event. Nothing of the line is kept.
 #[derive(Clone, Copy, Debug, PartialEq, Eq)]
 pub enum LineError {
-    /// The line has this fault, and no lesser one.
+    /// The line has this fault, and no lower-numbered one.
     Fault(LineFault),
     /// Memory was refused; nothing is known of the line.
     Memory,
 }
 
-/// The event of line `line`, which is not blank and given without its line feed, or its least fault.
+/// The event of line `line`, which is not blank and given without its line feed, or its lowest-numbered fault.
 ///
 /// JSON is read as `serde_json`'s `Value::from_slice` reads it; of equal names in one object the
 /// last counts, and names that the format doesn't know are ignored.

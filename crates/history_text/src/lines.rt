@@ -18,7 +18,7 @@ pub struct Span {
 }
 
 /// The lines that are not blank, in order. Blank lines have no span and still count; a line holds
-/// only spaces, tabs and carriage returns where it is blank.
+/// only spaces, tabs and carriage returns if it is blank.
 ///
 /// The error is the want of memory; nothing is kept then.
 pub fn lines_of(alloc: Global, bytes: &[u8]) -> Result<Vec<Span>, AllocError>

@@ -10,7 +10,7 @@ use std::marker::Model;
 
 /// The name of a register: a text of 1 to [`MAX_NAME`](crate::MAX_NAME) bytes.
 ///
-/// Contracts see it as its UTF-8 bytes. Two names are the same register's where their bytes are equal.
+/// Contracts see it as its UTF-8 bytes. Two names are the same register's if their bytes are equal.
 #[derive(Debug, Drop)]
 pub struct Name {
     text: String,

@@ -14,7 +14,7 @@ use std::alloc::{AllocError, Global};
 use std::sync::atomic::{AtomicBool, Ordering};
 use std::thread::Threads;
 
-/// The event of each line that is not blank, or its least fault, in order. Their line numbers ascend.
+/// The event of each line that is not blank, or its lowest-numbered fault, in order. Their line numbers ascend.
 ///
 /// Many lines are read by several threads, as many as serve the processors. The error is the want of
 /// memory; nothing is kept then.

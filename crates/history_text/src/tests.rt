@@ -26,7 +26,7 @@ fn read(
     }
 }
 
-// The number of a line's fault, or 0 where it has an event.
+// The number of a line's fault, or 0 if it has an event.
 fn number(alloc: Global, bytes: &[u8]) -> Result<u8, AllocError> {
     match read(alloc, bytes, 1)? {
         Ok(_) => Ok(0),
@@ -129,7 +129,7 @@ fn events_of_lines(rt: HostRuntime) -> Result<(), Fail> {
     Ok(())
 }
 
-// A line, and the number of its fault, or 0 where it has an event.
+// A line, and the number of its fault, or 0 if it has an event.
 const FAULTS: [(&str, u8); 45] = [
     (r#"{"process":2,"ev"#, 2),
     ("\0", 2),
@@ -196,7 +196,7 @@ const FAULTS: [(&str, u8); 45] = [
         r#"{"process":1,"event":"crash","op":0,"register":0,"value":true}"#,
         0,
     ),
-    // Of several faults the least number, wherever its member stands.
+    // Of several faults the lowest number, wherever its member stands.
     (
         r#"{"value":true,"register":0,"op":0,"event":0,"process":1.5}"#,
         4,

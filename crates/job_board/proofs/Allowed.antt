@@ -5,7 +5,7 @@ use native.Mathlib.Decide.{dec_le}
 use Rattle.atomic_table.proofs.Lists.{set_again}
 use Rattle.atomic_table.specs.Table.{Me, Act, keeps, Valid, carried_after, homes_after, Allows, Splits, Joins}
 use Rattle.job_board.specs.Numbers.{times}
-use Rattle.job_board.specs.Seats.{View, spent_view, with_drawn, with_told, with_flag, with_seen, first_part, second_part, joint_view}
+use Rattle.job_board.specs.Seats.{View, spent_view, with_drawn, with_exhausted, with_flag, with_seen, first_part, second_part, joint_view}
 use Rattle.job_board.specs.Facts.{weight_of, IsConsistent}
 use Rattle.job_board.specs.Steps.{IsBoard, DrawTells, FlagTells, LookTells, CountTells}
 use Rattle.job_board.proofs.Totals.{total_at}
@@ -23,9 +23,9 @@ Owes jobs homes views id me i f then ws =
     × then (slice_index ws i) (w, carried_after me.1 a)
 
 -- a draw
-pub draw_allowed : (jobs slots id : ℕ) (me : Me ℕ View) → 0 < me.0.weight → me.0.told ≡ false
+pub draw_allowed : (jobs slots id : ℕ) (me : Me ℕ View) → 0 < me.0.weight → me.0.exhausted ≡ false
     → Allows (IsBoard jobs) slots id me 0 (λ n. (n + 1) % 2 ^ 64) (DrawTells me)
-draw_allowed jobs slots id me heavy untold s h len at small =
+draw_allowed jobs slots id me heavy drawing s h len at small =
     subst (Owes jobs s.homes s.views id me 0 (λ n. (n + 1) % 2 ^ 64) (DrawTells me)) (sym h.2) (go (dec_le jobs h.0))
   where
     more : (h.0 + 1) % 2 ^ 64 ≡ h.0 + 1
@@ -36,10 +36,10 @@ draw_allowed jobs slots id me heavy untold s h len at small =
 
     go : Dec (jobs ≤ h.0) → Owes jobs s.homes s.views id me 0 (λ n. (n + 1) % 2 ^ 64) (DrawTells me) (h.0 ∷ h.1 ∷ [])
     go (yes le) = (
-      with_told me.0,
+      with_exhausted me.0,
       keeps,
       tt,
-      (h.0 + 1, h.1, ap (λ n. n ∷ h.1 ∷ []) more, telling_keeps jobs h.0 h.1 s.views id me.0 h.3 at heavy untold le),
+      (h.0 + 1, h.1, ap (λ n. n ∷ h.1 ∷ []) more, telling_keeps jobs h.0 h.1 s.views id me.0 h.3 at heavy drawing le),
       inr (rw mine le, refl),
     )
     go (no gt) = let lt = lt_of_not-le gt in (

@@ -16,7 +16,7 @@ use Rattle.job_board.proofs.Looking.{look_seen}
 whole_seat : (jobs next least : ℕ) (views : List View) (id : ℕ) (v : View) → IsConsistent jobs next least views → get_elem? views id ≡ some v → v.weight ≡ FULL_WEIGHT → ClosesWith jobs v least
 whole_seat jobs next least views id v h at all = record {
   jobs_known = mine.jobs_known (omega arith);
-  drawn = (min next jobs, omega arith, (λ x. sym (alone (λ u. times x u.drawn) refl) ∙ h.drawn x), λ told. let a = mine.told told in omega arith);
+  drawn = (min next jobs, omega arith, (λ x. sym (alone (λ u. times x u.drawn) refl) ∙ h.drawn x), λ exhausted. let a = mine.exhausted exhausted in omega arith);
   least = least_same jobs least _ _ flagged h.least_flag;
   seen = ⊎_elim (λ (e : v.seen ≡ jobs). inl e) (λ (e : 0 < flag_count views v.seen). inr (let a = flagged v.seen in omega arith)) (mine.seen (omega arith));
   at_most_seen = look_seen jobs next least views id v h at (omega arith);

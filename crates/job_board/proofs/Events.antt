@@ -4,7 +4,7 @@ use Rattle.std.proofs.lemmas.Bool.{lt-ltb, le-ltb}
 use native.Mathlib.Decide.{dec_le}
 use Rattle.atomic_table.proofs.Lists.{set_else}
 use Rattle.job_board.specs.declared.limits.TheConstants.{MAX_JOBS}
-use Rattle.job_board.specs.Seats.{View, with_drawn, with_told, joint_view}
+use Rattle.job_board.specs.Seats.{View, with_drawn, with_exhausted, joint_view}
 use Rattle.job_board.specs.Facts.{IsConsistent}
 use Rattle.job_board.specs.Events.{State, state_of, opening_state, Event, draw, flag, look, split, join, IsSeatAt, view_after_draw, Leads, LeadTo}
 use Rattle.job_board.proofs.Opening.{opening_keeps}
@@ -19,14 +19,14 @@ abbrev IsGood : ℕ → State → Type 0
 IsGood jobs c = IsConsistent jobs c.next c.least c.seats
 
 -- a draw, whatever it finds
-draw_leads : (jobs : ℕ) (c : State) (id : ℕ) (v : View) → IsGood jobs c → IsSeatAt c id v → v.told ≡ false → Dec (jobs ≤ c.next) → IsGood jobs (state_of (c.next + 1) c.least (set c.seats id (view_after_draw jobs v c.next)))
-draw_leads jobs c id v h at untold (yes le) =
+draw_leads : (jobs : ℕ) (c : State) (id : ℕ) (v : View) → IsGood jobs c → IsSeatAt c id v → v.exhausted ≡ false → Dec (jobs ≤ c.next) → IsGood jobs (state_of (c.next + 1) c.least (set c.seats id (view_after_draw jobs v c.next)))
+draw_leads jobs c id v h at drawing (yes le) =
     let e : ltb c.next jobs ≡ false = le-ltb c.next jobs le in
-    subst (λ b. IsGood jobs (state_of (c.next + 1) c.least (set c.seats id (if b then with_drawn v c.next else with_told v)))) (sym e) (telling_keeps jobs c.next c.least c.seats id v h at.0 at.1 untold le)
-draw_leads jobs c id v h at untold (no gt) =
+    subst (λ b. IsGood jobs (state_of (c.next + 1) c.least (set c.seats id (if b then with_drawn v c.next else with_exhausted v)))) (sym e) (telling_keeps jobs c.next c.least c.seats id v h at.0 at.1 drawing le)
+draw_leads jobs c id v h at drawing (no gt) =
     let lt = lt_of_not-le gt in
     let e : ltb c.next jobs ≡ true = lt-ltb c.next jobs lt in
-    subst (λ b. IsGood jobs (state_of (c.next + 1) c.least (set c.seats id (if b then with_drawn v c.next else with_told v)))) (sym e) (draw_keeps jobs c.next c.least c.seats id v h at.0 at.1 lt)
+    subst (λ b. IsGood jobs (state_of (c.next + 1) c.least (set c.seats id (if b then with_drawn v c.next else with_exhausted v)))) (sym e) (draw_keeps jobs c.next c.least c.seats id v h at.0 at.1 lt)
 
 -- one event
 event_keeps : (jobs : ℕ) (e : Event) (c d : State) → IsGood jobs c → Leads jobs e c d → IsGood jobs d

@@ -6,7 +6,7 @@ use native.Mathlib.Decide.{dec_le, ℕ_discrete}
 use lib.ListN.{get_elem?}
 use Rattle.job_board.specs.Numbers.{one_if, times}
 use Rattle.job_board.specs.Seats.{View, with_flag}
-use Rattle.job_board.specs.Facts.{weight_of, told_weight, flag_count, IsSound, IsConsistent}
+use Rattle.job_board.specs.Facts.{weight_of, exhausted_weight, flag_count, IsSound, IsConsistent}
 use Rattle.job_board.proofs.Times.{times-append, once_same, once_other}
 use Rattle.job_board.proofs.Totals.{total_set, total_same}
 use Rattle.job_board.proofs.Sound.{each_set, sound_later, least_of_two}
@@ -42,7 +42,7 @@ flag_keeps jobs next least seats id v job h at heavy there = let w = with_flag v
     below = λ x e. flag_below jobs least job x (flag_count seats) (flag_count (set seats id w)) grows (drawn_low jobs next least seats id v job h at there) h.least_flag.below e;
     found = flag_found jobs least job (flag_count seats) (flag_count (set seats id w)) grows h.least_flag.found (dec_le least job);
   };
-  passed = let a = total_same told_weight seats id v w at refl in let b = h.passed in omega arith;
+  passed = let a = total_same exhausted_weight seats id v w at refl in let b = h.passed in omega arith;
   sound = each_set _ seats id w mine (λ j u e. sound_later jobs next next _ _ u (omega arith) more (h.sound j u e));
 }
   where
@@ -62,5 +62,5 @@ flag_keeps jobs next least seats id v job h at heavy there = let w = with_flag v
       spent = λ e. absurd (omega arith);
       jobs_known = was.jobs_known;
       seen = λ some_weight. least_of_two jobs v.seen job (flag_count (set seats id (with_flag v job))) (was.seen some_weight) (inr there');
-      told = was.told;
+      exhausted = was.exhausted;
     }

@@ -4,7 +4,7 @@ use mathlib.Core.Option.{some}
 use lib.ListN.{get_elem?}
 use Rattle.job_board.specs.Numbers.{times}
 use Rattle.job_board.specs.Seats.{View, with_seen}
-use Rattle.job_board.specs.Facts.{weight_of, told_weight, flag_count, IsSound, IsConsistent}
+use Rattle.job_board.specs.Facts.{weight_of, exhausted_weight, flag_count, IsSound, IsConsistent}
 use Rattle.job_board.proofs.Totals.{total_same, total_at}
 use Rattle.job_board.proofs.Sound.{each_set, sound_later, least_same}
 
@@ -27,7 +27,7 @@ look_keeps jobs next least seats id v h at heavy = let w = with_seen v least in 
   weights = total_same weight_of seats id v w at refl ∙ h.weights;
   drawn = λ x. total_same (λ u. times x u.drawn) seats id v w at refl ∙ h.drawn x;
   least_flag = least_same jobs least _ _ (λ x. sym (total_same (λ u. times x u.flagged) seats id v w at refl)) h.least_flag;
-  passed = let a = total_same told_weight seats id v w at refl in let b = h.passed in omega arith;
+  passed = let a = total_same exhausted_weight seats id v w at refl in let b = h.passed in omega arith;
   sound = each_set _ seats id w mine (λ j u e. sound_later jobs next next _ _ u (omega arith) more (h.sound j u e));
 }
   where
@@ -42,5 +42,5 @@ look_keeps jobs next least seats id v h at heavy = let w = with_seen v least in 
       spent = λ e. absurd (omega arith);
       jobs_known = was.jobs_known;
       seen = λ _. ⊎_elim (λ (e : least ≡ jobs). inl e) (λ (e : 0 < flag_count seats least). inr (let a = same least in omega arith)) h.least_flag.found;
-      told = was.told;
+      exhausted = was.exhausted;
     }

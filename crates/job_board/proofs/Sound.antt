@@ -26,16 +26,16 @@ sound_later jobs next later f g v le more h = record {
   spent = h.spent;
   jobs_known = h.jobs_known;
   seen = λ some_weight. ⊎_elim (λ (e : v.seen ≡ jobs). inl e) (λ (e : 0 < f v.seen). inr (let m = more v.seen in omega arith)) (h.seen some_weight);
-  told = λ t. let le' = h.told t in omega arith;
+  exhausted = λ t. let le' = h.exhausted t in omega arith;
 }
 
 -- a seat that changes, but not in what it has seen, stays sound
-pub sound_changed : (jobs next : ℕ) (f : ℕ → ℕ) (v w : View) → 0 < w.weight → 0 < v.weight → w.jobs ≡ v.jobs → w.seen ≡ v.seen → (w.told ≡ true → jobs ≤ next) → IsSound jobs next f v → IsSound jobs next f w
-sound_changed jobs next f v w heavy was_heavy same_jobs same_seen told was = record {
+pub sound_changed : (jobs next : ℕ) (f : ℕ → ℕ) (v w : View) → 0 < w.weight → 0 < v.weight → w.jobs ≡ v.jobs → w.seen ≡ v.seen → (w.exhausted ≡ true → jobs ≤ next) → IsSound jobs next f v → IsSound jobs next f w
+sound_changed jobs next f v w heavy was_heavy same_jobs same_seen exhausted was = record {
   spent = λ e. absurd (omega arith);
   jobs_known = λ _. same_jobs ∙ was.jobs_known was_heavy;
   seen = λ _. subst (λ n. (n ≡ jobs) ⊎ (0 < f n)) (sym same_seen) (was.seen was_heavy);
-  told = told;
+  exhausted = exhausted;
 }
 
 -- the least flagged number is a matter of how often each number is flagged

@@ -3,7 +3,7 @@ use Rattle.std.proofs.Common.{◌≡◌, ℕ, zero, suc, ◌+◌, ◌≤◌, Boo
 use mathlib.Core.Option.{some, some-injective, some-ne-none}
 use lib.ListN.{get_elem?}
 use Rattle.job_board.specs.Seats.{View}
-use Rattle.job_board.specs.Facts.{total, weight_of, number_if, told_weight, EachSeat}
+use Rattle.job_board.specs.Facts.{total, weight_of, number_if, exhausted_weight, EachSeat}
 
 -- where one seat changes, the total changes as it does
 pub total_set : (f : View → ℕ) (vs : List View) (id : ℕ) (v w : View) → get_elem? vs id ≡ some v → total f (set vs id w) + f v ≡ total f vs + f w
@@ -49,9 +49,9 @@ total_alone f (x ∷ xs) (suc id) v at h e =
     let none : f x ≡ 0 = h 0 x refl light in
     let rest = total_alone f xs id v at (λ k u there. h (suc k) u there) (omega arith) in omega arith
 
--- a seat is told with no more than its weight
-pub told_at_most : (v : View) → told_weight v ≤ v.weight
-told_at_most v = go v.told v.weight
+-- an exhausted seat counts with no more than its weight
+pub exhausted_at_most : (v : View) → exhausted_weight v ≤ v.weight
+exhausted_at_most v = go v.exhausted v.weight
   where
     go : (b : Bool) (n : ℕ) → number_if b n ≤ n
     go true n = omega arith

@@ -3,7 +3,7 @@ use Rattle.std.specs.Prelude.{◌≡◌, ℕ, ◌+◌, ◌<◌, min, ltb, if◌t
 use mathlib.Core.Option.{some}
 use lib.ListN.{get_elem?}
 use Rattle.job_board.specs.Numbers.{times}
-use Rattle.job_board.specs.Seats.{opening_view, spent_view, with_drawn, with_told, with_flag, with_seen, first_part, second_part, joint_view, View}
+use Rattle.job_board.specs.Seats.{opening_view, spent_view, with_drawn, with_exhausted, with_flag, with_seen, first_part, second_part, joint_view, View}
 
 -- the two words, and the seats
 pub record State : Type 0 where
@@ -33,11 +33,11 @@ IsSeatAt s id v = (get_elem? s.seats id ≡ some v) × (0 < v.weight)
 
 -- the seat after a draw that found n
 abbrev pub view_after_draw : ℕ → View → ℕ → View
-view_after_draw jobs v n = if ltb n jobs then with_drawn v n else with_told v
+view_after_draw jobs v n = if ltb n jobs then with_drawn v n else with_exhausted v
 
 -- the event leads from one state to the other
 abbrev pub Leads : ℕ → Event → State → State → Type 0
-Leads jobs (draw id) s t = (v : View) × IsSeatAt s id v × (v.told ≡ false) × (t ≡ state_of (s.next + 1) s.least (set s.seats id (view_after_draw jobs v s.next)))
+Leads jobs (draw id) s t = (v : View) × IsSeatAt s id v × (v.exhausted ≡ false) × (t ≡ state_of (s.next + 1) s.least (set s.seats id (view_after_draw jobs v s.next)))
 Leads jobs (flag id j) s t = (v : View) × IsSeatAt s id v × (0 < times j v.drawn) × (t ≡ state_of s.next (min s.least j) (set s.seats id (with_flag v j)))
 Leads jobs (look id) s t = (v : View) × IsSeatAt s id v × (t ≡ state_of s.next s.least (set s.seats id (with_seen v s.least)))
 Leads jobs (split id part) s t = (v : View) × IsSeatAt s id v × (0 < part) × (part < v.weight) × (t ≡ state_of s.next s.least (set s.seats id (first_part part v) ++ second_part part v ∷ []))

@@ -16,7 +16,7 @@ pub record SeatValue : Type 0 where
 
 -- a view from its parts
 abbrev pub view_of : ℕ → ℕ → List ℕ → List ℕ → ℕ → Bool → View
-view_of jobs weight drawn flagged seen told = record { jobs = jobs; weight = weight; drawn = drawn; flagged = flagged; seen = seen; told = told }
+view_of jobs weight drawn flagged seen exhausted = record { jobs = jobs; weight = weight; drawn = drawn; flagged = flagged; seen = seen; exhausted = exhausted }
 
 -- the one seat of a new board: it has all the weight, and has drawn, flagged and seen nothing
 abbrev pub opening_view : ℕ → View
@@ -28,28 +28,28 @@ spent_view = view_of 0 0 [] [] 0 false
 
 -- after a draw of the number j
 abbrev pub with_drawn : View → ℕ → View
-with_drawn v j = view_of v.jobs v.weight (v.drawn ++ j ∷ []) v.flagged v.seen v.told
+with_drawn v j = view_of v.jobs v.weight (v.drawn ++ j ∷ []) v.flagged v.seen v.exhausted
 
 -- after a draw that found no number left
-abbrev pub with_told : View → View
-with_told v = view_of v.jobs v.weight v.drawn v.flagged v.seen true
+abbrev pub with_exhausted : View → View
+with_exhausted v = view_of v.jobs v.weight v.drawn v.flagged v.seen true
 
 -- after a flag of the number j
 abbrev pub with_flag : View → ℕ → View
-with_flag v j = view_of v.jobs v.weight v.drawn (v.flagged ++ j ∷ []) (min v.seen j) v.told
+with_flag v j = view_of v.jobs v.weight v.drawn (v.flagged ++ j ∷ []) (min v.seen j) v.exhausted
 
 -- after a look that found n
 abbrev pub with_seen : View → ℕ → View
-with_seen v n = view_of v.jobs v.weight v.drawn v.flagged n v.told
+with_seen v n = view_of v.jobs v.weight v.drawn v.flagged n v.exhausted
 
 -- the first seat of a split: it keeps what was drawn and flagged
 abbrev pub first_part : ℕ → View → View
-first_part part v = view_of v.jobs part v.drawn v.flagged v.seen v.told
+first_part part v = view_of v.jobs part v.drawn v.flagged v.seen v.exhausted
 
 -- the second: it has the rest of the weight, and has drawn and flagged nothing
 abbrev pub second_part : ℕ → View → View
-second_part part v = view_of v.jobs (v.weight - part) [] [] v.seen v.told
+second_part part v = view_of v.jobs (v.weight - part) [] [] v.seen v.exhausted
 
 -- two seats as one
 abbrev pub joint_view : View → View → View
-joint_view v w = view_of v.jobs (v.weight + w.weight) (v.drawn ++ w.drawn) (v.flagged ++ w.flagged) (min v.seen w.seen) (v.told || w.told)
+joint_view v w = view_of v.jobs (v.weight + w.weight) (v.drawn ++ w.drawn) (v.flagged ++ w.flagged) (min v.seen w.seen) (v.exhausted || w.exhausted)

@@ -2,7 +2,7 @@
 use Rattle.std.specs.Prelude.{◌≡◌, ℕ, ◌<◌, ◌≤◌, ◌⊎◌, true, [], ◌∷◌}
 use Rattle.atomic_table.specs.Table.{State, Me}
 use Rattle.job_board.specs.Numbers.{times, IsDistinct, IsEachBelow}
-use Rattle.job_board.specs.Seats.{with_drawn, with_told, with_flag, with_seen, View}
+use Rattle.job_board.specs.Seats.{with_drawn, with_exhausted, with_flag, with_seen, View}
 use Rattle.job_board.specs.Facts.{IsConsistent, IsLeastFlagged}
 use Rattle.job_board.specs.declared.limits.TheConstants.{FULL_WEIGHT}
 
@@ -18,7 +18,7 @@ IsNoGreater v n = (n ≤ v.seen) × ((x : ℕ) → 0 < times x v.flagged → n �
 abbrev pub DrawTells : Me ℕ View → ℕ → Me ℕ View → Type 0
 DrawTells me n after =
     ((n < me.0.jobs) × (times n me.0.drawn ≡ 0) × (after ≡ (with_drawn me.0 n, me.1)))
-    ⊎ ((me.0.jobs ≤ n) × (after ≡ (with_told me.0, me.1)))
+    ⊎ ((me.0.jobs ≤ n) × (after ≡ (with_exhausted me.0, me.1)))
 
 -- a flag of the number j
 abbrev pub FlagTells : ℕ → Me ℕ View → Me ℕ View → Type 0
@@ -32,11 +32,11 @@ LookTells me n after = (after ≡ (with_seen me.0 n, me.1)) × IsNoGreater me.0 
 abbrev pub CountTells : Me ℕ View → Me ℕ View → Type 0
 CountTells me after = (after ≡ me) × IsDistinct me.0.drawn × (me.0.weight ≤ FULL_WEIGHT)
 
--- What the seat with all the weight has where the board is closed with the answer n: it drew each number below some bound once, which is jobs where it was
--- told, and n is the least number that it flagged, or jobs.
+-- What the seat with all the weight has where the board is closed with the answer n: it drew each number below some bound once, which is jobs if it is
+-- exhausted, and n is the least number that it flagged, or jobs.
 pub record ClosesWith (jobs : ℕ) (v : View) (n : ℕ) : Type 0 where
   pub jobs_known : v.jobs ≡ jobs
-  pub drawn : (bound : ℕ) × (bound ≤ jobs) × IsEachBelow bound v.drawn × (v.told ≡ true → bound ≡ jobs)
+  pub drawn : (bound : ℕ) × (bound ≤ jobs) × IsEachBelow bound v.drawn × (v.exhausted ≡ true → bound ≡ jobs)
   pub least : IsLeastFlagged jobs (λ x. times x v.flagged) n
   pub seen : (v.seen ≡ jobs) ⊎ (0 < times v.seen v.flagged)
   pub at_most_seen : n ≤ v.seen

@@ -1,7 +1,7 @@
 //! The board, and each step that a seat takes on it.
 ghost use Rattle.std.specs.Prelude.{◌≡◌, ◌≢◌, ◌<◌, ◌≤◌, true, false, None, [], IfOk, IfErr, IfSome, IfNone};
 ghost use Rattle.job_board.specs.Numbers.{IsDistinct, times};
-ghost use Rattle.job_board.specs.Seats.{BoardValue, first_part, joint_view, opening_view, second_part, with_drawn, with_flag, with_seen, with_told};
+ghost use Rattle.job_board.specs.Seats.{BoardValue, first_part, joint_view, opening_view, second_part, with_drawn, with_flag, with_seen, with_exhausted};
 ghost use Rattle.job_board.specs.Steps.{ClosesWith, IsNoGreater};
 
 use crate::limits::{FULL_WEIGHT, MAX_JOBS};
@@ -54,7 +54,7 @@ impl<A: Allocator> Board<A> {
             token,
             jobs,
             weight: FULL_WEIGHT,
-            told: false,
+            exhausted: false,
         };
         Ok((board, seat))
     }
@@ -63,15 +63,15 @@ impl<A: Allocator> Board<A> {
     ///
     /// The clauses say that this seat didn't draw the number before. That no other seat did follows from the board's rule, and
     /// [`join`](Board::join) and [`close`](Board::close) tell it of the seats that come together. A draw is one atomic addition. A seat
-    /// that was told `None` gets it again without a step.
+    /// that is exhausted gets `None` again without a step.
     pub fn draw(&self, seat: &mut Seat) -> Option<u64>
         requires { seat.old.board ≡ self.now.id }
         ensures board { seat.new.board ≡ seat.old.board }
-        ensures some { IfSome result (λ j. (seat.old.view.told ≡ false) × (j < seat.old.view.jobs) × (times j seat.old.view.drawn ≡ 0) × (seat.new.view ≡ with_drawn seat.old.view j)) }
-        ensures none { IfNone result (seat.new.view ≡ with_told seat.old.view) }
-        ensures told { seat.old.view.told ≡ true → (result ≡ None) × (seat.new ≡ seat.old) }
+        ensures some { IfSome result (λ j. (seat.old.view.exhausted ≡ false) × (j < seat.old.view.jobs) × (times j seat.old.view.drawn ≡ 0) × (seat.new.view ≡ with_drawn seat.old.view j)) }
+        ensures none { IfNone result (seat.new.view ≡ with_exhausted seat.old.view) }
+        ensures exhausted { seat.old.view.exhausted ≡ true → (result ≡ None) × (seat.new ≡ seat.old) }
     {
-        if seat.told {
+        if seat.exhausted {
             return None;
         }
         let shared = &self.table.shared;
@@ -79,7 +79,7 @@ impl<A: Allocator> Board<A> {
         if found < seat.jobs {
             Some(found)
         } else {
-            seat.told = true;
+            seat.exhausted = true;
             None
         }
     }
@@ -108,7 +108,7 @@ impl<A: Allocator> Board<A> {
     }
 
     /// Two seats of one: the first weighs `part` and keeps what was drawn and flagged, the second has the rest of the weight. Both have seen
-    /// and were told what the one was.
+    /// what the one had, and both are exhausted if it was.
     pub fn split(&self, seat: Seat, part: u64) -> (Seat, Seat)
         requires board { seat.board ≡ self.now.id }
         requires part { (0 < part) × (part < seat.view.weight) }
@@ -120,20 +120,20 @@ impl<A: Allocator> Board<A> {
             mut token,
             jobs,
             weight,
-            told,
+            exhausted,
         } = seat;
         let other = self.split_token::<Brand>(&mut token, part);
         let first = Seat {
             token,
             jobs,
             weight: part,
-            told,
+            exhausted,
         };
         let second = Seat {
             token: other,
             jobs,
             weight: weight - part,
-            told,
+            exhausted,
         };
         (first, second)
     }
@@ -148,7 +148,7 @@ impl<A: Allocator> Board<A> {
         self.table.shared.split_seat::<Cut<P>>(token)
     }
 
-    /// One seat of two, with what either drew, flagged, saw or was told. They drew different numbers.
+    /// One seat of two, with what either drew, flagged, saw and whether either is exhausted. They drew different numbers.
     pub fn join(&self, seat: Seat, other: Seat) -> Seat
         requires boards { (seat.board ≡ self.now.id) × (other.board ≡ self.now.id) }
         ensures board { result.board ≡ seat.board }
@@ -159,7 +159,7 @@ impl<A: Allocator> Board<A> {
             mut token,
             jobs,
             weight,
-            told,
+            exhausted,
         } = seat;
         let shared = &self.table.shared;
         shared.join_seat::<Glue>(&mut token, other.token);
@@ -169,7 +169,7 @@ impl<A: Allocator> Board<A> {
             token,
             jobs,
             weight: weight + other.weight,
-            told: told || other.told,
+            exhausted: exhausted || other.exhausted,
         }
     }
 

@@ -16,7 +16,7 @@ pub struct Seat {
     pub(crate) token: atomic_table::Seat<u8, View>,
     pub(crate) jobs: u64,
     pub(crate) weight: u64,
-    pub(crate) told: bool,
+    pub(crate) exhausted: bool,
 }
 
 impl Model for Seat {
@@ -24,7 +24,7 @@ impl Model for Seat {
 
     ghost view = { λ s. record { board = s.token.table_id; view = s.token.me.0 } };
 
-    ghost invariant = { λ s. (s.jobs ≡ s.token.me.0.jobs) × (s.weight ≡ s.token.me.0.weight) × (s.told ≡ s.token.me.0.told) × (0 < s.weight) × (s.weight ≤ FULL_WEIGHT) × (s.token.me.1 ≡ []) };
+    ghost invariant = { λ s. (s.jobs ≡ s.token.me.0.jobs) × (s.weight ≡ s.token.me.0.weight) × (s.exhausted ≡ s.token.me.0.exhausted) × (0 < s.weight) × (s.weight ≤ FULL_WEIGHT) × (s.token.me.1 ≡ []) };
 }
 
 impl Seat {

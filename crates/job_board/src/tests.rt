@@ -190,7 +190,7 @@ fn a_look_finds_what_another_seat_flagged(rt: HostRuntime) -> Result<(), Fail> {
 
 // Of the numbers below 4 one is flagged, 3.
 #[test]
-fn a_told_seat_draws_no_more(rt: HostRuntime) -> Result<(), Fail> {
+fn an_exhausted_seat_draws_no_more(rt: HostRuntime) -> Result<(), Fail> {
     for (jobs, wanted) in [(0, 0), (1, 1), (3, 3), (4, 3), (40, 3)] {
         let (board, seat) = Board::open(rt.alloc(), jobs)?;
         let (mut seat, drawn) = drained(rt.alloc(), &board, seat)?;

@@ -11,8 +11,8 @@ pub struct View {
     pub drawn: LinkedList<u64>,
     /// The numbers that it flagged, in order.
     pub flagged: LinkedList<u64>,
-    /// The least flagged number that it knows of, or the number of jobs.
+    /// The lowest flagged number that it knows of, or the number of jobs.
     pub seen: u64,
-    /// Whether a draw told it that no number is left.
-    pub told: bool,
+    /// Whether a draw found that no number is left.
+    pub exhausted: bool,
 }

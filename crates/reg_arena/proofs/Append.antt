@@ -6,22 +6,23 @@ use Rattle.std.proofs.lemmas.Option.{slice_get_past, slice_get_within}
 use Rattle.std.proofs.lemmas.Bool.{cases_order, eqb-true, eqb-false, eq-eqb, ne_eqb, ltb-true, ltb-false, false≢true}
 use Rattle.history_text.specs.declared.event.Val.{Val}
 use Rattle.history_text.specs.declared.event.OpKind.TheVariants.{ReadOp, WriteOp}
-use Rattle.reg_arena.specs.declared.ids.EvId.{EvId}
-use Rattle.reg_arena.specs.declared.ids.RegId.{RegId}
-use Rattle.reg_arena.specs.declared.event.Event.{Event}
-use Rattle.reg_arena.specs.declared.event.What.{What}
-use Rattle.reg_arena.specs.declared.event.What.TheVariants.{Call, Reply, Fail, Crash}
-use Rattle.reg_arena.specs.declared.ends.Ends.{Ends}
-use Rattle.reg_arena.specs.declared.ends.Entry.{Entry}
-use Rattle.reg_arena.specs.declared.ends.Write.{Write}
-use Rattle.reg_arena.specs.declared.ends.Write.TheVariants.{Unwritten, Written, Failed}
-use Rattle.reg_arena.specs.declared.ends.TheConstants.{NO_CALL}
-use Rattle.reg_arena.specs.Operations.{next_of, has_failed, begins, is_a_call, is_a_reply, is_a_fail, kind_in, number_in, writes}
-use Rattle.reg_arena.specs.Shown.{IsLeastFrom, IsFirstOf, begins_at, key_at, by_process, by_value}
-use Rattle.reg_arena.specs.Threads.{IsThreaded, IsJoinedBy, IsEnteredBy, IsCall, IsCallAt, IsCallOf, IsAppendable, IsLastRead, IsEntry, link_at, call_at, calls_with, no_call, by_write, by_reply, by_read, later, write_called, write_kept, write_with, reply_with, read_with, with_call, with_fail, entry_alone, entry_with, entry_after, end_of}
-use Rattle.reg_arena.proofs.Links.{decide_eq, slice_get-push, slice_get-push_other, slice_get-set, slice_get-set_other}
+use Rattle.history_model.specs.declared.ids.EvId.{EvId}
+use Rattle.history_model.specs.declared.ids.RegId.{RegId}
+use Rattle.history_model.specs.declared.event.Event.{Event}
+use Rattle.history_model.specs.declared.event.What.{What}
+use Rattle.history_model.specs.declared.event.What.TheVariants.{Call, Reply, Fail, Crash}
+use Rattle.reg_arena.specs.declared.list_ends.Ends.{Ends}
+use Rattle.reg_arena.specs.declared.list_ends.Entry.{Entry}
+use Rattle.reg_arena.specs.declared.list_ends.Write.{Write}
+use Rattle.reg_arena.specs.declared.list_ends.Write.TheVariants.{Unwritten, Written, Failed}
+use Rattle.reg_arena.specs.declared.list_ends.TheConstants.{NO_CALL}
+use Rattle.history_model.specs.Operations.{next_of, has_failed, begins, is_a_call, is_a_reply, is_a_fail, kind_in, number_in, writes}
+use Rattle.history_model.specs.Walking.{IsLeastFrom, IsFirstOf, key_at, by_process, by_value}
+use Rattle.history_model.specs.Naming.{begins_at}
+use Rattle.reg_arena.specs.EventLists.{IsThreaded, IsJoinedBy, IsEnteredBy, IsCall, IsCallAt, IsCallOf, IsAppendable, IsLastRead, IsEntry, link_at, call_at, calls_with, no_call, by_write, by_reply, by_read, later, write_called, write_kept, write_with, reply_with, read_with, with_call, with_fail, entry_alone, entry_with, entry_after, end_of}
 use Rattle.reg_arena.proofs.Threading.{IsPushed, threaded-alone, threaded-joined}
-use Rattle.reg_arena.proofs.Belonging.{drop-get, next-some, next-none}
+use Rattle.history_model.proofs.Belonging.{drop-get, next-some, next-none}
+use Rattle.history_model.proofs.Lists.{decide_eq, slice_get-push, slice_get-push_other, slice_get-set, slice_get-set_other}
 
 -- links and ends that are the same at each place are threaded alike
 threaded-same : {K : Type 0} (key : ℕ → Option K) (link new_link : ℕ → Option EvId) (ends new_ends : K → Option Ends) → ((i : ℕ) → new_link i ≡ link i) → ((k : K) → new_ends k ≡ ends k) → IsThreaded key link ends → IsThreaded key new_link new_ends

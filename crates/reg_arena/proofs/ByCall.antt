@@ -1,21 +1,21 @@
 -- The operation of a call, by the link to the next event of its process.
 use Rattle.std.proofs.Common.{◌≡◌, ℕ, suc, ◌+◌, ◌-◌, ◌<◌, ◌≤◌, cond, Bool, true, false, List, [], ◌∷◌, ◌++◌, length, drop, slice_get, Option, Some, None, inl, inr, refl, sym, ap, subst, ◌∙◌, arith, option_map, option_and_then, unwrap_or}
 use Rattle.std.proofs.lemmas.Bool.{cases_order}
-use Rattle.reg_arena.specs.declared.event.Event.{Event}
-use Rattle.reg_arena.specs.declared.ids.EvId.{EvId}
-use Rattle.reg_arena.specs.declared.ids.RegId.{RegId}
-use Rattle.reg_arena.specs.Lists.{In}
-use Rattle.reg_arena.specs.History.{History}
-use Rattle.reg_arena.specs.Operations.{Operation, next_of, reply_in, operation, is_a_reply, kind_in, number_in, calls, initial_writes, operations, writes}
-use Rattle.reg_arena.specs.declared.op.Op.{Op}
+use Rattle.history_model.specs.declared.event.Event.{Event}
+use Rattle.history_model.specs.declared.ids.EvId.{EvId}
+use Rattle.history_model.specs.declared.ids.RegId.{RegId}
+use Rattle.history_model.specs.Lists.{In}
+use Rattle.history_model.specs.History.{History}
+use Rattle.history_model.specs.Operations.{Operation, next_of, reply_in, operation, is_a_reply, kind_in, number_in, calls, initial_writes, operations, writes}
+use Rattle.history_model.specs.declared.op.Op.{Op}
 use Rattle.history_text.specs.declared.event.OpKind.{OpKind}
 use Rattle.history_text.specs.declared.event.Val.{Val}
-use Rattle.reg_arena.specs.declared.ids.Oper.TheVariants.{Called}
-use Rattle.reg_arena.specs.Shown.{IsNamed, begins_at, name_of, op_shown, IsLeastFrom, IsNextOf, key_at, by_process}
-use Rattle.reg_arena.specs.Walking.{IsReplyOf, timed}
-use Rattle.reg_arena.proofs.Belonging.{IsNextAt, next-at, call-In}
-use Rattle.reg_arena.proofs.Named.{at-begun}
-use Rattle.reg_arena.proofs.Recorded.{In-right}
+use Rattle.history_model.specs.declared.ids.Oper.TheVariants.{Called}
+use Rattle.history_model.specs.Walking.{IsLeastFrom, IsNextOf, key_at, by_process, IsReplyOf, timed}
+use Rattle.history_model.specs.Naming.{IsNamed, begins_at, name_of, op_shown}
+use Rattle.history_model.proofs.Belonging.{IsNextAt, next-at, call-In}
+use Rattle.history_model.proofs.Named.{at-begun}
+use Rattle.history_model.proofs.Lists.{In-right}
 
 -- the next event of a process is the one that the link leads to
 pub next-linked : (evs : List Event) (i : ℕ) (e : Event) (o : Option EvId) → slice_get evs i ≡ Some e → IsNextOf by_process evs i o → next_of e.process (suc (i + 2)) (drop (suc i) evs) ≡ timed evs o

@@ -3,47 +3,45 @@ use Rattle.std.proofs.Common.{◌≡◌, ℕ, ◌^◌, ◌<◌, nat_eq, cond, fa
 use Rattle.std.proofs.lemmas.Option.{slice_get_cases, slice_get_past}
 use Rattle.std.proofs.lemmas.Bool.{cases_order, eqb-true, eqb-false, eq-eqb, ne_eqb, false≢true}
 use Rattle.history_text.specs.declared.event.Val.{Val}
-use Rattle.reg_arena.specs.declared.event.Event.{Event}
-use Rattle.reg_arena.specs.declared.event.What.{What}
-use Rattle.reg_arena.specs.declared.event.What.TheVariants.{Call, Reply, Fail, Crash}
-use Rattle.reg_arena.specs.declared.ends.Entry.{Entry}
-use Rattle.reg_arena.specs.declared.ends.TheConstants.{NO_CALL}
-use Rattle.reg_arena.proofs.Recorded.{reply-no_call}
-use Rattle.reg_arena.proofs.Walking.{begins-call}
-use Rattle.reg_arena.specs.declared.ends.Write.{Write}
-use Rattle.reg_arena.specs.declared.ends.Write.TheVariants.{Unwritten, Written, Failed}
-use Rattle.reg_arena.specs.Operations.{is_a_call, is_a_reply}
-use Rattle.reg_arena.specs.declared.threads.Threads.{Threads}
-use Rattle.reg_arena.specs.Shown.{IsFirstOf, begins_at, belongs_at, key_at, by_register, by_value}
+use Rattle.history_model.specs.declared.event.Event.{Event}
+use Rattle.history_model.specs.declared.event.What.{What}
+use Rattle.history_model.specs.declared.event.What.TheVariants.{Call, Reply, Fail, Crash}
+use Rattle.reg_arena.specs.declared.list_ends.Entry.{Entry}
+use Rattle.reg_arena.specs.declared.list_ends.TheConstants.{NO_CALL}
+use Rattle.history_model.proofs.Recorded.{reply-no_call}
+use Rattle.history_model.proofs.Walking.{begins-call}
+use Rattle.reg_arena.specs.declared.list_ends.Write.{Write}
+use Rattle.reg_arena.specs.declared.list_ends.Write.TheVariants.{Unwritten, Written, Failed}
+use Rattle.history_model.specs.Operations.{is_a_call, is_a_reply}
+use Rattle.reg_arena.specs.declared.event_lists.EventLists.{EventLists}
+use Rattle.history_model.specs.Walking.{IsFirstOf, key_at, by_register, by_value}
+use Rattle.history_model.specs.Naming.{begins_at, belongs_at}
 use Rattle.reg_arena.specs.Step.{IsLastWith}
-use Rattle.reg_arena.specs.declared.ids.EvId.{EvId}
-use Rattle.reg_arena.specs.declared.ids.RegId.{RegId}
-use Rattle.reg_arena.specs.Threads.{AreThreads, IsAlike, IsCallAt, IsCallOf, IsKeptWrite, IsLastOf, by_write, call_at, event_number, value_entry, value_number, write_called, write_kept}
+use Rattle.history_model.specs.declared.ids.EvId.{EvId}
+use Rattle.history_model.specs.declared.ids.RegId.{RegId}
+use Rattle.reg_arena.specs.EventLists.{AreEventLists, IsAlike, IsCallAt, IsCallOf, IsKeptWrite, IsLastOf, by_write, call_at, event_number, value_entry, value_number, write_called, write_kept}
 use Rattle.reg_arena.proofs.Append.{key-along, write-call, write-value}
 use Rattle.reg_arena.proofs.ByValue.{key-by, key-none, key-parts}
 use Rattle.reg_arena.proofs.Values.{number-within as within-keys, entry-is}
-
--- the element at a place within a list
-pub element : {A : Type 0} (xs : List A) (i : ℕ) → i < length xs → (x : A) × (slice_get xs i ≡ Some x)
-element xs i l = elim (slice_get_cases xs i).1 [ inl x ↦ (x.0, x.2) | inr x ↦ absurd (omega (arith, x.0)) ]
+use Rattle.history_model.proofs.Lists.{slice_get_inside}
 
 then_then : {A B C : Type 0} (f : A → Option B) (g : B → Option C) (o : Option A) → option_and_then (λ a. option_and_then g (f a)) o ≡ option_and_then g (option_and_then f o)
 then_then f g None = refl
 then_then f g (Some a) = refl
 
 -- the number beside an event is that of its key
-pub number-of : (t : Threads) → AreThreads t → (i : ℕ) (o : Option ℕ) → i < length t.events.items → slice_get t.numbers.items i ≡ Some o → option_and_then (value_number t.values.keys) (key_at by_value t.events.items i) ≡ o
+pub number-of : (t : EventLists) → AreEventLists t → (i : ℕ) (o : Option ℕ) → i < length t.events.items → slice_get t.numbers.items i ≡ Some o → option_and_then (value_number t.values.keys) (key_at by_value t.events.items i) ≡ o
 number-of t a i o l h =
-    let e = element t.events.items i l in
+    let e = slice_get_inside t.events.items i l in
     let at = e.1 in
     let n = a.numbers i e.0 at in
     let q : option_and_then (value_number t.values.keys) (by_value e.0) ≡ o = cc (n, h) in
     ap (λ (x : Option Event). option_and_then (value_number t.values.keys) (option_and_then by_value x)) at ∙ q
 
-pub entry-of : (t : Threads) → AreThreads t → (i : ℕ) (o : Option ℕ) → i < length t.events.items → slice_get t.numbers.items i ≡ Some o → option_and_then (value_entry t.values.keys t.entries.items) (key_at by_value t.events.items i) ≡ option_and_then (slice_get t.entries.items) o
+pub entry-of : (t : EventLists) → AreEventLists t → (i : ℕ) (o : Option ℕ) → i < length t.events.items → slice_get t.numbers.items i ≡ Some o → option_and_then (value_entry t.values.keys t.entries.items) (key_at by_value t.events.items i) ≡ option_and_then (slice_get t.entries.items) o
 entry-of t a i o l h = then_then (value_number t.values.keys) (slice_get t.entries.items) (key_at by_value t.events.items i) ∙ ap (option_and_then (slice_get t.entries.items)) (number-of t a i o l h)
 
-pub number-within : (t : Threads) → AreThreads t → (i n : ℕ) → i < length t.events.items → slice_get t.numbers.items i ≡ Some (Some n) → n < length t.entries.items
+pub number-within : (t : EventLists) → AreEventLists t → (i n : ℕ) → i < length t.events.items → slice_get t.numbers.items i ≡ Some (Some n) → n < length t.entries.items
 number-within t a i n l h = go (key_at by_value t.events.items i) (number-of t a i (Some n) l h)
   where
     go : (k : Option (ℕ × Val)) → option_and_then (value_number t.values.keys) k ≡ Some n → n < length t.entries.items
@@ -51,14 +49,14 @@ number-within t a i n l h = go (key_at by_value t.events.items i) (number-of t a
     go (Some k) q = let w = within-keys t.values.keys k n q in omega (arith, w, a.numbered)
 
 -- where no event has the register and value of an event, they have no number
-pub number-absent : (t : Threads) → AreThreads t → (e : Event) → IsAlike t.events.items e None → None ≡ event_number t.values.keys e
+pub number-absent : (t : EventLists) → AreEventLists t → (e : Event) → IsAlike t.events.items e None → None ≡ event_number t.values.keys e
 number-absent t a e none = go (by_value e) refl
   where
     absent : (k : ℕ × Val) → by_value e ≡ Some k → (o : Option ℕ) → value_number t.values.keys k ≡ o → None ≡ o
     absent k q None h = refl
     absent k q (Some n) h =
         let w = within-keys t.values.keys k n h in
-        let y = element t.entries.items n (omega (arith, w, a.numbered)) in
+        let y = slice_get_inside t.entries.items n (omega (arith, w, a.numbered)) in
         let i = a.values.last k y.0.ends (ap (option_map (λ (y : Entry). y.ends)) (entry-is t.values.keys t.entries.items k n y.0 h y.1)) in
         absurd (none k q y.0.ends.last.0 i.0)
 
@@ -82,7 +80,7 @@ pub alike-none : (es : List Event) (e : Event) → e.value ≡ None → IsAlike 
 alike-none es e q = λ k x. absurd (let z = key-none e q in cc (x, z))
 
 -- so is the last event with what a call asks for; a new register has no event
-pub alike-call : (t : Threads) → AreThreads t → (e : Event) (r : RegId) (number : Option ℕ) (o : Option EvId) → e.register ≡ Some r → r.0 ≡ unwrap_or number (length t.registers.items) → IsLastWith t.events.items number e.value o → IsAlike t.events.items e o
+pub alike-call : (t : EventLists) → AreEventLists t → (e : Event) (r : RegId) (number : Option ℕ) (o : Option EvId) → e.register ≡ Some r → r.0 ≡ unwrap_or number (length t.registers.items) → IsLastWith t.events.items number e.value o → IsAlike t.events.items e o
 alike-call t a e r None o reg q h = subst (IsAlike t.events.items e) (sym h) (λ k x i y. a.registers.none k.0 (slice_get_past t.registers.items k.0 (let z = number-of_key k x in omega (arith, z, q))) i (key-along-register i k y))
   where
     number-of_key : (k : ℕ × Val) → by_value e ≡ Some k → r.0 ≡ k.0
@@ -114,7 +112,7 @@ call-begins (Reply kind) b h = absurd (false≢true h)
 call-begins (Fail kind) b h = refl
 call-begins Crash b h = refl
 
-pub kept-write : (t : Threads) → AreThreads t → (k : ℕ × Val) (y : Entry) → value_entry t.values.keys t.entries.items k ≡ Some y → IsKeptWrite t.events.items k (write_kept y.write)
+pub kept-write : (t : EventLists) → AreEventLists t → (k : ℕ × Val) (y : Entry) → value_entry t.values.keys t.entries.items k ≡ Some y → IsKeptWrite t.events.items k (write_kept y.write)
 kept-write t a k y h = go y.write (a.entries k y h).write (a.entries k y h).kept
   where
     es : List Event
@@ -142,7 +140,7 @@ kept-write t a k y h = go y.write (a.entries k y h).write (a.entries k y h).kept
         begun id e None f.1 at (ap (call_at t.calls.items) (sym same) ∙ kept w refl)
 
 -- a register and value without an entry have no write
-pub kept-none : (t : Threads) → AreThreads t → (k : ℕ × Val) → value_entry t.values.keys t.entries.items k ≡ None → IsKeptWrite t.events.items k None
+pub kept-none : (t : EventLists) → AreEventLists t → (k : ℕ × Val) → value_entry t.values.keys t.entries.items k ≡ None → IsKeptWrite t.events.items k None
 kept-none t a k h = λ w e f at. absurd (a.values.none k (ap (option_map (λ (y : Entry). y.ends)) h) w.0 (key-along by_write by_value t.events.items k (λ e. write-value e k) w.0 f.1))
 
 -- ---- the column of calls

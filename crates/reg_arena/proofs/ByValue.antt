@@ -1,9 +1,9 @@
 -- The key of an event by its register and its value.
 use Rattle.std.proofs.Common.{◌≡◌, ℕ, Option, Some, None, refl, ap, ◌∙◌, option_and_then, option_map}
 use Rattle.history_text.specs.declared.event.Val.{Val}
-use Rattle.reg_arena.specs.declared.event.Event.{Event}
-use Rattle.reg_arena.specs.declared.ids.RegId.{RegId}
-use Rattle.reg_arena.specs.Shown.{by_register, by_value}
+use Rattle.history_model.specs.declared.event.Event.{Event}
+use Rattle.history_model.specs.declared.ids.RegId.{RegId}
+use Rattle.history_model.specs.Walking.{by_register, by_value}
 
 -- the key of an event with a register and a value
 pub key-by : (e : Event) (r : RegId) (v : Val) → e.register ≡ Some r → e.value ≡ Some v → by_value e ≡ Some (r.0, v)

@@ -1,8 +1,8 @@
 -- How an event joins the list of its process, by the ends of the processes' lists, and how a list is left with an empty link at the end of its column.
 use Rattle.std.proofs.Common.{◌≡◌, ℕ, ◌<◌, List, [], ◌∷◌, ◌++◌, length, set, Option, Some, None, ap, subst, ◌∙◌}
-use Rattle.reg_arena.specs.Threads.{IsJoined, IsSetAt, link_at}
-use Rattle.reg_arena.specs.declared.ends.Ends.{Ends}
-use Rattle.reg_arena.specs.declared.ids.EvId.{EvId}
+use Rattle.reg_arena.specs.EventLists.{IsJoined, IsSetAt, link_at}
+use Rattle.reg_arena.specs.declared.list_ends.Ends.{Ends}
+use Rattle.history_model.specs.declared.ids.EvId.{EvId}
 use Rattle.reg_arena.proofs.Links.{link-push, link-at, link-other}
 
 module _ (links new_links : List (Option EvId)) (ends new_ends : ℕ → Option Ends) (p : ℕ) (id : EvId) where

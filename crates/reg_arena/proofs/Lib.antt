@@ -1,4 +1,3 @@
-pub mod Rows
 pub mod Links
 pub mod Threading
 pub mod Joining
@@ -7,13 +6,6 @@ pub mod Values
 pub mod Append
 pub mod ByValue
 pub mod ByEvent
-pub mod Numbers
-pub mod Accepted
-pub mod Turns
-pub mod Walking
-pub mod Belonging
-pub mod Recorded
-pub mod Named
 pub mod ByCall
 pub mod Open
 pub mod Refused

@@ -4,30 +4,32 @@ use Rattle.std.specs.Option.{option_or}
 use Rattle.std.proofs.lemmas.Bool.{cases_order, ltb-true, ltb-false, false≢true}
 use Rattle.history_text.specs.declared.event.Val.{Val}
 use Rattle.history_text.specs.declared.event.Val.TheVariants.{Null, Int}
-use Rattle.reg_arena.specs.Lists.{In}
+use Rattle.history_model.specs.Lists.{In}
 use Rattle.history_text.specs.declared.event.OpKind.{OpKind}
 use Rattle.history_text.specs.declared.event.OpKind.TheVariants.{ReadOp, WriteOp}
-use Rattle.reg_arena.specs.Events.{Asked}
-use Rattle.reg_arena.specs.History.{History, IsRecorded, history_of}
-use Rattle.reg_arena.specs.Operations.{Operation, calls, operations, is_a_call, is_a_reply, kind_in, initial_write, initial_writes, writes, is_write, IsWrite, IsCompleted}
-use Rattle.reg_arena.specs.Shown.{IsNamed, IsEventOf, IsEventIn, IsMember, IsWriteOf, IsLastCall, IsFirstReply, IsFirstOf, IsOperOf, begins_at, belongs_at, key_at, by_process, by_register, by_value, name_by}
-use Rattle.reg_arena.specs.Threads.{IsCallAt, IsCallOf as IsColumnCall, IsKeptWrite, IsLastRead, IsEntry, call_at, by_write, by_reply, by_read, initial_call, later}
-use Rattle.reg_arena.specs.declared.ids.EvId.{EvId}
-use Rattle.reg_arena.specs.declared.ids.RegId.{RegId}
-use Rattle.reg_arena.specs.declared.ids.Oper.TheVariants.{Initial, Called}
-use Rattle.reg_arena.specs.declared.event.Event.{Event}
-use Rattle.reg_arena.specs.declared.event.What.{What}
-use Rattle.reg_arena.specs.declared.event.What.TheVariants.{Call, Reply}
-use Rattle.reg_arena.specs.declared.ends.Entry.{Entry}
+use Rattle.history_model.specs.Events.{Asked}
+use Rattle.history_model.specs.History.{History, IsRecorded, history_of}
+use Rattle.history_model.specs.Operations.{Operation, calls, operations, is_a_call, is_a_reply, kind_in, initial_write, initial_writes, writes, is_write, IsWrite, IsCompleted}
+use Rattle.history_model.specs.Walking.{IsFirstOf, key_at, by_process, by_register, by_value}
+use Rattle.history_model.specs.Naming.{IsNamed, IsEventOf, IsEventIn, IsOperOf, begins_at, belongs_at, name_by}
+use Rattle.history_model.specs.OfValue.{IsMember, IsWriteOf, IsLastCall, IsFirstReply}
+use Rattle.reg_arena.specs.EventLists.{IsCallAt, IsCallOf as IsColumnCall, IsKeptWrite, IsLastRead, IsEntry, call_at, by_write, by_reply, by_read, initial_call, later}
+use Rattle.history_model.specs.declared.ids.EvId.{EvId}
+use Rattle.history_model.specs.declared.ids.RegId.{RegId}
+use Rattle.history_model.specs.declared.ids.Oper.TheVariants.{Initial, Called}
+use Rattle.history_model.specs.declared.event.Event.{Event}
+use Rattle.history_model.specs.declared.event.What.{What}
+use Rattle.history_model.specs.declared.event.What.TheVariants.{Call, Reply}
+use Rattle.reg_arena.specs.declared.list_ends.Entry.{Entry}
 use Rattle.reg_arena.proofs.Append.{key-within, key-along, write-call, write-value, reply-said, reply-value, read-said, read-value, and-left}
-use Rattle.reg_arena.proofs.ByEvent.{element}
 use Rattle.reg_arena.proofs.ByValue.{key-both, key-parts}
-use Rattle.reg_arena.proofs.Walking.{number-known}
-use Rattle.reg_arena.proofs.Recorded.{In-left, In-initials, initials-In, append-In}
-use Rattle.reg_arena.proofs.Belonging.{IsCallOf, IsReplied, called-one}
-use Rattle.reg_arena.proofs.Accepted.{line-at, call-asks, asked-value, call-line}
-use Rattle.reg_arena.proofs.Turns.{call-event, not-again}
-use Rattle.reg_arena.proofs.Named.{begun-at, event-has-operation, event-has-no-operation, event-has-one, operation-has-call, operation-has-reply}
+use Rattle.history_model.proofs.Walking.{number-known}
+use Rattle.history_model.proofs.Recorded.{In-initials, initials-In}
+use Rattle.history_model.proofs.Belonging.{IsCallOf, IsReplied, called-one}
+use Rattle.history_model.proofs.Accepted.{line-at, call-asks, asked-value, call-line}
+use Rattle.history_model.proofs.Turns.{call-event, not-again}
+use Rattle.history_model.proofs.Named.{begun-at, event-has-operation, event-has-no-operation, event-has-one, operation-has-call, operation-has-reply}
+use Rattle.history_model.proofs.Lists.{In-left, append-In, slice_get_inside}
 
 -- ---- names
 
@@ -113,7 +115,7 @@ module _ (h : History) (rec : IsRecorded h) where
   event-by : {K : Type 0} (key : Event → Option K) (i : ℕ) (k : K) → key_at key h.events i ≡ Some k → (e : Event) × (slice_get h.events i ≡ Some e) × (key e ≡ Some k)
   event-by key i k q =
       let l = key-within key h.events i k q in
-      let e = element h.events i l in
+      let e = slice_get_inside h.events i l in
       (e.0, e.1, sym (ap (option_and_then key) e.1) ∙ q)
 
   -- no value is written twice

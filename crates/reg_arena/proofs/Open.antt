@@ -14,27 +14,27 @@ use Rattle.history_text.specs.declared.event.OpKind.TheVariants.{ReadOp, WriteOp
 use Rattle.history_text.specs.declared.event.LineEvent.{LineEvent}
 use Rattle.history_text.specs.declared.event.Kind.{Kind}
 use Rattle.history_text.specs.declared.event.Kind.TheVariants.{CallRead, CallWrite, Reply, Fail, Crash}
-use Rattle.reg_arena.specs.Lists.{In, last_with, first_with}
-use Rattle.reg_arena.specs.Events.{Asked, asked_by, replied_by, failed_by, is_call, is_crash, is_crash_kind, is_of_process, open_call, open_asked, crashed_at}
-use Rattle.reg_arena.specs.Refusals.{AreAccepted, writes_to}
-use Rattle.reg_arena.specs.History.{history_of, event_after, register_names, register_number, what_by}
-use Rattle.reg_arena.specs.Shown.{key_at, by_process, by_value}
-use Rattle.reg_arena.specs.Threads.{IsCall, IsLastOf, by_write}
+use Rattle.history_model.specs.Lists.{In, last_with, first_with}
+use Rattle.history_model.specs.Events.{Asked, asked_by, replied_by, failed_by, is_call, is_crash, is_crash_kind, is_of_process, open_call, open_asked, crashed_at}
+use Rattle.history_model.specs.Refusals.{AreAccepted, writes_to}
+use Rattle.history_model.specs.History.{history_of, event_after, register_names, register_number, what_by}
+use Rattle.history_model.specs.Walking.{key_at, by_process, by_value}
+use Rattle.reg_arena.specs.EventLists.{IsCall, IsLastOf, by_write}
 use Rattle.reg_arena.specs.Step.{IsOpenCall, IsStanding, IsCrash, IsNumber, IsWritten}
 use Rattle.reg_arena.specs.declared.standing.Open.{Open}
 use Rattle.reg_arena.specs.declared.standing.Standing.TheVariants.{Opened, Crashed, Free}
-use Rattle.reg_arena.specs.Operations.{is_a_call, kind_in, number_in}
-use Rattle.reg_arena.specs.declared.ids.RegId.{RegId}
-use Rattle.reg_arena.specs.declared.event.What.{What}
-use Rattle.reg_arena.specs.declared.event.What.TheVariants.{Call, Crash as Crashes}
-use Rattle.reg_arena.specs.declared.ids.EvId.{EvId}
-use Rattle.reg_arena.specs.declared.event.Event.{Event}
-use Rattle.reg_arena.proofs.Numbers.{is-In, place-in, place-out}
-use Rattle.reg_arena.proofs.Accepted.{last-some, IsLineAt, IsLastPassing, line-at, at-after, asked-value, call-asks, call-line}
-use Rattle.reg_arena.proofs.Turns.{IsCallEvent, call-event, number-later}
+use Rattle.history_model.specs.Operations.{is_a_call, kind_in, number_in}
+use Rattle.history_model.specs.declared.ids.RegId.{RegId}
+use Rattle.history_model.specs.declared.event.What.{What}
+use Rattle.history_model.specs.declared.event.What.TheVariants.{Call, Crash as Crashes}
+use Rattle.history_model.specs.declared.ids.EvId.{EvId}
+use Rattle.history_model.specs.declared.event.Event.{Event}
+use Rattle.history_model.proofs.Numbers.{is-In, place-in, place-out}
+use Rattle.history_model.proofs.Accepted.{last-some, IsLineAt, IsLastPassing, line-at, at-after, asked-value, call-asks, call-line}
+use Rattle.history_model.proofs.Turns.{IsCallEvent, call-event, number-later}
 use Rattle.reg_arena.proofs.Append.{write-call, write-value}
 use Rattle.reg_arena.proofs.ByValue.{key-by, key-parts}
-use Rattle.reg_arena.proofs.Walking.{number-known}
+use Rattle.history_model.proofs.Walking.{number-known}
 
 -- ---- the last and the first of a list
 

@@ -3,13 +3,13 @@ use Rattle.std.proofs.Common.{◌≡◌, ℕ, ◌+◌, ◌<◌, ◌↔◌, nat_l
 use Rattle.std.specs.Prelude.{IsTrue}
 use Rattle.std.proofs.lemmas.Bool.{false≢true, ltb-true, lt-ltb}
 use Rattle.std.proofs.lemmas.Option.{slice_get_within}
-use Rattle.reg_arena.specs.Lists.{In}
-use Rattle.reg_arena.specs.History.{History}
-use Rattle.reg_arena.specs.Operations.{Operation, operations, Precedes}
-use Rattle.reg_arena.specs.Shown.{IsNamed, op_shown}
-use Rattle.reg_arena.specs.declared.ids.Oper.{Oper}
-use Rattle.reg_arena.specs.declared.op.Op.{Op}
-use Rattle.reg_arena.proofs.Named.{one-named}
+use Rattle.history_model.specs.Lists.{In}
+use Rattle.history_model.specs.History.{History}
+use Rattle.history_model.specs.Operations.{Operation, operations, Precedes}
+use Rattle.history_model.specs.Naming.{IsNamed, op_shown}
+use Rattle.history_model.specs.declared.ids.Oper.{Oper}
+use Rattle.history_model.specs.declared.op.Op.{Op}
+use Rattle.history_model.proofs.Named.{one-named}
 use Rattle.reg_arena.proofs.OfValue.{known}
 
 call-below : (h : History) (o : Operation) → In o (operations h) → o.call < length h.events + 2

@@ -10,13 +10,13 @@ use Rattle.history_text.specs.Faults.{fault_number}
 use Rattle.history_text.specs.declared.event.LineEvent.{LineEvent}
 use Rattle.history_text.specs.declared.fault.LineFault.{LineFault}
 use Rattle.reg_arena.specs.Built.{IsBuilt, IsBuiltWith}
-use Rattle.reg_arena.specs.Refusals.{Line, AreAccepted, IsBuildError, IsRefusal, IsWellFormed, event_refusal, events_of, line_refusal, refusal_at}
-use Rattle.reg_arena.specs.History.{History, history_of}
+use Rattle.history_model.specs.Refusals.{Line, AreAccepted, IsBuildError, IsRefusal, IsWellFormed, event_refusal, events_of, line_refusal, refusal_at}
+use Rattle.history_model.specs.History.{History, history_of}
 use Rattle.reg_arena.specs.Step.{IsStep}
-use Rattle.reg_arena.specs.declared.refusal.BuildError.{BuildError}
-use Rattle.reg_arena.specs.declared.refusal.BuildError.TheVariants.{Refused, Memory}
-use Rattle.reg_arena.specs.declared.refusal.LineRefusal.{LineRefusal}
-use Rattle.reg_arena.proofs.Accepted.{take-push}
+use Rattle.history_model.specs.declared.refusal.BuildError.{BuildError}
+use Rattle.history_model.specs.declared.refusal.BuildError.TheVariants.{Refused, Memory}
+use Rattle.history_model.specs.declared.refusal.LineRefusal.{LineRefusal}
+use Rattle.history_model.proofs.Accepted.{take-push}
 use Rattle.reg_arena.proofs.Step.{accepted-push}
 
 -- a whole list is taken

@@ -9,20 +9,20 @@ use Rattle.history_text.specs.declared.event.LineEvent.{LineEvent}
 use Rattle.history_text.specs.declared.event.ReplyParts.{ReplyParts}
 use Rattle.history_text.specs.declared.event.Kind.{Kind}
 use Rattle.history_text.specs.declared.event.Kind.TheVariants.{CallRead, CallWrite, Reply, Fail, Crash}
-use Rattle.reg_arena.specs.Lists.{first_with}
-use Rattle.reg_arena.specs.Events.{Asked, asked_by, replied_by, failed_by, ended_by, is_crash, is_crash_kind, open_call, open_asked, crashed_at, reply_agrees, fail_agrees}
-use Rattle.reg_arena.specs.Refusals.{AreAccepted, event_refusal, late_refusal, refused, failing, call_while_open, end_without_call, reply_disagrees, fail_disagrees, reply_without_value, value_written, too_many, after_crash, writes_to}
-use Rattle.reg_arena.specs.History.{history_of, events_after, register_names}
+use Rattle.history_model.specs.Lists.{first_with}
+use Rattle.history_model.specs.Events.{Asked, asked_by, replied_by, failed_by, ended_by, is_crash, is_crash_kind, open_call, open_asked, crashed_at, reply_agrees, fail_agrees}
+use Rattle.history_model.specs.Refusals.{AreAccepted, event_refusal, late_refusal, refused, failing, call_while_open, end_without_call, reply_disagrees, fail_disagrees, reply_without_value, value_written, too_many, after_crash, writes_to}
+use Rattle.history_model.specs.History.{history_of, events_after, register_names}
 use Rattle.reg_arena.specs.Step.{IsOpenCall, IsStanding, IsNumber, IsWritten}
-use Rattle.reg_arena.specs.declared.ids.EvId.{EvId}
-use Rattle.reg_arena.specs.declared.event.Event.{Event}
+use Rattle.history_model.specs.declared.ids.EvId.{EvId}
+use Rattle.history_model.specs.declared.event.Event.{Event}
 use Rattle.reg_arena.specs.declared.standing.Open.{Open}
 use Rattle.reg_arena.specs.declared.standing.Standing.{Standing}
 use Rattle.reg_arena.specs.declared.standing.Standing.TheVariants.{Opened, Crashed, Free}
-use Rattle.reg_arena.specs.declared.refusal.LineRefusal.{LineRefusal}
-use Rattle.reg_arena.specs.Threads.{by_write}
+use Rattle.history_model.specs.declared.refusal.LineRefusal.{LineRefusal}
+use Rattle.reg_arena.specs.EventLists.{by_write}
 use Rattle.reg_arena.proofs.Append.{key-within}
-use Rattle.reg_arena.proofs.Accepted.{call-replies, reply-asks, reply-ends, fail-ends}
+use Rattle.history_model.proofs.Accepted.{call-replies, reply-asks, reply-ends, fail-ends}
 use Rattle.reg_arena.proofs.Open.{open-some, crashed-some, free-none, written-none, written-some, name-at}
 
 -- ---- what an event is none of

@@ -11,34 +11,34 @@ use Rattle.history_text.specs.declared.event.OpKind.{OpKind}
 use Rattle.history_text.specs.declared.event.OpKind.TheVariants.{ReadOp, WriteOp}
 use Rattle.history_text.specs.declared.event.LineEvent.{LineEvent}
 use Rattle.history_text.specs.declared.event.ReplyParts.{ReplyParts}
-use Rattle.reg_arena.specs.Lists.{In}
-use Rattle.reg_arena.specs.Events.{Asked, asked_by, replied_by, failed_by, ended_by, open_asked, is_call, is_crash, is_crash_kind}
-use Rattle.reg_arena.specs.Refusals.{AreAccepted, event_refusal, refused}
-use Rattle.reg_arena.specs.History.{History, IsRecorded, history_of, events_after, event_after, asked_for, event_value, kind_asked, register_names, register_number, what_by}
-use Rattle.reg_arena.specs.Operations.{is_a_call, is_a_fail}
-use Rattle.reg_arena.specs.declared.ids.RegId.{RegId}
-use Rattle.reg_arena.specs.declared.event.What.{What}
-use Rattle.reg_arena.specs.declared.event.What.TheVariants.{Call, Reply, Fail, Crash}
+use Rattle.history_model.specs.Lists.{In}
+use Rattle.history_model.specs.Events.{Asked, asked_by, replied_by, failed_by, ended_by, open_asked, is_call, is_crash, is_crash_kind}
+use Rattle.history_model.specs.Refusals.{AreAccepted, event_refusal, refused}
+use Rattle.history_model.specs.History.{History, IsRecorded, history_of, events_after, event_after, asked_for, event_value, kind_asked, register_names, register_number, what_by}
+use Rattle.history_model.specs.Operations.{is_a_call, is_a_fail}
+use Rattle.history_model.specs.declared.ids.RegId.{RegId}
+use Rattle.history_model.specs.declared.event.What.{What}
+use Rattle.history_model.specs.declared.event.What.TheVariants.{Call, Reply, Fail, Crash}
 use Rattle.reg_arena.specs.declared.standing.Open.{Open}
 use Rattle.history_text.specs.declared.event.Kind.{Kind}
 use Rattle.history_text.specs.declared.event.Kind.TheVariants.{CallRead, CallWrite, Reply as AReply, Fail as AFail, Crash as ACrash}
-use Rattle.reg_arena.specs.Shown.{key_at, by_process, by_register, by_value}
-use Rattle.reg_arena.specs.Threads.{IsCall, IsCallAt, IsAppendable}
+use Rattle.history_model.specs.Walking.{key_at, by_process, by_register, by_value}
+use Rattle.reg_arena.specs.EventLists.{IsCall, IsCallAt, IsAppendable}
 use Rattle.std.specs.Prelude.{Result, Ok, Err}
 use Rattle.std.specs.Result.{IsErrAnd}
-use Rattle.reg_arena.specs.declared.refusal.BuildError.{BuildError}
-use Rattle.reg_arena.specs.declared.refusal.BuildError.TheVariants.{Memory}
+use Rattle.history_model.specs.declared.refusal.BuildError.{BuildError}
+use Rattle.history_model.specs.declared.refusal.BuildError.TheVariants.{Memory}
 use Rattle.reg_arena.specs.Step.{IsNumber, IsOpenCall, IsStep}
-use Rattle.reg_arena.specs.declared.ids.EvId.{EvId}
-use Rattle.reg_arena.specs.declared.event.Event.{Event}
-use Rattle.reg_arena.proofs.Links.{slice_get-push, slice_get-push_other}
+use Rattle.history_model.specs.declared.ids.EvId.{EvId}
+use Rattle.history_model.specs.declared.event.Event.{Event}
 use Rattle.reg_arena.proofs.Append.{call-keep, key-back, key-within}
-use Rattle.reg_arena.proofs.Numbers.{is-In, place-in, place-out, names-replied, names-known, names-new}
-use Rattle.reg_arena.proofs.Accepted.{free-of, asked-call, asked-end, asked-value, reply-asks, reply-ends, fail-ends}
-use Rattle.reg_arena.proofs.Turns.{value-of-call}
+use Rattle.history_model.proofs.Numbers.{is-In, place-in, place-out, names-replied, names-known, names-new}
+use Rattle.history_model.proofs.Accepted.{free-of, asked-call, asked-end, asked-value, reply-asks, reply-ends, fail-ends}
+use Rattle.history_model.proofs.Turns.{value-of-call}
 use Rattle.reg_arena.proofs.Open.{open-some, number-stays}
-use Rattle.reg_arena.proofs.Named.{event-register}
+use Rattle.history_model.proofs.Named.{event-register}
 use Rattle.reg_arena.proofs.Refused.{events-length, crash-none}
+use Rattle.history_model.proofs.Lists.{slice_get-push, slice_get-push_other}
 
 take-length : {X : Type 0} (xs : List X) → take (length xs) xs ≡ xs
 take-length [] = refl

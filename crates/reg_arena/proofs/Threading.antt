@@ -1,22 +1,17 @@
 -- An append keeps a family of lists threaded.
 use Rattle.std.proofs.Common.{◌≡◌, ℕ, ◌+◌, ◌<◌, ◌≤◌, Option, Some, None, ◌⊎◌, inl, inr, refl, sym, ap, subst, ◌∙◌, arith}
 use Rattle.std.proofs.lemmas.Bool.{cases_order}
-use Rattle.reg_arena.specs.declared.ids.EvId.{EvId}
-use Rattle.reg_arena.specs.declared.ends.Ends.{Ends}
-use Rattle.reg_arena.specs.Shown.{IsLeastFrom}
-use Rattle.reg_arena.specs.Threads.{IsThreaded, IsJoined}
+use Rattle.history_model.specs.declared.ids.EvId.{EvId}
+use Rattle.reg_arena.specs.declared.list_ends.Ends.{Ends}
+use Rattle.history_model.specs.Walking.{IsLeastFrom}
+use Rattle.reg_arena.specs.EventLists.{IsThreaded, IsJoined}
+use Rattle.history_model.proofs.Lists.{decide_eq}
 
 -- what an append of an event does to the keys
 pub record IsPushed {K : Type 0} (n : ℕ) (k : Option K) (key new_key : ℕ → Option K) : Type 0 where
   pub past : (i : ℕ) → n ≤ i → key i ≡ None
   pub same : (i : ℕ) → (i ≡ n → ⊥) → new_key i ≡ key i
   pub new : new_key n ≡ k
-
-decide_eq : (i n : ℕ) → (i ≡ n) ⊎ (i ≡ n → ⊥)
-decide_eq i n = elim (cases_order i n) [
-  | inl e ↦ inl e
-  | inr c ↦ elim c [ inl l ↦ inr (λ e. omega arith) | inr g ↦ inr (λ e. omega arith) ]
-]
 
 module _ {K : Type 0} (n : EvId) (key new_key : ℕ → Option K) (link : ℕ → Option EvId) (ends : K → Option Ends) (t : IsThreaded key link ends) (none : link n.0 ≡ None) where
   below : (k : Option K) → IsPushed n.0 k key new_key → (q : K) (i : ℕ) → key i ≡ Some q → i < n.0

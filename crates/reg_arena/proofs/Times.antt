@@ -2,23 +2,25 @@
 use Rattle.std.proofs.Common.{◌≡◌, ℕ, ◌^◌, ◌<◌, nat_lt, cond, Bool, true, false, length, take, slice_get, Option, Some, None, List, refl, sym, ap, subst, ◌∙◌, arith, option_map, option_and_then}
 use Rattle.history_text.specs.declared.event.Val.{Val}
 use Rattle.history_text.specs.declared.event.Val.TheVariants.{Null, Int}
-use Rattle.reg_arena.specs.History.{History, IsRecorded, asked_for, event_value}
-use Rattle.reg_arena.specs.Events.{Asked}
+use Rattle.history_model.specs.History.{History, IsRecorded, asked_for, event_value}
+use Rattle.history_model.specs.Events.{Asked}
 use Rattle.history_text.specs.declared.event.LineEvent.{LineEvent}
-use Rattle.reg_arena.proofs.Accepted.{IsLineAt, line-at, asking}
-use Rattle.reg_arena.specs.Shown.{IsLastCall, IsFirstReply, IsFirstOf, key_at, by_register, by_value}
-use Rattle.reg_arena.specs.Threads.{AreThreads, HasTimes, IsCallOf, IsLastRead, by_read, by_reply, by_write, last_time, later, reply_time, value_entry, write_called, write_kept}
-use Rattle.reg_arena.specs.declared.ids.EvId.{EvId}
-use Rattle.reg_arena.specs.declared.event.Event.{Event}
-use Rattle.reg_arena.specs.declared.ends.Entry.{Entry}
-use Rattle.reg_arena.specs.declared.ends.Write.{Write}
-use Rattle.reg_arena.specs.declared.ends.Write.TheVariants.{Unwritten, Written, Failed}
-use Rattle.reg_arena.specs.declared.threads.Threads.{Threads}
+use Rattle.history_model.proofs.Accepted.{IsLineAt, line-at, asking}
+use Rattle.history_model.specs.Walking.{IsFirstOf, key_at, by_register, by_value}
+use Rattle.history_model.specs.OfValue.{IsLastCall, IsFirstReply}
+use Rattle.reg_arena.specs.EventLists.{AreEventLists, HasTimes, IsCallOf, IsLastRead, by_read, by_reply, by_write, last_time, later, reply_time, value_entry, write_called, write_kept}
+use Rattle.history_model.specs.declared.ids.EvId.{EvId}
+use Rattle.history_model.specs.declared.event.Event.{Event}
+use Rattle.reg_arena.specs.declared.list_ends.Entry.{Entry}
+use Rattle.reg_arena.specs.declared.list_ends.Write.{Write}
+use Rattle.reg_arena.specs.declared.list_ends.Write.TheVariants.{Unwritten, Written, Failed}
+use Rattle.reg_arena.specs.declared.event_lists.EventLists.{EventLists}
 use Rattle.reg_arena.proofs.Append.{key-along, key-within, read-value}
-use Rattle.reg_arena.proofs.ByEvent.{element, kept-none, kept-write}
+use Rattle.reg_arena.proofs.ByEvent.{kept-none, kept-write}
 use Rattle.reg_arena.proofs.ByValue.{key-by, key-parts}
-use Rattle.reg_arena.proofs.Named.{event-register}
+use Rattle.history_model.proofs.Named.{event-register}
 use Rattle.reg_arena.proofs.OfValue.{last-call_is, first-reply_null, first-reply_none, first-reply_entry}
+use Rattle.history_model.proofs.Lists.{slice_get_inside}
 
 pub null-int : (n : _) → Int n ≡ Null → ⊥
 null-int n h = cc (h)
@@ -40,7 +42,7 @@ later-fits (Some a) (Some b) f g id h = go (nat_lt a.0 b.0) h
     go false h = f id h
 
 -- the times of an entry fit
-pub has-times : (t : Threads) → AreThreads t → (k : ℕ × Val) (y : Entry) → value_entry t.values.keys t.entries.items k ≡ Some y → HasTimes y
+pub has-times : (t : EventLists) → AreEventLists t → (k : ℕ × Val) (y : Entry) → value_entry t.values.keys t.entries.items k ≡ Some y → HasTimes y
 has-times t a k y q =
     let e = a.entries k y q in
     record {
@@ -53,12 +55,12 @@ has-times t a k y q =
     read id l =
         let i = l.0.0 in
         let w = key-within by_read t.events.items i k l.0.1 in
-        let e = element t.events.items i w in
+        let e = slice_get_inside t.events.items i w in
         let c = subst (IsCallOf t.events.items i e.0) l.0.2 (a.calls i e.0 e.1) in
         let o = c.1.order in
         omega (arith, w, o, a.room)
 
-module _ (names : List (List ℕ)) (t : Threads) (a : AreThreads t) (rec : IsRecorded (record { names = names; events = t.events.items })) where
+module _ (names : List (List ℕ)) (t : EventLists) (a : AreEventLists t) (rec : IsRecorded (record { names = names; events = t.events.items })) where
   no-event : (k : ℕ × Val) → value_entry t.values.keys t.entries.items k ≡ None → (i : ℕ) → key_at by_value t.events.items i ≡ Some k → ⊥
   no-event k q i h = a.values.none k (ap (option_map (λ (y : Entry). y.ends)) q) i h
 
@@ -121,7 +123,7 @@ key-there h rec i e v at has none = go (asked_for (take i rec.events) line.0) re
 
 -- ---- by an event
 
-module _ (names : List (List ℕ)) (t : Threads) (a : AreThreads t) (rec : IsRecorded (record { names = names; events = t.events.items })) (i : ℕ) where
+module _ (names : List (List ℕ)) (t : EventLists) (a : AreEventLists t) (rec : IsRecorded (record { names = names; events = t.events.items })) (i : ℕ) where
   pub times-there : (o : Option Entry) → o ≡ option_and_then (value_entry t.values.keys t.entries.items) (key_at by_value t.events.items i) → (y : Entry) → o ≡ Some y → HasTimes y
   times-there o q y h = go (key_at by_value t.events.items i) refl
     where

@@ -12,14 +12,15 @@ use Rattle.std.specs.Option.{option_eq}
 use Rattle.std.specs.FinMap.{int_cmp-IsAntisymmetric}
 use Rattle.history_text.specs.declared.event.Val.{Val}
 use Rattle.history_text.specs.declared.event.Val.TheVariants.{Null, Int}
-use Rattle.reg_arena.specs.declared.ids.EvId.{EvId}
-use Rattle.reg_arena.specs.declared.event.Event.{Event}
-use Rattle.reg_arena.specs.declared.ends.Ends.{Ends}
-use Rattle.reg_arena.specs.declared.ends.Entry.{Entry}
-use Rattle.reg_arena.specs.Shown.{by_value}
-use Rattle.reg_arena.specs.Threads.{IsJoined, IsEntered, whole, key_eq, event_number, link_at, value_number, value_entry, value_ends, entry_alone, entry_with, entry_after}
+use Rattle.history_model.specs.declared.ids.EvId.{EvId}
+use Rattle.history_model.specs.declared.event.Event.{Event}
+use Rattle.reg_arena.specs.declared.list_ends.Ends.{Ends}
+use Rattle.reg_arena.specs.declared.list_ends.Entry.{Entry}
+use Rattle.history_model.specs.Walking.{by_value}
+use Rattle.reg_arena.specs.EventLists.{IsJoined, IsEntered, whole, key_eq, event_number, link_at, value_number, value_entry, value_ends, entry_alone, entry_with, entry_after}
 use Rattle.reg_arena.proofs.Keys.{added-last, place-none, place-some, position-at, position-new, position-kept, position-absent}
-use Rattle.reg_arena.proofs.Links.{slice_get-push, slice_get-push_other, slice_get-set, slice_get-set_other, link-push, link-at, link-other}
+use Rattle.reg_arena.proofs.Links.{link-push, link-at, link-other}
+use Rattle.history_model.proofs.Lists.{slice_get-push, slice_get-push_other, slice_get-set, slice_get-set_other}
 
 whole_one : (v w : Val) → whole v ≡ whole w → v ≡ w
 whole_one Null Null h = refl

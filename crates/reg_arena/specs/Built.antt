@@ -2,9 +2,9 @@
 use Rattle.std.specs.Prelude.{◌≡◌, ◌++◌, List, flat_map, Result, Ok, Err}
 use Rattle.history_text.specs.declared.event.LineEvent.{LineEvent}
 use Rattle.history_text.specs.declared.fault.LineFault.{LineFault}
-use Rattle.reg_arena.specs.declared.refusal.BuildError.{BuildError}
-use Rattle.reg_arena.specs.History.{History, history_of}
-use Rattle.reg_arena.specs.Refusals.{Line, AreAccepted, IsBuildError, IsWellFormed, events_of}
+use Rattle.history_model.specs.declared.refusal.BuildError.{BuildError}
+use Rattle.history_model.specs.History.{History, history_of}
+use Rattle.history_model.specs.Refusals.{Line, AreAccepted, IsBuildError, IsWellFormed, events_of}
 
 -- the history is that of the lines, which are well formed
 pub record IsBuilt (lines : List Line) (h : History) : Type 0 where

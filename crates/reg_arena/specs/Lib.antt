@@ -1,12 +1,3 @@
-pub mod Lists
-pub mod Events
-pub mod Refusals
-pub mod History
-pub mod Operations
-pub mod Legal
-pub mod Lamport
-pub mod Shown
-pub mod Walking
-pub mod Threads
+pub mod EventLists
 pub mod Step
 pub mod Built

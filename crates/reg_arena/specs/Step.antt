@@ -4,19 +4,19 @@ use Rattle.std.specs.declared.alloc.AllocError.{AllocError}
 use Rattle.std.specs.List.{position_or_len}
 use Rattle.history_text.specs.declared.event.Val.{Val}
 use Rattle.history_text.specs.declared.event.LineEvent.{LineEvent}
-use Rattle.reg_arena.specs.declared.ids.EvId.{EvId}
-use Rattle.reg_arena.specs.declared.event.Event.{Event}
-use Rattle.reg_arena.specs.declared.event.What.TheVariants.{Call, Crash}
+use Rattle.history_model.specs.declared.ids.EvId.{EvId}
+use Rattle.history_model.specs.declared.event.Event.{Event}
+use Rattle.history_model.specs.declared.event.What.TheVariants.{Call, Crash}
 use Rattle.reg_arena.specs.declared.standing.Open.{Open}
 use Rattle.reg_arena.specs.declared.standing.Standing.{Standing}
 use Rattle.reg_arena.specs.declared.standing.Standing.TheVariants.{Opened, Crashed, Free}
-use Rattle.reg_arena.specs.declared.refusal.LineRefusal.{LineRefusal}
-use Rattle.reg_arena.specs.declared.refusal.BuildError.{BuildError}
-use Rattle.reg_arena.specs.declared.refusal.BuildError.TheVariants.{Refused, Memory}
-use Rattle.reg_arena.specs.Shown.{IsFirstOf, by_process, by_value}
-use Rattle.reg_arena.specs.Threads.{IsCall, IsLastOf, by_write}
-use Rattle.reg_arena.specs.History.{History, history_of}
-use Rattle.reg_arena.specs.Refusals.{AreAccepted, event_refusal}
+use Rattle.history_model.specs.declared.refusal.LineRefusal.{LineRefusal}
+use Rattle.history_model.specs.declared.refusal.BuildError.{BuildError}
+use Rattle.history_model.specs.declared.refusal.BuildError.TheVariants.{Refused, Memory}
+use Rattle.history_model.specs.Walking.{IsFirstOf, by_process, by_value}
+use Rattle.reg_arena.specs.EventLists.{IsCall, IsLastOf, by_write}
+use Rattle.history_model.specs.History.{History, history_of}
+use Rattle.history_model.specs.Refusals.{AreAccepted, event_refusal}
 
 -- the number of a name, where it has one
 abbrev pub IsNumber : List (List ℕ) → List ℕ → Option ℕ → Type 0

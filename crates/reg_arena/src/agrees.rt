@@ -1,7 +1,7 @@
 //! Whether a reply or a fail agrees with its call.
 ghost use Rattle.std.specs.Prelude.{◌≡◌, bytes_eq};
 ghost use Rattle.history_text.specs.Values.{kind_eq};
-ghost use Rattle.reg_arena.specs.Events.{agrees, fail_agrees, failed_value_agrees, reply_agrees, value_agrees};
+ghost use Rattle.history_model.specs.Events.{agrees, fail_agrees, failed_value_agrees, reply_agrees, value_agrees};
 
 use history_text::{OpKind, ReplyParts, Val};
 

@@ -1,17 +1,17 @@
 //! An accepted history, and what is asked of it. No call takes memory, and each always answers.
 ghost use Rattle.std.specs.Prelude.{◌≡◌, ◌<◌, ◌≤◌, ◌^◌, ◌↔◌, length, slice_get, None, Some, IsTrue};
 ghost use Rattle.history_text.specs.Limits.{IsName};
-ghost use Rattle.reg_arena.specs.History.{IsRecorded};
-ghost use Rattle.reg_arena.specs.Operations.{Operation, Precedes};
-ghost use Rattle.reg_arena.specs.Shown.{IsFirstOf, IsNamed, IsNextOf, IsOper, IsOperOf, IsWriteOf, begins_at, by_process, by_register, by_value, key_at, op_shown};
-ghost use Rattle.reg_arena.specs.declared.event.Event.{Event as AnEvent};
+ghost use Rattle.history_model.specs.History.{IsRecorded};
+ghost use Rattle.history_model.specs.Operations.{Operation, Precedes};
+ghost use Rattle.history_model.specs.Walking.{IsFirstOf, IsNextOf, by_process, by_register, by_value, key_at};
+ghost use Rattle.history_model.specs.Naming.{IsNamed, IsOper, IsOperOf, begins_at, op_shown};
+ghost use Rattle.history_model.specs.OfValue.{IsWriteOf};
+ghost use Rattle.history_model.specs.declared.event.Event.{Event as AnEvent};
 
-use crate::ends::NO_CALL;
-use crate::event::Event;
-use crate::ids::{EvId, Oper, RegId};
+use crate::event_lists::EventLists;
+use crate::list_ends::NO_CALL;
 use crate::names::Names;
-use crate::op::Op;
-use crate::threads::Threads;
+use history_model::{EvId, Event, Op, Oper, RegId};
 use history_text::{OpKind, Val};
 use std::marker::Model;
 
@@ -19,19 +19,19 @@ use std::marker::Model;
 #[derive(Drop)]
 pub struct Arena {
     pub(crate) names: Names,
-    pub(crate) threads: Threads,
+    pub(crate) lists: EventLists,
 }
 
 impl Model for Arena {
     ghost use Rattle.std.specs.Prelude.{◌≡◌, length};
-    ghost use Rattle.reg_arena.specs.History.{History, IsRecorded};
-    ghost use Rattle.reg_arena.specs.Threads.{AreThreads};
+    ghost use Rattle.history_model.specs.History.{History, IsRecorded};
+    ghost use Rattle.reg_arena.specs.EventLists.{AreEventLists};
 
     ghost Value = { History };
 
-    ghost view = { λ a. record { names = a.names; events = a.threads.events.items } };
+    ghost view = { λ a. record { names = a.names; events = a.lists.events.items } };
 
-    ghost invariant = { λ a. AreThreads a.threads × (length a.names ≡ length a.threads.registers.items) × IsRecorded (record { names = a.names; events = a.threads.events.items }) };
+    ghost invariant = { λ a. AreEventLists a.lists × (length a.names ≡ length a.lists.registers.items) × IsRecorded (record { names = a.names; events = a.lists.events.items }) };
 }
 
 impl Arena {
@@ -41,7 +41,7 @@ impl Arena {
         ensures bound { result ≤ 2 ^ 20 }
         ensures recorded { IsRecorded self.now }
     {
-        self.threads.events.len() as u32
+        self.lists.events.len() as u32
     }
 
     /// How many registers there are: no more than events.
@@ -67,7 +67,7 @@ impl Arena {
         ensures at { slice_get self.now.events id.0 ≡ Some result }
         ensures bound { length self.now.events ≤ 2 ^ 20 }
     {
-        self.threads.events[id.0 as usize]
+        self.lists.events[id.0 as usize]
     }
 
     /// The operation of this name, with its times.
@@ -94,7 +94,7 @@ impl Arena {
         requires { id.0 < length self.now.events }
         ensures { IsOperOf self.now id.0 result }
     {
-        let call = self.threads.calls[id.0 as usize];
+        let call = self.lists.calls[id.0 as usize];
         if call.0 == NO_CALL {
             None
         } else {
@@ -107,7 +107,7 @@ impl Arena {
         requires { id.0 < length self.now.events }
         ensures { (e : AnEvent) → slice_get self.now.events id.0 ≡ Some e → result ≡ begins_at self.now.events id.0 e }
     {
-        self.threads.calls[id.0 as usize].0 == id.0
+        self.lists.calls[id.0 as usize].0 == id.0
     }
 
     /// Whether the reply of the one comes before the call of the other.
@@ -127,8 +127,8 @@ impl Arena {
         ensures { IsFirstOf by_register self.now.events register.0 result }
     {
         let number = register.0 as usize;
-        if number < self.threads.registers.len() {
-            Some(self.threads.registers[number].first)
+        if number < self.lists.registers.len() {
+            Some(self.lists.registers[number].first)
         } else {
             None
         }
@@ -140,14 +140,14 @@ impl Arena {
         ensures next { IsNextOf by_register self.now.events id.0 result }
         ensures none { key_at by_register self.now.events id.0 ≡ None → result ≡ None }
     {
-        self.threads.in_register[id.0 as usize]
+        self.lists.in_register[id.0 as usize]
     }
 
     /// The first event of a process.
     pub fn first_of_process(&self, process: u32) -> Option<EvId>
         ensures { IsFirstOf by_process self.now.events process result }
     {
-        match self.threads.processes.get(process) {
+        match self.lists.processes.get(process) {
             Some(ends) => Some(ends.first),
             None => None,
         }
@@ -158,14 +158,14 @@ impl Arena {
         requires { id.0 < length self.now.events }
         ensures { IsNextOf by_process self.now.events id.0 result }
     {
-        self.threads.in_process[id.0 as usize]
+        self.lists.in_process[id.0 as usize]
     }
 
     /// The first event of a register with a value. A read's call, a failed read's fail and a crash have none.
     pub fn first_with_value(&self, register: RegId, value: Val) -> Option<EvId>
         ensures { IsFirstOf by_value self.now.events (register.0, value) result }
     {
-        match self.threads.entry(register, value) {
+        match self.lists.entry(register, value) {
             Some(entry) => Some(entry.ends.first),
             None => None,
         }
@@ -177,7 +177,7 @@ impl Arena {
         ensures next { IsNextOf by_value self.now.events id.0 result }
         ensures none { key_at by_value self.now.events id.0 ≡ None → result ≡ None }
     {
-        self.threads.in_value[id.0 as usize]
+        self.lists.in_value[id.0 as usize]
     }
 
     /// The write of a value to a register, which didn't fail: of `Null` the initial write.
@@ -187,7 +187,7 @@ impl Arena {
     {
         match value {
             Val::Null => Some(Oper::Initial(register)),
-            Val::Int(_) => match self.threads.write(register, value) {
+            Val::Int(_) => match self.lists.write(register, value) {
                 Some(id) => Some(Oper::Called(id)),
                 None => None,
             },

@@ -7,22 +7,20 @@ ghost use Rattle.history_text.specs.declared.event.LineEvent.{LineEvent as ALine
 ghost use Rattle.history_text.specs.declared.event.ReplyParts.{ReplyParts as AReplyParts};
 ghost use Rattle.history_text.specs.declared.event.Val.{Val as AVal};
 ghost use Rattle.reg_arena.specs.Built.{IsBuilt, IsBuiltWith};
-ghost use Rattle.reg_arena.specs.Events.{Asked, asked_by, ended_by, failed_by, is_crash, replied_by};
-ghost use Rattle.reg_arena.specs.History.{history_of};
-ghost use Rattle.reg_arena.specs.Refusals.{AreAccepted, IsBuildError, Line, IsWellFormed, event_refusal, events_of, late_refusal};
+ghost use Rattle.history_model.specs.Events.{Asked, asked_by, ended_by, failed_by, is_crash, replied_by};
+ghost use Rattle.history_model.specs.History.{history_of};
+ghost use Rattle.history_model.specs.Refusals.{AreAccepted, IsBuildError, Line, IsWellFormed, event_refusal, events_of, late_refusal};
 ghost use Rattle.reg_arena.specs.Step.{IsLastWith, IsNumber, IsRefusedAfter, IsStanding, IsStep, IsTaken, IsWritten, OnOkAfter};
 ghost use Rattle.reg_arena.specs.declared.standing.Standing.TheVariants.{Crashed, Opened};
 
 use crate::agrees::{fail_agrees, reply_agrees};
 use crate::arena::Arena;
-use crate::event::{Event, What};
+use crate::event_lists::EventLists;
 use crate::hash_key::HashKey;
-use crate::ids::{EvId, RegId};
 use crate::names::Names;
-use crate::refusal::{BuildError, LineRefusal};
 use crate::seeded::Seeded;
 use crate::standing::{Open, Standing};
-use crate::threads::Threads;
+use history_model::{BuildError, EvId, Event, LineRefusal, RegId, What};
 use history_text::{Kind, LineEvent, LineFault, MAX_EVENTS, Name, OpKind, ReplyParts, Val};
 use std::alloc::{AllocError, Global};
 
@@ -66,11 +64,11 @@ impl Arena {
         Arena::build_keyed(alloc, key, parts)
     }
 
-    /// The arena of all events of the lines, which come in parts, one behind the other; or the refusal of the first faulty line, with the least number
+    /// The arena of all events of the lines, which come in parts, one behind the other; or the refusal of the first faulty line, with the lowest number
     /// that applies there. The key of its hashes changes neither. Each part is dropped when its events are taken in.
     ///
     /// # Errors
-    /// `Refused` if the history isn't well formed, and `Memory` if a growth was refused; what was built and the lines are then dropped.
+    /// `Refused` if the history isn't well formed, and `Memory` if memory was refused; what was built and the lines are then dropped.
     pub fn build_keyed(
         alloc: Global,
         key: HashKey,
@@ -116,7 +114,7 @@ impl Arena {
     {
         Ok(Arena {
             names: Names::new(alloc, hasher),
-            threads: Threads::new(alloc, count, hasher)?,
+            lists: EventLists::new(alloc, count, hasher)?,
         })
     }
 
@@ -204,7 +202,7 @@ impl Arena {
     fn standing(&self, process: u32) -> Standing
         ensures { IsStanding self.now.events process result }
     {
-        let Some(last) = self.threads.last_of_process(process) else {
+        let Some(last) = self.lists.last_of_process(process) else {
             return Standing::Free;
         };
         let event = self.event(last);
@@ -223,7 +221,7 @@ impl Arena {
         }
     }
 
-    /// The open call that a reply or a fail ends, or the refusal of that event where there is none.
+    /// The open call that a reply or a fail ends, or the refusal of that event if there is none.
     #[inline(always)]
     fn ended_call(&self, event: &LineEvent) -> Result<Open, LineRefusal>
         requires { (parts : AReplyParts) × (ended_by event.now.kind ≡ Some parts) }
@@ -237,7 +235,7 @@ impl Arena {
         }
     }
 
-    /// The refusal of a call, where there is one. `last` is the last event of the call's register and value.
+    /// The refusal of a call, if there is one. `last` is the last event of the call's register and value.
     fn call_refusal(&self, event: &LineEvent, last: Option<EvId>) -> Option<LineRefusal>
         requires { (asked : Asked) × (number : Option ℕ) × (asked_by event.now.kind ≡ Some asked) × IsNumber self.now.names asked.register number × IsLastWith self.now.events number asked.value last }
         ensures { (es : List ALineEvent) → AreAccepted es → self.now ≡ history_of es → result ≡ event_refusal es event.now }
@@ -252,7 +250,7 @@ impl Arena {
         self.late_refusal(event, standing)
     }
 
-    /// The refusal of a reply to an open call, where there is one.
+    /// The refusal of a reply to an open call, if there is one.
     fn reply_refusal(
         &self,
         event: &LineEvent,
@@ -275,7 +273,7 @@ impl Arena {
         self.too_many(event)
     }
 
-    /// The refusal of a fail of an open call, where there is one.
+    /// The refusal of a fail of an open call, if there is one.
     fn fail_refusal(
         &self,
         event: &LineEvent,
@@ -295,7 +293,7 @@ impl Arena {
         self.too_many(event)
     }
 
-    /// The refusal of an event, where neither its kind nor its call is a reason: it is past the limit, or its process crashed.
+    /// The refusal of an event that neither its kind nor its call refuses: it is past the limit, or its process crashed.
     fn late_refusal(&self, event: &LineEvent, standing: Standing) -> Option<LineRefusal>
         requires { IsStanding self.now.events event.now.process standing }
         ensures { (es : List ALineEvent) → AreAccepted es → self.now ≡ history_of es → result ≡ late_refusal es event.now }
@@ -322,7 +320,7 @@ impl Arena {
     fn too_many(&self, event: &LineEvent) -> Option<LineRefusal>
         ensures { result ≡ cond (nat_le MAX_EVENTS (length self.now.events)) (Some (record { line = event.now.line; number = 14; other = None })) None }
     {
-        if self.threads.events.len() >= MAX_EVENTS {
+        if self.lists.events.len() >= MAX_EVENTS {
             Some(refused(event.line, 14, None))
         } else {
             None
@@ -334,7 +332,7 @@ impl Arena {
         ensures { IsLastWith self.now.events number value result }
     {
         match number {
-            Some(number) => self.threads.last_of_value(RegId(number), value),
+            Some(number) => self.lists.last_of_value(RegId(number), value),
             None => None,
         }
     }
@@ -345,12 +343,12 @@ impl Arena {
         ensures { (number : Option ℕ) (value : Option AVal) → IsLastWith self.now.events number value last → IsWritten self.now.events number value result }
     {
         match last {
-            Some(last) => self.threads.written_by(last),
+            Some(last) => self.lists.written_by(last),
             None => None,
         }
     }
 
-    /// Appends a call that isn't refused, where `last` is the last event of its register and value.
+    /// Appends a call that isn't refused. `last` is the last event of its register and value.
     #[inline(always)]
     fn with_call(
         self,
@@ -368,13 +366,13 @@ impl Arena {
         requires taken { IsTaken self event.now }
         ensures { OnOkAfter self event.now result }
     {
-        let Arena { names, mut threads } = self;
+        let Arena { names, mut lists } = self;
         let count = names.len() as u32;
         let names = match number {
             Some(_) => names,
             None => names.push(alloc, name)?,
         };
-        let id = EvId(threads.events.len() as u32);
+        let id = EvId(lists.events.len() as u32);
         let event = Event {
             line: event.line,
             process: event.process,
@@ -382,8 +380,8 @@ impl Arena {
             what: What::Call(kind),
             value,
         };
-        threads.append(event, id, last)?;
-        Ok(Arena { names, threads })
+        lists.append(event, id, last)?;
+        Ok(Arena { names, lists })
     }
 
     /// Appends a reply that isn't refused.
@@ -399,12 +397,12 @@ impl Arena {
         requires taken { IsTaken self event.now }
         ensures { OnOkAfter self event.now result }
     {
-        let Arena { names, mut threads } = self;
+        let Arena { names, mut lists } = self;
         // A write's call has the value of its reply, so that nothing is looked up.
         let (value, alike) = match opened.kind {
             OpKind::ReadOp => (
                 parts.value,
-                threads.last_of_value(opened.register, parts.value),
+                lists.last_of_value(opened.register, parts.value),
             ),
             OpKind::WriteOp => (opened.value, Some(opened.call)),
         };
@@ -415,8 +413,8 @@ impl Arena {
             what: What::Reply(opened.kind),
             value,
         };
-        threads.append(event, opened.call, alike)?;
-        Ok(Arena { names, threads })
+        lists.append(event, opened.call, alike)?;
+        Ok(Arena { names, lists })
     }
 
     /// Appends a fail that isn't refused.
@@ -426,7 +424,7 @@ impl Arena {
         requires taken { IsTaken self event.now }
         ensures { OnOkAfter self event.now result }
     {
-        let Arena { names, mut threads } = self;
+        let Arena { names, mut lists } = self;
         let alike = match opened.value {
             Some(_) => Some(opened.call),
             None => None,
@@ -438,8 +436,8 @@ impl Arena {
             what: What::Fail(opened.kind),
             value: opened.value,
         };
-        threads.append(event, opened.call, alike)?;
-        Ok(Arena { names, threads })
+        lists.append(event, opened.call, alike)?;
+        Ok(Arena { names, lists })
     }
 
     /// Appends a crash that isn't refused.
@@ -448,8 +446,8 @@ impl Arena {
         requires taken { IsTaken self event.now }
         ensures { OnOkAfter self event.now result }
     {
-        let Arena { names, mut threads } = self;
-        let id = EvId(threads.events.len() as u32);
+        let Arena { names, mut lists } = self;
+        let id = EvId(lists.events.len() as u32);
         let event = Event {
             line: event.line,
             process: event.process,
@@ -457,7 +455,7 @@ impl Arena {
             what: What::Crash,
             value: None,
         };
-        threads.append(event, id, None)?;
-        Ok(Arena { names, threads })
+        lists.append(event, id, None)?;
+        Ok(Arena { names, lists })
     }
 }

@@ -1,15 +1,13 @@
 //! The operation of a call.
 ghost use Rattle.std.specs.Prelude.{◌≡◌, ◌<◌, Some, length};
-ghost use Rattle.reg_arena.specs.Operations.{Operation, is_a_reply, kind_in};
-ghost use Rattle.reg_arena.specs.declared.ids.EvId.{EvId as AnEvId};
-ghost use Rattle.reg_arena.specs.declared.ids.Oper.TheVariants.{Called};
-ghost use Rattle.reg_arena.specs.Shown.{IsNamed, IsOper, op_shown};
-ghost use Rattle.reg_arena.specs.Walking.{IsReplyOf};
+ghost use Rattle.history_model.specs.Operations.{Operation, is_a_reply, kind_in};
+ghost use Rattle.history_model.specs.declared.ids.EvId.{EvId as AnEvId};
+ghost use Rattle.history_model.specs.declared.ids.Oper.TheVariants.{Called};
+ghost use Rattle.history_model.specs.Naming.{IsNamed, IsOper, op_shown};
+ghost use Rattle.history_model.specs.Walking.{IsReplyOf};
 
 use crate::arena::Arena;
-use crate::event::What;
-use crate::ids::{EvId, RegId};
-use crate::op::Op;
+use history_model::{EvId, Op, RegId, What};
 use history_text::OpKind;
 
 impl Arena {
@@ -19,7 +17,7 @@ impl Arena {
         ensures { (o : Operation) × IsNamed self.now (Called id) o × (result ≡ op_shown o) }
     {
         let event = self.event(id);
-        let kind = event.what.kind();
+        let kind = kind_of(event.what);
         let (reply, value) = match self.reply_to(id) {
             None => (None, event.value),
             Some(reply) => match kind {
@@ -45,7 +43,7 @@ impl Arena {
         ensures within { (j : AnEvId) → result ≡ Some j → j.0 < length self.now.events }
     {
         let next = self.next_in_process(id)?;
-        if self.event(next).what.is_reply() {
+        if is_reply(self.event(next).what) {
             Some(next)
         } else {
             None
@@ -53,23 +51,21 @@ impl Arena {
     }
 }
 
-impl What {
-    fn is_reply(self) -> bool
-        ensures { result ≡ is_a_reply self }
-    {
-        match self {
-            What::Reply(_) => true,
-            What::Call(_) | What::Fail(_) | What::Crash => false,
-        }
+fn is_reply(what: What) -> bool
+    ensures { result ≡ is_a_reply what }
+{
+    match what {
+        What::Reply(_) => true,
+        What::Call(_) | What::Fail(_) | What::Crash => false,
     }
+}
 
-    /// The kind of the call; a crash has none, and is never asked for it.
-    fn kind(self) -> OpKind
-        ensures { result ≡ kind_in self }
-    {
-        match self {
-            What::Call(kind) | What::Reply(kind) | What::Fail(kind) => kind,
-            What::Crash => OpKind::ReadOp,
-        }
+/// The kind of the call; a crash has none, and is never asked for it.
+fn kind_of(what: What) -> OpKind
+    ensures { result ≡ kind_in what }
+{
+    match what {
+        What::Call(kind) | What::Reply(kind) | What::Fail(kind) => kind,
+        What::Crash => OpKind::ReadOp,
     }
 }

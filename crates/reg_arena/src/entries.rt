@@ -1,21 +1,21 @@
 //! What is looked up in the threaded lists.
 ghost use Rattle.std.specs.Prelude.{◌≡◌, ◌<◌, ℕ, length, option_and_then, None, Some};
 ghost use Rattle.history_text.specs.declared.event.Val.{Val as AVal};
-ghost use Rattle.reg_arena.specs.Shown.{IsFirstOf, by_process, by_value, key_at};
-ghost use Rattle.reg_arena.specs.Threads.{AreThreads, IsAlike, IsKeptWrite, IsLastOf, by_write, event_number, value_entry};
-ghost use Rattle.reg_arena.specs.declared.event.Event.{Event as AnEvent};
-ghost use Rattle.reg_arena.specs.declared.ids.EvId.{EvId as AnEvId};
+ghost use Rattle.history_model.specs.Walking.{IsFirstOf, by_process, by_value, key_at};
+ghost use Rattle.reg_arena.specs.EventLists.{AreEventLists, IsAlike, IsKeptWrite, IsLastOf, by_write, event_number, value_entry};
+ghost use Rattle.history_model.specs.declared.event.Event.{Event as AnEvent};
+ghost use Rattle.history_model.specs.declared.ids.EvId.{EvId as AnEvId};
 
-use crate::ends::Entry;
-use crate::ids::{EvId, RegId};
+use crate::event_lists::EventLists;
 use crate::joins::whole;
-use crate::threads::Threads;
+use crate::list_ends::Entry;
+use history_model::{EvId, RegId};
 use history_text::Val;
 
-impl Threads {
+impl EventLists {
     /// The entry of a register and value, by one look-up.
     pub(crate) fn entry(&self, register: RegId, value: Val) -> Option<Entry>
-        requires { AreThreads self.now }
+        requires { AreEventLists self.now }
         ensures { result ≡ value_entry self.now.values.keys self.now.entries.items (register.0, value) }
     {
         let key = (register.0, whole(value));
@@ -27,7 +27,7 @@ impl Threads {
 
     /// The number of the entry of an event's register and value, of which `alike` is an event.
     pub(crate) fn number_of(&self, alike: Option<EvId>) -> Option<u32>
-        requires threads { AreThreads self.now }
+        requires lists { AreEventLists self.now }
         requires within { (j : AnEvId) → alike ≡ Some j → j.0 < length self.now.events.items }
         ensures { (e : AnEvent) → IsAlike self.now.events.items e alike → result ≡ event_number self.now.values.keys e }
     {
@@ -39,7 +39,7 @@ impl Threads {
 
     /// The entry of an event's register and value.
     pub(crate) fn entry_of(&self, id: EvId) -> Option<Entry>
-        requires threads { AreThreads self.now }
+        requires lists { AreEventLists self.now }
         requires within { id.0 < length self.now.events.items }
         ensures { result ≡ option_and_then (value_entry self.now.values.keys self.now.entries.items) (key_at by_value self.now.events.items id.0) }
     {
@@ -51,7 +51,7 @@ impl Threads {
 
     /// The call of the write of a value to a register, if it didn't fail.
     pub(crate) fn write(&self, register: RegId, value: Val) -> Option<EvId>
-        requires { AreThreads self.now }
+        requires { AreEventLists self.now }
         ensures { IsKeptWrite self.now.events.items (register.0, value) result }
     {
         match self.entry(register, value) {
@@ -62,7 +62,7 @@ impl Threads {
 
     /// The call of the write of an event's value to its register, if it didn't fail.
     pub(crate) fn write_of_event(&self, id: EvId) -> Option<EvId>
-        requires threads { AreThreads self.now }
+        requires lists { AreEventLists self.now }
         requires within { id.0 < length self.now.events.items }
         ensures { (k : ℕ × AVal) → key_at by_value self.now.events.items id.0 ≡ Some k → IsKeptWrite self.now.events.items k result }
     {
@@ -74,7 +74,7 @@ impl Threads {
 
     /// The call that wrote an event's value to its register, failed or not.
     pub(crate) fn written_by(&self, id: EvId) -> Option<EvId>
-        requires threads { AreThreads self.now }
+        requires lists { AreEventLists self.now }
         requires within { id.0 < length self.now.events.items }
         ensures { (k : ℕ × AVal) → key_at by_value self.now.events.items id.0 ≡ Some k → IsFirstOf by_write self.now.events.items k result }
     {
@@ -86,7 +86,7 @@ impl Threads {
 
     /// The last event of a register and value.
     pub(crate) fn last_of_value(&self, register: RegId, value: Option<Val>) -> Option<EvId>
-        requires { AreThreads self.now }
+        requires { AreEventLists self.now }
         ensures last { (v : AVal) → value ≡ Some v → IsLastOf by_value self.now.events.items (register.0, v) result }
         ensures none { value ≡ None → result ≡ None }
     {
@@ -101,7 +101,7 @@ impl Threads {
 
     /// The last event of a process.
     pub(crate) fn last_of_process(&self, process: u32) -> Option<EvId>
-        requires { AreThreads self.now }
+        requires { AreEventLists self.now }
         ensures { IsLastOf by_process self.now.events.items process result }
     {
         match self.processes.get(process) {

@@ -1,16 +1,15 @@
 //! How an event joins one list of each family: the last event of the list gets its link, and the new one has none.
 ghost use Rattle.std.specs.Prelude.{◌≡◌, ◌<◌, ◌≤◌, ◌^◌, ◌+◌, ℕ, length, slice_get, max, Some, option_map, OnOk, IfOk};
 ghost use Rattle.history_text.specs.declared.event.Val.{Val as AVal};
-ghost use Rattle.reg_arena.specs.Threads.{IsJoined, IsJoinedBy, IsEnteredBy, end_of, event_number, link_at, process_ends, value_ends, value_entry, value_number, whole};
-ghost use Rattle.reg_arena.specs.Operations.{number_in};
-ghost use Rattle.reg_arena.specs.Shown.{by_value};
-ghost use Rattle.reg_arena.specs.declared.ends.Ends.{Ends};
+ghost use Rattle.reg_arena.specs.EventLists.{IsJoined, IsJoinedBy, IsEnteredBy, end_of, event_number, link_at, process_ends, value_ends, value_entry, value_number, whole};
+ghost use Rattle.history_model.specs.Operations.{number_in};
+ghost use Rattle.history_model.specs.Walking.{by_value};
+ghost use Rattle.reg_arena.specs.declared.list_ends.Ends.{Ends};
 
-use crate::ends::{Ends, Entry};
-use crate::event::Event;
-use crate::ids::{EvId, RegId};
+use crate::list_ends::{Ends, Entry};
 use crate::processes::Processes;
 use crate::seeded::Seeded;
+use history_model::{EvId, Event, RegId};
 use history_text::Val;
 use indexmap::IndexSet;
 use std::alloc::AllocError;
@@ -38,7 +37,7 @@ pub(crate) fn join_process(
     Ok(())
 }
 
-/// Joins event `id` to the list of its register, which is known or the next, where it has a register.
+/// Joins event `id` to the list of its register, which is known or the next, if it has a register.
 pub(crate) fn join_register(
     links: &mut Vec<Option<EvId>>,
     registers: &mut Vec<Ends>,
@@ -89,7 +88,7 @@ fn link_register(
     Ok(())
 }
 
-/// The number of a value, where it is one.
+/// The number of a value, if it is one.
 pub(crate) fn whole(value: Val) -> Option<i64>
     ensures { result ≡ whole value }
 {
@@ -99,9 +98,9 @@ pub(crate) fn whole(value: Val) -> Option<i64>
     }
 }
 
-/// Joins event `id`, whose call is the event `call`, to the list of its register and value, where it has a value.
+/// Joins event `id`, whose call is the event `call`, to the list of its register and value, if it has a value.
 ///
-/// `number` is the number of that list's entry, where there is one already. Gives back the number of its entry.
+/// `number` is the number of that list's entry, if there is one already. Gives back the number of its entry.
 pub(crate) fn join_value(
     links: &mut Vec<Option<EvId>>,
     values: &mut IndexSet<(u32, Option<i64>), Seeded>,

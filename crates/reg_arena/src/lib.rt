@@ -2,47 +2,33 @@
 //!
 //! What the floor above may rely on: [`Arena::build_keyed`] accepts and refuses exactly as the definitions say, whatever the key of its hashes, and the
 //! arena's model is the history of the accepted events. Each walk of the arena is the filter of the one list of events, ascending: by register, by process,
-//! and by register and value. Operations, their times and their order are those of the definitions, and the laws of this crate say what holds of them in
-//! every accepted history. All calls but `build_keyed` and `build` take no memory and always answer.
+//! and by register and value. Operations, their times and their order are those of the definitions in `history_model`, whose laws say what holds of
+//! them. All calls but `build_keyed` and `build` take no memory and always answer.
 //!
-//! Read it in this order: `ids`, `event`, `op` and `refusal`, which are what is asked and answered; `hash_key` and `seeded`, which make the hashes; `ends`,
-//! `processes`, `joins`, `threads` and `entries`, the lists that run through the events; `names`; `arena`, `called` and `members`, which answer; `agrees`,
-//! `standing` and `build`; `laws`.
+//! Read it in this order: `hash_key` and `seeded`, which make the hashes; `list_ends`, `processes`, `joins`, `event_lists` and `entries`, the lists that run
+//! through the events; `names`; `arena`, `called` and `of_value`, which answer; `agrees`, `standing` and `build`.
 #![tactic(auto)]
 
 mod agrees;
 mod arena;
 mod build;
 mod called;
-mod ends;
 mod entries;
-mod event;
+mod event_lists;
 mod hash_key;
 #[cfg(test)]
 mod hash_tests;
-mod ids;
 mod joins;
-mod laws;
-mod members;
+mod list_ends;
 mod names;
-mod op;
+mod of_value;
 mod processes;
-mod refusal;
 mod seeded;
 mod standing;
 #[cfg(test)]
 mod tables;
 #[cfg(test)]
 mod tests;
-mod threads;
 
 pub use arena::Arena;
-pub use event::{Event, What};
 pub use hash_key::HashKey;
-pub use ids::{EvId, Oper, RegId};
-pub use laws::{
-    accepted_is_history, events_have_operations, initial_is_there, names_are_unique,
-    operations_have_events, registers_are_numbered, single_writer_takes_turns, values_are_there,
-};
-pub use op::Op;
-pub use refusal::{BuildError, LineRefusal};

@@ -43,7 +43,7 @@ impl Names {
         self.names.len()
     }
 
-    /// The number of a name, where it has one.
+    /// The number of a name, if it has one.
     pub(crate) fn number(&self, name: &Name) -> Option<u32>
         requires { length self.now < 2 ^ 32 }
         ensures { MatchOption result (position_or_len (bytes_eq name.now) self.now ≡ length self.now) (λ r. (position_or_len (bytes_eq name.now) self.now ≡ r) × (r < length self.now)) }

@@ -1,8 +1,8 @@
 //! The ends of the processes' lists: those of small numbers stand in a table, and the others in a map.
 ghost use Rattle.std.specs.Prelude.{◌≡◌, ◌<◌, ◌^◌, ℕ, None, OnOk};
-ghost use Rattle.reg_arena.specs.Threads.{IsSetAt, process_ends, table_at};
+ghost use Rattle.reg_arena.specs.EventLists.{IsSetAt, process_ends, table_at};
 
-use crate::ends::Ends;
+use crate::list_ends::Ends;
 use crate::seeded::Seeded;
 use indexmap::IndexMap;
 use std::alloc::{AllocError, Global};
@@ -58,7 +58,7 @@ impl Processes {
     }
 }
 
-/// Sets the ends at one place of a table, which grows as far as that place where it is shorter.
+/// Sets the ends at one place of a table, which grows as far as that place if it is shorter.
 fn set_in_table(table: &mut Vec<Option<Ends>>, place: usize, ends: Ends) -> Result<(), AllocError>
     requires { place < 2 ^ 32 }
     ensures { OnOk result (IsSetAt place ends (table_at table.old.items) (table_at table.new.items)) }

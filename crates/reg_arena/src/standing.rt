@@ -1,5 +1,5 @@
 //! How a process stands by its last event.
-use crate::ids::{EvId, RegId};
+use history_model::{EvId, RegId};
 use history_text::{OpKind, Val};
 
 /// An open call, and what it asks for.

@@ -1,5 +1,6 @@
 //! Histories and what each of them is answered, worked out by hand from the definitions.
 use super::*;
+use history_model::{EvId, Oper, RegId};
 use history_text::Val;
 
 /// A history in short, its first faulty line, the number of the refusal there, and the other line that it names.
@@ -7,7 +8,7 @@ pub(crate) const REFUSALS: [(&str, u32, u8, Option<u32>); 31] = [
     ("p1 W x 5; p1 ok; p1 W x 5", 3, 13, Some(1)),
     ("p1 ok", 1, 10, None),
     ("p1 W x 1; p1 W x 2; {\"process\":2,\"ev", 2, 9, Some(1)),
-    // The line's own fault comes first where it stands first, and of two reasons the least number.
+    // The line's own fault comes first where it stands first, and of two reasons the lowest number.
     ("{; p1 ok", 1, 2, None),
     ("p1 W x 5; p1 W x 5", 2, 9, Some(1)),
     ("p1 R x; p1 ok; p2 ok", 2, 12, None),
@@ -100,7 +101,7 @@ pub(crate) const OPERATIONS: [(u32, &str); 6] = [
 /// The history of the two tables below.
 pub(crate) const VALUED: &str = "p1 W x 5; p2 R x; p2 = null; p1 ok; p1 W x 7; p2 R x; p2 = 9";
 
-/// A value of the register x, its write, the greatest call and the first reply.
+/// A value of the register x, its write, the last call and the first reply.
 pub(crate) const VALUES: [(Val, Option<Oper>, Option<u32>, Option<u32>); 5] = [
     (Val::Null, Some(Oper::Initial(RegId(0))), Some(3), Some(1)),
     (Val::Int(5), Some(Oper::Called(EvId(0))), Some(2), Some(5)),
@@ -129,7 +130,7 @@ pub(crate) const FAILED_OPERATIONS: [(u32, Option<Oper>, bool); 12] = [
     (11, None, false),
 ];
 
-/// A value of this history's register, its write, the greatest call and the first reply.
+/// A value of this history's register, its write, the last call and the first reply.
 pub(crate) const FAILED_VALUES: [(Val, Option<Oper>, Option<u32>, Option<u32>); 4] = [
     (Val::Null, Some(Oper::Initial(RegId(0))), Some(0), Some(1)),
     (Val::Int(5), None, Some(4), Some(3)),

@@ -4,6 +4,7 @@ use super::*;
 use crate::tables::{
     EVENTS, FAILED, FAILED_OPERATIONS, FAILED_VALUES, OPERATIONS, REFUSALS, VALUED, VALUES,
 };
+use history_model::{BuildError, EvId, LineRefusal, Op, RegId};
 use history_text::{Kind, LineEvent, LineFault, MAX_INPUT, Name, ReplyParts, Val, read_lines};
 use std::alloc::{AllocError, Global};
 use std::process::Abort;
@@ -234,7 +235,7 @@ pub(crate) fn arena_of(
     }
 }
 
-// The operation of an event, where it belongs to one.
+// The operation of an event, if it belongs to one.
 fn op_at(arena: &Arena, id: EvId) -> Option<Op>
     requires { id.0 < length arena.now.events }
 {

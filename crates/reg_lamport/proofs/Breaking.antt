@@ -3,34 +3,25 @@ use Rattle.std.proofs.Common.{◌≡◌, ℕ, ◌-◌, ◌<◌, ◌≤◌, Bool,
 use Rattle.std.proofs.lemmas.Bool.{false≢true}
 use Rattle.std.proofs.lemmas.Option.{slice_get_within}
 use Rattle.history_text.specs.declared.event.Val.{Val}
-use Rattle.reg_arena.specs.Lists.{In}
-use Rattle.reg_arena.specs.History.{History, IsRecorded}
-use Rattle.reg_arena.specs.Lamport.{HasSingleWriter, HasOldValue, HasOverlappedValue, IsOldWrite}
-use Rattle.reg_arena.specs.Operations.{Operation, IsCompletedRead, Overlaps, is_write, of_register, operations}
-use Rattle.reg_arena.specs.Shown.{IsNamed, IsOper, IsWriteOf, by_register, by_value, key_at, op_shown}
-use Rattle.reg_arena.specs.declared.event.Event.{Event}
-use Rattle.reg_arena.specs.declared.ids.RegId.{RegId}
-use Rattle.reg_arena.specs.declared.ids.Oper.{Oper}
-use Rattle.reg_arena.specs.declared.op.Op.{Op}
-use Rattle.reg_arena.proofs.Recorded.{of_register-In, In-of_register, accepted-history}
-use Rattle.reg_arena.proofs.Named.{has-oper, one-named, operation-has-reply, operation-has-value}
+use Rattle.history_model.specs.Lists.{In}
+use Rattle.history_model.specs.History.{History, IsRecorded}
+use Rattle.history_model.specs.Lamport.{HasSingleWriter, HasOldValue, HasOverlappedValue, IsOldWrite}
+use Rattle.history_model.specs.Operations.{Operation, IsCompletedRead, Overlaps, is_write, of_register, operations}
+use Rattle.history_model.specs.Walking.{by_register, by_value, key_at}
+use Rattle.history_model.specs.Naming.{IsNamed, IsOper, op_shown}
+use Rattle.history_model.specs.OfValue.{IsWriteOf}
+use Rattle.history_model.specs.declared.event.Event.{Event}
+use Rattle.history_model.specs.declared.ids.RegId.{RegId}
+use Rattle.history_model.specs.declared.ids.Oper.{Oper}
+use Rattle.history_model.specs.declared.op.Op.{Op}
+use Rattle.history_model.proofs.Recorded.{of_register-In, In-of_register, accepted-history}
+use Rattle.history_model.proofs.Named.{has-oper, one-named, operation-has-reply, operation-has-value}
 use Rattle.reg_lamport.specs.declared.level.Level.{Level}
 use Rattle.reg_lamport.specs.declared.level.Level.TheVariants.{Safe, Regular}
 use Rattle.reg_lamport.specs.Levels.{Keeps}
 use Rattle.reg_lamport.specs.Reads.{IsEntryOf}
 use Rattle.reg_lamport.specs.declared.gathering.ReadEntry.{ReadEntry}
-
--- what is named is an operation's name
-pub named-oper : (h : History) (name : Oper) (o : Operation) → IsNamed h name o → IsOper h name
-named-oper h name o n = subst (IsOper h) n.named (has-oper h o n.one)
-
--- an event with a register and a value has both as its key
-keyed : (e : Event) (r : ℕ) (v : Val) → by_register e ≡ Some r → e.value ≡ Some v → by_value e ≡ Some (r, v)
-keyed e r v own q = ap (λ (b : Option Val). option_and_then {U = ℕ × Val} (λ (x : Val). option_map {U = ℕ × Val} (λ (n : RegId). (n.0, x)) e.register) b) q ∙ go e.register own
-  where
-    go : (a : Option RegId) → option_map {U = ℕ} (λ (n : RegId). n.0) a ≡ Some r → option_map {U = ℕ × Val} (λ (n : RegId). (n.0, v)) a ≡ Some (r, v)
-    go None h = absurd (cc (h))
-    go (Some n) h = let p : n.0 ≡ r = cc (h) in ap (λ m. Some (m, v)) p
+use Rattle.history_model.proofs.Walking.{keyed}
 
 module _ (h : History) (rec : IsRecorded h) (r : ℕ) (o : Operation) (i : In o (of_register r (operations h))) (read : IsCompletedRead o) where
   pub value-there : (v : Val) × (o.value ≡ Some v)

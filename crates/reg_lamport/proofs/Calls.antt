@@ -1,15 +1,16 @@
--- The calls of a register: they stand among its operations, and ascend by time.
+-- The calls of a register: they stand among its operations, and ascend by operation-call.
 use Rattle.std.proofs.Common.{◌≡◌, ℕ, zero, suc, ◌+◌, ◌<◌, ◌≤◌, ◌==◌, cond, Bool, true, false, List, [], ◌∷◌, ◌++◌, length, drop, Option, Some, None, inl, inr, refl, sym, ap, ◌∙◌, arith}
 use Rattle.std.specs.List.{filter}
 use Rattle.std.proofs.lemmas.List.Elements.{filter-append}
-use Rattle.reg_arena.specs.Lists.{In, Before}
-use Rattle.reg_arena.specs.History.{History}
-use Rattle.reg_arena.specs.Lamport.{is_completed_read, completed_reads}
-use Rattle.reg_arena.specs.Operations.{Operation, operation, operations, next_of, reply_in, begins, kind_in, number_in, calls, calls_from, initial_write, initial_writes, of_register}
-use Rattle.reg_arena.specs.Walking.{called_at}
-use Rattle.reg_arena.specs.declared.event.Event.{Event}
-use Rattle.reg_arena.proofs.Recorded.{filter-In, of_register-In, In-of_register, append-In, In-right, initials-In}
-use Rattle.reg_arena.proofs.Walking.{is-called}
+use Rattle.history_model.specs.Lists.{In, Before}
+use Rattle.history_model.specs.History.{History}
+use Rattle.history_model.specs.Lamport.{is_completed_read, completed_reads}
+use Rattle.history_model.specs.Operations.{Operation, operation, operations, next_of, reply_in, begins, kind_in, number_in, calls, calls_from, initial_write, initial_writes, of_register}
+use Rattle.history_model.specs.Walking.{called_at}
+use Rattle.history_model.specs.declared.event.Event.{Event}
+use Rattle.history_model.proofs.Recorded.{of_register-In, In-of_register, initials-In}
+use Rattle.history_model.proofs.Walking.{is-called, operation-call}
+use Rattle.history_model.proofs.Lists.{filter-In, append-In, In-right, filter-Before}
 
 -- ---- among the operations
 
@@ -48,14 +49,10 @@ called_at-register es i e = go (length es + 2) (i + 2) (reply_in (next_of e.proc
     go n t None = refl
     go n t (Some r) = refl
 
-time : (n t : ℕ) (e : Event) (r : Option (ℕ × Event)) → (operation n t e r).call ≡ t
-time n t e None = refl
-time n t e (Some r) = refl
-
 pub called_at-call : (es : List Event) (i : ℕ) (e : Event) → (called_at es i e).call ≡ i + 2
-called_at-call es i e = time (length es + 2) (i + 2) e (reply_in (next_of e.process (suc (i + 2)) (drop (suc i) es)))
+called_at-call es i e = operation-call (length es + 2) (i + 2) e (reply_in (next_of e.process (suc (i + 2)) (drop (suc i) es)))
 
--- a pending call has as its reply the time after all events
+-- a pending call has as its reply the operation-call after all events
 pub called_at-pending : (es : List Event) (i : ℕ) (e : Event) → (called_at es i e).completed ≡ false → (called_at es i e).reply ≡ length es + 2
 called_at-pending es i e = go (length es + 2) (i + 2) (reply_in (next_of e.process (suc (i + 2)) (drop (suc i) es)))
   where
@@ -65,30 +62,12 @@ called_at-pending es i e = go (length es + 2) (i + 2) (reply_in (next_of e.proce
 
 -- ---- one before another
 
-pub Before-across : {X : Type 0} (x y : X) (xs ys : List X) → In x xs → In y ys → Before x y (xs ++ ys)
-Before-across x y [] ys h k = elim h [ ]
-Before-across x y (z ∷ xs) ys (inl e) k = inl (e, In-right y xs ys k)
-Before-across x y (z ∷ xs) ys (inr h) k = inr (Before-across x y xs ys h k)
-
-pub Before-right : {X : Type 0} (x y : X) (xs ys : List X) → Before x y ys → Before x y (xs ++ ys)
-Before-right x y [] ys h = h
-Before-right x y (z ∷ xs) ys h = inr (Before-right x y xs ys h)
-
-pub Before-filter : {X : Type 0} (p : X → Bool) (x y : X) (xs : List X) → Before x y (filter p xs) → Before x y xs
-Before-filter p x y [] h = h
-Before-filter p x y (z ∷ xs) h = go (p z) h (Before-filter p x y xs)
-  where
-    go : (b : Bool) → Before x y (cond b (z ∷ filter p xs) (filter p xs)) → (Before x y (filter p xs) → Before x y xs) → Before x y (z ∷ xs)
-    go true (inl k) rest = inl (k.0, (filter-In p y xs k.1).0)
-    go true (inr k) rest = inr (rest k)
-    go false k rest = inr (rest k)
-
 -- ---- they ascend
 
 late : (n s : ℕ) (es : List Event) (a : Operation) → In a (calls_from n s es) → s ≤ a.call
 late n s es a i =
     let x = is-called n s es a i in
-    let t : a.call ≡ s + x.0 = ap (λ (o : Operation). o.call) x.2.2 ∙ time n (s + x.0) x.1 (reply_in (next_of x.1.process (suc (s + x.0)) (drop (suc x.0) es))) in
+    let t : a.call ≡ s + x.0 = ap (λ (o : Operation). o.call) x.2.2 ∙ operation-call n (s + x.0) x.1 (reply_in (next_of x.1.process (suc (s + x.0)) (drop (suc x.0) es))) in
     omega (arith, t)
 
 ascend : (n s : ℕ) (es : List Event) (a b : Operation) → Before a b (calls_from n s es) → a.call < b.call
@@ -97,13 +76,13 @@ ascend n s (e ∷ es) a b h = go (begins e (next_of e.process (suc s) es)) h (as
   where
     go : (c : Bool) → Before a b (cond c (operation n s e (reply_in (next_of e.process (suc s) es)) ∷ calls_from n (suc s) es) (calls_from n (suc s) es)) → (Before a b (calls_from n (suc s) es) → a.call < b.call) → a.call < b.call
     go true (inl k) rest =
-        let t : a.call ≡ s = ap (λ (o : Operation). o.call) k.0 ∙ time n s e (reply_in (next_of e.process (suc s) es)) in
+        let t : a.call ≡ s = ap (λ (o : Operation). o.call) k.0 ∙ operation-call n s e (reply_in (next_of e.process (suc s) es)) in
         omega (arith, t, late n (suc s) es b k.1)
     go true (inr k) rest = rest k
     go false k rest = rest k
 
 pub calls-ascend : (es : List Event) (r : ℕ) (a b : Operation) → Before a b (of_register r (calls es)) → a.call < b.call
-calls-ascend es r a b h = ascend (length es + 2) 2 es a b (Before-filter (λ (o : Operation). o.register == r) a b (calls es) h)
+calls-ascend es r a b h = ascend (length es + 2) 2 es a b (filter-Before (λ (o : Operation). o.register == r) a b (calls es) h)
 
 -- ---- the completed reads
 

@@ -3,20 +3,20 @@ use Rattle.std.proofs.Common.{◌≡◌, ℕ, zero, suc, ◌<◌, ◌≤◌, ◌
 use Rattle.std.specs.Option.{option_or}
 use Rattle.std.proofs.lemmas.Bool.{cases_order}
 use Rattle.std.proofs.lemmas.Option.{slice_get_within}
-use Rattle.reg_arena.specs.Lists.{In, Before}
-use Rattle.reg_arena.specs.History.{History}
-use Rattle.reg_arena.specs.Lamport.{is_completed_read, completed_reads}
-use Rattle.reg_arena.specs.Operations.{Operation, IsCompletedRead, of_register, operations, calls}
-use Rattle.reg_arena.specs.Shown.{IsNamed}
-use Rattle.reg_arena.specs.declared.ids.EvId.{EvId}
-use Rattle.reg_arena.specs.declared.ids.Oper.TheVariants.{Called}
-use Rattle.reg_arena.proofs.Recorded.{In-filter}
-use Rattle.reg_lamport.specs.Levels.{Keeps, AllKeep, IsAtLevel, IsFirstBreak, IsBadFirst, IsFirstBad, IsFirstBadRead}
+use Rattle.history_model.specs.Lists.{In, Before}
+use Rattle.history_model.specs.History.{History}
+use Rattle.history_model.specs.Lamport.{is_completed_read, completed_reads}
+use Rattle.history_model.specs.Operations.{Operation, IsCompletedRead, of_register, operations, calls}
+use Rattle.history_model.specs.Naming.{IsNamed}
+use Rattle.history_model.specs.declared.ids.EvId.{EvId}
+use Rattle.history_model.specs.declared.ids.Oper.TheVariants.{Called}
+use Rattle.reg_lamport.specs.Levels.{Keeps, AllKeep, IsAtLevel, IsFirstBreak, IsFirstBadAt, IsFirstBad, IsFirstBadRead}
 use Rattle.reg_lamport.specs.Reads.{ListedReads, IsReadList, IsEntryOf}
 use Rattle.reg_lamport.specs.declared.level.Level.{Level}
-use Rattle.reg_lamport.proofs.Calls.{Before-filter, calls-ascend, reads-called}
-use Rattle.reg_lamport.proofs.Numbered.{get-In, numbered}
+use Rattle.reg_lamport.proofs.Calls.{calls-ascend, reads-called}
+use Rattle.reg_lamport.proofs.Numbered.{numbered}
 use Rattle.reg_lamport.proofs.Zipped.{zip-length}
+use Rattle.history_model.proofs.Lists.{filter-Before, slice_get-In, In-filter}
 
 -- ---- cuts
 
@@ -27,10 +27,10 @@ module _ (level : Level) (ops : List Operation) where
     | inr c ↦ elim c [ inl less ↦ a i r l less at | inr more ↦ b i r (omega arith) m at ]
   ]
 
-  bad-later : (from mid to : ℕ) (r : Operation) → from ≤ mid → AllKeep level ops from mid → IsBadFirst level ops mid to r → IsBadFirst level ops from to r
+  bad-later : (from mid to : ℕ) (r : Operation) → from ≤ mid → AllKeep level ops from mid → IsFirstBadAt level ops mid to r → IsFirstBadAt level ops from to r
   bad-later from mid to r l a b = record { place = b.place; from_on = omega (arith, b.from_on); below = b.below; there = b.there; breaks = b.breaks; first = keep-joined from mid b.place a b.first }
 
-  bad-earlier : (from mid to : ℕ) (r : Operation) → mid ≤ to → IsBadFirst level ops from mid r → IsBadFirst level ops from to r
+  bad-earlier : (from mid to : ℕ) (r : Operation) → mid ≤ to → IsFirstBadAt level ops from mid r → IsFirstBadAt level ops from to r
   bad-earlier from mid to r l a = record { place = a.place; from_on = a.from_on; below = omega (arith, a.below); there = a.there; breaks = a.breaks; first = a.first }
 
   pub cuts-join : (from mid to : ℕ) (a b : Option Operation) → from ≤ mid → mid ≤ to → IsFirstBad level ops from mid a → IsFirstBad level ops mid to b → IsFirstBad level ops from to (option_or a b)
@@ -38,7 +38,7 @@ module _ (level : Level) (ops : List Operation) where
   cuts-join from mid to None (Some r) l m x y = bad-later from mid to r l x y
   cuts-join from mid to (Some r) b l m x y = bad-earlier from mid to r m x
 
-  same-bad : (from to : ℕ) (r q : Operation) → IsBadFirst level ops from to r → IsBadFirst level ops from to q → r ≡ q
+  same-bad : (from to : ℕ) (r q : Operation) → IsFirstBadAt level ops from to r → IsFirstBadAt level ops from to q → r ≡ q
   same-bad from to r q a b = elim (cases_order a.place b.place) [
     | inl e ↦ (let f = ap (slice_get (completed_reads ops)) e in let g = a.there in let k = b.there in cc (f, g, k))
     | inr c ↦ elim c [
@@ -70,7 +70,7 @@ In-get (y ∷ xs) x (inr h) = let r = In-get xs x h in (suc r.0, r.1)
 get-Before : {X : Type 0} (xs : List X) (i j : ℕ) (x y : X) → slice_get xs i ≡ Some x → slice_get xs j ≡ Some y → i < j → Before x y xs
 get-Before [] i j x y a b l = absurd (cc (a))
 get-Before (z ∷ xs) i zero x y a b l = absurd (omega arith)
-get-Before (z ∷ xs) zero (suc j) x y a b l = inl (let q : z ≡ x = cc (a) in sym q, get-In xs j y b)
+get-Before (z ∷ xs) zero (suc j) x y a b l = inl (let q : z ≡ x = cc (a) in sym q, slice_get-In xs j y b)
 get-Before (z ∷ xs) (suc i) (suc j) x y a b l = inr (get-Before xs i j x y a b (omega arith))
 
 both : (a b : Bool) → a ≡ false → b ≡ true → (not a && b) ≡ true
@@ -85,14 +85,14 @@ module _ (h : History) (register : ℕ) where
   numbers-ascend : (i j : ℕ) (x y : Operation) → slice_get (completed_reads (of_register register (operations h))) i ≡ Some x → slice_get (completed_reads (of_register register (operations h))) j ≡ Some y → i < j → x.call < y.call
   numbers-ascend i j x y a b l =
       let before = get-Before (completed_reads (of_register register (operations h))) i j x y a b l in
-      calls-ascend h.events register x y (Before-filter is_completed_read x y (of_register register (calls h.events)) (subst (Before x y) (reads-called h register) before))
+      calls-ascend h.events register x y (filter-Before is_completed_read x y (of_register register (calls h.events)) (subst (Before x y) (reads-called h register) before))
 
   pub whole-keeps : (level : Level) (n : ℕ) → n ≡ length (completed_reads (of_register register (operations h))) → AllKeep level (of_register register (operations h)) 0 n → IsAtLevel level (of_register register (operations h))
   whole-keeps level n all keep r i read =
       let x = number-of r i read in
       keep x.0 r (omega arith) (let w = slice_get_within (completed_reads (of_register register (operations h))) x.0 r x.1 in omega (arith, w, all)) x.1
 
-  pub whole-breaks : (level : Level) (n : ℕ) (r : Operation) → IsBadFirst level (of_register register (operations h)) 0 n r → IsFirstBreak level (of_register register (operations h)) r
+  pub whole-breaks : (level : Level) (n : ℕ) (r : Operation) → IsFirstBadAt level (of_register register (operations h)) 0 n r → IsFirstBreak level (of_register register (operations h)) r
   whole-breaks level n r b =
       let x = numbered (of_register register (operations h)) b.place r b.there in
       record { within = x.0; read = x.1; breaks = b.breaks; first = earlier }

@@ -1,18 +1,18 @@
 -- What is known of the reads and writes called so far, at the call of an operation.
 use Rattle.std.proofs.Common.{◌≡◌, ℕ, ◌<◌, ◌≤◌, ◌||◌, cond, nat_le, nat_lt, Bool, true, false, List, [], ◌∷◌, ◌++◌, None, ◌⊎◌, inl, inr, refl, sym, ap, ◌∙◌, arith, ◌↔◌, IsTrue}
 use Rattle.std.proofs.lemmas.Bool.{false≢true, leb-true, leb-false, ltb-true, lt-ltb, or_cases, or_left, or_right, cases_order}
-use Rattle.reg_arena.specs.Lists.{In}
-use Rattle.reg_arena.specs.History.{History}
-use Rattle.reg_arena.specs.Lamport.{HasSingleWriter, IsOldWrite}
-use Rattle.reg_arena.specs.Operations.{Operation, IsHistory, IsWrite, is_write, Precedes, Overlaps}
-use Rattle.reg_arena.specs.Shown.{IsNamed}
-use Rattle.reg_arena.specs.declared.ids.EvId.{EvId}
-use Rattle.reg_arena.specs.declared.ids.Oper.{Oper}
-use Rattle.reg_arena.specs.declared.ids.Oper.TheVariants.{Called}
-use Rattle.reg_arena.proofs.Recorded.{append-In, In-left, In-right}
-use Rattle.reg_arena.proofs.Named.{writes-take-turns}
+use Rattle.history_model.specs.Lists.{In}
+use Rattle.history_model.specs.History.{History}
+use Rattle.history_model.specs.Lamport.{HasSingleWriter, IsOldWrite}
+use Rattle.history_model.specs.Operations.{Operation, IsHistory, IsWrite, is_write, Precedes, Overlaps}
+use Rattle.history_model.specs.Naming.{IsNamed}
+use Rattle.history_model.specs.declared.ids.EvId.{EvId}
+use Rattle.history_model.specs.declared.ids.Oper.{Oper}
+use Rattle.history_model.specs.declared.ids.Oper.TheVariants.{Called}
+use Rattle.history_model.proofs.Named.{writes-take-turns}
 use Rattle.reg_lamport.specs.declared.gathering.ReadEntry.{ReadEntry}
 use Rattle.reg_lamport.specs.Gathering.{Gathered, settled, entry_of}
+use Rattle.history_model.proofs.Lists.{append-In, In-left, In-right}
 
 -- the operations met so far are those called before o
 pub record IsMoment (ops met : List Operation) (o : Operation) : Type 0 where

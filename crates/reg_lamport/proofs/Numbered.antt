@@ -3,23 +3,18 @@ use Rattle.std.proofs.Common.{◌≡◌, ℕ, zero, suc, ◌+◌, ◌-◌, ◌<�
 use Rattle.std.proofs.lemmas.Bool.{cases_order, false≢true}
 use Rattle.std.proofs.lemmas.List.{length-take, length-drop, get_or-take, get_or-drop}
 use Rattle.std.proofs.lemmas.Option.{slice_get-get_or}
-use Rattle.reg_arena.specs.Lists.{In}
-use Rattle.reg_arena.specs.History.{History}
-use Rattle.reg_arena.specs.Lamport.{HasSingleWriter, is_completed_read, completed_reads}
-use Rattle.reg_arena.specs.Operations.{Operation, IsCompletedRead, is_write, of_register, operations}
-use Rattle.reg_arena.specs.Shown.{IsNamed}
-use Rattle.reg_arena.specs.declared.ids.Oper.TheVariants.{Called}
-use Rattle.reg_arena.proofs.Recorded.{filter-In}
+use Rattle.history_model.specs.Lists.{In}
+use Rattle.history_model.specs.History.{History}
+use Rattle.history_model.specs.Lamport.{HasSingleWriter, is_completed_read, completed_reads}
+use Rattle.history_model.specs.Operations.{Operation, IsCompletedRead, is_write, of_register, operations}
+use Rattle.history_model.specs.Naming.{IsNamed}
+use Rattle.history_model.specs.declared.ids.Oper.TheVariants.{Called}
 use Rattle.reg_lamport.specs.Levels.{Keeps, AllKeep, IsFirstBadRead}
 use Rattle.reg_lamport.specs.Reads.{ListedReads, IsEntryOf, IsReadList, IsListed}
 use Rattle.reg_lamport.specs.declared.level.Level.{Level}
 use Rattle.reg_lamport.specs.declared.gathering.ReadEntry.{ReadEntry}
 use Rattle.reg_lamport.proofs.Zipped.{zip-at}
-
-pub get-In : {X : Type 0} (xs : List X) (i : ℕ) (x : X) → slice_get xs i ≡ Some x → In x xs
-get-In [] i x h = absurd (cc (h))
-get-In (y ∷ xs) zero x h = inl (let q : y ≡ x = cc (h) in sym q)
-get-In (y ∷ xs) (suc i) x h = inr (get-In xs i x h)
+use Rattle.history_model.proofs.Lists.{filter-In, slice_get-In}
 
 both-true : (a b : Bool) → (not a && b) ≡ true → (a ≡ false) × (b ≡ true)
 both-true true b h = absurd (false≢true h)
@@ -28,7 +23,7 @@ both-true false b h = (refl, h)
 -- a read that has a number is a completed read
 pub numbered : (ops : List Operation) (i : ℕ) (r : Operation) → slice_get (completed_reads ops) i ≡ Some r → In r ops × IsCompletedRead r
 numbered ops i r h =
-    let x = filter-In is_completed_read r ops (get-In (completed_reads ops) i r h) in
+    let x = filter-In is_completed_read r ops (slice_get-In (completed_reads ops) i r h) in
     let y = both-true (is_write r) r.completed x.1 in
     (x.0, record { read = y.0; completed = y.1 })
 

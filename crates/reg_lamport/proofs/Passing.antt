@@ -3,25 +3,26 @@ use Rattle.std.proofs.Common.{◌≡◌, ℕ, ◌+◌, ◌<◌, ◌≤◌, cond,
 use Rattle.std.specs.List.{AllZip}
 use Rattle.std.proofs.lemmas.List.{append-nil, length-append, length-map, take_at, drop_at}
 use Rattle.std.proofs.lemmas.List.Elements.{filter-append}
-use Rattle.reg_arena.specs.Lists.{In, Before}
-use Rattle.reg_arena.specs.History.{History, IsRecorded}
-use Rattle.reg_arena.specs.Lamport.{is_completed_read, completed_reads}
-use Rattle.reg_arena.specs.Operations.{Operation, operations, calls, initial_write, initial_writes, of_register, is_write}
-use Rattle.reg_arena.specs.Shown.{IsNamed, IsFirstOf, IsNextOf, begins_at, by_register, op_shown}
-use Rattle.reg_arena.specs.Walking.{called_at, calls_at, IsOnWalk}
-use Rattle.reg_arena.specs.declared.ids.EvId.{EvId}
-use Rattle.reg_arena.specs.declared.ids.RegId.{RegId}
-use Rattle.reg_arena.specs.declared.ids.Oper.TheVariants.{Initial, Called}
-use Rattle.reg_arena.specs.declared.event.Event.{Event}
-use Rattle.reg_arena.proofs.Recorded.{of_register-In, In-of_register, append-In, In-left, In-right, initials-In, accepted-history}
-use Rattle.reg_arena.proofs.Named.{calls-have-registers, operation-has-register, initial-there}
-use Rattle.reg_arena.proofs.Walking.{walk-begins, walk-goes, walk-first, walk-next}
+use Rattle.history_model.specs.Lists.{In, Before}
+use Rattle.history_model.specs.History.{History, IsRecorded}
+use Rattle.history_model.specs.Lamport.{is_completed_read, completed_reads}
+use Rattle.history_model.specs.Operations.{Operation, operations, calls, initial_write, initial_writes, of_register, is_write}
+use Rattle.history_model.specs.Walking.{IsFirstOf, IsNextOf, by_register, called_at, calls_at, IsOnWalk}
+use Rattle.history_model.specs.Naming.{IsNamed, begins_at, op_shown}
+use Rattle.history_model.specs.declared.ids.EvId.{EvId}
+use Rattle.history_model.specs.declared.ids.RegId.{RegId}
+use Rattle.history_model.specs.declared.ids.Oper.TheVariants.{Initial, Called}
+use Rattle.history_model.specs.declared.event.Event.{Event}
+use Rattle.history_model.proofs.Recorded.{of_register-In, In-of_register, initials-In, accepted-history}
+use Rattle.history_model.proofs.Named.{calls-have-registers, operation-has-register, initial-there}
+use Rattle.history_model.proofs.Walking.{walk-begins, walk-goes, walk-first, walk-next}
 use Rattle.reg_lamport.specs.declared.gathering.ReadEntry.{ReadEntry}
 use Rattle.reg_lamport.specs.Gathering.{Gathered, nothing_met, settled, write_met, read_met, any_read_met, entry_of, call_met}
 use Rattle.reg_lamport.specs.Reads.{IsEntryOf}
-use Rattle.reg_lamport.proofs.Calls.{In-called, called_at-call, called_at-pending, Before-across, Before-right, calls-ascend, reads-called}
+use Rattle.reg_lamport.proofs.Calls.{In-called, called_at-call, called_at-pending, calls-ascend, reads-called}
 use Rattle.reg_lamport.proofs.Zipped.{zip-join, zip-map, zip-weaker}
 use Rattle.reg_lamport.proofs.Moments.{IsMoment, IsLastTwo, IsEntrySoFar, IsSettled, entry-stays, settled-stays, last-stays, read-entry, entry-told, settled-told, last-moves}
+use Rattle.history_model.proofs.Lists.{Before-across, Before-right, append-In, In-left, In-right}
 
 -- The calls seen are those before the walk's place. The entries in front were called before the last write, and the fresh ones after it.
 pub record IsGathering (h : History) (r : ℕ) (g : Gathered) (next : Option EvId) : Type 0 where

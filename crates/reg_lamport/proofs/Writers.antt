@@ -1,18 +1,18 @@
 -- A walk over a register's events meets the call of each of its writes.
 use Rattle.std.proofs.Common.{◌≡◌, ℕ, ◌&&◌, ◌==◌, cond, Bool, true, false, not, List, ◌∷◌, suc, ◌+◌, drop, length, slice_get, Option, Some, None, ◌⊎◌, inl, inr, refl, sym, ap, subst, ◌∙◌}
 use Rattle.std.proofs.lemmas.Bool.{eqb-true, eq-eqb, false≢true}
-use Rattle.reg_arena.specs.Lists.{In}
-use Rattle.reg_arena.specs.History.{History, IsRecorded}
-use Rattle.reg_arena.specs.Lamport.{HasSingleWriter}
-use Rattle.reg_arena.specs.Operations.{Operation, operations, calls, calls_from, of_register, IsWrite, kind_in, writes}
-use Rattle.reg_arena.specs.Shown.{IsFirstOf, IsNextOf, begins_at, by_register}
-use Rattle.reg_arena.specs.Walking.{called_at, calls_at, IsOnWalk}
-use Rattle.reg_arena.proofs.Recorded.{of_register-In, In-of_register}
-use Rattle.reg_arena.proofs.Belonging.{called-one}
-use Rattle.reg_arena.proofs.Named.{calls-have-registers}
-use Rattle.reg_arena.proofs.Walking.{HaveRegisters, number-known, drop-at, walk-begins, walk-goes, walk-first, walk-next, event-at}
-use Rattle.reg_arena.specs.declared.ids.EvId.{EvId}
-use Rattle.reg_arena.specs.declared.event.Event.{Event}
+use Rattle.history_model.specs.Lists.{In}
+use Rattle.history_model.specs.History.{History, IsRecorded}
+use Rattle.history_model.specs.Lamport.{HasSingleWriter}
+use Rattle.history_model.specs.Operations.{Operation, operations, calls, calls_from, of_register, IsWrite, kind_in, writes}
+use Rattle.history_model.specs.Walking.{IsFirstOf, IsNextOf, by_register, called_at, calls_at, IsOnWalk}
+use Rattle.history_model.specs.Naming.{begins_at}
+use Rattle.history_model.proofs.Recorded.{of_register-In, In-of_register}
+use Rattle.history_model.proofs.Belonging.{called-one}
+use Rattle.history_model.proofs.Named.{calls-have-registers}
+use Rattle.history_model.proofs.Walking.{HaveRegisters, number-known, drop-at, walk-begins, walk-goes, walk-first, walk-next, event-at}
+use Rattle.history_model.specs.declared.ids.EvId.{EvId}
+use Rattle.history_model.specs.declared.event.Event.{Event}
 use Rattle.reg_lamport.specs.Writers.{begins_write, is_another}
 use Rattle.reg_lamport.proofs.Calls.{called-In, In-called, called_at-process, called_at-register, called_at-kind}
 

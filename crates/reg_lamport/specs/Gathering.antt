@@ -1,11 +1,11 @@
 -- What one pass over a register's calls keeps, and how a call changes it.
 use Rattle.std.specs.Prelude.{ℕ, ◌||◌, cond, nat_lt, nat_le, List, [], ◌∷◌, ◌++◌, length, map, take, drop, Option, Some, None, unwrap_or}
-use Rattle.reg_arena.specs.Operations.{writes}
-use Rattle.reg_arena.specs.declared.ids.EvId.{EvId}
-use Rattle.reg_arena.specs.declared.ids.RegId.{RegId}
-use Rattle.reg_arena.specs.declared.ids.Oper.{Oper}
-use Rattle.reg_arena.specs.declared.ids.Oper.TheVariants.{Initial, Called}
-use Rattle.reg_arena.specs.declared.op.Op.{Op}
+use Rattle.history_model.specs.Operations.{writes}
+use Rattle.history_model.specs.declared.ids.EvId.{EvId}
+use Rattle.history_model.specs.declared.ids.RegId.{RegId}
+use Rattle.history_model.specs.declared.ids.Oper.{Oper}
+use Rattle.history_model.specs.declared.ids.Oper.TheVariants.{Initial, Called}
+use Rattle.history_model.specs.declared.op.Op.{Op}
 use Rattle.reg_lamport.specs.declared.gathering.ReadEntry.{ReadEntry}
 
 -- the completed reads met, how many of them were called before the last write, that write with its reply, and the one before it

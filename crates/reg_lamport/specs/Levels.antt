@@ -1,12 +1,12 @@
 -- A level of one register's operations, `ops` (Lamport, On Interprocess Communication, Part II, 1986).
 use Rattle.std.specs.Prelude.{◌≡◌, ℕ, ◌<◌, ◌≤◌, List, slice_get, Option, Some, None}
-use Rattle.reg_arena.specs.Lists.{In}
-use Rattle.reg_arena.specs.History.{History}
-use Rattle.reg_arena.specs.Operations.{Operation, IsCompletedRead, of_register, operations}
-use Rattle.reg_arena.specs.Lamport.{KeepsSafe, KeepsRegular, completed_reads}
-use Rattle.reg_arena.specs.Shown.{IsNamed}
-use Rattle.reg_arena.specs.declared.ids.EvId.{EvId}
-use Rattle.reg_arena.specs.declared.ids.Oper.TheVariants.{Called}
+use Rattle.history_model.specs.Lists.{In}
+use Rattle.history_model.specs.History.{History}
+use Rattle.history_model.specs.Operations.{Operation, IsCompletedRead, of_register, operations}
+use Rattle.history_model.specs.Lamport.{KeepsSafe, KeepsRegular, completed_reads}
+use Rattle.history_model.specs.Naming.{IsNamed}
+use Rattle.history_model.specs.declared.ids.EvId.{EvId}
+use Rattle.history_model.specs.declared.ids.Oper.TheVariants.{Called}
 use Rattle.reg_lamport.specs.declared.level.Level.{Level}
 use Rattle.reg_lamport.specs.declared.level.Level.TheVariants.{Safe, Regular}
 
@@ -33,7 +33,7 @@ abbrev pub AllKeep : Level → List Operation → ℕ → ℕ → Type 0
 AllKeep level ops from to = (i : ℕ) (r : Operation) → from ≤ i → i < to → slice_get (completed_reads ops) i ≡ Some r → Keeps level ops r
 
 -- of the completed reads numbered from `from` up to and without `to`, r breaks the level, and those of lesser number keep it
-pub record IsBadFirst (level : Level) (ops : List Operation) (from to : ℕ) (r : Operation) : Type 0 where
+pub record IsFirstBadAt (level : Level) (ops : List Operation) (from to : ℕ) (r : Operation) : Type 0 where
   pub place : ℕ
   pub from_on : from ≤ place
   pub below : place < to
@@ -44,9 +44,9 @@ pub record IsBadFirst (level : Level) (ops : List Operation) (from to : ℕ) (r 
 -- the first bad read of that part, where there is one
 abbrev pub IsFirstBad : Level → List Operation → ℕ → ℕ → Option Operation → Type 0
 IsFirstBad level ops from to None = AllKeep level ops from to
-IsFirstBad level ops from to (Some r) = IsBadFirst level ops from to r
+IsFirstBad level ops from to (Some r) = IsFirstBadAt level ops from to r
 
 -- the same of a register of a history, the read named by the event of its call
 abbrev pub IsFirstBadRead : History → ℕ → Level → ℕ → ℕ → Option EvId → Type 0
 IsFirstBadRead h register level from to None = AllKeep level (of_register register (operations h)) from to
-IsFirstBadRead h register level from to (Some id) = (r : Operation) × IsNamed h (Called id) r × IsBadFirst level (of_register register (operations h)) from to r
+IsFirstBadRead h register level from to (Some id) = (r : Operation) × IsNamed h (Called id) r × IsFirstBadAt level (of_register register (operations h)) from to r

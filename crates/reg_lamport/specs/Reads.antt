@@ -1,14 +1,14 @@
 -- The completed reads of a register, with what a list keeps of each.
 use Rattle.std.specs.Prelude.{◌≡◌, ◌↔◌, ℕ, IsTrue, List}
 use Rattle.std.specs.List.{AllZip}
-use Rattle.reg_arena.specs.Lists.{In}
-use Rattle.reg_arena.specs.History.{History, IsRecorded}
-use Rattle.reg_arena.specs.Operations.{Operation, IsCompletedRead, operations, of_register}
-use Rattle.reg_arena.specs.Lamport.{HasSingleWriter, IsOldWrite, IsOverlappedWrite, completed_reads}
-use Rattle.reg_arena.specs.Shown.{IsNamed, op_shown}
-use Rattle.reg_arena.specs.declared.ids.Oper.{Oper}
-use Rattle.reg_arena.specs.declared.ids.Oper.TheVariants.{Called}
-use Rattle.reg_arena.specs.declared.op.Op.{Op}
+use Rattle.history_model.specs.Lists.{In}
+use Rattle.history_model.specs.History.{History, IsRecorded}
+use Rattle.history_model.specs.Operations.{Operation, IsCompletedRead, operations, of_register}
+use Rattle.history_model.specs.Lamport.{HasSingleWriter, IsOldWrite, IsOverlappedWrite, completed_reads}
+use Rattle.history_model.specs.Naming.{IsNamed, op_shown}
+use Rattle.history_model.specs.declared.ids.Oper.{Oper}
+use Rattle.history_model.specs.declared.ids.Oper.TheVariants.{Called}
+use Rattle.history_model.specs.declared.op.Op.{Op}
 use Rattle.reg_lamport.specs.declared.gathering.ReadEntry.{ReadEntry}
 
 -- a register's number, and an entry for each of its completed reads

@@ -1,8 +1,8 @@
 -- Who calls the writes of a register.
 use Rattle.std.specs.Prelude.{ℕ, ◌&&◌, ◌==◌, Bool, false, not, List, Option, Some, None}
-use Rattle.reg_arena.specs.Operations.{kind_in, writes}
-use Rattle.reg_arena.specs.Shown.{begins_at}
-use Rattle.reg_arena.specs.declared.event.Event.{Event}
+use Rattle.history_model.specs.Operations.{kind_in, writes}
+use Rattle.history_model.specs.Naming.{begins_at}
+use Rattle.history_model.specs.declared.event.Event.{Event}
 
 -- the event e at place i is the call of a write that didn't fail
 abbrev pub begins_write : List Event → ℕ → Event → Bool

@@ -1,16 +1,17 @@
 //! The first read that breaks a level.
 ghost use Rattle.std.specs.Prelude.{◌≡◌, ◌≤◌, ◌↔◌, length, IsTrue};
-ghost use Rattle.reg_arena.specs.Lamport.{HasOverlappedValue, HasSingleWriter};
-ghost use Rattle.reg_arena.specs.Operations.{Operation, Overlaps, of_register, operations};
-ghost use Rattle.reg_arena.specs.Shown.{IsNamed, IsOper};
+ghost use Rattle.history_model.specs.Lamport.{HasOverlappedValue, HasSingleWriter};
+ghost use Rattle.history_model.specs.Operations.{Operation, Overlaps, of_register, operations};
+ghost use Rattle.history_model.specs.Naming.{IsNamed, IsOper};
 ghost use Rattle.reg_lamport.specs.Levels.{IsFirstBadRead, Keeps};
 ghost use Rattle.reg_lamport.specs.Reads.{IsListed, IsReadList, IsReadShown};
 
 use crate::gathering::ReadEntry;
 use crate::level::Level;
 use crate::read_list::ReadList;
+use history_model::{EvId, Op, Oper, RegId};
 use history_text::Val;
-use reg_arena::{Arena, EvId, Op, Oper, RegId};
+use reg_arena::Arena;
 
 /// Of the reads numbered from `from` up to and without `to`, the first that breaks the level.
 ///

@@ -2,8 +2,8 @@
 ghost use Rattle.std.specs.Prelude.{◌≡◌, map, IfOk};
 ghost use Rattle.reg_lamport.specs.Gathering.{call_met, nothing_met, read_met, settled, write_met};
 
+use history_model::{EvId, Op, Oper, RegId};
 use history_text::OpKind;
-use reg_arena::{EvId, Op, Oper, RegId};
 use std::alloc::{AllocError, Global};
 use std::marker::Model;
 
@@ -36,7 +36,7 @@ impl ReadEntry {
 #[derive(Drop)]
 pub(crate) struct Gathering {
     entries: Vec<ReadEntry>,
-    /// How many reads were called before the last write: a later write overlaps one of these only where the last does.
+    /// How many reads were called before the last write: a later write overlaps one of these only if the last does.
     settled: usize,
     /// The write called last, at first the initial one.
     last: Oper,

@@ -3,7 +3,8 @@ ghost use Rattle.std.specs.Prelude.{◌≡◌, ◌↔◌, [], length, IfOk, IsTr
 ghost use Rattle.reg_lamport.specs.Reads.{IsReadList};
 
 use crate::gathering::{Gathering, ReadEntry};
-use reg_arena::{Arena, Oper, RegId};
+use history_model::{Oper, RegId};
+use reg_arena::Arena;
 use std::alloc::{AllocError, Global};
 use std::marker::Model;
 
@@ -41,7 +42,7 @@ impl ReadList {
 /// Lists the completed reads of a register, in one pass over its events.
 ///
 /// # Errors
-/// Where a growth was refused; the arena is as before.
+/// If memory was refused; the arena is as before.
 pub fn reads(alloc: Global, arena: &Arena, register: RegId) -> Result<ReadList, AllocError>
     ensures { IfOk result (λ list. (list.register ≡ register.0) × IsReadList arena.now list) }
 {

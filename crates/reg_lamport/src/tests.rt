@@ -1,6 +1,7 @@
 use super::*;
+use history_model::RegId;
 use history_text::{MAX_INPUT, read_lines};
-use reg_arena::{Arena, RegId};
+use reg_arena::Arena;
 use std::alloc::Global;
 use std::process::Abort;
 use std::test::Fail;
@@ -54,7 +55,7 @@ fn arena_of(
     Ok(Arena::build(alloc, read_lines(rt, alloc, text.as_bytes())?)?)
 }
 
-// The line of the first read among these numbers that breaks the level, or 0 where each keeps it.
+// The line of the first read among these numbers that breaks the level, or 0 if each keeps it.
 fn bad_line(
     rt: &impl Abort,
     alloc: Global,

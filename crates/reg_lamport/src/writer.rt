@@ -1,11 +1,12 @@
 //! Whether a register has a single writer.
 ghost use Rattle.std.specs.Prelude.{◌≡◌, ◌↔◌, IsTrue, Some, slice_get};
-ghost use Rattle.reg_arena.specs.Lamport.{HasSingleWriter};
-ghost use Rattle.reg_arena.specs.Operations.{of_register, operations};
+ghost use Rattle.history_model.specs.Lamport.{HasSingleWriter};
+ghost use Rattle.history_model.specs.Operations.{of_register, operations};
 ghost use Rattle.reg_lamport.specs.Writers.{begins_write as begins, is_another as another};
 
+use history_model::{EvId, Event, RegId, What};
 use history_text::OpKind;
-use reg_arena::{Arena, EvId, Event, RegId, What};
+use reg_arena::Arena;
 
 /// Whether the event begins a write: it is the call of one that didn't fail.
 fn begins_write(arena: &Arena, id: EvId, event: &Event) -> bool
@@ -15,7 +16,7 @@ fn begins_write(arena: &Arena, id: EvId, event: &Event) -> bool
     event.what == What::Call(OpKind::WriteOp) && arena.begins(id)
 }
 
-/// Whether the process isn't the writer, where one is known.
+/// Whether the process isn't the writer, if one is known.
 fn is_another(writer: Option<u32>, process: u32) -> bool
     ensures { result ≡ another writer process }
 {

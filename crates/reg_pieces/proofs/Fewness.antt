@@ -2,15 +2,16 @@
 use Rattle.std.proofs.Common.{◌≡◌, ℕ, zero, suc, ◌+◌, ◌<◌, ◌≤◌, ◌==◌, cond, Bool, true, false, List, [], ◌∷◌, length, slice_get, Option, Some, None, refl, ap, subst, arith, length-append}
 use Rattle.std.proofs.lemmas.Bool.{eqb-true}
 use Rattle.std.proofs.lemmas.List.Sums.{length-filter, count_by-le-length}
-use Rattle.reg_arena.specs.History.{History}
-use Rattle.reg_arena.specs.Lamport.{completed_reads, is_completed_read}
-use Rattle.reg_arena.specs.Operations.{Operation, operation, next_of, reply_in, begins, operations, of_register, initial_writes, calls_from, calls, register_of}
-use Rattle.reg_arena.specs.declared.event.Event.{Event}
+use Rattle.history_model.specs.History.{History}
+use Rattle.history_model.specs.Lamport.{completed_reads, is_completed_read}
+use Rattle.history_model.specs.Operations.{Operation, operation, next_of, reply_in, begins, operations, of_register, initial_writes, calls_from, calls, register_of}
+use Rattle.history_model.specs.declared.event.Event.{Event}
 use Rattle.reg_lamport.specs.Reads.{ListedReads, IsEntryOf}
 use Rattle.reg_lamport.proofs.Zipped.{zip-length}
 use Rattle.reg_pieces.specs.Plan.{AreCutsOf, AreTasks, IsListOf, PlanShown}
 use Rattle.reg_pieces.specs.declared.tasks.Task.{Task}
 use Rattle.reg_pieces.proofs.Numbering.{cuts-few}
+use Rattle.history_model.proofs.Walking.{calls-few}
 
 -- ---- the operations of all registers
 
@@ -72,14 +73,6 @@ all-few r n (o ∷ ops) = omega (arith, one-more r n o ops, ones-few r n o.regis
 initial-count : (n : ℕ) → length (initial_writes n) ≡ n
 initial-count zero = refl
 initial-count (suc n) = let e = initial-count n in omega (arith, e)
-
-calls-few : (m s : ℕ) (es : List Event) → length (calls_from m s es) ≤ length es
-calls-few m s [] = omega arith
-calls-few m s (e ∷ es) = go (begins e (next_of e.process (suc s) es)) (calls-few m (suc s) es)
-  where
-    go : (b : Bool) → length (calls_from m (suc s) es) ≤ length es → length (cond b (operation m s e (reply_in (next_of e.process (suc s) es)) ∷ calls_from m (suc s) es) (calls_from m (suc s) es)) ≤ suc (length es)
-    go true f = omega (arith, f)
-    go false f = omega (arith, f)
 
 operations-few : (h : History) → length (operations h) ≤ length h.names + length h.events
 operations-few h = omega (arith, length-append (initial_writes (length h.names)) (calls h.events), initial-count (length h.names), calls-few (length h.events + 2) 2 h.events)

@@ -1,11 +1,11 @@
 -- A task of a plan can be done.
 use Rattle.std.proofs.Common.{◌≡◌, ℕ, ◌<◌, ◌≤◌, length, slice_get, Option, Some, None, refl, sym, ap, subst, ◌∙◌, arith}
 use Rattle.std.proofs.lemmas.Option.{none-some, same_Some, slice_get_within}
-use Rattle.reg_arena.specs.History.{History}
-use Rattle.reg_arena.specs.Lamport.{HasSingleWriter}
-use Rattle.reg_arena.specs.declared.ids.RegId.{RegId}
+use Rattle.history_model.specs.History.{History}
+use Rattle.history_model.specs.Lamport.{HasSingleWriter}
+use Rattle.history_model.specs.declared.ids.RegId.{RegId}
 use Rattle.reg_lamport.specs.Reads.{ListedReads}
-use Rattle.reg_arena.specs.Operations.{register_of}
+use Rattle.history_model.specs.Operations.{register_of}
 use Rattle.reg_pieces.specs.Plan.{IsListOf, IsPieceAt, IsPieceOf, IsPlan, PlanShown}
 use Rattle.reg_pieces.specs.declared.piece.Piece.{Piece}
 use Rattle.reg_pieces.specs.declared.piece.Piece.TheVariants.{Skipped}

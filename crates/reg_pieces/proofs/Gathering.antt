@@ -8,8 +8,7 @@ use Rattle.job_board.specs.Numbers.{times}
 use Rattle.job_board.specs.Seats.{BoardValue, SeatValue}
 use Rattle.job_board.specs.declared.view.View.{View}
 use Rattle.job_board.proofs.Times.{times-append}
-use Rattle.reg_arena.specs.History.{History}
-use Rattle.reg_arena.proofs.Links.{slice_get-push}
+use Rattle.history_model.specs.History.{History}
 use Rattle.reg_pieces.specs.Plan.{IsFirstPlan, IsPieceOf, PlanShown}
 use Rattle.reg_pieces.specs.Slots.{AreDone, AreSlots, AreWithin, IsFull, with_pieces}
 use Rattle.reg_pieces.specs.Work.{Flags, HasWorked, faulty_numbers, numbers_of}
@@ -20,6 +19,7 @@ use Rattle.reg_pieces.specs.declared.worker.Worked.{Worked}
 use Rattle.reg_pieces.proofs.Pushed.{length-push}
 use Rattle.reg_pieces.proofs.Putting.{with-full}
 use Rattle.reg_pieces.proofs.Searching.{searched-seat}
+use Rattle.history_model.proofs.Lists.{slice_get-push}
 
 pub weight-push : (seats : List SeatValue) (seat : SeatValue) → weight_of_all (seats ++ seat ∷ []) ≡ weight_of_all seats + seat.view.weight
 weight-push [] seat = omega arith
@@ -43,7 +43,7 @@ pub back-of : (h : History) (plan : PlanShown) (board : BoardValue) (seat : Seat
 back-of h plan board seat w s worked = record {
   here = worked.board ∙ s.fits.here;
   drawn = drawn;
-  told = worked.told;
+  exhausted = worked.exhausted;
   pieces = worked.pieces;
   searched = λ f p. searched-seat h plan p w.seat.view w.done.items worked.pieces worked.skipped (flagged p) (drawn f);
 }
@@ -93,9 +93,9 @@ pub weight-with : (before : Option SeatValue) (seat : SeatValue) → (view_with 
 weight-with None seat = omega arith
 weight-with (Some one) seat = refl
 
-told-with : (board : BoardValue) (slots : List (Option Piece)) (refused : Bool) (before : Option SeatValue) (seat : SeatValue) → IfSome before (IsJoined board slots refused) → refused ≡ false → seat.view.told ≡ true → (view_with before seat).told ≡ true
-told-with board slots refused None seat j f t = t
-told-with board slots refused (Some one) seat j f t = ap (λ b. b || seat.view.told) (j.told f)
+exhausted-with : (board : BoardValue) (slots : List (Option Piece)) (refused : Bool) (before : Option SeatValue) (seat : SeatValue) → IfSome before (IsJoined board slots refused) → refused ≡ false → seat.view.exhausted ≡ true → (view_with before seat).exhausted ≡ true
+exhausted-with board slots refused None seat j f t = t
+exhausted-with board slots refused (Some one) seat j f t = ap (λ b. b || seat.view.exhausted) (j.exhausted f)
 
 drawn-with : (board : BoardValue) (slots : List (Option Piece)) (refused : Bool) (before : Option SeatValue) (seat : SeatValue) (n : ℕ) → IfSome before (IsJoined board slots refused) → refused ≡ false → 0 < times n (view_with before seat).drawn → (0 < times n seat.view.drawn) ⊎ IsFull slots n
 drawn-with board slots refused None seat n j f l = inl l
@@ -110,7 +110,7 @@ pub one-joined : (h : History) (plan : PlanShown) (board : BoardValue) (slots : 
     → joined.board ≡ board.id → joined.view ≡ view_with before w.seat → (flag ≡ false → (refused ≡ false) × (w.refused ≡ false)) → IsJoined board (with_pieces slots w.done.items) flag joined
 one-joined h plan board slots refused before w joined flag back within j here view both = record {
   here = here;
-  told = λ f. ap (λ v. v.told) view ∙ told-with board slots refused before w.seat j (both f).0 (back.told (both f).1);
+  exhausted = λ f. ap (λ v. v.exhausted) view ∙ exhausted-with board slots refused before w.seat j (both f).0 (back.exhausted (both f).1);
   full = λ f n l. with-full slots w.done.items n within
       (elim (drawn-with board slots refused before w.seat n j (both f).0 (subst (λ (v : View). 0 < times n v.drawn) view l)) [
         | inl p ↦ inl (subst (λ xs. 0 < times n xs) (back.drawn (both f).1) p)

@@ -5,14 +5,14 @@ use Rattle.std.proofs.lemmas.List.{length-set}
 use Rattle.std.proofs.lemmas.Option.{same_Some, slice_get_within}
 use Rattle.std.proofs.lemmas.Bool.{cases_Bool, eqb-true, eqb-false, false≢true}
 use Rattle.job_board.specs.Numbers.{one_if, times}
-use Rattle.reg_arena.specs.History.{History}
-use Rattle.reg_arena.proofs.Links.{slice_get-set, slice_get-set_other}
+use Rattle.history_model.specs.History.{History}
 use Rattle.reg_pieces.specs.Plan.{IsPieceAt}
 use Rattle.reg_pieces.specs.Slots.{AreSlots, AreWithin, IsFull, with_pieces}
 use Rattle.reg_pieces.specs.Work.{AddsPiece, ArePieces, numbers_of}
 use Rattle.reg_pieces.specs.declared.piece.Piece.{Piece}
 use Rattle.reg_pieces.specs.declared.tasks.Task.{Task}
 use Rattle.reg_pieces.proofs.Pushed.{push-cases, front-get}
+use Rattle.history_model.proofs.Lists.{slice_get-set, slice_get-set_other}
 
 -- ---- one piece in its slot
 

@@ -7,9 +7,9 @@ use Rattle.job_board.specs.Seats.{BoardValue, SeatValue, joint_view}
 use Rattle.job_board.specs.Steps.{ClosesWith}
 use Rattle.job_board.specs.declared.view.View.{View}
 use Rattle.job_board.proofs.Times.{times-append}
-use Rattle.reg_arena.specs.History.{History}
-use Rattle.reg_arena.specs.Legal.{IsAtomic}
-use Rattle.reg_arena.specs.Operations.{register_of}
+use Rattle.history_model.specs.History.{History}
+use Rattle.history_model.specs.Legal.{IsAtomic}
+use Rattle.history_model.specs.Operations.{register_of}
 use Rattle.reg_pieces.specs.Judged.{IsLookedAt, is_faulty}
 use Rattle.reg_pieces.specs.Plan.{IsFirstPlan, IsPieceAt, IsPieceOf, PlanShown}
 use Rattle.reg_pieces.specs.Work.{ArePieces, AreSkippedAbove, faulty_numbers, number_where, numbers_of}
@@ -120,15 +120,15 @@ module _ (h : History) (plan : PlanShown) (p : IsFirstPlan h plan) (board : Boar
   searched-with None j f g = back.searched g p
   searched-with (Some one) j f g = searched-both h one.view w.seat.view (j.searched f) (back.searched g p)
 
-  told-with : (before : Option SeatValue) → IfSome before (IsJoinedSearch h board refused) → refused ≡ false → w.refused ≡ false → (view_with before w.seat).told ≡ true
-  told-with None j f g = back.told g
-  told-with (Some one) j f g = ap (λ b. b || w.seat.view.told) (j.told f)
+  exhausted-with : (before : Option SeatValue) → IfSome before (IsJoinedSearch h board refused) → refused ≡ false → w.refused ≡ false → (view_with before w.seat).exhausted ≡ true
+  exhausted-with None j f g = back.exhausted g
+  exhausted-with (Some one) j f g = ap (λ b. b || w.seat.view.exhausted) (j.exhausted f)
 
   -- a worker's seat is put to those before
   pub search-joined : (before : Option SeatValue) (joined : SeatValue) (flag : Bool) → IfSome before (IsJoinedSearch h board refused) → joined.board ≡ board.id → joined.view ≡ view_with before w.seat → (flag ≡ false → (refused ≡ false) × (w.refused ≡ false)) → IsJoinedSearch h board flag joined
   search-joined before joined flag j here view both = record {
     here = here;
-    told = λ f. ap (λ v. v.told) view ∙ told-with before j (both f).0 (both f).1;
+    exhausted = λ f. ap (λ v. v.exhausted) view ∙ exhausted-with before j (both f).0 (both f).1;
     searched = λ f. subst (IsSearched h) (sym view) (searched-with before j (both f).0 (both f).1);
   }
 

@@ -5,8 +5,8 @@ use Rattle.job_board.specs.Numbers.{one_if, times}
 use Rattle.job_board.specs.declared.view.View.{View}
 use Rattle.job_board.proofs.Lacking.{lacking, lacks_less}
 use Rattle.job_board.proofs.Times.{times-append}
-use Rattle.job_board.specs.Seats.{SeatValue, with_drawn, with_told}
-use Rattle.reg_arena.specs.History.{History}
+use Rattle.job_board.specs.Seats.{SeatValue, with_drawn, with_exhausted}
+use Rattle.history_model.specs.History.{History}
 use Rattle.reg_pieces.specs.Judged.{is_faulty}
 use Rattle.reg_pieces.specs.Plan.{IsFirstPlan, IsPieceAt, IsPieceOf, IsPlan, IsSomePlan, PlanShown}
 use Rattle.reg_pieces.specs.Work.{AddsPiece, AddsRegister, ArePieces, AreSkippedAbove, Flags, HasWorked, KeepsSeat, faulty_numbers, number_where, numbers_of}
@@ -38,13 +38,6 @@ looked-piece h plan n seat with_it old new p l a =
     (a.piece, (t.0, t.1, subst (λ u. IsPieceOf h u a.piece) (sym (p.each n t.0 t.1)) a.looked), a.added)
 
 -- ---- a draw
-
-pub just-drawn : (n : ℕ) (xs : List ℕ) → 0 < times n (xs ++ n ∷ [])
-just-drawn n xs = go (n == n) refl
-  where
-    go : (b : Bool) → (n == n) ≡ b → 0 < times n (xs ++ n ∷ [])
-    go true e = omega (arith, times-append n xs (n ∷ []), ap one_if e)
-    go false e = absurd (eqb-false n n e refl)
 
 pub lacks-drawn : (old new : View) (n : ℕ) → n < old.jobs → times n old.drawn ≡ 0 → new.jobs ≡ old.jobs → new.drawn ≡ old.drawn ++ n ∷ [] → lacking new.jobs new.drawn < lacking old.jobs old.drawn
 lacks-drawn old new n l z jobs drawn =
@@ -151,20 +144,20 @@ module _ (h : History) (plan : PlanShown) (given seat drawn : SeatValue) (n : �
     jobs = k.jobs ∙ jobs-drawn;
     flagged = subst (λ (xs : List (ℕ × Piece)). Flags plan.first xs given.view.flagged worked.seat.view.flagged) (sym same) (subst (Flags plan.first old given.view.flagged) (sym f) flagged-drawn);
     drawn = inr (r, (n, k.drawn ∙ (drawn-before ∙ ap (λ (xs : List (ℕ × Piece)). (given.view.drawn ++ numbers_of xs) ++ n ∷ []) (sym same))));
-    told = λ e. absurd (false≢true (sym e ∙ r));
+    exhausted = λ e. absurd (false≢true (sym e ∙ r));
     pieces = subst (ArePieces h plan.tasks) (sym same) w.pieces;
     skipped = subst (AreSkippedAbove worked.seat.view.seen) (sym same) (skipped-lower seat.view.seen worked.seat.view.seen old (omega (arith, k.seen, seen-drawn)) w.skipped);
   }
 
 -- no number is left
-pub worked-ends : (h : History) (plan : PlanShown) (given seat : SeatValue) (worked : Worked) → IsWorking h plan given seat worked.done.items → worked.refused ≡ false → worked.seat.board ≡ seat.board → worked.seat.view ≡ with_told seat.view → HasWorked h plan given worked
+pub worked-ends : (h : History) (plan : PlanShown) (given seat : SeatValue) (worked : Worked) → IsWorking h plan given seat worked.done.items → worked.refused ≡ false → worked.seat.board ≡ seat.board → worked.seat.view ≡ with_exhausted seat.view → HasWorked h plan given worked
 worked-ends h plan given seat worked w r here view = record {
   board = here ∙ w.here;
   weight = ap (λ v. v.weight) view ∙ w.weight;
   jobs = ap (λ v. v.jobs) view ∙ w.jobs;
   flagged = subst (Flags plan.first worked.done.items given.view.flagged) (sym (ap (λ v. v.flagged) view)) w.flagged;
   drawn = inl (ap (λ v. v.drawn) view ∙ w.drawn);
-  told = λ e. ap (λ v. v.told) view;
+  exhausted = λ e. ap (λ v. v.exhausted) view;
   pieces = w.pieces;
   skipped = subst (λ s. AreSkippedAbove s worked.done.items) (sym (ap (λ v. v.seen) view)) w.skipped;
 }

@@ -1,13 +1,13 @@
 -- The pieces of work of a history, and what is done for each (this project's own design).
 use Rattle.std.specs.Prelude.{◌≡◌, ℕ, suc, ◌<◌, ◌≤◌, ◌+◌, ◌-◌, min, List, [], ◌∷◌, ◌++◌, length, slice_get, Option, Some, None, Bool, true, false, ◌⊎◌, MatchBool}
 use Rattle.job_board.specs.declared.limits.TheConstants.{MAX_JOBS}
-use Rattle.reg_arena.specs.History.{History}
-use Rattle.reg_arena.specs.Lamport.{HasSingleWriter}
+use Rattle.history_model.specs.History.{History}
+use Rattle.history_model.specs.Lamport.{HasSingleWriter}
 use Rattle.reg_lamport.specs.Levels.{IsFirstBadRead}
 use Rattle.reg_lamport.specs.Reads.{IsReadList, ListedReads}
 use Rattle.reg_lamport.specs.declared.level.Level.TheVariants.{Safe, Regular}
 use Rattle.reg_pieces.specs.Judged.{IsJudged, IsLookedAt}
-use Rattle.reg_arena.specs.Operations.{register_of}
+use Rattle.history_model.specs.Operations.{register_of}
 use Rattle.reg_pieces.specs.declared.piece.Piece.{Piece}
 use Rattle.reg_pieces.specs.declared.piece.Piece.TheVariants as piece
 use Rattle.reg_pieces.specs.declared.tasks.Task.{Task}

@@ -1,6 +1,6 @@
 -- What is done, by its number.
 use Rattle.std.specs.Prelude.{◌≡◌, ◌<◌, ◌≤◌, ℕ, List, [], ◌∷◌, set, slice_get, Option, Some}
-use Rattle.reg_arena.specs.History.{History}
+use Rattle.history_model.specs.History.{History}
 use Rattle.reg_pieces.specs.Plan.{IsPieceAt, IsPieceOf}
 use Rattle.reg_pieces.specs.declared.piece.Piece.{Piece}
 use Rattle.reg_pieces.specs.declared.tasks.Task.{Task}

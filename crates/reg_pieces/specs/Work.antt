@@ -1,8 +1,8 @@
 -- What a worker takes and hands back.
 use Rattle.std.specs.Prelude.{◌≡◌, ◌⊎◌, ◌<◌, ◌≤◌, ℕ, Bool, List, [], ◌∷◌, ◌++◌, length, map, slice_get, Some, true, false}
 use Rattle.job_board.specs.Seats.{BoardValue, SeatValue}
-use Rattle.reg_arena.specs.History.{History}
-use Rattle.reg_arena.specs.Operations.{register_of}
+use Rattle.history_model.specs.History.{History}
+use Rattle.history_model.specs.Operations.{register_of}
 use Rattle.reg_pieces.specs.Judged.{IsLookedAt, is_faulty}
 use Rattle.reg_pieces.specs.Plan.{IsPieceAt, PlanShown}
 use Rattle.reg_pieces.specs.declared.piece.Piece.{Piece}
@@ -74,6 +74,6 @@ pub record HasWorked (h : History) (plan : PlanShown) (seat : SeatValue) (w : Wo
   pub flagged : Flags plan.first w.done.items seat.view.flagged w.seat.view.flagged
   pub drawn : (w.seat.view.drawn ≡ seat.view.drawn ++ numbers_of w.done.items)
       ⊎ ((w.refused ≡ true) × ((number : ℕ) × (w.seat.view.drawn ≡ seat.view.drawn ++ numbers_of w.done.items ++ number ∷ [])))
-  pub told : w.refused ≡ false → w.seat.view.told ≡ true
+  pub exhausted : w.refused ≡ false → w.seat.view.exhausted ≡ true
   pub pieces : ArePieces h plan.tasks w.done.items
   pub skipped : AreSkippedAbove w.seat.view.seen w.done.items

@@ -3,10 +3,10 @@ use Rattle.std.specs.Prelude.{◌≡◌, ◌+◌, ◌<◌, ◌≤◌, ◌⊎◌,
 use Rattle.job_board.specs.Numbers.{times}
 use Rattle.job_board.specs.Seats.{BoardValue, SeatValue, joint_view}
 use Rattle.job_board.specs.declared.view.View.{View}
-use Rattle.reg_arena.specs.History.{History}
-use Rattle.reg_arena.specs.Legal.{IsAtomic}
-use Rattle.reg_arena.specs.Operations.{register_of}
-use Rattle.reg_arena.specs.declared.ids.RegId.{RegId}
+use Rattle.history_model.specs.History.{History}
+use Rattle.history_model.specs.Legal.{IsAtomic}
+use Rattle.history_model.specs.Operations.{register_of}
+use Rattle.history_model.specs.declared.ids.RegId.{RegId}
 use Rattle.reg_pieces.specs.Plan.{IsFirstPlan, PlanShown}
 use Rattle.reg_pieces.specs.Slots.{IsFull}
 use Rattle.reg_pieces.specs.Work.{ArePieces, IsSeatFor, numbers_of}
@@ -38,7 +38,7 @@ pub record IsSearched (h : History) (v : View) : Type 0 where
 pub record IsHandedBack (h : History) (plan : PlanShown) (board : BoardValue) (w : Worked) : Type 0 where
   pub here : w.seat.board ≡ board.id
   pub drawn : w.refused ≡ false → w.seat.view.drawn ≡ numbers_of w.done.items
-  pub told : w.refused ≡ false → w.seat.view.told ≡ true
+  pub exhausted : w.refused ≡ false → w.seat.view.exhausted ≡ true
   pub pieces : ArePieces h plan.tasks w.done.items
   pub searched : w.refused ≡ false → IsFirstPlan h plan → IsSearched h w.seat.view
 
@@ -62,13 +62,13 @@ view_with (Some before) seat = joint_view before.view seat.view
 -- Seats of this board that were made into one: where no worker was refused memory, each number that they drew has its slot full, and no number was left.
 pub record IsJoined (board : BoardValue) (slots : List (Option Piece)) (refused : Bool) (seat : SeatValue) : Type 0 where
   pub here : seat.board ≡ board.id
-  pub told : refused ≡ false → seat.view.told ≡ true
+  pub exhausted : refused ≡ false → seat.view.exhausted ≡ true
   pub full : refused ≡ false → (n : ℕ) → 0 < times n seat.view.drawn → IsFull slots n
 
 -- Seats of this board that were made into one: where no worker was refused memory, no number was left, and this is known of all that they drew.
 pub record IsJoinedSearch (h : History) (board : BoardValue) (refused : Bool) (seat : SeatValue) : Type 0 where
   pub here : seat.board ≡ board.id
-  pub told : refused ≡ false → seat.view.told ≡ true
+  pub exhausted : refused ≡ false → seat.view.exhausted ≡ true
   pub searched : refused ≡ false → IsSearched h seat.view
 
 -- ---- the first register that isn't atomic

@@ -9,16 +9,17 @@ use crate::settings::Settings;
 use crate::tasks::Plan;
 use crate::worker::Worked;
 use crate::workers::{all_work, closed, joined, seats_of};
+use history_model::RegId;
 use job_board::Board;
-use reg_arena::{Arena, RegId};
+use reg_arena::Arena;
 use std::alloc::{AllocError, Global};
 use std::thread::Threads;
 
-/// The least number that the workers flagged, or the number of registers. Their seats are made one again, and the board is
+/// The lowest number that the workers flagged, or the number of registers. Their seats are made one again, and the board is
 /// closed.
 ///
 /// # Errors
-/// Where a growth was refused to a worker.
+/// If memory was refused to a worker.
 fn least_flagged(
     arena: &Arena,
     plan: &Plan,
@@ -43,10 +44,10 @@ fn least_flagged(
 }
 
 /// Has as many workers as the settings say look for the first register that isn't atomic at once, past the gate; nothing
-/// where each register is atomic. Neither the number of workers nor the gate changes the answer.
+/// if each register is atomic. Neither the number of workers nor the gate changes the answer.
 ///
 /// # Errors
-/// Where a growth was refused, here or to a worker.
+/// If memory was refused, here or to a worker.
 pub fn first_faulty<R: Threads + Sync, G: Gate + Sync>(
     rt: &R,
     alloc: Global,

@@ -1,12 +1,13 @@
 //! What is done for one piece of work.
 ghost use Rattle.std.specs.Prelude.{◌≡◌, ◌<◌, ◌≤◌, ℕ, length, IfOk, Some};
 ghost use Rattle.reg_pieces.specs.Judged.{IsJudged, IsLookedAt, is_faulty};
-ghost use Rattle.reg_arena.specs.Operations.{register_of};
+ghost use Rattle.history_model.specs.Operations.{register_of};
 ghost use Rattle.reg_pieces.specs.Plan.{IsListOf, IsPieceAt, IsPieceOf, IsPlan};
 
 use crate::order::Order;
 use crate::tasks::{Plan, Task};
-use reg_arena::{Arena, EvId, RegId};
+use history_model::{EvId, RegId};
+use reg_arena::Arena;
 use reg_lamport::{Level, ReadList, first_bad};
 use reg_zones::{Fault, order, sweep};
 use std::alloc::{AllocError, Global};
@@ -23,9 +24,9 @@ pub enum Piece {
         safe: Option<EvId>,
         regular: Option<EvId>,
     },
-    /// Where only the first register that isn't atomic is asked for: this one is atomic.
+    /// If only the first register that isn't atomic is asked for: this one is atomic.
     Clean,
-    /// Where only that one is asked for: a lower register than this one isn't atomic.
+    /// If only that one is asked for: a lower register than this one isn't atomic.
     Skipped,
 }
 
@@ -38,7 +39,7 @@ impl Piece {
     }
 }
 
-/// Whether a register is atomic, where `least` is the lowest number that a look found.
+/// Whether a register is atomic. `least` is the lowest number that a look found.
 pub(crate) fn look_at(arena: &Arena, register: RegId, least: u64) -> Piece
     requires { register.0 < length arena.now.names }
     ensures looked { IsLookedAt (register_of arena.now register.0) result }
@@ -56,7 +57,7 @@ pub(crate) fn look_at(arena: &Arena, register: RegId, least: u64) -> Piece
 /// The canonical order of a register that is atomic, and else its fault.
 ///
 /// # Errors
-/// Where a growth was refused; the arena is as before.
+/// If memory was refused; the arena is as before.
 pub fn judge(alloc: Global, arena: &Arena, register: RegId) -> Result<Piece, AllocError>
     requires { register.0 < length arena.now.names }
     ensures { IfOk result (IsJudged (register_of arena.now register.0)) }

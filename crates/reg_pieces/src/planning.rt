@@ -5,14 +5,15 @@ ghost use Rattle.reg_pieces.specs.Plan.{AddsCuts, IsFirstPlan, IsListOf, IsPlan,
 
 use crate::settings::Settings;
 use crate::tasks::{Plan, Task};
-use reg_arena::{Arena, RegId};
+use history_model::RegId;
+use reg_arena::Arena;
 use reg_lamport::{ReadList, reads, single_writer};
 use std::alloc::{AllocError, Global};
 
-/// The completed reads of a register, where it has a single writer.
+/// The completed reads of a register, if it has a single writer.
 ///
 /// # Errors
-/// Where a growth was refused; the arena is as before.
+/// If memory was refused; the arena is as before.
 pub fn list_of(
     alloc: Global,
     arena: &Arena,
@@ -98,7 +99,7 @@ fn first_plan(alloc: Global, arena: &Arena) -> Result<Plan, AllocError>
 /// The pieces of work of a history.
 ///
 /// # Errors
-/// Where a growth was refused; the arena is as before.
+/// If memory was refused; the arena is as before.
 pub fn plan(alloc: Global, arena: &Arena, settings: Settings) -> Result<Plan, AllocError>
     ensures by { IfOk result (IsPlanBy arena.now settings.cut settings.first) }
     ensures some { IfOk result (IsSomePlan arena.now) }

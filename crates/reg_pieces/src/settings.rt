@@ -34,7 +34,7 @@ impl Model for Settings {
 }
 
 impl Settings {
-    /// These settings, or nothing where a number isn't within its limits.
+    /// These settings, or nothing if a number isn't within its limits.
     pub fn new(workers: u32, cut: u32, first: bool) -> Option<Settings>
         ensures some { IfSome result (λ s. s ≡ record { workers = workers; cut = cut; first = first }) }
         ensures limits { IsSome result ↔ ((1 ≤ workers) × (workers ≤ MAX_WORKERS) × (1 ≤ cut) × (cut ≤ MAX_CUT)) }

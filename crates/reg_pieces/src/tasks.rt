@@ -2,7 +2,7 @@
 //! register, to find the first that isn't atomic.
 ghost use Rattle.std.specs.Prelude.{◌≡◌, ◌<◌, length, slice_get, Some};
 
-use reg_arena::RegId;
+use history_model::RegId;
 use reg_lamport::ReadList;
 use std::marker::Model;
 
@@ -17,11 +17,11 @@ pub enum Task {
         from: usize,
         to: usize,
     },
-    /// Whether a register is atomic, where no lower one is known that isn't.
+    /// Whether a register is atomic, if no lower one is known that isn't.
     First(RegId),
 }
 
-/// The pieces of work of a history, with the completed reads of each register that has a single writer. Where the first
+/// The pieces of work of a history, with the completed reads of each register that has a single writer. If the first
 /// register that isn't atomic is all that is asked for, they have no reads.
 #[derive(Drop)]
 pub struct Plan {
@@ -61,7 +61,7 @@ impl Plan {
         self.tasks[number as usize]
     }
 
-    /// The completed reads of this register, where it has a single writer.
+    /// The completed reads of this register, if it has a single writer.
     pub fn list(&self, register: RegId) -> &Option<ReadList>
         requires { register.0 < length self.now.lists }
         ensures { slice_get self.now.lists register.0 ≡ Some result.now }

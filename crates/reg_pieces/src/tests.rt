@@ -86,7 +86,7 @@ fn counts_of_pieces(rt: HostRuntime) -> Result<(), Fail> {
     Ok(())
 }
 
-// Where the first register that isn't atomic is all that is asked for, each register has one piece.
+// If the first register that isn't atomic is all that is asked for, each register has one piece.
 #[test]
 fn counts_of_registers(rt: HostRuntime) -> Result<(), Fail> {
     let arena = two_registers(&rt)?;
@@ -215,7 +215,7 @@ fn ended<R: Threads>(
     Ok(back)
 }
 
-// The numbers of all that is done, sorted, or nothing where a worker was refused memory.
+// The numbers of all that is done, sorted, or nothing if a worker was refused memory.
 fn numbers(alloc: Global, back: &[Worked]) -> Result<Option<Vec<u64>>, AllocError> {
     let mut numbers = Vec::new(alloc);
     for worked in back {

@@ -8,8 +8,9 @@ ghost use Rattle.reg_pieces.specs.Work.{AddsPiece, AddsRegister, HasWorked, IsSe
 use crate::gate::Gate;
 use crate::piece::{Piece, look_at, piece_at};
 use crate::tasks::Plan;
+use history_model::RegId;
 use job_board::{Board, Seat};
-use reg_arena::{Arena, RegId};
+use reg_arena::Arena;
 use std::alloc::{AllocError, Global};
 
 /// What a worker hands back.
@@ -41,8 +42,8 @@ fn do_piece(
     Ok(())
 }
 
-/// Looks for a lower register that isn't atomic, and does the piece of this one where there is none; flags its number
-/// where it isn't atomic.
+/// Looks for a lower register that isn't atomic, and does the piece of this one if there is none; flags its number
+/// if it isn't atomic.
 fn do_register(
     arena: &Arena,
     board: &Board<Global>,

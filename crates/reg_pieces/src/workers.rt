@@ -82,12 +82,12 @@ pub(crate) fn joined(board: &Board<Global>, before: Option<Seat>, seat: Seat) ->
     }
 }
 
-/// Closes the board with the one seat that all others were made into; the least number that was flagged, or the number of
+/// Closes the board with the one seat that all others were made into; the lowest number that was flagged, or the number of
 /// pieces.
 pub(crate) fn closed(board: Board<Global>, seat: Seat) -> u64
     requires board { seat.board ≡ board.id }
     requires weight { seat.view.weight ≡ FULL_WEIGHT }
-    ensures drawn { seat.view.told ≡ true → (n : ℕ) → n < board.jobs → 0 < times n seat.view.drawn }
+    ensures drawn { seat.view.exhausted ≡ true → (n : ℕ) → n < board.jobs → 0 < times n seat.view.drawn }
     ensures least { ClosesWith board.jobs seat.view result }
 {
     match board.close(seat) {
@@ -100,7 +100,7 @@ pub(crate) fn closed(board: Board<Global>, seat: Seat) -> u64
 /// closed.
 ///
 /// # Errors
-/// Where a growth was refused to a worker.
+/// If memory was refused to a worker.
 fn gathered(
     arena: &Arena,
     plan: &Plan,
@@ -130,7 +130,7 @@ fn gathered(
 /// Has as many workers as the settings say do all pieces of a plan at once, past the gate.
 ///
 /// # Errors
-/// Where a growth was refused, here or to a worker; what was done is dropped.
+/// If memory was refused, here or to a worker; what was done is dropped.
 pub fn do_pieces<R: Threads + Sync, G: Gate + Sync>(
     rt: &R,
     alloc: Global,
@@ -152,7 +152,7 @@ pub fn do_pieces<R: Threads + Sync, G: Gate + Sync>(
 /// The same pieces, done by the calling thread alone: it takes no right to start threads.
 ///
 /// # Errors
-/// Where a growth was refused; what was done is dropped.
+/// If memory was refused; what was done is dropped.
 pub fn do_pieces_alone(alloc: Global, arena: &Arena, plan: &Plan) -> Result<Pieces, AllocError>
     requires { (cut : ℕ) × IsPlan arena.now cut plan.now }
     ensures { IfOk result (AreDone arena.now plan.now.tasks) }

@@ -5,9 +5,9 @@ use Rattle.std.specs.Result.{IsErrAnd, IfErr}
 use Rattle.std.proofs.lemmas.Bool.{ltb-true}
 use Rattle.history_text.specs.declared.limits.TheConstants.{MAX_INPUT}
 use Rattle.history_text.specs.Reading.{history_lines}
-use Rattle.reg_arena.specs.Refusals.{Line, IsBuildError}
-use Rattle.reg_arena.specs.declared.refusal.BuildError.{BuildError}
-use Rattle.reg_arena.specs.declared.refusal.BuildError.TheVariants.{Refused, Memory}
+use Rattle.history_model.specs.Refusals.{Line, IsBuildError}
+use Rattle.history_model.specs.declared.refusal.BuildError.{BuildError}
+use Rattle.history_model.specs.declared.refusal.BuildError.TheVariants.{Refused, Memory}
 use Rattle.reg_report.specs.Answer.{IsAnswer, IsAnswerToLines, IsRefused}
 use Rattle.reg_report.specs.Refusals.{of_build}
 use Rattle.reg_report.specs.declared.refusal.Refusal.{Refusal}

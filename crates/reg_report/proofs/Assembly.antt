@@ -1,11 +1,11 @@
 -- The pieces of one register are put together, and those of the next stand behind them.
 use Rattle.std.proofs.Common.{◌≡◌, ℕ, zero, suc, ◌+◌, ◌<◌, List, [], ◌∷◌, ◌++◌, length, drop, slice_get, Option, Some, refl, sym, ap, subst, ◌∙◌, arith}
 use Rattle.std.proofs.lemmas.Option.{slice_get_within}
-use Rattle.reg_arena.specs.History.{History}
+use Rattle.history_model.specs.History.{History}
 use Rattle.reg_lamport.specs.Reads.{ListedReads}
 use Rattle.reg_pieces.specs.Judged.{IsJudged}
 use Rattle.reg_report.specs.Cuts.{HasCutsOf, LeavesOf}
-use Rattle.reg_arena.specs.Operations.{register_of}
+use Rattle.history_model.specs.Operations.{register_of}
 use Rattle.reg_pieces.specs.Plan.{AreTasks, PlanShown}
 use Rattle.reg_pieces.specs.Slots.{AreDoneFrom, IsFull}
 use Rattle.reg_pieces.specs.declared.piece.Piece.{Piece}

@@ -1,12 +1,12 @@
 -- From the orders and faults of the registers to what the report says of them.
 use Rattle.std.proofs.Common.{◌≡◌, ℕ, ◌+◌, List, [], ◌∷◌, ◌++◌, true, false, Option, Some, None, inl, inr, refl, sym, ap, subst, ◌∙◌, arith}
-use Rattle.reg_arena.specs.Lists.{In}
-use Rattle.reg_arena.specs.History.{History}
-use Rattle.reg_arena.specs.Operations.{Operation, operations, register_of}
+use Rattle.history_model.specs.Lists.{In}
+use Rattle.history_model.specs.History.{History}
+use Rattle.history_model.specs.Operations.{Operation, operations, register_of}
 use Rattle.reg_zones.specs.Order.{PlacedOperation, IsOrder, placed, operations_of}
 use Rattle.reg_zones.specs.declared.fault.Fault.{Fault}
 use Rattle.reg_zones.specs.declared.placed.Placed.{Placed}
-use Rattle.reg_zones.proofs.Places.{In-map}
+use Rattle.history_model.proofs.Lists.{In-map}
 use Rattle.reg_pieces.specs.Judged.{IsJudged}
 use Rattle.reg_report.specs.Lines.{HaveCalls, HavePoints, call_line, point_line, lines_by}
 use Rattle.reg_report.specs.Meaning.{IsAtomicity, IsWholeAtomicity, ShowsFault}

@@ -1,10 +1,10 @@
 -- A count of calls over all events, and the lines of the registers one after another.
 use Rattle.std.proofs.Common.{◌≡◌, ℕ, zero, suc, ◌+◌, ◌≤◌, cond, Bool, true, false, List, [], ◌∷◌, ◌++◌, length, drop, slice_get, Some, inl, inr, refl, sym, ap, subst, ◌∙◌, arith}
-use Rattle.reg_arena.specs.History.{History}
-use Rattle.reg_arena.specs.Operations.{operation, next_of, reply_in, calls_from, calls}
-use Rattle.reg_arena.specs.Shown.{begins_at}
-use Rattle.reg_arena.specs.declared.event.Event.{Event}
-use Rattle.reg_arena.proofs.Walking.{drop-at}
+use Rattle.history_model.specs.History.{History}
+use Rattle.history_model.specs.Operations.{operation, next_of, reply_in, calls_from, calls}
+use Rattle.history_model.specs.Naming.{begins_at}
+use Rattle.history_model.specs.declared.event.Event.{Event}
+use Rattle.history_model.proofs.Walking.{drop-at}
 use Rattle.reg_pieces.proofs.Pushed.{length-push, push-cases}
 use Rattle.reg_report.specs.Meaning.{IsRegisterReport}
 use Rattle.reg_report.specs.Registers.{AreFirstLines}

@@ -1,8 +1,7 @@
 -- The first bad reads of a register are put together cut by cut.
 use Rattle.std.proofs.Common.{◌≡◌, ℕ, zero, suc, ◌+◌, ◌-◌, ◌<◌, ◌≤◌, min, List, [], ◌∷◌, ◌++◌, drop, length, set, slice_get, Option, Some, None, refl, sym, ap, subst, ◌∙◌, arith}
 use Rattle.std.proofs.lemmas.Option.{same_Some, slice_get_within}
-use Rattle.reg_arena.specs.History.{History}
-use Rattle.reg_arena.proofs.Links.{slice_get-set_other}
+use Rattle.history_model.specs.History.{History}
 use Rattle.reg_lamport.specs.declared.level.Level.TheVariants.{Safe, Regular}
 use Rattle.reg_lamport.proofs.Cuts.{named-cuts-join}
 use Rattle.reg_report.specs.Cuts.{AreFirstBad, HasCuts, IsCut, Leaves, with_cut}
@@ -13,6 +12,7 @@ use Rattle.reg_pieces.specs.declared.piece.Piece.{Piece}
 use Rattle.reg_pieces.specs.declared.piece.Piece.TheVariants as piece
 use Rattle.reg_pieces.specs.declared.tasks.Task.{Task}
 use Rattle.reg_pieces.specs.declared.tasks.Task.TheVariants.{Reads}
+use Rattle.history_model.proofs.Lists.{slice_get-set_other}
 
 head-dropped : {X : Type 0} (xs : List X) (i : ℕ) (y : X) (ys : List X) → drop i xs ≡ y ∷ ys → (slice_get xs i ≡ Some y) × (drop (suc i) xs ≡ ys)
 head-dropped [] zero y ys e = absurd (cc e)

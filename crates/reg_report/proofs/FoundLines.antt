@@ -4,11 +4,11 @@ use Rattle.std.specs.Prelude.{MatchBool, is_none}
 use Rattle.std.proofs.lemmas.Bool.{cases_lt}
 use Rattle.history_text.specs.declared.limits.TheConstants.{MAX_INPUT}
 use Rattle.history_text.specs.Reading.{history_lines}
-use Rattle.reg_arena.specs.History.{History, history_of}
-use Rattle.reg_arena.specs.Legal.{IsAtomic}
-use Rattle.reg_arena.specs.Operations.{operations, register_of}
-use Rattle.reg_arena.specs.Refusals.{events_of}
-use Rattle.reg_arena.specs.declared.ids.RegId.{RegId}
+use Rattle.history_model.specs.History.{History, history_of}
+use Rattle.history_model.specs.Legal.{IsAtomic}
+use Rattle.history_model.specs.Operations.{operations, register_of}
+use Rattle.history_model.specs.Refusals.{events_of}
+use Rattle.history_model.specs.declared.ids.RegId.{RegId}
 use Rattle.reg_pieces.specs.Workers.{IsFirstFound}
 use Rattle.reg_report.specs.Answer.{IsAnswer, IsAnswerToLines, outcome_of}
 use Rattle.reg_report.specs.First.{AreFoundLines, IsReportBy}

@@ -1,9 +1,9 @@
 -- What a plan has of one register's reads, and what a list of them has.
 use Rattle.std.proofs.Common.{◌≡◌, ℕ, List, ◌++◌, length, slice_get, Option, Some, None, refl, sym, ap, subst, ◌∙◌}
 use Rattle.std.proofs.lemmas.Option.{same_Some}
-use Rattle.reg_arena.specs.History.{History}
-use Rattle.reg_arena.specs.Lamport.{HasSingleWriter}
-use Rattle.reg_arena.specs.Operations.{register_of}
+use Rattle.history_model.specs.History.{History}
+use Rattle.history_model.specs.Lamport.{HasSingleWriter}
+use Rattle.history_model.specs.Operations.{register_of}
 use Rattle.reg_lamport.specs.Reads.{ListedReads}
 use Rattle.reg_report.specs.Cuts.{HasCuts, HasCutsOf, Leaves, LeavesOf}
 use Rattle.reg_pieces.specs.Plan.{AreCutsOf, IsListOf, IsPlan, PlanShown}

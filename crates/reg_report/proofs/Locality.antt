@@ -1,32 +1,18 @@
 -- A history is atomic exactly where each of its registers is.
 use Rattle.std.proofs.Common.{◌≡◌, ℕ, ◌<◌, ◌≤◌, length, List, [], ◌∷◌, ◌++◌, ◌⊎◌, ◌↔◌, inl, inr, sym, subst, ◌∙◌, arith}
 use Rattle.std.proofs.lemmas.Bool.{cases_order}
-use Rattle.reg_arena.specs.Lists.{In, Before}
-use Rattle.reg_arena.specs.History.{History}
-use Rattle.reg_arena.specs.Operations.{Operation, IsHistory, of_register, operations, register_of}
-use Rattle.reg_arena.specs.Legal.{IsLegal, IsAtomic}
+use Rattle.history_model.specs.Lists.{In, Before}
+use Rattle.history_model.specs.History.{History}
+use Rattle.history_model.specs.Operations.{Operation, IsHistory, of_register, operations, register_of}
+use Rattle.history_model.specs.Legal.{IsLegal, IsAtomic}
 use Rattle.reg_zones.specs.Order.{PlacedOperation, placed, operations_of}
-use Rattle.reg_zones.proofs.Places.{Before-total, Before-trans}
+use Rattle.history_model.proofs.Lists.{Before-total, Before-trans, In-left, In-right, append-In}
 use Rattle.reg_zones.proofs.Points.{placed-In}
-use Rattle.reg_zones.proofs.Registers.{of_register-In}
 use Rattle.reg_zones.proofs.Sorting.{sorted}
 use Rattle.reg_report.specs.Merged.{MergesBefore, IsMerged}
 use Rattle.reg_report.proofs.MergedOrder.{placed-once, merged_legal}
 use Rattle.reg_report.proofs.Restrict.{restricted}
-
-pub In-append_left : {X : Type 0} (a : X) (xs ys : List X) → In a xs → In a (xs ++ ys)
-In-append_left a [] ys h = absurd h
-In-append_left a (x ∷ xs) ys (inl h) = inl h
-In-append_left a (x ∷ xs) ys (inr h) = inr (In-append_left a xs ys h)
-
-pub In-append_right : {X : Type 0} (a : X) (xs ys : List X) → In a ys → In a (xs ++ ys)
-In-append_right a [] ys h = h
-In-append_right a (x ∷ xs) ys h = inr (In-append_right a xs ys h)
-
-pub append-In : {X : Type 0} (a : X) (xs ys : List X) → In a (xs ++ ys) → In a xs ⊎ In a ys
-append-In a [] ys h = inr h
-append-In a (x ∷ xs) ys (inl h) = inl (inl h)
-append-In a (x ∷ xs) ys (inr h) = elim (append-In a xs ys h) [ inl k ↦ inl (inr k) | inr k ↦ inr k ]
+use Rattle.history_model.proofs.Recorded.{of_register-In}
 
 -- for each operation the placed operations of its register
 abbrev gathered : (ℕ → List Operation) → List Operation → List PlacedOperation
@@ -39,8 +25,8 @@ gathered-In orders (a ∷ ops) x i = elim (append-In x (placed (orders a.registe
 
 In-gathered : (orders : ℕ → List Operation) (ops : List Operation) (a : Operation) (x : PlacedOperation) → In a ops → In x (placed (orders a.register)) → In x (gathered orders ops)
 In-gathered orders [] a x i j = absurd i
-In-gathered orders (b ∷ ops) a x (inl e) j = In-append_left x (placed (orders b.register)) (gathered orders ops) (subst (λ (o : Operation). In x (placed (orders o.register))) e j)
-In-gathered orders (b ∷ ops) a x (inr i) j = In-append_right x (placed (orders b.register)) (gathered orders ops) (In-gathered orders ops a x i j)
+In-gathered orders (b ∷ ops) a x (inl e) j = In-left x (placed (orders b.register)) (gathered orders ops) (subst (λ (o : Operation). In x (placed (orders o.register))) e j)
+In-gathered orders (b ∷ ops) a x (inr i) j = In-right x (placed (orders b.register)) (gathered orders ops) (In-gathered orders ops a x i j)
 
 module _ (ops : List Operation) (orders : ℕ → List Operation) (l : (r : ℕ) → IsLegal (of_register r ops) (orders r)) where
   own : (r : ℕ) (x : PlacedOperation) → In x (placed (orders r)) → (x.operation.register ≡ r) × In x.operation ops

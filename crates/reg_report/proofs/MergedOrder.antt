@@ -1,13 +1,13 @@
 -- The merged order of legal orders is a legal order of the whole history.
 use Rattle.std.proofs.Common.{◌≡◌, ℕ, List, inl, inr, refl, sym, ap, subst, ◌∙◌, arith}
-use Rattle.reg_arena.specs.Lists.{In, Before}
-use Rattle.reg_arena.specs.Operations.{Operation, Precedes, IsHistory, of_register}
-use Rattle.reg_arena.specs.Legal.{IsLegal}
+use Rattle.history_model.specs.Lists.{In, Before}
+use Rattle.history_model.specs.Operations.{Operation, Precedes, IsHistory, of_register}
+use Rattle.history_model.specs.Legal.{IsLegal}
 use Rattle.reg_zones.specs.Order.{PlacedOperation, placed, operations_of}
-use Rattle.reg_zones.proofs.Places.{In-map, map-In, Before-first, Before-second, Before-total, Before-trans, Before-map, map-Before}
+use Rattle.history_model.proofs.Lists.{In-map, map-In, Before-first, Before-second, Before-total, Before-trans, Before-map, map-Before}
 use Rattle.reg_zones.proofs.Points.{operations_of-placed, rising, placed-In, within_life}
-use Rattle.reg_zones.proofs.Registers.{of_register-In, In-of_register}
 use Rattle.reg_report.specs.Merged.{IsMerged}
+use Rattle.history_model.proofs.Recorded.{of_register-In, In-of_register}
 
 pub placed-once : (ops order : List Operation) → IsLegal ops order → (x : PlacedOperation) → Before x x (placed order) → ⊥
 placed-once ops order l x b = l.completion.once x.operation (subst (Before x.operation x.operation) (operations_of-placed order) (Before-map (λ (z : PlacedOperation). z.operation) x x _ b))

@@ -1,22 +1,18 @@
 -- The operations that an answer names are there, and their lines are their own; a fault's inversion is shown by them.
 use Rattle.std.proofs.Common.{◌≡◌, ℕ, Some, refl, sym, ap, subst, ◌∙◌}
-use Rattle.reg_arena.specs.Lists.{In}
-use Rattle.reg_arena.specs.History.{History}
-use Rattle.reg_arena.specs.Operations.{Operation, operations, of_register}
-use Rattle.reg_arena.specs.Shown.{IsNamed, IsOper, name_of}
-use Rattle.reg_arena.specs.declared.ids.Oper.{Oper}
-use Rattle.reg_arena.proofs.Named.{has-oper, one-named}
-use Rattle.reg_arena.proofs.Recorded.{of_register-In}
+use Rattle.history_model.specs.Lists.{In}
+use Rattle.history_model.specs.History.{History}
+use Rattle.history_model.specs.Operations.{Operation, operations, of_register}
+use Rattle.history_model.specs.Naming.{IsNamed, IsOper, name_of}
+use Rattle.history_model.specs.declared.ids.Oper.{Oper}
+use Rattle.history_model.proofs.Named.{has-oper, one-named}
+use Rattle.history_model.proofs.Recorded.{of_register-In}
 use Rattle.reg_zones.specs.Faults.{IsFault}
 use Rattle.reg_zones.specs.Inversions.{IsInversion, inversion_named}
 use Rattle.reg_zones.specs.declared.fault.Fault.{Fault}
 use Rattle.reg_zones.specs.declared.fault.Fault.TheVariants.{Unwritten, Early, Zones}
 use Rattle.reg_report.specs.Meaning.{HasLine, HaveLines, IsInversionShown}
 use Rattle.reg_report.specs.Named.{AreOpers, HasOpers}
-
--- a named operation is there
-pub named-oper : (h : History) (name : Oper) (o : Operation) → IsNamed h name o → IsOper h name
-named-oper h name o n = subst (IsOper h) n.named (has-oper h o n.one)
 
 -- the line of a named operation is its own
 pub line-own : (h : History) (name : Oper) (o : Operation) (line : ℕ) → IsNamed h name o → HasLine h name line → line ≡ o.line

@@ -1,11 +1,11 @@
 -- A history has one report.
 use Rattle.std.proofs.Common.{◌≡◌, ℕ, suc, Bool, true, false, List, [], ◌∷◌, length, slice_get, Option, Some, inl, inr, refl, sym, ap, subst, ◌∙◌, arith}
 use Rattle.std.proofs.lemmas.Bool.{cases_order}
-use Rattle.reg_arena.specs.Lists.{In, Before}
-use Rattle.reg_arena.specs.History.{History}
-use Rattle.reg_arena.specs.Operations.{Operation, IsHistory, operations, register_of}
-use Rattle.reg_arena.specs.Shown.{IsNamed, name_of}
-use Rattle.reg_arena.specs.declared.ids.Oper.{Oper}
+use Rattle.history_model.specs.Lists.{In, Before}
+use Rattle.history_model.specs.History.{History}
+use Rattle.history_model.specs.Operations.{Operation, IsHistory, operations, register_of}
+use Rattle.history_model.specs.Naming.{IsNamed, name_of}
+use Rattle.history_model.specs.declared.ids.Oper.{Oper}
 use Rattle.reg_lamport.specs.Levels.{IsFirstBreak}
 use Rattle.reg_lamport.specs.declared.level.Level.{Level}
 use Rattle.reg_lamport.specs.declared.level.Level.TheVariants.{Safe, Regular}
@@ -15,7 +15,7 @@ use Rattle.reg_zones.specs.declared.fault.Fault.{Fault}
 use Rattle.reg_zones.specs.declared.fault.Fault.TheVariants as fault
 use Rattle.reg_zones.proofs.OneFault.{one_fault}
 use Rattle.reg_zones.proofs.Unique.{ascending_one, one_canonical, sooner_one_way}
-use Rattle.reg_zones.proofs.Places.{Before-map}
+use Rattle.history_model.proofs.Lists.{Before-map}
 use Rattle.reg_zones.proofs.Points.{operations_of-placed}
 use Rattle.reg_report.specs.First.{AreFoundLines, IsFirstReport}
 use Rattle.reg_report.specs.Meaning.{IsVerdict, HasLine, HaveLines, ShowsFault, IsAtomicity, IsInversionShown, IsInversionAnswer, IsWholeAtomicity, IsRegisterReport, IsReport, lines_of, points_of}

@@ -2,28 +2,24 @@
 use Rattle.std.proofs.Common.{◌≡◌, ℕ, zero, suc, ◌+◌, ◌-◌, ◌<◌, ◌≤◌, cond, List, [], ◌∷◌, ◌++◌, append_assoc, drop, length, map, get_or, slice_get, Option, Some, None, is_some, inl, inr, refl, sym, ap, subst, ◌∙◌, arith}
 use Rattle.std.proofs.lemmas.Option.{slice_get_within}
 use Rattle.std.proofs.lemmas.List.{drop_more}
-use Rattle.reg_arena.specs.Lists.{In}
-use Rattle.reg_arena.specs.History.{History}
-use Rattle.reg_arena.specs.Operations.{Operation, operations, register_of}
-use Rattle.reg_arena.specs.Shown.{name_by, name_of}
-use Rattle.reg_arena.specs.declared.event.Event.{Event}
-use Rattle.reg_arena.specs.declared.ids.EvId.{EvId}
-use Rattle.reg_arena.specs.declared.ids.RegId.{RegId}
-use Rattle.reg_arena.specs.declared.ids.Oper.{Oper}
-use Rattle.reg_arena.specs.declared.ids.Oper.TheVariants.{Initial, Called}
+use Rattle.history_model.specs.Lists.{In}
+use Rattle.history_model.specs.History.{History}
+use Rattle.history_model.specs.Operations.{Operation, operations, register_of}
+use Rattle.history_model.specs.Naming.{name_by, name_of}
+use Rattle.history_model.specs.declared.event.Event.{Event}
+use Rattle.history_model.specs.declared.ids.EvId.{EvId}
+use Rattle.history_model.specs.declared.ids.RegId.{RegId}
+use Rattle.history_model.specs.declared.ids.Oper.{Oper}
+use Rattle.history_model.specs.declared.ids.Oper.TheVariants.{Initial, Called}
 use Rattle.reg_zones.specs.declared.placed.Placed.{Placed}
 use Rattle.reg_zones.specs.Order.{PlacedOperation, placed, shown}
-use Rattle.reg_zones.proofs.Places.{map-In, Before-first}
+use Rattle.history_model.proofs.Lists.{map-In, Before-first, slice_get-In}
 use Rattle.reg_zones.proofs.Points.{after_call, reached, placed-In}
-use Rattle.reg_zones.proofs.Registers.{cases_process, of_register-In}
+use Rattle.reg_zones.proofs.Registers.{cases_process}
 use Rattle.reg_report.specs.Lines.{HasCall, HasPoint, HaveCalls, HavePoints, call_of, line_if_called, call_line, point_line, lines_by}
 use Rattle.reg_report.specs.Meaning.{line_at, lines_of, points_of, without_initial}
 use Rattle.reg_report.specs.Told.{IsTold}
-
-slice_get-In : {X : Type 0} (xs : List X) (i : ℕ) (x : X) → slice_get xs i ≡ Some x → In x xs
-slice_get-In [] i x e = absurd (cc e)
-slice_get-In (y ∷ xs) zero x e = inl (cc e)
-slice_get-In (y ∷ xs) (suc i) x e = inr (slice_get-In xs i x e)
+use Rattle.history_model.proofs.Recorded.{of_register-In}
 
 slice_get-line : (events : List Event) (i : ℕ) (e : Event) → slice_get events i ≡ Some e → get_or (map (λ e. e.line) events) i 0 ≡ e.line
 slice_get-line [] i e s = absurd (cc s)

@@ -1,10 +1,10 @@
 -- A legal order of the whole, kept to one register, is a legal order of the register.
 use Rattle.std.proofs.Common.{ℕ, ◌==◌, List, ◌∙◌}
 use Rattle.std.proofs.lemmas.Bool.{eq-eqb}
-use Rattle.reg_arena.specs.Operations.{Operation, of_register}
-use Rattle.reg_arena.specs.Legal.{IsLegal}
-use Rattle.reg_zones.proofs.Places.{Before-filter, filter-Before}
-use Rattle.reg_zones.proofs.Registers.{of_register-In, In-of_register}
+use Rattle.history_model.specs.Operations.{Operation, of_register}
+use Rattle.history_model.specs.Legal.{IsLegal}
+use Rattle.history_model.proofs.Lists.{Before-filter, filter-Before}
+use Rattle.history_model.proofs.Recorded.{of_register-In, In-of_register}
 
 pub restricted : (ops order : List Operation) (k : ℕ) → IsLegal ops order → IsLegal (of_register k ops) (of_register k order)
 restricted ops order k l = record {

@@ -4,19 +4,18 @@ use Rattle.std.specs.List.{count_by}
 use Rattle.std.proofs.lemmas.Bool.{eq-eqb, ne_eqb}
 use Rattle.std.proofs.lemmas.List.{length-set, length-replicate}
 use Rattle.std.proofs.lemmas.List.Sums.{sum_by-cons, length-filter, count_by-le-length}
-use Rattle.reg_arena.specs.History.{History}
-use Rattle.reg_arena.specs.Operations.{Operation, operation, next_of, reply_in, begins, calls_from, calls, of_register, is_write, writes}
-use Rattle.reg_arena.specs.Shown.{IsNamed, begins_at, op_shown}
-use Rattle.reg_arena.specs.Walking.{called_at}
-use Rattle.reg_arena.proofs.ByEvent.{element}
-use Rattle.reg_arena.proofs.Links.{slice_get-set, slice_get-set_other, decide_eq}
-use Rattle.reg_arena.proofs.Walking.{drop-at, named-is-called}
-use Rattle.reg_arena.specs.declared.ids.Oper.TheVariants.{Called}
-use Rattle.reg_arena.specs.declared.event.Event.{Event}
-use Rattle.reg_arena.specs.declared.op.Op.{Op}
+use Rattle.history_model.specs.History.{History}
+use Rattle.history_model.specs.Operations.{Operation, operation, next_of, reply_in, begins, calls_from, calls, of_register, is_write, writes}
+use Rattle.history_model.specs.Naming.{IsNamed, begins_at, op_shown}
+use Rattle.history_model.specs.Walking.{called_at}
+use Rattle.history_model.proofs.Walking.{drop-at, named-is-called, calls-few}
+use Rattle.history_model.specs.declared.ids.Oper.TheVariants.{Called}
+use Rattle.history_model.specs.declared.event.Event.{Event}
+use Rattle.history_model.specs.declared.op.Op.{Op}
 use Rattle.reg_report.specs.Meaning.{calls_of, is_pending}
 use Rattle.reg_report.specs.Tally.{AreTallies, HasRoom, IsTally, counted, no_calls}
 use Rattle.reg_report.specs.declared.tally.Tally.{Tally}
+use Rattle.history_model.proofs.Lists.{slice_get-set, slice_get-set_other, decide_eq, slice_get_inside}
 
 -- the calls of register r from place n on
 abbrev pub calls_left : History → ℕ → ℕ → List Operation
@@ -120,7 +119,7 @@ more h r n t a p q shown c =
 pub counting-adds : (h : History) (n : ℕ) (ts us : List Tally) (e : Event) (a : Operation) (p : Op) → AreCounting h n ts → slice_get h.events n ≡ Some e → begins_at h.events n e ≡ true
     → IsNamed h (Called (record { 0 = n })) a → p ≡ op_shown a → ((t : Tally) → slice_get ts a.register ≡ Some t → us ≡ set ts a.register (counted p t)) → a.register < length h.names → AreCounting h (n + 1) us
 counting-adds h n ts us e a p c at call named shown new within =
-    let x = element ts a.register (omega (arith, c.count, within)) in
+    let x = slice_get_inside ts a.register (omega (arith, c.count, within)) in
     let v = new x.0 x.1 in
     record {
       count = ap length v ∙ (length-set ts a.register (counted p x.0) ∙ c.count);
@@ -166,14 +165,6 @@ counting-ends h n ts l c = record { count = c.count; each = λ r t q. ends r t (
     }
 
 -- ---- no count passes the number of events
-
-calls-few : (n s : ℕ) (es : List Event) → length (calls_from n s es) ≤ length es
-calls-few n s [] = omega arith
-calls-few n s (e ∷ es) = go (begins e (next_of e.process (suc s) es)) (calls-few n (suc s) es)
-  where
-    go : (b : Bool) → length (calls_from n (suc s) es) ≤ length es → length (cond b (operation n s e (reply_in (next_of e.process (suc s) es)) ∷ calls_from n (suc s) es) (calls_from n (suc s) es)) ≤ suc (length es)
-    go true l = omega arith
-    go false l = omega arith
 
 pub count-few : (p : Operation → Bool) (h : History) (r : ℕ) → count_by p (calls_of h r) ≤ length h.events
 count-few p h r =

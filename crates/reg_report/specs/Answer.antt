@@ -2,8 +2,8 @@
 use Rattle.std.specs.Prelude.{◌≡◌, ◌⊎◌, ℕ, List, Bool, length, nat_lt, cond, MatchBool, Result, Ok, Err}
 use Rattle.history_text.specs.declared.limits.TheConstants.{MAX_INPUT}
 use Rattle.history_text.specs.Reading.{history_lines}
-use Rattle.reg_arena.specs.Refusals.{Line, IsRefusal, IsWellFormed, events_of}
-use Rattle.reg_arena.specs.History.{history_of}
+use Rattle.history_model.specs.Refusals.{Line, IsRefusal, IsWellFormed, events_of}
+use Rattle.history_model.specs.History.{history_of}
 use Rattle.reg_report.specs.First.{IsReportBy}
 use Rattle.reg_report.specs.Text.{report_text}
 use Rattle.reg_report.specs.declared.report.Report.{Report}

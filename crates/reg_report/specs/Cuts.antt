@@ -1,7 +1,7 @@
 -- The first bad reads of a register, put together from its cuts.
 use Rattle.std.specs.Prelude.{◌≡◌, ℕ, List, ◌++◌, slice_get, Option, Some}
 use Rattle.std.specs.Option.{option_or}
-use Rattle.reg_arena.specs.History.{History}
+use Rattle.history_model.specs.History.{History}
 use Rattle.reg_lamport.specs.Levels.{IsFirstBadRead}
 use Rattle.reg_lamport.specs.Reads.{ListedReads}
 use Rattle.reg_lamport.specs.declared.level.Level.TheVariants.{Safe, Regular}

@@ -1,8 +1,8 @@
 -- What the report of the first register that isn't atomic says.
 use Rattle.std.specs.Prelude.{◌≡◌, ℕ, List, [], ◌∷◌, length, Bool, true, false, None}
-use Rattle.reg_arena.specs.History.{History}
-use Rattle.reg_arena.specs.Legal.{IsAtomic}
-use Rattle.reg_arena.specs.Operations.{calls, operations}
+use Rattle.history_model.specs.History.{History}
+use Rattle.history_model.specs.Legal.{IsAtomic}
+use Rattle.history_model.specs.Operations.{calls, operations}
 use Rattle.reg_pieces.specs.Workers.{IsFirstFaulty}
 use Rattle.reg_report.specs.Meaning.{IsRegisterReport, IsReport}
 use Rattle.reg_report.specs.declared.report.RegReport.{RegReport}

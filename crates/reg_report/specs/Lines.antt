@@ -1,9 +1,9 @@
 -- The lines of an order whose operations go by their names.
 use Rattle.std.specs.Prelude.{◌≡◌, ℕ, ◌+◌, ◌-◌, ◌<◌, ◌≤◌, List, [], ◌∷◌, length, slice_get, Some}
-use Rattle.reg_arena.specs.declared.event.Event.{Event}
-use Rattle.reg_arena.specs.declared.ids.Oper.{Oper}
-use Rattle.reg_arena.specs.declared.ids.Oper.TheVariants.{Initial, Called}
-use Rattle.reg_arena.specs.History.{History}
+use Rattle.history_model.specs.declared.event.Event.{Event}
+use Rattle.history_model.specs.declared.ids.Oper.{Oper}
+use Rattle.history_model.specs.declared.ids.Oper.TheVariants.{Initial, Called}
+use Rattle.history_model.specs.History.{History}
 use Rattle.reg_zones.specs.declared.placed.Placed.{Placed}
 use Rattle.reg_report.specs.Meaning.{line_at}
 

@@ -1,13 +1,13 @@
 -- What a report of a history says.
 use Rattle.std.specs.Prelude.{◌≡◌, ◌<◌, ◌-◌, ℕ, List, length, map, get_or, count_by, slice_get, Bool, true, false, not, Option, Some, None, is_some}
 use Rattle.std.specs.List.{filter}
-use Rattle.reg_arena.specs.History.{History}
-use Rattle.reg_arena.specs.Legal.{IsLegal, IsAtomic}
-use Rattle.reg_arena.specs.Operations.{Operation, operations, calls, of_register, is_write, register_of}
-use Rattle.reg_arena.specs.declared.event.Event.{Event}
-use Rattle.reg_arena.specs.Lamport.{HasSingleWriter}
-use Rattle.reg_arena.specs.Shown.{IsNamed, name_of}
-use Rattle.reg_arena.specs.declared.ids.Oper.{Oper}
+use Rattle.history_model.specs.History.{History}
+use Rattle.history_model.specs.Legal.{IsLegal, IsAtomic}
+use Rattle.history_model.specs.Operations.{Operation, operations, calls, of_register, is_write, register_of}
+use Rattle.history_model.specs.declared.event.Event.{Event}
+use Rattle.history_model.specs.Lamport.{HasSingleWriter}
+use Rattle.history_model.specs.Naming.{IsNamed, name_of}
+use Rattle.history_model.specs.declared.ids.Oper.{Oper}
 use Rattle.reg_lamport.specs.Levels.{IsAtLevel, IsFirstBreak}
 use Rattle.reg_lamport.specs.declared.level.Level.{Level}
 use Rattle.reg_lamport.specs.declared.level.Level.TheVariants.{Safe, Regular}

@@ -1,9 +1,9 @@
 -- The merged order of a history whose registers are atomic (this project's profile; points as in Herlihy and Wing, Linearizability: A Correctness Condition for Concurrent Objects, 1990, section 2).
 use Rattle.std.specs.Prelude.{◌≡◌, ℕ, ◌<◌, ◌⊎◌, List, length, map, slice_get, Some}
-use Rattle.reg_arena.specs.Lists.{In, Before}
-use Rattle.reg_arena.specs.History.{History}
-use Rattle.reg_arena.specs.Legal.{IsLegal}
-use Rattle.reg_arena.specs.Operations.{Operation, operations, register_of}
+use Rattle.history_model.specs.Lists.{In, Before}
+use Rattle.history_model.specs.History.{History}
+use Rattle.history_model.specs.Legal.{IsLegal}
+use Rattle.history_model.specs.Operations.{Operation, operations, register_of}
 use Rattle.reg_zones.specs.Order.{PlacedOperation, IsCanonical, IsOrder, placed, operations_of, shown}
 use Rattle.reg_zones.specs.declared.placed.Placed.{Placed}
 

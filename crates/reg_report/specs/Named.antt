@@ -1,7 +1,7 @@
 -- The operations that a fault names are there.
-use Rattle.reg_arena.specs.History.{History}
-use Rattle.reg_arena.specs.Shown.{IsOper}
-use Rattle.reg_arena.specs.declared.ids.Oper.{Oper}
+use Rattle.history_model.specs.History.{History}
+use Rattle.history_model.specs.Naming.{IsOper}
+use Rattle.history_model.specs.declared.ids.Oper.{Oper}
 use Rattle.reg_zones.specs.declared.fault.Fault.{Fault}
 use Rattle.reg_zones.specs.declared.fault.Fault.TheVariants.{Unwritten, Early, Zones}
 

@@ -1,8 +1,8 @@
 -- Refusals of an input, and their numbers (this project's own; docs/format.md has the table).
 use Rattle.std.specs.Prelude.{ℕ, Option, Some, None}
-use Rattle.reg_arena.specs.declared.refusal.LineRefusal.{LineRefusal}
-use Rattle.reg_arena.specs.declared.refusal.BuildError.{BuildError}
-use Rattle.reg_arena.specs.declared.refusal.BuildError.TheVariants.{Refused, Memory}
+use Rattle.history_model.specs.declared.refusal.LineRefusal.{LineRefusal}
+use Rattle.history_model.specs.declared.refusal.BuildError.{BuildError}
+use Rattle.history_model.specs.declared.refusal.BuildError.TheVariants.{Refused, Memory}
 use Rattle.reg_report.specs.declared.refusal.Refusal.{Refusal}
 use Rattle.reg_report.specs.declared.refusal.Refusal.TheVariants.{At, TooLong, InputFailed, NoRoom, OutputFailed}
 

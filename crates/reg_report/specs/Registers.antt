@@ -1,11 +1,11 @@
 -- The lines of all registers, and their orders.
 use Rattle.std.specs.Prelude.{◌≡◌, ◌<◌, ℕ, List, length, slice_get, Option, Some, None}
-use Rattle.reg_arena.specs.History.{History}
-use Rattle.reg_arena.specs.Legal.{IsAtomic}
+use Rattle.history_model.specs.History.{History}
+use Rattle.history_model.specs.Legal.{IsAtomic}
 use Rattle.reg_zones.specs.declared.placed.Placed.{Placed}
 use Rattle.reg_report.specs.Meaning.{IsRegisterReport}
 use Rattle.reg_report.specs.Merged.{AreFirstOrders}
-use Rattle.reg_arena.specs.Operations.{register_of}
+use Rattle.history_model.specs.Operations.{register_of}
 use Rattle.reg_report.specs.declared.history.Reported.{Reported}
 use Rattle.reg_report.specs.declared.report.RegReport.{RegReport}
 

@@ -2,10 +2,10 @@
 use Rattle.std.specs.Prelude.{ℕ, Bool, List, Err, Option}
 use Rattle.std.specs.Io.KnownBytes.{Appends}
 use Rattle.history_text.specs.Reading.{history_lines}
-use Rattle.reg_arena.specs.History.{history_of}
-use Rattle.reg_arena.specs.Legal.{IsAtomic}
-use Rattle.reg_arena.specs.Operations.{operations}
-use Rattle.reg_arena.specs.Refusals.{events_of}
+use Rattle.history_model.specs.History.{history_of}
+use Rattle.history_model.specs.Legal.{IsAtomic}
+use Rattle.history_model.specs.Operations.{operations}
+use Rattle.history_model.specs.Refusals.{events_of}
 use Rattle.reg_report.specs.Ends.{IsAll, AppendsBeginning}
 use Rattle.reg_report.specs.Answer.{IsAnswer, IsAnswerText}
 use Rattle.reg_report.specs.declared.outcome.Outcome.{Outcome}

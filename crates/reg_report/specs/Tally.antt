@@ -1,8 +1,8 @@
 -- Counts of calls.
 use Rattle.std.specs.Prelude.{◌≡◌, ◌+◌, ◌^◌, ◌<◌, ℕ, List, length, slice_get, Some, count_by, not, cond, is_none}
-use Rattle.reg_arena.specs.History.{History}
-use Rattle.reg_arena.specs.Operations.{Operation, is_write, writes}
-use Rattle.reg_arena.specs.declared.op.Op.{Op}
+use Rattle.history_model.specs.History.{History}
+use Rattle.history_model.specs.Operations.{Operation, is_write, writes}
+use Rattle.history_model.specs.declared.op.Op.{Op}
 use Rattle.reg_report.specs.Meaning.{calls_of, is_pending}
 use Rattle.reg_report.specs.declared.tally.Tally.{Tally}
 

@@ -1,12 +1,12 @@
 -- What the laws of histories tell of an accepted history.
 use Rattle.std.specs.Prelude.{◌≡◌, ℕ, ◌<◌, ◌-◌, length, Some}
-use Rattle.reg_arena.specs.declared.event.Event.{Event}
-use Rattle.reg_arena.specs.declared.event.What.TheVariants.{Call}
-use Rattle.reg_arena.specs.declared.ids.Oper.{Oper}
-use Rattle.reg_arena.specs.Lists.{In}
-use Rattle.reg_arena.specs.History.{History}
-use Rattle.reg_arena.specs.Operations.{Operation, IsHistory, of_register, operations}
-use Rattle.reg_arena.specs.Shown.{IsEventIn, IsNamed, IsOper, name_of}
+use Rattle.history_model.specs.declared.event.Event.{Event}
+use Rattle.history_model.specs.declared.event.What.TheVariants.{Call}
+use Rattle.history_model.specs.declared.ids.Oper.{Oper}
+use Rattle.history_model.specs.Lists.{In}
+use Rattle.history_model.specs.History.{History}
+use Rattle.history_model.specs.Operations.{Operation, IsHistory, of_register, operations}
+use Rattle.history_model.specs.Naming.{IsEventIn, IsNamed, IsOper, name_of}
 
 -- its operations belong to numbered registers and, but for the initial writes, to calls among its events
 pub record IsTold (h : History) : Type 0 where

@@ -1,6 +1,6 @@
 //! The report of the first register that isn't atomic.
 ghost use Rattle.std.specs.Prelude.{◌≡◌, ◌<◌, length, slice_get, is_none, Some, IfOk};
-ghost use Rattle.reg_arena.specs.Operations.{register_of};
+ghost use Rattle.history_model.specs.Operations.{register_of};
 ghost use Rattle.reg_pieces.specs.Plan.{IsListOf};
 ghost use Rattle.reg_pieces.specs.Workers.{IsFirstFound};
 ghost use Rattle.reg_report.specs.Cuts.{AreFirstBad};
@@ -15,7 +15,8 @@ use crate::register::register_report;
 use crate::report::{RegReport, Report};
 use crate::tally::count_calls;
 use crate::told::told;
-use reg_arena::{Arena, RegId};
+use history_model::RegId;
+use reg_arena::Arena;
 use reg_lamport::{Level, ReadList, first_bad};
 use reg_pieces::{judge, list_of};
 use std::alloc::{AllocError, Global};

@@ -1,6 +1,6 @@
 //! The report of an accepted history.
 ghost use Rattle.std.specs.Prelude.{◌≡◌, ◌+◌, ◌<◌, length, drop, is_some, IfOk};
-ghost use Rattle.reg_arena.specs.Operations.{calls, register_of};
+ghost use Rattle.history_model.specs.Operations.{calls, register_of};
 ghost use Rattle.reg_pieces.specs.Judged.{IsJudged};
 ghost use Rattle.reg_report.specs.Levels.{AreLevels};
 ghost use Rattle.reg_report.specs.Meaning.{IsReport, IsWholeAtomicity};
@@ -11,16 +11,17 @@ ghost use Rattle.reg_pieces.specs.Slots.{AreDone, AreDoneFrom};
 use crate::levels::{Levels, levels_of};
 use crate::lists::{Lines, Orders, Registers};
 use crate::merged::merge;
-use crate::order::order_lines;
+use crate::order_lines::order_lines;
 use crate::register::register_report;
 use crate::report::Report;
 use crate::tally::count_calls;
 use crate::told::told;
-use reg_arena::{Arena, EvId, RegId};
+use history_model::{EvId, RegId};
+use reg_arena::Arena;
 use reg_pieces::{Order, Piece, Pieces, Plan};
 use std::alloc::{AllocError, Global};
 
-/// The lines of the registers, and their orders where all of them are atomic.
+/// The lines of the registers, and their orders if all of them are atomic.
 #[derive(Drop)]
 pub(crate) struct Reported {
     pub(crate) regs: Registers,
@@ -129,7 +130,7 @@ fn register_reports(
     })
 }
 
-/// The merged order by lines, where each register is atomic.
+/// The merged order by lines, if each register is atomic.
 fn whole_order(
     alloc: Global,
     arena: &Arena,

@@ -1,16 +1,16 @@
 //! Why a history is as its registers are, and has one report: laws over the definitions alone. Each is the contract of a
 //! function that does nothing.
 ghost use Rattle.std.specs.Prelude.{◌≡◌, ◌↔◌, ℕ, List};
-ghost use Rattle.reg_arena.specs.History.{History, IsRecorded};
-ghost use Rattle.reg_arena.specs.Legal.{IsLegal, IsAtomic};
-ghost use Rattle.reg_arena.specs.Operations.{Operation, IsHistory, of_register, operations};
+ghost use Rattle.history_model.specs.History.{History, IsRecorded};
+ghost use Rattle.history_model.specs.Legal.{IsLegal, IsAtomic};
+ghost use Rattle.history_model.specs.Operations.{Operation, IsHistory, of_register, operations};
 ghost use Rattle.reg_zones.specs.Order.{PlacedOperation, operations_of};
 ghost use Rattle.reg_report.specs.First.{IsFirstReport};
 ghost use Rattle.reg_report.specs.Meaning.{IsEachAtomic, IsReport};
 ghost use Rattle.reg_report.specs.Merged.{IsMerged};
 ghost use Rattle.reg_report.specs.declared.report.Report.{Report as AReport};
 
-use reg_arena::{accepted_is_history, names_are_unique, registers_are_numbered};
+use history_model::{accepted_is_history, names_are_unique, registers_are_numbered};
 
 /// Legal orders of all registers, merged by their points, are a legal order of the whole history.
 pub fn merged_is_legal()
@@ -25,7 +25,7 @@ pub fn restricted_is_legal()
     ensures { (ops order : List Operation) (r : ℕ) → IsLegal ops order → IsLegal (of_register r ops) (of_register r order) }
 {}
 
-/// A history is atomic exactly where each of its registers is.
+/// A history is atomic exactly if each of its registers is.
 pub fn registers_decide()
     ensures { (h : History) → IsRecorded h → (IsAtomic (operations h) ↔ IsEachAtomic h) }
 {

@@ -1,21 +1,22 @@
 //! Whether a register is safe and regular, with the reads that break it.
 ghost use Rattle.std.specs.Prelude.{◌≡◌, ◌<◌, length, drop, Some};
-ghost use Rattle.reg_arena.specs.Lamport.{HasSingleWriter};
+ghost use Rattle.history_model.specs.Lamport.{HasSingleWriter};
 ghost use Rattle.reg_lamport.specs.Levels.{IsFirstBadRead};
 ghost use Rattle.reg_lamport.specs.Reads.{IsReadList};
 ghost use Rattle.reg_report.specs.Cuts.{AreFirstBad, HasCuts, HasCutsOf, IsCut, Leaves, LeavesOf, with_cut};
 ghost use Rattle.reg_report.specs.Levels.{AreLevels, IsLevelAnswer};
-ghost use Rattle.reg_arena.specs.Operations.{register_of};
+ghost use Rattle.history_model.specs.Operations.{register_of};
 ghost use Rattle.reg_pieces.specs.Plan.{IsListOf, IsPlan};
 ghost use Rattle.reg_pieces.specs.Slots.{AreDoneFrom};
 
-use crate::fault::line;
+use crate::fault_lines::line;
 use crate::report::Verdict;
-use reg_arena::{Arena, EvId, Oper, RegId};
+use history_model::{EvId, Oper, RegId};
+use reg_arena::Arena;
 use reg_lamport::{Level, ReadList};
 use reg_pieces::{Piece, Pieces, Plan};
 
-/// What is said of one level: the verdict, and where it is no, the line of the read that breaks the level.
+/// What is said of one level: the verdict, and if it is no, the line of the read that breaks the level.
 #[derive(Clone, Copy, Debug, PartialEq, Eq)]
 pub(crate) struct LevelAnswer {
     pub(crate) verdict: Verdict,

@@ -5,25 +5,25 @@
 //! so does [`check_alone`] without threads; [`text`] gives their bytes; [`merge`] lists the operations of all registers in
 //! one legal order. [`plan`] and [`work`], handed on from `reg_pieces`, are the pieces of work and one worker; how many
 //! workers there are, and how they take turns, changes no report. Sources and sinks are handed on from `byte_ends`.
-//! [`laws`] says why the whole history is atomic exactly where each of its registers is, and that a history has one report.
+//! [`laws`] says why the whole history is atomic exactly if each of its registers is, and that a history has one report.
 //!
 //! To read, from the input on: `pulled`; `checked`, which asks all others, as `alone` does without threads, and below it
 //! `reg_pieces`; `history`, which puts what is done together, or `first`, if the first register that isn't atomic is all that
 //! is asked for: there `tally` counts the calls, `register` makes the line of one register, with `levels`,
-//! `fault` and `order`, and `merged` the order of all; then `report` with `lists`, `send` and `written`; `pushed`, `outcome` and `whole` at last.
+//! `fault_lines` and `order_lines`, and `merged` the order of all; then `report` with `lists`, `send` and `written`; `pushed`, `outcome` and `whole` at last.
 //! `refusal` and `wording` say why there is no report, and `told` asks the arena for what its laws say.
 #![tactic(auto)]
 
 mod alone;
 mod checked;
-mod fault;
+mod fault_lines;
 mod first;
 mod history;
 pub mod laws;
 mod levels;
 mod lists;
 mod merged;
-mod order;
+mod order_lines;
 mod outcome;
 mod pulled;
 mod pushed;

@@ -5,7 +5,8 @@ ghost use Rattle.reg_report.specs.Merged.{AreOrders, IsMergedAnswer};
 ghost use Rattle.reg_report.specs.Merging.{merging_from, unmerged, ComesFirst, same_place};
 
 use crate::told::told;
-use reg_arena::{Arena, Oper};
+use history_model::Oper;
+use reg_arena::Arena;
 use reg_pieces::Order;
 use reg_zones::Placed;
 use std::alloc::{AllocError, Global};
@@ -56,7 +57,7 @@ fn gather(merging: &mut Vec<Merging>, order: &[Placed]) -> Result<(), AllocError
     Ok(())
 }
 
-/// Sorts operations whose places differ by their points, and where these are equal by their places.
+/// Sorts operations whose places differ by their points, and if these are equal by their places.
 ///
 /// Each register's order ascends already: the stable sort merges what ascends, and so it is the faster one here.
 fn rank(merging: &mut Vec<Merging>) -> Result<(), AllocError>

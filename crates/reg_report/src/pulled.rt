@@ -11,18 +11,18 @@ use std::alloc::Global;
 /// How many bytes are asked for at once. They lie on the stack, of which a caller may have little.
 const PIECE: usize = 16_384;
 
-/// Whether all the bytes so far are kept, where they were before these.
+/// Whether all the bytes so far are kept, if they were before these.
 fn keep(kept: bool, all: &mut Vec<u8>, bytes: &[u8]) -> bool
     ensures kept { IsTrue result → IsTrue kept × (all.new.items ≡ all.old.items ++ bytes.now) }
 {
     kept && all.extend_from_slice(bytes).is_ok()
 }
 
-/// All the bytes that the source has left, where they are within the limit of an input. Where memory for them is
+/// All the bytes that the source has left, if they are within the limit of an input. If memory for them is
 /// refused, the rest is pulled and dropped, so that too long an input is known as such.
 ///
 /// # Errors
-/// `InputFailed` where a pull failed, `TooLong` where there are more bytes than the limit, else `NoRoom`.
+/// `InputFailed` if a pull failed, `TooLong` if there are more bytes than the limit, else `NoRoom`.
 pub fn pull_all<S: Source>(alloc: Global, source: &mut S) -> Result<Vec<u8>, Refusal>
     requires { S.failed source.old < 2 ^ 64 - 1 }
     ensures all { IfOk result (λ bytes. IsAll (S.left source.old) bytes.items × (length bytes.items ≤ MAX_INPUT)) }

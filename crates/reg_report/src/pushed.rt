@@ -22,7 +22,7 @@ fn push_all<S: Sink>(sink: &mut S, bytes: &[u8]) -> Result<(), IoFail>
 /// Pushes all the bytes, and flushes.
 ///
 /// # Errors
-/// `IoFail` where a push or the flush failed; then a beginning of the bytes is out.
+/// `IoFail` if a push or the flush failed; then a beginning of the bytes is out.
 pub fn deliver<S: Sink>(sink: &mut S, bytes: &[u8]) -> Result<(), IoFail>
     requires { S.failed sink.old < 2 ^ 64 - 1 }
     ensures ok { OnOk result (Appends (S.taken sink.old) (S.taken sink.new) bytes.now) }

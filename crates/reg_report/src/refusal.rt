@@ -2,7 +2,7 @@
 ghost use Rattle.std.specs.Prelude.{◌≡◌};
 ghost use Rattle.reg_report.specs.Refusals.{number_of, line_of, other_of};
 
-use reg_arena::BuildError;
+use history_model::BuildError;
 use std::alloc::AllocError;
 
 /// Why there is no report. Nothing was written then, but for `OutputFailed`.
@@ -66,7 +66,7 @@ impl Refusal {
         }
     }
 
-    /// The refused line, from 1, where it is a line that is refused.
+    /// The refused line, from 1, if it is a line that is refused.
     pub fn line(&self) -> Option<u32>
         ensures { result ≡ line_of self.now }
     {

@@ -2,7 +2,7 @@
 ghost use Rattle.std.specs.Prelude.{◌<◌, length, false, IfOk};
 ghost use Rattle.reg_pieces.specs.Judged.{IsJudged};
 ghost use Rattle.reg_report.specs.Atomicity.{IsAtomicityShown};
-ghost use Rattle.reg_arena.specs.Lamport.{HasSingleWriter};
+ghost use Rattle.history_model.specs.Lamport.{HasSingleWriter};
 ghost use Rattle.reg_lamport.specs.declared.level.Level.TheVariants.{Regular};
 ghost use Rattle.reg_zones.specs.Faults.{IsFault};
 ghost use Rattle.reg_zones.specs.Inversions.{IsRegular};
@@ -10,17 +10,18 @@ ghost use Rattle.reg_report.specs.Levels.{AreLevels, IsLevelAnswer};
 ghost use Rattle.reg_report.specs.Meaning.{IsInversionAnswer, IsRegisterReport, calls_of};
 ghost use Rattle.reg_report.specs.Tally.{IsTally};
 ghost use Rattle.reg_report.specs.declared.report.Verdict.TheVariants.{Yes};
-ghost use Rattle.reg_arena.specs.Operations.{register_of};
+ghost use Rattle.history_model.specs.Operations.{register_of};
 
-use crate::fault::{fault_lines, lines};
+use crate::fault_lines::{fault_lines, lines};
 use crate::levels::{LevelAnswer, Levels};
 use crate::lists::Lines;
-use crate::order::{order_lines, point_lines};
+use crate::order_lines::{order_lines, point_lines};
 use crate::report::{FaultLines, RegReport, Verdict};
 use crate::tally::Tally;
 use crate::told::told;
+use history_model::RegId;
 use history_text::Name;
-use reg_arena::{Arena, RegId};
+use reg_arena::Arena;
 use reg_pieces::{Order, Piece};
 use reg_zones::laws::inversions_decide;
 use reg_zones::{Fault, inversion_of};
@@ -70,7 +71,7 @@ fn inverted(arena: &Arena, register: RegId, fault: Fault) -> Option<(u32, u32)>
     Some(lines(arena, inversion_of(&fault)?))
 }
 
-/// The inversion that the line names, where `regular` is what it says of regular.
+/// The inversion that the line names. `regular` is what it says of regular.
 fn inversion_lines(
     arena: &Arena,
     register: RegId,
@@ -88,7 +89,7 @@ fn inversion_lines(
     }
 }
 
-/// The fault by lines, where `regular` is what is said of regular.
+/// The fault by lines. `regular` is what is said of regular.
 fn faulty(arena: &Arena, register: RegId, fault: Fault, regular: LevelAnswer) -> Atomicity
     requires judged { IsJudged (register_of arena.now register.0) (Piece.Faulty fault) }
     requires regular { IsLevelAnswer Regular (register_of arena.now register.0) regular }
@@ -103,7 +104,7 @@ fn faulty(arena: &Arena, register: RegId, fault: Fault, regular: LevelAnswer) ->
     }
 }
 
-/// What the line says of the order or the fault, where `regular` is what is said of regular.
+/// What the line says of the order or the fault. `regular` is what is said of regular.
 fn atomicity_of(
     alloc: Global,
     arena: &Arena,

@@ -34,7 +34,7 @@ pub enum FaultLines {
     },
 }
 
-/// The line of a register. Lines are numbered from 1; an operation goes by the line of its call.
+/// The line of a register. Lines are numbered from 1; an operation is identified by the line of its call.
 #[derive(Drop)]
 pub struct RegReport {
     pub register: Name,
@@ -46,20 +46,20 @@ pub struct RegReport {
     pub pending: u32,
     pub safe: Verdict,
     pub regular: Verdict,
-    /// Where it isn't safe, of the reads that break it the one of least call.
+    /// If it isn't safe, of the reads that break it the one called first.
     pub safe_read: Option<u32>,
-    /// Where it isn't regular, of the reads that break it the one of least call.
+    /// If it isn't regular, of the reads that break it the one called first.
     pub regular_read: Option<u32>,
     /// Whether some order of its operations keeps precedence and gives each read the latest write.
     pub atomic: bool,
-    /// Where it isn't atomic, why.
+    /// If it isn't atomic, why.
     pub fault: Option<FaultLines>,
-    /// Where it is regular and not atomic, a new-old inversion: a read that gives a new value, and one after it that gives
+    /// If it is regular and not atomic, a new-old inversion: a read that gives a new value, and one after it that gives
     /// an older one.
     pub inversion: Option<(u32, u32)>,
-    /// Where it is atomic, its canonical order without the initial write.
+    /// If it is atomic, its canonical order without the initial write.
     pub order: Option<Lines>,
-    /// Where it is atomic, the points of `order`, place by place: each by the line of the call that has that time.
+    /// If it is atomic, the points of `order`, place by place: each by the line of the call that has that time.
     pub points: Option<Lines>,
 }
 
@@ -73,6 +73,6 @@ pub struct Report {
     pub registers: u32,
     /// Whether some order of all operations keeps precedence and gives each read the latest write of its register.
     pub atomic: bool,
-    /// Where it is atomic and the whole report was asked for, the merged order without the initial writes.
+    /// If it is atomic and the whole report was asked for, the merged order without the initial writes.
     pub order: Option<Lines>,
 }

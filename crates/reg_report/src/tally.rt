@@ -4,8 +4,9 @@ ghost use Rattle.reg_report.specs.Tally.{AreTallies, HasRoom, counted, no_calls}
 ghost use Rattle.reg_report.specs.declared.tally.Tally.{Tally as ATally};
 
 use crate::told::told;
+use history_model::{EvId, Op, Oper};
 use history_text::OpKind;
-use reg_arena::{Arena, EvId, Op, Oper};
+use reg_arena::Arena;
 use std::alloc::{AllocError, Global};
 
 /// The calls of a register that didn't fail, pending ones too.

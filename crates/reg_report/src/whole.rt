@@ -19,9 +19,11 @@ use std::thread::Threads;
 /// pushed before the whole report is made.
 ///
 /// # Errors
-/// `InputFailed` where a pull failed, and nowhere else; `TooLong` where there were more bytes than an input may have,
-/// whatever memory there is; `At` where the history isn't well formed; `NoRoom` where memory was refused;
-/// `OutputFailed` where a push or the flush failed, and nowhere else; then a beginning of the report is out.
+/// - `InputFailed`: a pull failed. It is answered for no other reason.
+/// - `TooLong`: there were more bytes than an input may have, whatever memory there is.
+/// - `At`: the history isn't well formed.
+/// - `NoRoom`: memory was refused.
+/// - `OutputFailed`: a push or the flush failed, and a beginning of the report is out. It is answered for no other reason.
 pub fn run<T: Threads + RandomSource + Sync, R: Source, W: Sink, G: Gate + Sync>(
     rt: &T,
     alloc: Global,
@@ -44,7 +46,7 @@ pub fn run<T: Threads + RandomSource + Sync, R: Source, W: Sink, G: Gate + Sync>
     ensures refused { IfErr result (λ refusal. IsOfInput refusal → IsRefusedWhole settings.first (R.left source.old) refusal) }
     ensures too_long { IfSome (R.left source.old) (λ input. MAX_INPUT < length input → (result ≡ Err Refusal.TooLong) ⊎ (result ≡ Err Refusal.InputFailed)) }
 
-    // A failure is answered exactly where there was one.
+    // A failure is answered exactly if there was one.
     ensures input_failed { (result ≡ Err Refusal.InputFailed) ↔ (R.failed source.old < R.failed source.new) }
     ensures output_failed { (result ≡ Err Refusal.OutputFailed) ↔ (W.failed sink.old < W.failed sink.new) }
 

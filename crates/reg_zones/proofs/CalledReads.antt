@@ -3,16 +3,18 @@ use Rattle.std.proofs.Common.{◌≡◌, ℕ, ◌+◌, Some, None, inl, inr, sym
 use Rattle.std.proofs.lemmas.Bool.{false≢true}
 use Rattle.history_text.specs.declared.event.Val.{Val}
 use Rattle.history_text.specs.declared.event.OpKind.TheVariants.{WriteOp}
-use Rattle.reg_arena.specs.declared.op.Op.{Op}
-use Rattle.reg_arena.specs.Lists.{In}
-use Rattle.reg_arena.specs.History.{History}
-use Rattle.reg_arena.specs.Operations.{Operation, IsWrite, IsCompletedRead, IsReadOf, of_register, operations, writes, is_write}
-use Rattle.reg_arena.specs.declared.ids.Oper.{Oper}
-use Rattle.reg_arena.specs.Shown.{IsNamed, IsWriteOf}
+use Rattle.history_model.specs.declared.op.Op.{Op}
+use Rattle.history_model.specs.Lists.{In}
+use Rattle.history_model.specs.History.{History}
+use Rattle.history_model.specs.Operations.{Operation, IsWrite, IsCompletedRead, IsReadOf, of_register, operations, writes, is_write}
+use Rattle.history_model.specs.declared.ids.Oper.{Oper}
+use Rattle.history_model.specs.Naming.{IsNamed}
+use Rattle.history_model.specs.OfValue.{IsWriteOf}
 use Rattle.reg_zones.specs.Register.{IsRegister}
 use Rattle.reg_zones.specs.Sweep.{IsBelonging}
-use Rattle.reg_zones.proofs.Registers.{of_register-In, member-cluster, cluster-member}
+use Rattle.reg_zones.proofs.Registers.{member-cluster, cluster-member}
 use Rattle.reg_zones.proofs.ValuedEvents.{same, pending}
+use Rattle.history_model.proofs.Recorded.{of_register-In}
 
 module _ (h : History) (r : ℕ) (y : IsRegister h r) (i : ℕ) (o : Operation) (op : Op) (b : IsBelonging h r i o op)
     (a : Operation) (k : In a (of_register r (operations h))) (d : IsCompletedRead a) (e : a.call ≡ i + 2) where

@@ -1,7 +1,7 @@
 -- What a pass over low ends keeps, and what it finds.
 use Rattle.std.proofs.Common.{◌≡◌, ℕ, ◌+◌, ◌<◌, List, inl, inr, sym, subst, ◌∙◌, arith}
 use Rattle.std.proofs.lemmas.Bool.{cases_lt, cases_Bool}
-use Rattle.reg_arena.specs.Operations.{Operation, IsCompleted, IsHistory}
+use Rattle.history_model.specs.Operations.{Operation, IsCompleted, IsHistory}
 use Rattle.reg_zones.specs.Clusters.{low_end, IsKept, IsForward, IsConflict, IsLastForward, IsClearBelow, IsFirstConflict, HasFirstReply, HasLastCall}
 use Rattle.reg_zones.proofs.Ends.{kept-member, first_reply-le}
 use Rattle.reg_zones.proofs.LowEnds.{same_low}

@@ -1,13 +1,13 @@
 -- Without a fault the canonical order is legal.
 use Rattle.std.proofs.Common.{◌≡◌, ◌<◌, ◌≤◌, List, inl, inr, refl, sym, ap, subst, ◌∙◌, arith}
 use Rattle.std.proofs.lemmas.Bool.{cases_Bool, cases_lt, false≢true}
-use Rattle.reg_arena.specs.Lists.{In, Before}
-use Rattle.reg_arena.specs.Operations.{Operation, Precedes, IsCompletedRead, IsHistory, is_write}
-use Rattle.reg_arena.specs.Legal.{IsLegal, IsNearestWrite}
+use Rattle.history_model.specs.Lists.{In, Before}
+use Rattle.history_model.specs.Operations.{Operation, Precedes, IsCompletedRead, IsHistory, is_write}
+use Rattle.history_model.specs.Legal.{IsLegal, IsNearestWrite}
 use Rattle.reg_zones.specs.Clusters.{IsInCluster, IsKept, first_reply, last_call, low_end}
 use Rattle.reg_zones.specs.Faults.{HasNoFault}
 use Rattle.reg_zones.specs.Order.{IsListed, IsSooner, IsCanonical}
-use Rattle.reg_zones.proofs.Places.{Before-first, Before-second, Before-total}
+use Rattle.history_model.proofs.Lists.{Before-first, Before-second, Before-total}
 use Rattle.reg_zones.proofs.Values.{cases_value}
 use Rattle.reg_zones.proofs.Ends.{first_reply-le, last_call-le}
 use Rattle.reg_zones.proofs.LowEnds.{low_apart}

@@ -3,9 +3,9 @@ use Rattle.std.proofs.Common.{◌≡◌, ℕ, ◌≤◌, Option, ◌||◌, min, 
 use Rattle.std.proofs.lemmas.Bool.{cases_lt, and_parts, and_from, or_cases, or_left, or_right}
 use Rattle.history_text.specs.Values.{same_value}
 use Rattle.history_text.specs.declared.event.Val.{Val}
-use Rattle.reg_arena.specs.Lists.{In}
-use Rattle.reg_arena.specs.Operations.{Operation, is_write}
-use Rattle.reg_zones.proofs.Places.{In-map, map-In, In-filter, filter-In}
+use Rattle.history_model.specs.Lists.{In}
+use Rattle.history_model.specs.Operations.{Operation, is_write}
+use Rattle.history_model.proofs.Lists.{In-map, map-In, In-filter, filter-In}
 use Rattle.reg_zones.proofs.Values.{same-true, eq-same}
 use Rattle.reg_zones.specs.Clusters.{least, least_from, greatest, IsKept, IsInCluster, is_member, cluster, first_reply, last_call}
 

@@ -1,9 +1,9 @@
 -- A canonical order exists, so a register without a fault is atomic.
 use Rattle.std.proofs.Common.{◌≡◌, List, [], ◌∷◌, ◌⊎◌, ◌↔◌, inl, inr, refl, sym, subst, ◌∙◌, arith}
 use Rattle.std.proofs.lemmas.Bool.{cases_Bool, cases_order, false≢true}
-use Rattle.reg_arena.specs.Legal.{IsAtomic}
-use Rattle.reg_arena.specs.Lists.{In}
-use Rattle.reg_arena.specs.Operations.{Operation, IsWrite, IsCompleted, IsCompletedRead, IsReadOf, IsHistory, is_write}
+use Rattle.history_model.specs.Legal.{IsAtomic}
+use Rattle.history_model.specs.Lists.{In}
+use Rattle.history_model.specs.Operations.{Operation, IsWrite, IsCompleted, IsCompletedRead, IsReadOf, IsHistory, is_write}
 use Rattle.reg_zones.proofs.Complete.{listed-in, listed-member, legal}
 use Rattle.reg_zones.proofs.LowEnds.{low_apart}
 use Rattle.reg_zones.proofs.Sorting.{sorted, picked}

@@ -1,12 +1,12 @@
 -- A walk by calls that meets a read without a write, or an early read, has met the first.
 use Rattle.std.proofs.Common.{◌≡◌, ℕ, ◌+◌, ◌-◌, ◌≤◌, Some, None, Option, inl, inr, sym, ap, ◌∙◌, arith}
 use Rattle.std.proofs.lemmas.Bool.{cases_lt, false≢true}
-use Rattle.reg_arena.specs.declared.ids.EvId.{EvId}
-use Rattle.reg_arena.specs.declared.ids.Oper.{Oper}
-use Rattle.reg_arena.specs.Lists.{In}
-use Rattle.reg_arena.specs.History.{History}
-use Rattle.reg_arena.specs.Operations.{Operation, IsCompletedRead, of_register, operations, is_write}
-use Rattle.reg_arena.specs.Shown.{by_register, key_at}
+use Rattle.history_model.specs.declared.ids.EvId.{EvId}
+use Rattle.history_model.specs.declared.ids.Oper.{Oper}
+use Rattle.history_model.specs.Lists.{In}
+use Rattle.history_model.specs.History.{History}
+use Rattle.history_model.specs.Operations.{Operation, IsCompletedRead, of_register, operations, is_write}
+use Rattle.history_model.specs.Walking.{by_register, key_at}
 use Rattle.reg_zones.specs.declared.fault.Fault.TheVariants.{Unwritten, Early}
 use Rattle.reg_zones.specs.Faults.{IsEarly, IsFault}
 use Rattle.reg_zones.specs.Register.{IsRegister}

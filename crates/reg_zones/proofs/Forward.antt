@@ -1,7 +1,7 @@
 -- The first conflict is with the last forward zone.
 use Rattle.std.proofs.Common.{◌≡◌, ◌<◌, List, inl, inr, ap, arith}
 use Rattle.std.proofs.lemmas.Bool.{cases_lt}
-use Rattle.reg_arena.specs.Operations.{Operation, IsHistory}
+use Rattle.history_model.specs.Operations.{Operation, IsHistory}
 use Rattle.reg_zones.proofs.LowEnds.{same_low}
 use Rattle.reg_zones.specs.Clusters.{first_reply, last_call, low_end, IsConflict, IsLastForward, IsClearBelow, IsFirstConflict}
 

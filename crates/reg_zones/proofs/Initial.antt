@@ -1,12 +1,12 @@
 -- The initial write comes first of all.
 use Rattle.std.proofs.Common.{◌≡◌, List, None, inl, inr, refl, sym, ap, ◌∙◌, arith}
 use Rattle.std.proofs.lemmas.Bool.{cases_eq, cases_Bool}
-use Rattle.reg_arena.specs.Legal.{IsLegal}
-use Rattle.reg_arena.specs.Lists.{In, Before}
-use Rattle.reg_arena.specs.Operations.{Operation, IsHistory, IsWrite, IsCompleted, Precedes, is_write, initial_write}
+use Rattle.history_model.specs.Legal.{IsLegal}
+use Rattle.history_model.specs.Lists.{In, Before}
+use Rattle.history_model.specs.Operations.{Operation, IsHistory, IsWrite, IsCompleted, Precedes, is_write, initial_write}
 use Rattle.reg_zones.proofs.Complete.{listed-member}
 use Rattle.reg_zones.proofs.Ends.{first_reply-le, first_reply-at, last_call-at}
-use Rattle.reg_zones.proofs.Places.{Before-total}
+use Rattle.history_model.proofs.Lists.{Before-total}
 use Rattle.reg_zones.proofs.Values.{cases_value}
 use Rattle.reg_zones.specs.Clusters.{IsInCluster, low_end}
 use Rattle.reg_zones.specs.Order.{IsListed, IsSooner}

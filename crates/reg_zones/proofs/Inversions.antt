@@ -1,11 +1,11 @@
 -- Where the writes come one after another, a register is atomic exactly where it is regular and has no inversion, and the fault of one that is regular names an inversion.
 use Rattle.std.proofs.Common.{◌≡◌, ◌<◌, List, Some, ◌⊎◌, ◌↔◌, inl, inr, sym, ap, subst, ◌∙◌, arith}
 use Rattle.std.proofs.lemmas.Bool.{cases_Bool, cases_lt, false≢true}
-use Rattle.reg_arena.specs.Lamport.{IsOldWrite, IsOverlappedWrite}
-use Rattle.reg_arena.specs.Legal.{IsAtomic, IsLegal}
-use Rattle.reg_arena.specs.Lists.{In, Before}
-use Rattle.reg_arena.specs.Operations.{Operation, Precedes, IsCompletedRead, IsHistory, IsReadOf, IsWrite, is_write}
-use Rattle.reg_arena.specs.Shown.{name_of}
+use Rattle.history_model.specs.Lamport.{IsOldWrite, IsOverlappedWrite}
+use Rattle.history_model.specs.Legal.{IsAtomic, IsLegal}
+use Rattle.history_model.specs.Lists.{In, Before}
+use Rattle.history_model.specs.Operations.{Operation, Precedes, IsCompletedRead, IsHistory, IsReadOf, IsWrite, is_write}
+use Rattle.history_model.specs.Naming.{name_of}
 use Rattle.reg_zones.specs.Clusters.{IsConflict, IsInCluster, IsKept, HasFirstReply, HasLastCall, low_end}
 use Rattle.reg_zones.specs.Faults.{HasNoFault, IsFault}
 use Rattle.reg_zones.specs.Inversions.{IsRegular, IsInversion, HasInversion, inversion_named}
@@ -14,7 +14,7 @@ use Rattle.reg_zones.specs.declared.fault.Fault.TheVariants.{Unwritten, Early, Z
 use Rattle.reg_zones.proofs.Ends.{first_reply-at, first_reply-le, kept-member, last_call-at}
 use Rattle.reg_zones.proofs.Exists.{decides}
 use Rattle.reg_zones.proofs.LowEnds.{same_low}
-use Rattle.reg_zones.proofs.Places.{Before-first, Before-total, Before-trans}
+use Rattle.history_model.proofs.Lists.{Before-first, Before-total, Before-trans}
 
 -- the writes come one after another
 abbrev TakeTurns : List Operation → Type 0

@@ -2,16 +2,18 @@
 use Rattle.std.proofs.Common.{◌≡◌, ℕ, Option, Some, None, ◌↔◌, IsTrue, is_some, unwrap_or, inl, refl, sym, ap, subst, ◌∙◌}
 use Rattle.std.proofs.lemmas.Bool.{false≢true}
 use Rattle.history_text.specs.declared.event.Val.{Val}
-use Rattle.reg_arena.specs.declared.ids.Oper.{Oper}
-use Rattle.reg_arena.specs.declared.op.Op.{Op}
-use Rattle.reg_arena.specs.History.{History}
-use Rattle.reg_arena.specs.Operations.{Operation, IsWrite, of_register, operations}
-use Rattle.reg_arena.specs.Shown.{IsNamed, IsOper, IsFirstReply}
+use Rattle.history_model.specs.declared.ids.Oper.{Oper}
+use Rattle.history_model.specs.declared.op.Op.{Op}
+use Rattle.history_model.specs.History.{History}
+use Rattle.history_model.specs.Operations.{Operation, IsWrite, of_register, operations}
+use Rattle.history_model.specs.Naming.{IsNamed, IsOper}
+use Rattle.history_model.specs.OfValue.{IsFirstReply}
 use Rattle.reg_zones.specs.declared.zone.Zone.{Zone}
 use Rattle.reg_zones.specs.Clusters.{IsKept}
 use Rattle.reg_zones.specs.Register.{IsRegister}
 use Rattle.reg_zones.specs.Sweep.{IsOperation, IsZone, IsZoneFound}
-use Rattle.reg_zones.proofs.Registers.{In-of_register, first_reply-found, last_call-found, kept-completed, completed-kept}
+use Rattle.reg_zones.proofs.Registers.{first_reply-found, last_call-found, kept-completed, completed-kept}
+use Rattle.history_model.proofs.Recorded.{In-of_register}
 
 -- a name of an operation is a name that some operation has
 pub named-oper : (h : History) (r : ℕ) (y : IsRegister h r) (name : Oper) (o : Operation) → IsNamed h name o → IsOper h name

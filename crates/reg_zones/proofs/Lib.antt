@@ -1,4 +1,3 @@
-pub mod Places
 pub mod Indexes
 pub mod Values
 pub mod Ends

@@ -2,11 +2,11 @@
 use Rattle.std.proofs.Common.{◌≡◌, ℕ, ◌+◌, Some, None, min, ◌⊎◌, inl, inr, sym, ap, subst, ◌∙◌}
 use Rattle.std.proofs.lemmas.Bool.{cases_Bool}
 use Rattle.history_text.specs.declared.event.Val.{Val}
-use Rattle.reg_arena.specs.declared.ids.Oper.{Oper}
-use Rattle.reg_arena.specs.declared.op.Op.{Op}
-use Rattle.reg_arena.specs.History.{History}
-use Rattle.reg_arena.specs.Operations.{Operation, IsWrite, IsCompleted, of_register, operations, is_write}
-use Rattle.reg_arena.specs.Shown.{name_of}
+use Rattle.history_model.specs.declared.ids.Oper.{Oper}
+use Rattle.history_model.specs.declared.op.Op.{Op}
+use Rattle.history_model.specs.History.{History}
+use Rattle.history_model.specs.Operations.{Operation, IsWrite, IsCompleted, of_register, operations, is_write}
+use Rattle.history_model.specs.Naming.{name_of}
 use Rattle.reg_zones.specs.declared.entry.Entry.{Entry}
 use Rattle.reg_zones.specs.declared.zone.Zone.{Zone}
 use Rattle.reg_zones.specs.Clusters.{low_end}

@@ -1,12 +1,12 @@
 -- A walk that lists the operations of a register by call.
 use Rattle.std.proofs.Common.{◌≡◌, ℕ, ◌+◌, ◌-◌, ◌<◌, ◌≤◌, ◌++◌, ◌∷◌, [], ◌⊎◌, true, false, cond, List, Option, Some, None, inl, inr, refl, sym, ap, subst, ◌∙◌, arith}
 use Rattle.std.proofs.lemmas.Bool.{cases_Bool, and_parts, eqb-true, false≢true}
-use Rattle.reg_arena.specs.declared.event.Event.{Event}
-use Rattle.reg_arena.specs.declared.ids.EvId.{EvId}
-use Rattle.reg_arena.specs.Lists.{In, Before}
-use Rattle.reg_arena.specs.History.{History}
-use Rattle.reg_arena.specs.Operations.{Operation, of_register, operations, is_write, initial_write}
-use Rattle.reg_arena.specs.Shown.{IsFirstOf, IsNextOf, by_register, key_at}
+use Rattle.history_model.specs.declared.event.Event.{Event}
+use Rattle.history_model.specs.declared.ids.EvId.{EvId}
+use Rattle.history_model.specs.Lists.{In, Before}
+use Rattle.history_model.specs.History.{History}
+use Rattle.history_model.specs.Operations.{Operation, of_register, operations, is_write, initial_write}
+use Rattle.history_model.specs.Walking.{IsFirstOf, IsNextOf, by_register, key_at}
 use Rattle.reg_zones.specs.declared.entry.Entry.{Entry}
 use Rattle.reg_zones.specs.Clusters.{low_end}
 use Rattle.reg_zones.specs.Order.{IsListed, IsSooner}
@@ -16,8 +16,9 @@ use Rattle.reg_zones.proofs.Complete.{listed-in, listed-member}
 use Rattle.reg_zones.proofs.LowEnds.{low_apart}
 use Rattle.reg_zones.proofs.Exists.{sooner_total}
 use Rattle.reg_zones.proofs.Indexes.{In-push, In-push_cases, Before-push_cases, pairs_from_Before}
-use Rattle.reg_zones.proofs.Registers.{cases_process, event-key, of_register-In}
+use Rattle.reg_zones.proofs.Registers.{cases_process, event-key}
 use Rattle.reg_zones.proofs.Walks.{IsWalk, walk-start, walk-more, walk-end}
+use Rattle.history_model.proofs.Recorded.{of_register-In}
 
 -- the entries so far: of the initial write, and of each listed operation that is called behind the walk
 pub record IsListingSoFar (events : List Event) (r : ℕ) (ops : List Operation) (entries : List Entry) (next : Option EvId) : Type 0 where

@@ -1,18 +1,19 @@
 -- Whether an event is the low end of its cluster, by what the arena answers of the event.
 use Rattle.std.proofs.Common.{◌≡◌, ℕ, ◌+◌, Some, None, min, ◌⊎◌, sym, ap, subst, ◌∙◌, arith, List}
 use Rattle.history_text.specs.declared.event.Val.{Val}
-use Rattle.reg_arena.specs.declared.ids.Oper.{Oper}
-use Rattle.reg_arena.specs.declared.op.Op.{Op}
-use Rattle.reg_arena.specs.History.{History}
-use Rattle.reg_arena.specs.Operations.{Operation, IsWrite, IsCompleted, of_register, operations}
-use Rattle.reg_arena.specs.Shown.{IsWriteOf}
+use Rattle.history_model.specs.declared.ids.Oper.{Oper}
+use Rattle.history_model.specs.declared.op.Op.{Op}
+use Rattle.history_model.specs.History.{History}
+use Rattle.history_model.specs.Operations.{Operation, IsWrite, IsCompleted, of_register, operations}
+use Rattle.history_model.specs.OfValue.{IsWriteOf}
 use Rattle.reg_zones.specs.declared.zone.Zone.{Zone}
 use Rattle.reg_zones.specs.Clusters.{IsKept, IsInCluster, low_end}
 use Rattle.reg_zones.specs.Register.{IsRegister}
 use Rattle.reg_zones.specs.Sweep.{IsBelonging, IsZone, IsZoneFound, IsLowEndAt}
-use Rattle.reg_zones.proofs.Registers.{of_register-In, low_end-event, kept-completed, completed-kept}
+use Rattle.reg_zones.proofs.Registers.{low_end-event, kept-completed, completed-kept}
 use Rattle.reg_zones.proofs.Kept.{zone-found}
 use Rattle.reg_zones.proofs.CalledReads.{the_write, no_write}
+use Rattle.history_model.proofs.Recorded.{of_register-In}
 
 -- the low end of a cluster by its zone
 pub zone-low : (ops : List Operation) (w : Operation) (v : Val) (zone : Zone) → w.value ≡ Some v → IsZone ops (Some v) zone → low_end ops w.value ≡ min zone.f zone.s

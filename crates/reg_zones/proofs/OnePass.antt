@@ -1,10 +1,10 @@
 -- A step of the pass over low ends, and its end.
 use Rattle.std.proofs.Common.{◌≡◌, ℕ, ◌+◌, ◌<◌, ◌≤◌, Option, Some, None, List, inl, inr, refl, sym, ap, subst, ◌∙◌, arith}
 use Rattle.std.proofs.lemmas.Bool.{cases_lt}
-use Rattle.reg_arena.specs.Operations.{Operation, IsHistory}
+use Rattle.history_model.specs.Operations.{Operation, IsHistory}
 use Rattle.reg_zones.specs.declared.pass.Cluster.{Cluster}
 use Rattle.reg_zones.specs.Clusters.{IsKept, IsConflict, IsForward, IsClearBelow, IsFirstConflict, low_end}
-use Rattle.reg_zones.specs.Sweep.{IsClusterOf, IsLowEndAt, IsLastMet, IsMet, IsClashWith, Clash}
+use Rattle.reg_zones.specs.Sweep.{IsClusterOf, IsLowEndAt, IsLastMet, IsMet, IsConflictWith, ZonesConflict}
 use Rattle.reg_zones.proofs.LowEnds.{low_apart, same_low}
 use Rattle.reg_zones.proofs.Ends.{kept-member}
 use Rattle.reg_zones.proofs.ClearBelow.{clear_more, first_found, last_here, last_stays, none_stays, backward_from, last_one}
@@ -18,7 +18,7 @@ module _ (ops : List Operation) where
   forward-to w cluster k l = omega (arith, l, k.zone.reply, k.zone.call)
 
   -- two clusters with different low ends conflict where their numbers say so
-  conflict-from : (v w : Operation) (c d : Cluster) → IsClusterOf ops v c → IsClusterOf ops w d → low_end ops v.value < low_end ops w.value → Clash c.zone d.zone → IsConflict ops v w
+  conflict-from : (v w : Operation) (c d : Cluster) → IsClusterOf ops v c → IsClusterOf ops w d → low_end ops v.value < low_end ops w.value → ZonesConflict c.zone d.zone → IsConflict ops v w
   conflict-from v w c d kv kw l q = record {
     left = kv.kept;
     right = kw.kept;
@@ -27,7 +27,7 @@ module _ (ops : List Operation) where
     other = omega (arith, q.1, kw.zone.reply, kv.zone.call);
   }
 
-  conflict-to : (v w : Operation) (c d : Cluster) → IsClusterOf ops v c → IsClusterOf ops w d → IsConflict ops v w → Clash c.zone d.zone
+  conflict-to : (v w : Operation) (c d : Cluster) → IsClusterOf ops v c → IsClusterOf ops w d → IsConflict ops v w → ZonesConflict c.zone d.zone
   conflict-to v w c d kv kw q = (omega (arith, q.one, kv.zone.reply, kw.zone.call), omega (arith, q.other, kw.zone.reply, kv.zone.call))
 
 module _ (ops : List Operation) (y : IsHistory ops) (n : ℕ) where
@@ -36,8 +36,8 @@ module _ (ops : List Operation) (y : IsHistory ops) (n : ℕ) where
   step_none None f m = record { clear = clear_more ops n m.clear (λ v w l k e q. f w k e); last = none_stays ops y n m.last (λ u k e q. f u k e) }
   step_none (Some c) f m = record { clear = clear_more ops n m.clear (λ v w l k e q. f w k e); last = (m.last.0, m.last.1, last_stays ops y m.last.0 n m.last.2 (λ u k e q. f u k e)) }
 
-  -- there is one, and it doesn't clash
-  step_clear : (last : Option Cluster) (d : Cluster) → IsLowEndAt ops n (Some d) → IsMet ops n last → IsClashWith last d None → IsClearBelow ops (n + 1)
+  -- there is one, and it doesn't conflict
+  step_clear : (last : Option Cluster) (d : Cluster) → IsLowEndAt ops n (Some d) → IsMet ops n last → IsConflictWith last d None → IsClearBelow ops (n + 1)
   step_clear None d f m k = clear_more ops n m.clear (λ v u l _ e q. m.last v l.kept l.forward l.below)
   step_clear (Some c) d f m k = clear_more ops n m.clear (λ v u l ku e q.
       let ev : v ≡ m.last.0 = last_one ops y v m.last.0 n l m.last.2 in
@@ -45,18 +45,18 @@ module _ (ops : List Operation) (y : IsHistory ops) (n : ℕ) where
       let r : IsConflict ops m.last.0 f.0 = subst (λ x. IsConflict ops x f.0) ev (subst (IsConflict ops v) eu q) in
       k c refl (conflict-to ops m.last.0 f.0 c d m.last.1 f.1 r))
 
-  pub step_forward : (last : Option Cluster) (d : Cluster) → IsLowEndAt ops n (Some d) → IsMet ops n last → IsClashWith last d None → d.zone.f < d.zone.s → IsMet ops (n + 1) (Some d)
+  pub step_forward : (last : Option Cluster) (d : Cluster) → IsLowEndAt ops n (Some d) → IsMet ops n last → IsConflictWith last d None → d.zone.f < d.zone.s → IsMet ops (n + 1) (Some d)
   step_forward last d f m k l = record { clear = step_clear last d f m k; last = (f.0, f.1, last_here ops y f.0 n f.1.kept f.2 (forward-from ops f.0 d f.1 l)) }
 
-  pub step_backward : (last : Option Cluster) (d : Cluster) → IsLowEndAt ops n (Some d) → IsMet ops n last → IsClashWith last d None → (d.zone.f < d.zone.s → ⊥) → IsMet ops (n + 1) last
+  pub step_backward : (last : Option Cluster) (d : Cluster) → IsLowEndAt ops n (Some d) → IsMet ops n last → IsConflictWith last d None → (d.zone.f < d.zone.s → ⊥) → IsMet ops (n + 1) last
   step_backward last d f m k l = record { clear = step_clear last d f m k; last = stays last m.last }
     where
       stays : (last : Option Cluster) → IsLastMet ops n last → IsLastMet ops (n + 1) last
       stays None q = none_stays ops y n q (backward_from ops y f.0 n f.1.kept f.2 (λ p. l (forward-to ops f.0 d f.1 p)))
       stays (Some c) q = (q.0, q.1, last_stays ops y q.0 n q.2 (backward_from ops y f.0 n f.1.kept f.2 (λ p. l (forward-to ops f.0 d f.1 p))))
 
-  -- there is one, and it clashes
-  pub step_found : (last : Option Cluster) (c d : Cluster) → IsLowEndAt ops n (Some d) → IsMet ops n last → IsClashWith last d (Some c) → (v : Operation) × (w : Operation) × IsFirstConflict ops v w × IsClusterOf ops v c × IsClusterOf ops w d
+  -- there is one, and it conflicts
+  pub step_found : (last : Option Cluster) (c d : Cluster) → IsLowEndAt ops n (Some d) → IsMet ops n last → IsConflictWith last d (Some c) → (v : Operation) × (w : Operation) × IsFirstConflict ops v w × IsClusterOf ops v c × IsClusterOf ops w d
   step_found last c d f m k =
       let q = subst (IsLastMet ops n) k.0 m.last in
       let lt : low_end ops q.0.value < low_end ops f.0.value = omega (arith, q.2.below, f.2) in

@@ -2,16 +2,16 @@
 use Rattle.std.proofs.Common.{◌≡◌, ℕ, max, map, List, [], ◌∷◌, inl, inr, refl, sym, ap, subst, ◌∙◌, arith, AllPairs}
 use Rattle.std.proofs.lemmas.List.Sorted.{Contains-permutation, IsPermutation-sym}
 use Rattle.std.specs.List.Sorted.{IsPermutation}
-use Rattle.reg_arena.specs.Lists.{In}
-use Rattle.reg_arena.specs.History.{History}
-use Rattle.reg_arena.specs.Operations.{Operation, of_register, operations}
+use Rattle.history_model.specs.Lists.{In}
+use Rattle.history_model.specs.History.{History}
+use Rattle.history_model.specs.Operations.{Operation, of_register, operations}
 use Rattle.reg_zones.specs.declared.entry.Entry.{Entry}
 use Rattle.reg_zones.specs.declared.placed.Placed.{Placed}
 use Rattle.reg_zones.specs.Faults.{HasNoFault}
 use Rattle.reg_zones.specs.Order.{IsCanonical, IsOrder, placed_from, shown}
 use Rattle.reg_zones.specs.Register.{IsRegister}
 use Rattle.reg_zones.specs.Entries.{entry_of, entries_placed, ComesFirst, IsListing}
-use Rattle.reg_zones.proofs.Places.{In-map, map-In, map-Before, Before-first, Before-second}
+use Rattle.history_model.proofs.Lists.{In-map, map-In, map-Before, Before-first, Before-second}
 use Rattle.reg_zones.proofs.Indexes.{In-from_Contains, Contains-from_In, Before-from_pairs}
 use Rattle.reg_zones.proofs.Unique.{ascending_one}
 use Rattle.reg_zones.proofs.Exists.{canonical}

@@ -1,9 +1,9 @@
 -- The pass over low ends along a register's events.
 use Rattle.std.proofs.Common.{◌≡◌, ℕ, ◌+◌, ◌-◌, ◌<◌, ◌≤◌, Option, Some, None, List, inl, refl, sym, ap, subst, ◌∙◌, arith}
-use Rattle.reg_arena.specs.declared.ids.EvId.{EvId}
-use Rattle.reg_arena.specs.History.{History}
-use Rattle.reg_arena.specs.Operations.{Operation, of_register, operations, initial_write}
-use Rattle.reg_arena.specs.Shown.{IsFirstOf, IsNextOf, IsLeastFrom, by_register, key_at}
+use Rattle.history_model.specs.declared.ids.EvId.{EvId}
+use Rattle.history_model.specs.History.{History}
+use Rattle.history_model.specs.Operations.{Operation, of_register, operations, initial_write}
+use Rattle.history_model.specs.Walking.{IsFirstOf, IsNextOf, IsLeastFrom, by_register, key_at}
 use Rattle.reg_zones.specs.declared.pass.Cluster.{Cluster}
 use Rattle.reg_zones.specs.Clusters.{IsKept, IsConflict, IsForward, low_end}
 use Rattle.reg_zones.specs.Register.{IsRegister}

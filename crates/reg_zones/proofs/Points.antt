@@ -1,10 +1,10 @@
 -- Points lie between call and reply, and never fall.
 use Rattle.std.proofs.Common.{◌≡◌, ℕ, ◌<◌, ◌≤◌, List, [], ◌∷◌, max, ◌⊎◌, inl, inr, refl, sym, ap, subst, arith}
 use Rattle.std.proofs.lemmas.Bool.{cases_lt}
-use Rattle.reg_arena.specs.Legal.{IsLegal}
-use Rattle.reg_arena.specs.Lists.{In, Before}
-use Rattle.reg_arena.specs.Operations.{Operation, IsHistory}
-use Rattle.reg_zones.proofs.Places.{In-map, Before-first}
+use Rattle.history_model.specs.Legal.{IsLegal}
+use Rattle.history_model.specs.Lists.{In, Before}
+use Rattle.history_model.specs.Operations.{Operation, IsHistory}
+use Rattle.history_model.proofs.Lists.{In-map, Before-first}
 use Rattle.reg_zones.specs.Order.{PlacedOperation, placed_from, placed, operations_of, IsWithinLife}
 
 operations_of-placed_from : (n : ℕ) (xs : List Operation) → operations_of (placed_from n xs) ≡ xs

@@ -4,25 +4,22 @@ use Rattle.std.proofs.lemmas.Bool.{eqb-true, eq-eqb, cases_Bool, cases_lt, false
 use Rattle.std.proofs.lemmas.Option.{slice_get_within}
 use Rattle.std.specs.List.{slice_get}
 use Rattle.history_text.specs.declared.event.Val.{Val}
-use Rattle.reg_arena.specs.declared.event.Event.{Event}
-use Rattle.reg_arena.specs.declared.ids.EvId.{EvId}
-use Rattle.reg_arena.specs.declared.ids.Oper.{Oper}
-use Rattle.reg_arena.specs.declared.ids.Oper.TheVariants.{Initial, Called}
-use Rattle.reg_arena.specs.Lists.{In}
-use Rattle.reg_arena.specs.History.{History}
-use Rattle.reg_arena.specs.Operations.{Operation, IsWrite, IsCompleted, is_write, of_register, operations, initial_write}
-use Rattle.reg_arena.specs.Shown.{IsEventIn, IsEventOf, IsMember, IsNamed, IsOper, IsOperOf, IsFirstReply, IsLastCall, begins_at, belongs_at, by_register, key_at, name_by, name_of}
+use Rattle.history_model.specs.declared.event.Event.{Event}
+use Rattle.history_model.specs.declared.ids.EvId.{EvId}
+use Rattle.history_model.specs.declared.ids.Oper.{Oper}
+use Rattle.history_model.specs.declared.ids.Oper.TheVariants.{Initial, Called}
+use Rattle.history_model.specs.Lists.{In}
+use Rattle.history_model.specs.History.{History}
+use Rattle.history_model.specs.Operations.{Operation, IsWrite, IsCompleted, is_write, of_register, operations, initial_write}
+use Rattle.history_model.specs.Walking.{by_register, key_at}
+use Rattle.history_model.specs.Naming.{IsEventIn, IsEventOf, IsNamed, IsOper, IsOperOf, begins_at, belongs_at, name_by, name_of}
+use Rattle.history_model.specs.OfValue.{IsMember, IsFirstReply, IsLastCall}
 use Rattle.reg_zones.specs.Clusters.{IsKept, IsInCluster, first_reply, last_call, low_end, HasFirstReply, HasLastCall}
 use Rattle.reg_zones.specs.Register.{IsRegister}
-use Rattle.reg_zones.proofs.Places.{In-filter, filter-In}
+use Rattle.history_model.proofs.Lists.{In-filter, filter-In}
 use Rattle.reg_zones.proofs.Ends.{kept-member, first_reply-at, first_reply-is, last_call-at, last_call-is}
 use Rattle.reg_zones.proofs.ClearBelow.{first_completed}
-
-pub In-of_register : (r : ℕ) (ops : List Operation) (o : Operation) → In o ops → o.register ≡ r → In o (of_register r ops)
-In-of_register r ops o i e = In-filter (λ (a : Operation). a.register == r) o ops i (eq-eqb o.register r e)
-
-pub of_register-In : (r : ℕ) (ops : List Operation) (o : Operation) → In o (of_register r ops) → In o ops × (o.register ≡ r)
-of_register-In r ops o i = let k = filter-In (λ (a : Operation). a.register == r) o ops i in (k.0, eqb-true o.register r k.1)
+use Rattle.history_model.proofs.Recorded.{In-of_register, of_register-In}
 
 -- nobody called it, or some process did
 pub cases_process : (p : Option ℕ) → (p ≡ None) ⊎ ((q : ℕ) × (p ≡ Some q))

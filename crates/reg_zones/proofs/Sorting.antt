@@ -1,6 +1,6 @@
 -- Every list whose elements a strict order ranks has a sorted form.
 use Rattle.std.proofs.Common.{◌≡◌, List, [], ◌∷◌, ◌⊎◌, inl, inr, refl, sym, subst, ◌∙◌}
-use Rattle.reg_arena.specs.Lists.{In, Before}
+use Rattle.history_model.specs.Lists.{In, Before}
 
 -- ys has the elements of xs, ascending by R
 pub record IsSortedOf {X : Type 0} (R : X → X → Type 0) (xs ys : List X) : Type 0 where

@@ -1,12 +1,12 @@
 -- Where a register has a legal order, it has no fault.
 use Rattle.std.proofs.Common.{◌≡◌, ◌<◌, List, ◌⊎◌, inl, inr, sym, ap, subst, ◌∙◌, arith}
 use Rattle.std.proofs.lemmas.Bool.{cases_Bool, false≢true}
-use Rattle.reg_arena.specs.Lists.{In, Before}
-use Rattle.reg_arena.specs.Operations.{Operation, Precedes, IsWrite, IsReadOf, IsHistory, is_write}
-use Rattle.reg_arena.specs.Legal.{IsLegal, IsNearestWrite}
+use Rattle.history_model.specs.Lists.{In, Before}
+use Rattle.history_model.specs.Operations.{Operation, Precedes, IsWrite, IsReadOf, IsHistory, is_write}
+use Rattle.history_model.specs.Legal.{IsLegal, IsNearestWrite}
 use Rattle.reg_zones.specs.Clusters.{IsInCluster, first_reply, last_call, IsKept, IsConflict}
 use Rattle.reg_zones.specs.Faults.{IsEarly, HasNoFault}
-use Rattle.reg_zones.proofs.Places.{Before-first, Before-second, Before-total, Before-trans}
+use Rattle.history_model.proofs.Lists.{Before-first, Before-second, Before-total, Before-trans}
 use Rattle.reg_zones.proofs.Ends.{kept-member, first_reply-at, last_call-at}
 
 module _ (ops order : List Operation) (y : IsHistory ops) (l : IsLegal ops order) where

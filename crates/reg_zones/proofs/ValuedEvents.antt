@@ -2,16 +2,19 @@
 use Rattle.std.proofs.Common.{◌≡◌, ℕ, ◌-◌, ◌≤◌, Bool, true, false, cond, Option, Some, None, inl, inr, refl, sym, ap, subst, ◌∙◌, arith, option_and_then, option_map}
 use Rattle.std.proofs.lemmas.Bool.{false≢true}
 use Rattle.history_text.specs.declared.event.Val.{Val}
-use Rattle.reg_arena.specs.declared.event.Event.{Event}
-use Rattle.reg_arena.specs.declared.ids.RegId.{RegId}
-use Rattle.reg_arena.specs.declared.op.Op.{Op}
-use Rattle.reg_arena.specs.Lists.{In}
-use Rattle.reg_arena.specs.History.{History}
-use Rattle.reg_arena.specs.Operations.{Operation, IsWrite, IsCompleted, IsCompletedRead, is_write, of_register, operations}
-use Rattle.reg_arena.specs.Shown.{IsEventIn, IsEventOf, by_register, by_value, key_at, op_shown}
+use Rattle.history_model.specs.declared.event.Event.{Event}
+use Rattle.history_model.specs.declared.ids.RegId.{RegId}
+use Rattle.history_model.specs.declared.op.Op.{Op}
+use Rattle.history_model.specs.Lists.{In}
+use Rattle.history_model.specs.History.{History}
+use Rattle.history_model.specs.Operations.{Operation, IsWrite, IsCompleted, IsCompletedRead, is_write, of_register, operations}
+use Rattle.history_model.specs.Walking.{by_register, by_value, key_at}
+use Rattle.history_model.specs.Naming.{IsEventIn, IsEventOf, op_shown}
 use Rattle.reg_zones.specs.Register.{IsRegister}
 use Rattle.reg_zones.specs.Sweep.{IsBelonging}
-use Rattle.reg_zones.proofs.Registers.{of_register-In, event-process, cases_process}
+use Rattle.reg_zones.proofs.Registers.{event-process, cases_process}
+use Rattle.history_model.proofs.Recorded.{of_register-In}
+use Rattle.history_model.proofs.Walking.{keyed}
 
 -- an operation that shows a reply is completed, with this reply
 pub shown-reply : (o : Operation) (t : ℕ) → (op_shown o).reply ≡ Some t → IsCompleted o × (o.reply ≡ t)
@@ -27,14 +30,6 @@ shown-pending o e = go o.completed refl e
     go : (b : Bool) → o.completed ≡ b → cond b (Some o.reply) None ≡ None → o.completed ≡ false
     go true d q = absurd (cc q)
     go false d q = d
-
--- an event with a register and a value has both as its key
-keyed : (e : Event) (r : ℕ) (v : Val) → by_register e ≡ Some r → e.value ≡ Some v → by_value e ≡ Some (r, v)
-keyed e r v own q = ap (λ (b : Option Val). option_and_then {U = ℕ × Val} (λ (x : Val). option_map {U = ℕ × Val} (λ (n : RegId). (n.0, x)) e.register) b) q ∙ go e.register own
-  where
-    go : (a : Option RegId) → option_map {U = ℕ} (λ (n : RegId). n.0) a ≡ Some r → option_map {U = ℕ × Val} (λ (n : RegId). (n.0, v)) a ≡ Some (r, v)
-    go None h = absurd (cc (h))
-    go (Some n) h = let p : n.0 ≡ r = cc (h) in ap (λ m. Some (m, v)) p
 
 -- the key of an event with the register and the value of an operation
 pub value-key : (h : History) (i : ℕ) (e : Event) (o : Operation) (v : Val) → IsEventIn h i e o → e.value ≡ Some v → key_at by_value h.events i ≡ Some (o.register, v)

@@ -2,8 +2,8 @@
 use Rattle.std.proofs.Common.{◌↔◌, List, Result, Ok, Err, refl, IsOk, IsErr}
 use Rattle.std.proofs.lemmas.Bool.{false≢true}
 use Rattle.std.specs.Prelude.{IfOk, IfErr}
-use Rattle.reg_arena.specs.Operations.{Operation, IsHistory}
-use Rattle.reg_arena.specs.Legal.{IsAtomic}
+use Rattle.history_model.specs.Operations.{Operation, IsHistory}
+use Rattle.history_model.specs.Legal.{IsAtomic}
 use Rattle.reg_zones.specs.declared.fault.Fault.{Fault}
 use Rattle.reg_zones.specs.Faults.{HasNoFault, IsFault}
 use Rattle.reg_zones.proofs.Exists.{decides}

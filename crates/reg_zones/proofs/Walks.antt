@@ -4,9 +4,9 @@ use Rattle.std.proofs.lemmas.Bool.{cases_order}
 use Rattle.std.proofs.lemmas.Option.{slice_get_within}
 use Rattle.std.specs.List.{slice_get}
 use Rattle.history_text.specs.declared.event.Val.{Val}
-use Rattle.reg_arena.specs.declared.event.Event.{Event}
-use Rattle.reg_arena.specs.declared.ids.EvId.{EvId}
-use Rattle.reg_arena.specs.Shown.{IsLeastFrom, IsFirstOf, IsNextOf, by_register, by_value, key_at}
+use Rattle.history_model.specs.declared.event.Event.{Event}
+use Rattle.history_model.specs.declared.ids.EvId.{EvId}
+use Rattle.history_model.specs.Walking.{IsLeastFrom, IsFirstOf, IsNextOf, by_register, by_value, key_at}
 
 -- an event is behind the walk
 abbrev pub IsPassed : ℕ → Option EvId → Type 0

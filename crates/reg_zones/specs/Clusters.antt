@@ -3,8 +3,8 @@ use Rattle.std.specs.Prelude.{◌≡◌, ℕ, ◌<◌, ◌≤◌, ◌&&◌, ◌|
 use Rattle.std.specs.List.{filter}
 use Rattle.history_text.specs.declared.event.Val.{Val}
 use Rattle.history_text.specs.Values.{same_value}
-use Rattle.reg_arena.specs.Lists.{In}
-use Rattle.reg_arena.specs.Operations.{Operation, IsWrite, IsCompleted, IsReadOf, is_write}
+use Rattle.history_model.specs.Lists.{In}
+use Rattle.history_model.specs.Operations.{Operation, IsWrite, IsCompleted, IsReadOf, is_write}
 
 -- a write that is initial or completed, or pending with a completed read of its value (the initial write counts as completed)
 pub record IsKept (ops : List Operation) (w : Operation) : Type 0 where

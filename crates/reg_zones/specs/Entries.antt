@@ -1,8 +1,8 @@
 -- Listed operations with what places them in the canonical order.
 use Rattle.std.specs.Prelude.{◌≡◌, ℕ, ◌<◌, ◌==◌, ◌&&◌, ◌⊎◌, max, false, cond, Bool, List, [], ◌∷◌, AllPairs, Option, Some, None}
-use Rattle.reg_arena.specs.Lists.{In}
-use Rattle.reg_arena.specs.Operations.{Operation, is_write}
-use Rattle.reg_arena.specs.Shown.{name_of}
+use Rattle.history_model.specs.Lists.{In}
+use Rattle.history_model.specs.Operations.{Operation, is_write}
+use Rattle.history_model.specs.Naming.{name_of}
 use Rattle.reg_zones.specs.Clusters.{low_end}
 use Rattle.reg_zones.specs.Order.{IsListed}
 use Rattle.reg_zones.specs.declared.entry.Entry.{Entry}

@@ -1,8 +1,8 @@
 -- Why a register isn't atomic: its fault, the first kind that applies (the kinds are those of Gibbons and Korach, Testing Shared Memories, 1997, section 3; which one is named is this project's profile).
 use Rattle.std.specs.Prelude.{◌≡◌, ◌≤◌, List}
-use Rattle.reg_arena.specs.Lists.{In}
-use Rattle.reg_arena.specs.Operations.{Operation, IsWrite, IsCompletedRead, IsReadOf, Precedes}
-use Rattle.reg_arena.specs.Shown.{name_of}
+use Rattle.history_model.specs.Lists.{In}
+use Rattle.history_model.specs.Operations.{Operation, IsWrite, IsCompletedRead, IsReadOf, Precedes}
+use Rattle.history_model.specs.Naming.{name_of}
 use Rattle.reg_zones.specs.Clusters.{IsConflict, IsFirstConflict, HasFirstReply, HasLastCall}
 use Rattle.reg_zones.specs.declared.fault.Fault.{Fault}
 use Rattle.reg_zones.specs.declared.fault.Fault.TheVariants.{Unwritten, Early, Zones}

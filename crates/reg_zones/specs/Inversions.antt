@@ -1,9 +1,9 @@
 -- New-old inversions of a register's operations, `ops`: a read gives a new value, and a later read an old one (Lamport, On Interprocess Communication, Part II, 1986, section 2).
 use Rattle.std.specs.Prelude.{List, Option, Some, None}
-use Rattle.reg_arena.specs.declared.ids.Oper.{Oper}
-use Rattle.reg_arena.specs.Lamport.{KeepsRegular}
-use Rattle.reg_arena.specs.Lists.{In}
-use Rattle.reg_arena.specs.Operations.{Operation, IsCompletedRead, IsReadOf, IsWrite, Precedes}
+use Rattle.history_model.specs.declared.ids.Oper.{Oper}
+use Rattle.history_model.specs.Lamport.{KeepsRegular}
+use Rattle.history_model.specs.Lists.{In}
+use Rattle.history_model.specs.Operations.{Operation, IsCompletedRead, IsReadOf, IsWrite, Precedes}
 use Rattle.reg_zones.specs.declared.fault.Fault.{Fault}
 use Rattle.reg_zones.specs.declared.fault.Fault.TheVariants.{Unwritten, Early, Zones}
 

@@ -1,9 +1,9 @@
 -- The canonical order of a register without fault, and the point of each of its operations (this project's profile; points as in Herlihy and Wing, Linearizability: A Correctness Condition for Concurrent Objects, 1990, section 2).
 use Rattle.std.specs.Prelude.{◌≡◌, ℕ, ◌<◌, ◌≤◌, ◌⊎◌, max, map, true, false, List, [], ◌∷◌}
-use Rattle.reg_arena.specs.Lists.{In, Before}
-use Rattle.reg_arena.specs.Operations.{Operation, IsCompletedRead, is_write}
-use Rattle.reg_arena.specs.Legal.{IsLegal}
-use Rattle.reg_arena.specs.Shown.{name_of}
+use Rattle.history_model.specs.Lists.{In, Before}
+use Rattle.history_model.specs.Operations.{Operation, IsCompletedRead, is_write}
+use Rattle.history_model.specs.Legal.{IsLegal}
+use Rattle.history_model.specs.Naming.{name_of}
 use Rattle.reg_zones.specs.Clusters.{IsKept, low_end}
 use Rattle.reg_zones.specs.declared.placed.Placed.{Placed}
 

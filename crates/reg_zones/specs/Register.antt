@@ -1,13 +1,13 @@
 -- What the laws of histories tell of one register of an accepted history.
 use Rattle.std.specs.Prelude.{◌≡◌, ℕ, ◌-◌, ◌⊎◌, true, false, slice_get, Some}
 use Rattle.history_text.specs.declared.event.Val.{Val}
-use Rattle.reg_arena.specs.declared.event.Event.{Event}
-use Rattle.reg_arena.specs.declared.event.What.TheVariants.{Call, Reply}
-use Rattle.reg_arena.specs.declared.ids.Oper.{Oper}
-use Rattle.reg_arena.specs.Lists.{In}
-use Rattle.reg_arena.specs.History.{History}
-use Rattle.reg_arena.specs.Operations.{Operation, IsHistory, IsWrite, IsCompleted, of_register, operations, initial_write}
-use Rattle.reg_arena.specs.Shown.{IsEventIn, IsEventOf, IsNamed, IsOper, belongs_at, name_of}
+use Rattle.history_model.specs.declared.event.Event.{Event}
+use Rattle.history_model.specs.declared.event.What.TheVariants.{Call, Reply}
+use Rattle.history_model.specs.declared.ids.Oper.{Oper}
+use Rattle.history_model.specs.Lists.{In}
+use Rattle.history_model.specs.History.{History}
+use Rattle.history_model.specs.Operations.{Operation, IsHistory, IsWrite, IsCompleted, of_register, operations, initial_write}
+use Rattle.history_model.specs.Naming.{IsEventIn, IsEventOf, IsNamed, IsOper, belongs_at, name_of}
 
 -- its events and its operations belong together
 pub record IsRegister (h : History) (r : ℕ) : Type 0 where

@@ -1,13 +1,15 @@
 -- Zones as the code has them, and what is found at each event of a register.
 use Rattle.std.specs.Prelude.{◌≡◌, ℕ, ◌+◌, ◌<◌, ◌⊎◌, List, length, Option, Some, None}
 use Rattle.history_text.specs.declared.event.Val.{Val}
-use Rattle.reg_arena.specs.declared.ids.EvId.{EvId}
-use Rattle.reg_arena.specs.declared.ids.Oper.{Oper}
-use Rattle.reg_arena.specs.declared.op.Op.{Op}
-use Rattle.reg_arena.specs.Lists.{In}
-use Rattle.reg_arena.specs.History.{History}
-use Rattle.reg_arena.specs.Operations.{Operation, IsWrite, IsCompleted, IsCompletedRead, IsReadOf, of_register, operations}
-use Rattle.reg_arena.specs.Shown.{IsNamed, IsEventOf, IsMember, IsFirstReply, IsLastCall, by_value, key_at, name_of, op_shown}
+use Rattle.history_model.specs.declared.ids.EvId.{EvId}
+use Rattle.history_model.specs.declared.ids.Oper.{Oper}
+use Rattle.history_model.specs.declared.op.Op.{Op}
+use Rattle.history_model.specs.Lists.{In}
+use Rattle.history_model.specs.History.{History}
+use Rattle.history_model.specs.Operations.{Operation, IsWrite, IsCompleted, IsCompletedRead, IsReadOf, of_register, operations}
+use Rattle.history_model.specs.Walking.{by_value, key_at}
+use Rattle.history_model.specs.Naming.{IsNamed, IsEventOf, name_of, op_shown}
+use Rattle.history_model.specs.OfValue.{IsMember, IsFirstReply, IsLastCall}
 use Rattle.reg_zones.specs.Clusters.{IsKept, IsClearBelow, IsForward, IsLastForward, first_reply, last_call, low_end}
 use Rattle.reg_zones.specs.Faults.{IsUnwritten, IsEarly}
 use Rattle.reg_zones.specs.Register.{IsRegister}
@@ -112,10 +114,10 @@ pub record IsMet (ops : List Operation) (n : ℕ) (cluster : Option Cluster) : T
   pub last : IsLastMet ops n cluster
 
 -- the zones overlap
-abbrev pub Clash : Zone → Zone → Type 0
-Clash y z = (y.f < z.s) × (z.f < y.s)
+abbrev pub ZonesConflict : Zone → Zone → Type 0
+ZonesConflict y z = (y.f < z.s) × (z.f < y.s)
 
 -- the cluster met last, if its zone conflicts with this one
-abbrev pub IsClashWith : Option Cluster → Cluster → Option Cluster → Type 0
-IsClashWith last cluster None = (c : Cluster) → last ≡ Some c → Clash c.zone cluster.zone → ⊥
-IsClashWith last cluster (Some c) = (last ≡ Some c) × Clash c.zone cluster.zone
+abbrev pub IsConflictWith : Option Cluster → Cluster → Option Cluster → Type 0
+IsConflictWith last cluster None = (c : Cluster) → last ≡ Some c → ZonesConflict c.zone cluster.zone → ⊥
+IsConflictWith last cluster (Some c) = (last ≡ Some c) × ZonesConflict c.zone cluster.zone

@@ -1,14 +1,15 @@
 //! Whether a register is atomic.
 ghost use Rattle.std.specs.Prelude.{◌<◌, ◌↔◌, length, IsOk, MatchResult};
-ghost use Rattle.reg_arena.specs.Operations.{of_register, operations};
-ghost use Rattle.reg_arena.specs.Legal.{IsAtomic};
+ghost use Rattle.history_model.specs.Operations.{of_register, operations};
+ghost use Rattle.history_model.specs.Legal.{IsAtomic};
 ghost use Rattle.reg_zones.specs.Faults.{HasNoFault, IsFault};
 
 use crate::fault::Fault;
 use crate::pass::compatible;
 use crate::reads::{in_time, written};
 use crate::told::told;
-use reg_arena::{Arena, RegId};
+use history_model::RegId;
+use reg_arena::Arena;
 
 /// The fault of a register, or that it has none: then, and only then, it is atomic.
 ///

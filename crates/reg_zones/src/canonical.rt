@@ -1,6 +1,6 @@
 //! The canonical order of a register without fault.
 ghost use Rattle.std.specs.Prelude.{◌≡◌, ◌<◌, false, length, AllPairs, IfOk, IsPermutation};
-ghost use Rattle.reg_arena.specs.Operations.{of_register, operations};
+ghost use Rattle.history_model.specs.Operations.{of_register, operations};
 ghost use Rattle.reg_zones.specs.Entries.{ComesFirst, entries_placed, same_place};
 ghost use Rattle.reg_zones.specs.Faults.{HasNoFault};
 ghost use Rattle.reg_zones.specs.Order.{IsOrder};
@@ -8,7 +8,8 @@ ghost use Rattle.reg_zones.specs.Order.{IsOrder};
 use crate::entry::{Entry, listed};
 use crate::placed::Placed;
 use crate::told::told;
-use reg_arena::{Arena, RegId};
+use history_model::RegId;
+use reg_arena::Arena;
 use std::alloc::{AllocError, Global};
 
 /// The canonical order of a register that has no fault, as `sweep` says, with the point of each operation.
@@ -35,7 +36,7 @@ fn rank(entries: &mut Vec<Entry>)
     entries.sort_unstable_by_key(|entry| (entry.low, entry.turn));
 }
 
-/// The operations in their order, each with its point: the greatest call up to it.
+/// The operations in their order, each with its point: the last call up to it.
 fn placed(alloc: Global, entries: &[Entry]) -> Result<Vec<Placed>, AllocError>
     ensures { IfOk result (λ v. v.items ≡ entries_placed 0 entries.now) }
 {

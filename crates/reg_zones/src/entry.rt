@@ -1,14 +1,15 @@
 //! The operations that the canonical order lists, with what places them.
 ghost use Rattle.std.specs.Prelude.{◌≡◌, ◌<◌, ◌+◌, length, Some, IfOk};
-ghost use Rattle.reg_arena.specs.Operations.{initial_write, of_register, operations};
-ghost use Rattle.reg_arena.specs.Shown.{by_register, key_at};
+ghost use Rattle.history_model.specs.Operations.{initial_write, of_register, operations};
+ghost use Rattle.history_model.specs.Walking.{by_register, key_at};
 ghost use Rattle.reg_zones.specs.Entries.{IsListedAt, IsListing, entry_of};
 
 use crate::told::{operation_called, told};
 use crate::valued::valued_event;
 use crate::zone::{zone_at, zone_of};
+use history_model::{EvId, Oper, RegId};
 use history_text::OpKind;
-use reg_arena::{Arena, EvId, Oper, RegId};
+use reg_arena::Arena;
 use std::alloc::{AllocError, Global};
 
 /// A kept write or a completed read.

@@ -1,31 +1,32 @@
 //! Why a register isn't atomic.
 ghost use Rattle.std.specs.Prelude.{◌≡◌, ◌<◌, length};
-ghost use Rattle.reg_arena.specs.Lists.{In};
-ghost use Rattle.reg_arena.specs.Operations.{Operation, IsCompleted, of_register, operations};
-ghost use Rattle.reg_arena.specs.Shown.{name_of};
+ghost use Rattle.history_model.specs.Lists.{In};
+ghost use Rattle.history_model.specs.Operations.{Operation, IsCompleted, of_register, operations};
+ghost use Rattle.history_model.specs.Naming.{name_of};
 ghost use Rattle.reg_zones.specs.Faults.{IsFault, IsFirstClash};
 ghost use Rattle.reg_zones.specs.Sweep.{IsClusterOf};
 
 use crate::pass::Cluster;
 use crate::told::told;
-use reg_arena::{Arena, EvId, Oper, RegId};
+use history_model::{EvId, Oper, RegId};
+use reg_arena::Arena;
 
 /// The fault of a register: the first of these that applies.
 #[derive(Clone, Copy, Debug, PartialEq, Eq)]
 pub enum Fault {
-    /// Of the completed reads whose value has no write in the register, the one of least call.
+    /// Of the completed reads whose value has no write in the register, the one called first.
     Unwritten {
         read: Oper,
     },
-    /// Of the completed reads that precede their write, the one of least call, with that write.
+    /// Of the completed reads that precede their write, the one called first, with that write.
     Early {
         read: Oper,
         write: Oper,
     },
-    /// The writes of two clusters whose zones conflict, the one with the lesser low end first. Of all such pairs it is
-    /// the one whose second low end is least.
+    /// The writes of two clusters whose zones conflict, the one with the earlier low end first. Of all such pairs it is
+    /// the one whose second low end comes first.
     ///
-    /// In `first` an operation of the first cluster precedes one of the second: that of least reply, and that of
+    /// In `first` an operation of the first cluster precedes one of the second: the one that replies first, and that of
     /// greatest call. In `second` one of the second cluster precedes one of the first, likewise.
     Zones {
         writes: (Oper, Oper),

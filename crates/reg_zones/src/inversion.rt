@@ -3,12 +3,12 @@ ghost use Rattle.std.specs.Prelude.{◌≡◌};
 ghost use Rattle.reg_zones.specs.Inversions.{inversion_named};
 
 use crate::fault::Fault;
-use reg_arena::Oper;
+use history_model::Oper;
 
-/// Two operations of a conflict, the first preceding the second: that of least reply in the second write's cluster, and
+/// Two operations of a conflict, the first preceding the second: the one that replies first in the second write's cluster, and
 /// that of greatest call in the first write's. `None` of other faults.
 ///
-/// Where the register has a single writer and is regular, they are a new-old inversion, and every fault has one
+/// If the register has a single writer and is regular, they are a new-old inversion, and every fault has one
 /// ([`laws::inversions_decide`](crate::laws::inversions_decide)). It takes no memory and always answers.
 pub fn inversion_of(fault: &Fault) -> Option<(Oper, Oper)>
     ensures { result ≡ inversion_named fault.now }

@@ -1,10 +1,10 @@
 //! Why clusters and zones decide: laws over the definitions alone. Each is the contract of a function that does nothing.
 ghost use Rattle.std.specs.Prelude.{◌≡◌, ◌↔◌, ◌≤◌, ◌<◌, List, None, Some};
-ghost use Rattle.reg_arena.specs.Lists.{In, Before};
-ghost use Rattle.reg_arena.specs.Operations.{Operation, IsHistory};
-ghost use Rattle.reg_arena.specs.Lamport.{HasSingleWriter};
-ghost use Rattle.reg_arena.specs.Legal.{IsLegal, IsAtomic};
-ghost use Rattle.reg_arena.specs.Shown.{name_of};
+ghost use Rattle.history_model.specs.Lists.{In, Before};
+ghost use Rattle.history_model.specs.Operations.{Operation, IsHistory};
+ghost use Rattle.history_model.specs.Lamport.{HasSingleWriter};
+ghost use Rattle.history_model.specs.Legal.{IsLegal, IsAtomic};
+ghost use Rattle.history_model.specs.Naming.{name_of};
 ghost use Rattle.reg_zones.specs.Clusters.{low_end, IsConflict, IsClearBelow, IsLastForward, IsFirstConflict};
 ghost use Rattle.reg_zones.specs.Faults.{IsFault, HasNoFault};
 ghost use Rattle.reg_zones.specs.Inversions.{IsInversion, IsRegular, HasInversion, inversion_named};
@@ -12,7 +12,7 @@ ghost use Rattle.reg_zones.specs.Order.{IsListed, IsSooner, IsCanonical, PlacedO
 ghost use Rattle.reg_zones.specs.declared.fault.Fault.{Fault};
 ghost use Rattle.reg_zones.specs.declared.placed.Placed.{Placed};
 
-use reg_arena::single_writer_takes_turns;
+use history_model::single_writer_takes_turns;
 
 /// A register with a fault has no legal order, whichever pending operations are completed.
 pub fn fault_means_no_order()
@@ -24,7 +24,7 @@ pub fn canonical_is_legal()
     ensures { (ops order : List Operation) → IsHistory ops → HasNoFault ops → IsCanonical ops order → IsLegal ops order }
 {}
 
-/// A register is atomic exactly where it has no fault.
+/// A register is atomic exactly if it has no fault.
 pub fn zones_decide()
     ensures { (ops : List Operation) → IsHistory ops → (IsAtomic ops ↔ HasNoFault ops) }
 {}
@@ -64,7 +64,7 @@ pub fn initial_write_is_first()
         → (a : Operation) → In a order → (a ≡ i → ⊥) → Before i a order }
 {}
 
-/// With a single writer a register is atomic exactly where it is regular and has no new-old inversion (Lamport, On
+/// With a single writer a register is atomic exactly if it is regular and has no new-old inversion (Lamport, On
 /// Interprocess Communication, Part II, 1986); the fault of one that is regular is a conflict that names an inversion.
 pub fn inversions_decide()
     ensures atomic { (ops : List Operation) → IsHistory ops → HasSingleWriter ops → (IsAtomic ops ↔ (IsRegular ops × (HasInversion ops → ⊥))) }

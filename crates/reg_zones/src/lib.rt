@@ -1,7 +1,7 @@
 //! Which registers are atomic: the fault of one that is not, and the order of one that is.
 //!
 //! What the floor above may rely on: [`sweep`] answers with the fault that the definitions name, and with `Ok` exactly
-//! where the register is atomic (Herlihy and Wing, 1990). [`order`] lists the canonical order of a register without
+//! if the register is atomic (Herlihy and Wing, 1990). [`order`] lists the canonical order of a register without
 //! fault, which is a legal one, with a point for each operation between its call and its reply. [`is_kept`] and
 //! [`zone_of`] are the definitions of a kept write and of a zone, and [`laws`] says why zones decide.
 //!

@@ -1,15 +1,16 @@
 //! One pass over the low ends of a register's zones, in order of time.
 ghost use Rattle.std.specs.Prelude.{◌≡◌, ◌<◌, ◌+◌, length, Some, IfOk, IfErr};
-ghost use Rattle.reg_arena.specs.Operations.{initial_write, of_register, operations};
-ghost use Rattle.reg_arena.specs.Shown.{by_register, key_at};
+ghost use Rattle.history_model.specs.Operations.{initial_write, of_register, operations};
+ghost use Rattle.history_model.specs.Walking.{by_register, key_at};
 ghost use Rattle.reg_zones.specs.Faults.{IsFault, HasNoFault};
-ghost use Rattle.reg_zones.specs.Sweep.{AreInTime, AreWritten, IsClashWith, IsClusterOf, IsLowEndAt, IsMet};
+ghost use Rattle.reg_zones.specs.Sweep.{AreInTime, AreWritten, IsConflictWith, IsClusterOf, IsLowEndAt, IsMet};
 
 use crate::fault::{Fault, conflict_of};
 use crate::told::{operation_of, told};
 use crate::valued::valued_event;
 use crate::zone::{Zone, zone_at, zone_of};
-use reg_arena::{Arena, EvId, Oper, RegId};
+use history_model::{EvId, Oper, RegId};
+use reg_arena::Arena;
 
 /// A cluster that the pass has met.
 #[derive(Clone, Copy, Debug, PartialEq, Eq)]
@@ -21,7 +22,7 @@ pub(crate) struct Cluster {
 
 /// No two zones of the register conflict, or the first pair by the second's low end.
 ///
-/// Each event that is a low end of its cluster is compared with the last forward zone met, and with no other: where two
+/// Each event that is a low end of its cluster is compared with the last forward zone met, and with no other: if two
 /// zones conflict, the first of the two by low ends is forward, and no forward one comes between them.
 pub(crate) fn compatible(arena: &Arena, register: RegId) -> Result<(), Fault>
     requires register { register.0 < length arena.now.names }
@@ -75,7 +76,7 @@ fn met(
     let Some(cluster) = low_end_at(arena, register, id) else {
         return Ok(last);
     };
-    if let Some(first) = clash_with(last, cluster) {
+    if let Some(first) = conflict_with(last, cluster) {
         return Err(conflict_of(arena, register, first, cluster));
     }
     Ok(if cluster.zone.is_forward() {
@@ -103,8 +104,8 @@ fn low_end_at(arena: &Arena, register: RegId, id: EvId) -> Option<Cluster>
 }
 
 /// The cluster met last, if its zone conflicts with that of `cluster`.
-fn clash_with(last: Option<Cluster>, cluster: Cluster) -> Option<Cluster>
-    ensures { IsClashWith last cluster result }
+fn conflict_with(last: Option<Cluster>, cluster: Cluster) -> Option<Cluster>
+    ensures { IsConflictWith last cluster result }
 {
     let met = last?;
     if met.zone.f < cluster.zone.s && cluster.zone.f < met.zone.s {

@@ -1,5 +1,5 @@
 //! A place in an order.
-use reg_arena::Oper;
+use history_model::Oper;
 
 /// An operation in its place of an order, with its point: a time at which it may have taken effect.
 #[derive(Clone, Copy, Debug, PartialEq, Eq)]

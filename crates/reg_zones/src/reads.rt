@@ -1,14 +1,16 @@
 //! The completed reads of a register, by call: those without a write, and those before their write.
 ghost use Rattle.std.specs.Prelude.{◌≡◌, ◌<◌, ◌+◌, length, Some, IfOk, IfErr};
-ghost use Rattle.reg_arena.specs.Operations.{of_register, operations};
-ghost use Rattle.reg_arena.specs.Shown.{IsWriteOf, by_register, key_at};
+ghost use Rattle.history_model.specs.Operations.{of_register, operations};
+ghost use Rattle.history_model.specs.Walking.{by_register, key_at};
+ghost use Rattle.history_model.specs.OfValue.{IsWriteOf};
 ghost use Rattle.reg_zones.specs.Faults.{IsFault};
 ghost use Rattle.reg_zones.specs.Sweep.{AreInTime, AreWritten, IsEarlyAt, IsReadCalledAt, IsReadOfRegister, IsUnwrittenAt};
 
 use crate::fault::Fault;
 use crate::told::{operation, operation_called, told};
+use history_model::{EvId, Oper, RegId};
 use history_text::{OpKind, Val};
-use reg_arena::{Arena, EvId, Oper, RegId};
+use reg_arena::Arena;
 
 /// A completed read, with what it returned and when.
 #[derive(Clone, Copy, Debug, PartialEq, Eq)]

@@ -2,8 +2,9 @@ ghost use Rattle.std.specs.Prelude.{◌<◌, length};
 
 use super::*;
 use crate::told::names_told;
+use history_model::{BuildError, EvId, Oper, RegId};
 use history_text::{Kind, LineEvent, LineFault, Name, ReplyParts, Val};
-use reg_arena::{Arena, BuildError, EvId, Oper, RegId};
+use reg_arena::Arena;
 use std::alloc::{AllocError, Global};
 use std::process::Abort;
 use std::test::Fail;
@@ -161,7 +162,7 @@ fn arena_of(alloc: Global, history: &str) -> Result<Arena, BuildError> {
     Arena::build(alloc, lines)
 }
 
-// The line of an operation's call, where each line is an event; 0 for an initial write.
+// The line of an operation's call, if each line is an event; 0 for an initial write.
 fn line(oper: Oper) -> u32 {
     match oper {
         Oper::Initial(_) => 0,
@@ -236,7 +237,7 @@ fn verdicts(rt: HostRuntime) -> Result<(), Fail> {
     Ok(())
 }
 
-// A history with an inversion, and what its writes' zones are by the definition: the least reply, then the greatest call.
+// A history with an inversion, and what its writes' zones are by the definition: the first reply, then the last call.
 #[test]
 fn zones_of_writes(rt: HostRuntime) -> Result<(), Fail> {
     let alloc = rt.alloc();

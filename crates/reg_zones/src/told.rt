@@ -1,15 +1,17 @@
 //! What the arena tells of a register and of an operation.
 ghost use Rattle.std.specs.Prelude.{◌≡◌, ◌<◌, Some, length};
-ghost use Rattle.reg_arena.specs.declared.ids.Oper.{Oper as AnOper};
-ghost use Rattle.reg_arena.specs.Operations.{Operation};
-ghost use Rattle.reg_arena.specs.Shown.{IsNamed, IsOper, by_register, key_at};
+ghost use Rattle.history_model.specs.declared.ids.Oper.{Oper as AnOper};
+ghost use Rattle.history_model.specs.Operations.{Operation};
+ghost use Rattle.history_model.specs.Walking.{by_register, key_at};
+ghost use Rattle.history_model.specs.Naming.{IsNamed, IsOper};
 ghost use Rattle.reg_zones.specs.Register.{IsRegister};
 ghost use Rattle.reg_zones.specs.Sweep.{IsCalledBy, IsOperation, IsOperationOf};
 
-use reg_arena::{
-    Arena, EvId, Op, Oper, RegId, accepted_is_history, events_have_operations, initial_is_there,
+use history_model::{
+    EvId, Op, Oper, RegId, accepted_is_history, events_have_operations, initial_is_there,
     names_are_unique, operations_have_events, registers_are_numbered, values_are_there,
 };
+use reg_arena::Arena;
 
 /// Its events and its operations belong together. It does nothing.
 pub(crate) fn told(arena: &Arena, register: RegId)

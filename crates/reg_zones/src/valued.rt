@@ -1,11 +1,12 @@
 //! Which event has the value of an operation.
 ghost use Rattle.std.specs.Prelude.{◌<◌, length};
-ghost use Rattle.reg_arena.specs.Operations.{Operation};
+ghost use Rattle.history_model.specs.Operations.{Operation};
 ghost use Rattle.reg_zones.specs.Sweep.{IsBelonging, IsValuedEvent};
 
 use crate::told::told;
+use history_model::{EvId, Op, RegId};
 use history_text::OpKind;
-use reg_arena::{Arena, EvId, Op, RegId};
+use reg_arena::Arena;
 
 /// An event with the value of the operation to which `id` belongs: its reply, or the call of a pending write.
 pub(crate) fn valued_event(arena: &Arena, register: RegId, op: Op, id: EvId) -> Option<EvId>

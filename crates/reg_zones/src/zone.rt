@@ -1,28 +1,30 @@
 //! Kept writes, and the zones of their clusters.
 ghost use Rattle.std.specs.Prelude.{◌≡◌, ◌↔◌, ◌<◌, ℕ, IsTrue, Some, length, min};
 ghost use Rattle.history_text.specs.declared.event.Val.{Val as AVal};
-ghost use Rattle.reg_arena.specs.Operations.{Operation, of_register, operations};
-ghost use Rattle.reg_arena.specs.Shown.{IsNamed, IsOper, by_value, key_at};
+ghost use Rattle.history_model.specs.Operations.{Operation, of_register, operations};
+ghost use Rattle.history_model.specs.Walking.{by_value, key_at};
+ghost use Rattle.history_model.specs.Naming.{IsNamed, IsOper};
 ghost use Rattle.reg_zones.specs.Clusters.{IsKept};
 ghost use Rattle.reg_zones.specs.Sweep.{IsKeptWrite, IsZone, IsZoneFound};
 
 use crate::told::{names_told, operation};
+use history_model::{EvId, Oper, RegId};
 use history_text::{OpKind, Val};
-use reg_arena::{Arena, EvId, Oper, RegId};
+use reg_arena::Arena;
 
-/// The zone of a cluster: of the operations of one value, the least reply and the greatest call.
+/// The zone of a cluster: of the operations of one value, the first reply and the last call.
 ///
 /// Both are times, as `Op` gives them.
 #[derive(Clone, Copy, Debug, PartialEq, Eq)]
 pub struct Zone {
-    /// The least reply.
+    /// The first reply.
     pub f: u32,
     /// The greatest call.
     pub s: u32,
 }
 
 impl Zone {
-    /// The low end: the lesser of the two.
+    /// The low end: the earlier of the two.
     pub fn low(&self) -> u32
         ensures { result ≡ min self.now.f self.now.s }
     {

@@ -1,7 +1,7 @@
 -- The exit statuses (this project's profile; README.md has the table).
 use Rattle.std.specs.Prelude.{ℕ, nat_le, ◌==◌, ◌||◌, if◌then◌else◌}
-use Rattle.regcheck.specs.declared.ended.Ended.{Ended}
-use Rattle.regcheck.specs.declared.ended.Ended.TheVariants.{Atomic, NotAtomic, Refused, BadWords}
+use Rattle.regcheck.specs.declared.exit_status.Ended.{Ended}
+use Rattle.regcheck.specs.declared.exit_status.Ended.TheVariants.{Atomic, NotAtomic, Refused, BadWords}
 
 abbrev pub status_of : Ended → ℕ
 status_of Atomic = 0

@@ -1,14 +1,14 @@
 //! Checks a recorded history of read/write registers, and writes its report to standard output.
 #![tactic(auto)]
 
-mod ended;
+mod exit_status;
 #[cfg(test)]
 mod tests;
 mod words;
 
 ghost use Rattle.std.specs.Prelude.{◌-◌, ◌^◌, ◌<◌};
 
-use ended::{Ended, status};
+use exit_status::{Ended, status};
 use reg_report::{
     FromReader, FromWriter, OpenGate, Outcome, Refusal, Settings, Source, message, run,
 };

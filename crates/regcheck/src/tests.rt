@@ -1,9 +1,9 @@
-use crate::ended::{Ended, status};
+use crate::exit_status::{Ended, status};
 use crate::words::{Words, WordsFault, read_words};
 use std::alloc::{AllocError, Global};
 use std::test::Fail;
 
-// The status of each ending: 0 and 1 with a report, 2 for bad input, 3 for bad words, 4 where input, memory or output failed.
+// The status of each ending: 0 and 1 with a report, 2 for bad input, 3 for bad words, 4 if input, memory or output failed.
 #[test]
 fn statuses(rt: HostRuntime) -> Result<(), Fail> {
     for (ended, want) in [
@@ -20,7 +20,7 @@ fn statuses(rt: HostRuntime) -> Result<(), Fail> {
     Ok(())
 }
 
-// What the words name, or the parser's text where it refuses them.
+// What the words name, or the parser's text if it refuses them.
 fn read(alloc: Global, words: &[&str]) -> Result<Result<Words, String>, AllocError> {
     let mut given = Vec::new(alloc);
     for word in words {
@@ -59,7 +59,7 @@ fn files(rt: HostRuntime) -> Result<(), Fail> {
     Ok(())
 }
 
-// The number of workers and the cut: 4 and 4096 where the words name none.
+// The number of workers and the cut: 4 and 4096 if the words name none.
 #[test]
 fn numbers(rt: HostRuntime) -> Result<(), Fail> {
     let alloc = rt.alloc();
@@ -82,7 +82,7 @@ fn numbers(rt: HostRuntime) -> Result<(), Fail> {
     Ok(())
 }
 
-// Whether the first register that isn't atomic is all that is asked for: only where a word says so.
+// Whether the first register that isn't atomic is all that is asked for: only if a word says so.
 #[test]
 fn flags(rt: HostRuntime) -> Result<(), Fail> {
     let alloc = rt.alloc();

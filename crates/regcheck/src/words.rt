@@ -39,7 +39,7 @@ const STATUSES: &str = "The report goes to standard output. Exit status:
 /// What the words ask for.
 #[derive(Drop)]
 pub struct Words {
-    /// The name of the file with the history; standard input where there is none.
+    /// The name of the file with the history; standard input if there is none.
     pub file: Option<String>,
     /// How many workers there are, from 1 to [`MAX_WORKERS`].
     pub workers: u32,
@@ -81,7 +81,7 @@ impl From<AllocError> for WordsFault {
     }
 }
 
-/// An option with a whole number from 1 to `most`, which is `default` where it isn't given.
+/// An option with a whole number from 1 to `most`, which is `default` if it isn't given.
 fn number<'a>(alloc: Global, name: &'a str, most: u32, default: &'a str) -> Arg<'a>
     ensures rule { rule_of result ≡ number_rule name.entry.now most default.entry.now }
     ensures local { result.global ≡ false }
@@ -153,11 +153,11 @@ fn parsed<'a>(alloc: Global, words: &'a [String]) -> Result<ArgMatches<'a>, Word
     }
 }
 
-/// Reads the words after the program's name: one file at most, `--workers N`, `--cut N` and `--first`. Where they don't
+/// Reads the words after the program's name: one file at most, `--workers N`, `--cut N` and `--first`. If they don't
 /// say, there are 4 workers, and the cut is 4096. The word `-` is standard input, as no word is.
 ///
 /// # Errors
-/// `Bad` where the words are others, or ask for help or the version; `Memory` where memory was refused.
+/// `Bad` if the words are others, or ask for help or the version; `Memory` if memory was refused.
 pub fn read_words(alloc: Global, words: &[String]) -> Result<Words, WordsFault>
     ensures file { IfOk result (λ read. option_map string_bytes read.file ≡ file_named (map string_bytes words.now)) }
     ensures workers { IfOk result (λ read. Some read.workers ≡ workers_named (map string_bytes words.now)) }

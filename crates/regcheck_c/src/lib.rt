@@ -2,7 +2,7 @@
 //! and keeps nothing between calls.
 //!
 //! What a C program may rely on: [`regcheck_report`] says of the history in its input what `regcheck` would say, and puts
-//! the same report where it is told to. `library/regcheck.h` declares it.
+//! the same report if it is told to. `library/regcheck.h` declares it.
 //!
 //! Read it in this order: `status`, which numbers the endings; `answer`, what a call says; `place`, where the report goes.
 #![tactic(auto)]
@@ -23,7 +23,7 @@ pub use status::{ATOMIC, NO_MEMORY, NOT_ATOMIC, REFUSED, TOO_SMALL};
 use std::alloc::Global;
 
 /// Checks the history in the input, puts its report at the beginning of `out`, and says in `answer` what came of it. `out`
-/// stays as it was where there is no report, or no room for all of it.
+/// stays as it was if there is no report, or no room for all of it.
 #[unsafe(no_mangle)]
 pub extern "C" fn regcheck_report(alloc: Global, input: &[u8], out: &mut [u8], answer: &mut Answer)
     // What is said, and the bytes at `out`, are those of the report or the refusal of the input, or memory was refused.

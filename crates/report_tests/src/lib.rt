@@ -9,7 +9,7 @@
 #![tactic(auto)]
 
 #[cfg(test)]
-mod ends;
+mod failing_ends;
 #[cfg(test)]
 mod fails;
 #[cfg(test)]

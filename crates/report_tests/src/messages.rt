@@ -41,7 +41,7 @@ fn said(alloc: Global, line: u32, number: u8, other: Option<u32>) -> Result<Stri
     )
 }
 
-// What is said of any line and any other line, where so much is said of the first.
+// The message of a number, on any line and with any other line, has this reason.
 fn expect_lines(rt: &(impl AllocGlobal + Abort), number: u8, reason: &str) -> Result<(), Fail> {
     let alloc = rt.alloc();
     for line in LINES {

@@ -239,7 +239,7 @@ fn as_many_at_once_as_workers(rt: HostRuntime) -> Result<(), Fail> {
     Ok(())
 }
 
-// So they are where there are many pieces.
+// So they are when there are many pieces.
 #[test]
 fn many_pieces_at_once(rt: HostRuntime) -> Result<(), Fail> {
     for (workers, reads) in [(2, 80), (16, 300)] {

@@ -3,10 +3,10 @@ use Rattle.std.proofs.Common.{◌≡◌, ℕ, length, length-append, ◌∷◌, 
 use Rattle.std.proofs.lemmas.List.{length-set}
 use Rattle.std.proofs.lemmas.Option.{slice_get_read}
 use Rattle.history_text.specs.declared.event.Val.{Val}
-use Rattle.reg_arena.specs.declared.ids.EvId.{EvId}
-use Rattle.reg_arena.specs.declared.ends.Entry.{Entry}
-use Rattle.reg_arena.specs.Shown.{by_value}
-use Rattle.reg_arena.specs.Threads.{link_at, value_number, whole}
+use Rattle.history_model.specs.declared.ids.EvId.{EvId}
+use Rattle.reg_arena.specs.declared.list_ends.Entry.{Entry}
+use Rattle.history_model.specs.Walking.{by_value}
+use Rattle.reg_arena.specs.EventLists.{link_at, value_number, whole}
 use Rattle.reg_arena.proofs.Links.{link-push}
 use Rattle.reg_arena.proofs.Values.{known-key, number-within, number-new, entry-is, entered-known, entered-new, joined-known, joined-new, keys-added}
 use Rattle.reg_arena.proofs.ByValue.{key-by, key-none, key-without}

@@ -1,6 +1,6 @@
 use Rattle.std.proofs.Common.{Some, sym, subst, ◌∙◌}
-use Rattle.reg_arena.specs.Shown.{IsOper, IsOperOf}
-use Rattle.reg_arena.proofs.Named.{has-oper}
+use Rattle.history_model.specs.Naming.{IsOper, IsOperOf}
+use Rattle.history_model.proofs.Named.{has-oper}
 use Rattle.reg_arena.proofs.tests.precedes.Goals as goal
 
 pub precedes-requires-clause-one : goal.precedes-requires-clause-one

@@ -1,5 +1,5 @@
 use Rattle.std.proofs.Common.{◌+◌}
-use Rattle.reg_arena.specs.Operations.{of_register, operations}
+use Rattle.history_model.specs.Operations.{of_register, operations}
 use Rattle.reg_lamport.specs.Levels.{AllKeep}
 use Rattle.reg_lamport.proofs.breaks.first_bad.Given as goal
 

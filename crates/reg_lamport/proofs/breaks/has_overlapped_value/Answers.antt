@@ -1,10 +1,10 @@
 use Rattle.std.proofs.Common.{sym, ap, ◌∙◌, subst}
 use Rattle.std.proofs.lemmas.Bool.{false≢true}
-use Rattle.reg_arena.specs.Lamport.{HasOverlappedValue}
-use Rattle.reg_arena.specs.Operations.{of_register, operations}
-use Rattle.reg_arena.specs.declared.op.Op.{Op}
-use Rattle.reg_arena.proofs.Named.{one-named}
-use Rattle.reg_lamport.proofs.Breaking.{named-oper, value-there, shown-reply, reply-event, none-written, one-written}
+use Rattle.history_model.specs.Lamport.{HasOverlappedValue}
+use Rattle.history_model.specs.Operations.{of_register, operations}
+use Rattle.history_model.specs.declared.op.Op.{Op}
+use Rattle.history_model.proofs.Named.{one-named, named-oper}
+use Rattle.reg_lamport.proofs.Breaking.{value-there, shown-reply, reply-event, none-written, one-written}
 use Rattle.reg_lamport.proofs.breaks.has_overlapped_value.Goals as goal
 
 pub returns-in_default : goal.returns-in_default

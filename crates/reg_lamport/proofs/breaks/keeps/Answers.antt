@@ -1,15 +1,15 @@
 use Rattle.std.proofs.Common.{◌≡◌, Option, Bool, false, List, sym, ap, ◌∙◌, subst, refl, IsTrue, ◌↔◌}
 use Rattle.std.proofs.lemmas.Bool.{false≢true}
 use Rattle.history_text.specs.declared.event.Val.{Val}
-use Rattle.reg_arena.specs.Operations.{Operation, of_register, operations}
-use Rattle.reg_arena.specs.Shown.{op_shown}
-use Rattle.reg_arena.specs.declared.op.Op.{Op}
-use Rattle.reg_arena.specs.declared.ids.Oper.TheVariants.{Called}
-use Rattle.reg_arena.proofs.Named.{one-named}
+use Rattle.history_model.specs.Operations.{Operation, of_register, operations}
+use Rattle.history_model.specs.Naming.{op_shown}
+use Rattle.history_model.specs.declared.op.Op.{Op}
+use Rattle.history_model.specs.declared.ids.Oper.TheVariants.{Called}
+use Rattle.history_model.proofs.Named.{one-named, named-oper}
 use Rattle.reg_lamport.specs.declared.level.Level.{Level}
 use Rattle.reg_lamport.specs.declared.level.Level.TheVariants.{Safe, Regular}
 use Rattle.reg_lamport.specs.Levels.{Keeps}
-use Rattle.reg_lamport.proofs.Breaking.{named-oper, old-keeps, safe-keeps, regular-keeps}
+use Rattle.reg_lamport.proofs.Breaking.{old-keeps, safe-keeps, regular-keeps}
 use Rattle.reg_lamport.proofs.breaks.keeps.Goals as goal
 
 pub op-read-requires : goal.op-read-requires

@@ -1,9 +1,9 @@
 use Rattle.std.proofs.Common.{◌<◌, ◌+◌, subst, sym, ◌∙◌, ap, refl}
 use Rattle.std.specs.List.{AllZip}
-use Rattle.reg_arena.specs.Walking.{IsOnWalk, walk_left}
-use Rattle.reg_arena.specs.Lamport.{completed_reads}
-use Rattle.reg_arena.specs.Operations.{of_register, operations}
-use Rattle.reg_arena.proofs.Walking.{event-at, walk-within, walk-ends, named-is-called}
+use Rattle.history_model.specs.Walking.{IsOnWalk, walk_left}
+use Rattle.history_model.specs.Lamport.{completed_reads}
+use Rattle.history_model.specs.Operations.{of_register, operations}
+use Rattle.history_model.proofs.Walking.{event-at, walk-within, walk-ends, named-is-called}
 use Rattle.reg_lamport.specs.Gathering.{call_met}
 use Rattle.reg_lamport.specs.Reads.{IsEntryOf}
 use Rattle.reg_lamport.proofs.Passing.{IsGathering, gathering-begins, gathering-skips, gathering-adds, gathering-ends}

@@ -1,4 +1,4 @@
-use Rattle.reg_arena.specs.Walking.{walk_left}
+use Rattle.history_model.specs.Walking.{walk_left}
 use Rattle.reg_lamport.proofs.Passing.{IsGathering}
 use Rattle.reg_lamport.proofs.read_list.reads.Given as goal
 

@@ -1,7 +1,7 @@
 use Rattle.std.proofs.Common.{◌<◌, ◌∙◌, refl, sym, subst}
 use Rattle.std.proofs.lemmas.Bool.{false≢true}
-use Rattle.reg_arena.specs.Walking.{IsOnWalk, walk_left}
-use Rattle.reg_arena.proofs.Walking.{walk-within, walk-ends}
+use Rattle.history_model.specs.Walking.{IsOnWalk, walk_left}
+use Rattle.history_model.proofs.Walking.{walk-within, walk-ends}
 use Rattle.reg_lamport.proofs.Writers.{IsWriterSoFar, writer-begins, writer-stays, writer-goes, not-single, writer-ends}
 use Rattle.reg_lamport.proofs.writer.single_writer.Goals.{then-begins_write+else-is_another, else-begins_write}
 use Rattle.reg_lamport.proofs.writer.single_writer.Goals as goal

@@ -32,4 +32,4 @@ returns c =
     let l = c.loop-worked in
     let seat = c.in-Some-whole.seat in
     let joined : IsJoinedSearch c.args.arena.now c.args.board l.refused seat = subst (λ o. IfSome o (IsJoinedSearch c.args.arena.now c.args.board l.refused)) c.in-Some-whole.is l.invariant.whole in
-    found-at c.args.arena.now _ c.args.board.jobs c.closed-least.result seat.view c.requires.jobs c.closed-least.ensures.least (c.closed-least.ensures.drawn (joined.told c.if-refused-2.false)) (joined.searched c.if-refused-2.false)
+    found-at c.args.arena.now _ c.args.board.jobs c.closed-least.result seat.view c.requires.jobs c.closed-least.ensures.least (c.closed-least.ensures.drawn (joined.exhausted c.if-refused-2.false)) (joined.searched c.if-refused-2.false)

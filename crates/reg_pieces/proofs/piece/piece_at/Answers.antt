@@ -1,7 +1,7 @@
 use Rattle.std.proofs.lemmas.Result.{IfOk-weaker}
 use Rattle.std.proofs.Common.{subst}
 use Rattle.reg_pieces.specs.Judged.{IsJudged}
-use Rattle.reg_arena.specs.Operations.{register_of}
+use Rattle.history_model.specs.Operations.{register_of}
 use Rattle.reg_pieces.specs.Plan.{IsPieceAt, IsPieceOf}
 use Rattle.reg_pieces.specs.declared.tasks.Task.TheVariants.{Judge, Reads}
 use Rattle.reg_pieces.proofs.Fitness.{has-part, judge-fits, no-first, no-none, piece-done, reads-fit}

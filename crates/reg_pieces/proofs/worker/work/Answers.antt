@@ -5,14 +5,15 @@ use Rattle.job_board.specs.Seats.{SeatValue}
 use Rattle.job_board.specs.declared.view.View.{View}
 use Rattle.reg_pieces.specs.declared.piece.Piece.{Piece}
 use Rattle.reg_pieces.proofs.Putting.{on_success}
-use Rattle.reg_pieces.proofs.Working.{IsWorking, first-plan, just-drawn, lacks-drawn, whole-plan, working-done, working-looked}
+use Rattle.reg_pieces.proofs.Working.{IsWorking, first-plan, lacks-drawn, whole-plan, working-done, working-looked}
 use Rattle.reg_pieces.proofs.worker.work.Goals as goal
 use Rattle.reg_pieces.proofs.worker.work.Goals.{then-is_first, else-is_first}
+use Rattle.job_board.proofs.Lacking.{drawn_there}
 
 pub do_register-added-requires-clause-drawn : goal.do_register-added-requires-clause-drawn
 do_register-added-requires-clause-drawn g c =
     let n = c.in-Some.number in
-    subst (λ (v : View). 0 < times n v.drawn) (sym c.in-Some.ensures.some.3) (just-drawn n c.loop-number.seat.view.drawn)
+    subst (λ (v : View). 0 < times n v.drawn) (sym c.in-Some.ensures.some.3) (drawn_there n c.loop-number.seat.view.drawn)
 
 pub loop-number-smaller : goal.loop-number-smaller
 loop-number-smaller g c =

@@ -48,5 +48,5 @@ returns-else-refused-2 c =
     let l = c.loop-worked in
     let seat = c.in-Some-whole.seat in
     let joined : IsJoined c.args.board l.pieces l.refused seat = subst (λ o. IfSome o (IsJoined c.args.board l.pieces l.refused)) c.in-Some-whole.is l.invariant.whole in
-    let drawn = c.closed.ensures.drawn (joined.told c.if-refused-2.false) in
+    let drawn = c.closed.ensures.drawn (joined.exhausted c.if-refused-2.false) in
     all-done c.args.arena.now c.args.plan.now.tasks l.pieces l.invariant.slots (λ n inside. joined.full c.if-refused-2.false n (drawn n (omega (arith, inside, c.requires.jobs))))

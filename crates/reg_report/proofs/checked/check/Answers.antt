@@ -1,7 +1,7 @@
 use Rattle.std.proofs.Common.{Ok, subst, arith}
 use Rattle.std.specs.Prelude.{List, flat_map}
-use Rattle.reg_arena.specs.History.{History}
-use Rattle.reg_arena.specs.Refusals.{Line}
+use Rattle.history_model.specs.History.{History}
+use Rattle.history_model.specs.Refusals.{Line}
 use Rattle.reg_report.specs.Answer.{IsAnswerToLines}
 use Rattle.reg_report.specs.First.{IsReportBy}
 use Rattle.reg_report.proofs.Answering.{answer-within, refused-by-build}

@@ -1,6 +1,6 @@
 use Rattle.std.proofs.Common.{inl, inr, length}
 use Rattle.std.proofs.lemmas.Bool.{cases_lt}
-use Rattle.reg_arena.specs.Operations.{operations}
+use Rattle.history_model.specs.Operations.{operations}
 use Rattle.reg_report.proofs.Locality.{each, nothing_atomic}
 use Rattle.reg_report.proofs.laws.registers_decide.Goals as goal
 

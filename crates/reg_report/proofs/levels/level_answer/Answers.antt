@@ -1,9 +1,10 @@
 use Rattle.std.proofs.Common.{Some, refl, ap, subst, length}
-use Rattle.reg_arena.specs.declared.ids.Oper.TheVariants.{Called}
+use Rattle.history_model.specs.declared.ids.Oper.TheVariants.{Called}
 use Rattle.reg_lamport.specs.Levels.{IsFirstBadRead}
 use Rattle.reg_lamport.proofs.Cuts.{list-keeps, list-breaks}
-use Rattle.reg_report.proofs.Naming.{named-oper, line-own}
+use Rattle.reg_report.proofs.Naming.{line-own}
 use Rattle.reg_report.proofs.levels.level_answer.Goals as goal
+use Rattle.history_model.proofs.Named.{named-oper}
 
 pub line-requires : goal.line-requires
 line-requires c =

@@ -1,7 +1,7 @@
 use Rattle.std.proofs.Common.{◌<◌, Some, None, drop, refl, sym, subst}
-use Rattle.reg_arena.specs.Lamport.{HasSingleWriter}
+use Rattle.history_model.specs.Lamport.{HasSingleWriter}
 use Rattle.reg_report.specs.Levels.{AreLevels}
-use Rattle.reg_arena.specs.Operations.{register_of}
+use Rattle.history_model.specs.Operations.{register_of}
 use Rattle.reg_pieces.specs.Plan.{IsListOf}
 use Rattle.reg_report.proofs.ListedLevels.{list-cuts, list-leaves, none-leaves}
 use Rattle.reg_report.proofs.levels.levels_of.Goals as goal

@@ -1,5 +1,5 @@
 use Rattle.std.proofs.Common.{refl, sym, ◌∙◌}
-use Rattle.reg_arena.specs.Operations.{register_of}
+use Rattle.history_model.specs.Operations.{register_of}
 use Rattle.reg_report.proofs.Naming.{inversion-opers, inversion-shown}
 use Rattle.reg_report.proofs.register.inverted.Goals as goal
 

@@ -1,16 +1,16 @@
 use Rattle.std.proofs.Common.{◌∙◌, ap, sym, arith}
-use Rattle.reg_arena.proofs.ByEvent.{element}
-use Rattle.reg_arena.specs.declared.op.Op.{Op}
+use Rattle.history_model.specs.declared.op.Op.{Op}
 use Rattle.reg_report.proofs.Tallying.{counting-begins, counting-ends, counting-skips, counting-adds, tally-room}
 use Rattle.reg_report.proofs.tally.count_calls.Goals.{then-begins, else-begins}
 use Rattle.reg_report.proofs.tally.count_calls.Goals as goal
+use Rattle.history_model.proofs.Lists.{slice_get_inside}
 
 pub loop-number-init : goal.loop-number-init
 loop-number-init c = counting-begins c.args.arena.now c.in_ok-tallies.tallies.items c.register_count.result c.in_ok-tallies.ensures c.register_count.ensures.count
 
 pub op-requires : goal.op-requires
 op-requires c =
-    let x = element c.args.arena.now.events c.loop-number.number (omega (arith, c.loop-number-test.true, c.event_count-number-end.ensures.count)) in
+    let x = slice_get_inside c.args.arena.now.events c.loop-number.number (omega (arith, c.loop-number-test.true, c.event_count-number-end.ensures.count)) in
     (x.0, x.1, sym (c.begins.ensures x.0 x.1) ∙ c.if-begins.true)
 
 pub add-requires-clause-within : goal.add-requires-clause-within
@@ -28,7 +28,7 @@ loop-number-preserved c =
     let h = c.args.arena.now in
     let n = c.loop-number.number in
     let ts = c.loop-number.tallies.items in
-    let x = element h.events n (omega (arith, c.loop-number-test.true, c.event_count-number-end.ensures.count)) in
+    let x = slice_get_inside h.events n (omega (arith, c.loop-number-test.true, c.event_count-number-end.ensures.count)) in
     let is = c.begins.ensures x.0 x.1 in
     elim c.if-begins.branch [
       | then-begins w ↦

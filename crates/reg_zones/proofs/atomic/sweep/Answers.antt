@@ -1,4 +1,4 @@
-use Rattle.reg_arena.specs.Operations.{of_register, operations}
+use Rattle.history_model.specs.Operations.{of_register, operations}
 use Rattle.reg_zones.proofs.Verdict.{refused, verdict}
 use Rattle.reg_zones.proofs.atomic.sweep.Goals as goal
 

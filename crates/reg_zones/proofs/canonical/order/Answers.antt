@@ -1,6 +1,6 @@
 use Rattle.std.proofs.Common.{◌≡◌, ◌∙◌, ap}
 use Rattle.std.proofs.lemmas.Result.{IfOk-weaker}
-use Rattle.reg_arena.specs.Operations.{of_register, operations}
+use Rattle.history_model.specs.Operations.{of_register, operations}
 use Rattle.reg_zones.specs.Entries.{entries_placed}
 use Rattle.reg_zones.specs.Order.{IsOrder}
 use Rattle.reg_zones.proofs.Ordered.{ordered}

@@ -1,10 +1,10 @@
 use Rattle.std.proofs.Common.{ℕ, refl, inl, ap, sym, ◌∙◌}
-use Rattle.reg_arena.specs.declared.ids.Oper.TheVariants.{Initial}
-use Rattle.reg_arena.specs.Operations.{of_register, operations, initial_write}
+use Rattle.history_model.specs.declared.ids.Oper.TheVariants.{Initial}
+use Rattle.history_model.specs.Operations.{of_register, operations, initial_write}
 use Rattle.reg_zones.specs.declared.entry.Entry.{Entry}
-use Rattle.reg_zones.proofs.Registers.{of_register-In}
 use Rattle.reg_zones.proofs.LowEndAt.{zone-low}
 use Rattle.reg_zones.proofs.entry.initial_entry.Goals as goal
+use Rattle.history_model.proofs.Recorded.{of_register-In}
 
 pub zone_of-zone-requires : goal.zone_of-zone-requires
 zone_of-zone-requires c =

@@ -1,5 +1,5 @@
 use Rattle.std.proofs.Common.{length}
-use Rattle.reg_arena.specs.Operations.{of_register, operations}
+use Rattle.history_model.specs.Operations.{of_register, operations}
 use Rattle.reg_zones.proofs.Walks.{ahead}
 use Rattle.reg_zones.proofs.Listing.{IsListingSoFar}
 use Rattle.reg_zones.proofs.entry.listed.Given as goal

@@ -1,6 +1,6 @@
 use Rattle.std.proofs.Common.{◌≡◌, ◌+◌, ◌∙◌, cond, ap, sym, subst}
-use Rattle.reg_arena.specs.Operations.{writes, of_register, operations}
-use Rattle.reg_arena.specs.declared.op.Op.{Op}
+use Rattle.history_model.specs.Operations.{writes, of_register, operations}
+use Rattle.history_model.specs.declared.op.Op.{Op}
 use Rattle.reg_zones.specs.Entries.{IsListedAt, turn}
 use Rattle.reg_zones.proofs.Walks.{value-within}
 use Rattle.reg_zones.proofs.ListedAt.{not_counted, not_found, listed_here}

@@ -1,5 +1,5 @@
 use Rattle.std.proofs.Common.{◌-◌, ap, ◌∙◌, arith}
-use Rattle.reg_arena.specs.declared.ids.Oper.TheVariants.{Called}
+use Rattle.history_model.specs.declared.ids.Oper.TheVariants.{Called}
 use Rattle.reg_zones.proofs.Registers.{call-name}
 use Rattle.reg_zones.proofs.fault.called_at.Goals as goal
 

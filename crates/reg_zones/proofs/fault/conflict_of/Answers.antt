@@ -1,5 +1,5 @@
 use Rattle.std.proofs.Common.{◌≡◌, sym, ap, ◌∙◌}
-use Rattle.reg_arena.specs.declared.ids.Oper.{Oper}
+use Rattle.history_model.specs.declared.ids.Oper.{Oper}
 use Rattle.reg_zones.proofs.Registers.{first_replied, last_called}
 use Rattle.reg_zones.proofs.fault.conflict_of.Goals as goal
 

@@ -1,7 +1,8 @@
 use Rattle.std.proofs.Common.{◌-◌, inr, sym, ◌∙◌, arith}
-use Rattle.reg_arena.specs.Operations.{operations}
-use Rattle.reg_zones.proofs.Registers.{early-reply, found-name, reply-event, of_register-In}
+use Rattle.history_model.specs.Operations.{operations}
+use Rattle.reg_zones.proofs.Registers.{early-reply, found-name, reply-event}
 use Rattle.reg_zones.proofs.fault.replied_at.Goals as goal
+use Rattle.history_model.proofs.Recorded.{of_register-In}
 
 pub op_of-requires : goal.op_of-requires
 op_of-requires c =

@@ -1,7 +1,7 @@
 use Rattle.std.proofs.Common.{◌<◌, ◌∙◌, length, sym, subst, Option}
 use Rattle.std.proofs.lemmas.Bool.{false≢true}
-use Rattle.reg_arena.specs.declared.ids.EvId.{EvId}
-use Rattle.reg_arena.specs.Operations.{of_register, operations}
+use Rattle.history_model.specs.declared.ids.EvId.{EvId}
+use Rattle.history_model.specs.Operations.{of_register, operations}
 use Rattle.reg_zones.specs.declared.pass.Cluster.{Cluster}
 use Rattle.reg_zones.proofs.Walks.{IsWalk, walk-start, walk-more, key-within, ahead, ahead-smaller}
 use Rattle.reg_zones.proofs.Passing.{IsPassing, started_forward, started_backward, met_here, passed, at_end}

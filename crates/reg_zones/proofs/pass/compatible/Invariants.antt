@@ -1,5 +1,5 @@
 use Rattle.std.proofs.Common.{length}
-use Rattle.reg_arena.specs.Operations.{of_register, operations}
+use Rattle.history_model.specs.Operations.{of_register, operations}
 use Rattle.reg_zones.proofs.Walks.{IsWalk, ahead}
 use Rattle.reg_zones.proofs.Passing.{IsPassing}
 use Rattle.reg_zones.proofs.pass.compatible.Given as goal

@@ -1,7 +1,7 @@
 use Rattle.std.proofs.Common.{refl, inl}
-use Rattle.reg_arena.specs.Operations.{operations, initial_write}
-use Rattle.reg_zones.proofs.Registers.{of_register-In}
+use Rattle.history_model.specs.Operations.{operations, initial_write}
 use Rattle.reg_zones.proofs.pass.initial_cluster.Goals as goal
+use Rattle.history_model.proofs.Recorded.{of_register-In}
 
 pub zone_of-zone-requires : goal.zone_of-zone-requires
 zone_of-zone-requires c =

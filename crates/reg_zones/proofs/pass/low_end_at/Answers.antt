@@ -1,6 +1,6 @@
 use Rattle.std.proofs.Common.{sym, ap, subst, ◌+◌, ◌∙◌}
-use Rattle.reg_arena.specs.declared.op.Op.{Op}
-use Rattle.reg_arena.specs.Operations.{of_register, operations}
+use Rattle.history_model.specs.declared.op.Op.{Op}
+use Rattle.history_model.specs.Operations.{of_register, operations}
 use Rattle.reg_zones.specs.Sweep.{IsLowEndAt}
 use Rattle.reg_zones.proofs.Walks.{value-within}
 use Rattle.reg_zones.proofs.Registers.{unmet_low_end}

@@ -1,6 +1,6 @@
 use Rattle.std.proofs.Common.{◌≡◌, ℕ, ◌+◌, List, Option, ◌∙◌, sym, subst, arith}
 use Rattle.std.proofs.lemmas.Bool.{false≢true}
-use Rattle.reg_arena.specs.Operations.{Operation, of_register, operations}
+use Rattle.history_model.specs.Operations.{Operation, of_register, operations}
 use Rattle.reg_zones.specs.declared.pass.Cluster.{Cluster}
 use Rattle.reg_zones.specs.Sweep.{IsMet}
 use Rattle.reg_zones.proofs.OnePass.{step_none, step_forward, step_backward, step_found}
@@ -17,8 +17,8 @@ returns-in_default-clause-ok c =
 pub conflict_of-requires-clause-first : goal.conflict_of-requires-clause-first
 conflict_of-requires-clause-first c =
     let f = c.in-Some.ensures in
-    let k = c.in-Some-clash_with.ensures in
-    let q = step_found (of_register c.args.register.0 (operations c.args.arena.now)) c.told.ensures.history (c.args.id.0 + 2) c.args.last c.in-Some-clash_with.first c.in-Some.cluster f c.requires.so_far k in (
+    let k = c.in-Some-conflict_with.ensures in
+    let q = step_found (of_register c.args.register.0 (operations c.args.arena.now)) c.told.ensures.history (c.args.id.0 + 2) c.args.last c.in-Some-conflict_with.first c.in-Some.cluster f c.requires.so_far k in (
       q.0,
       q.1,
       record {
@@ -33,11 +33,11 @@ conflict_of-requires-clause-first c =
 pub returns-then-is_forward-clause-ok : goal.returns-then-is_forward-clause-ok
 returns-then-is_forward-clause-ok c =
     let f = c.in-Some.ensures in
-    let k = c.in_default-clash_with.ensures in
+    let k = c.in_default-conflict_with.ensures in
     three c.args.id.0 _ _ (step_forward (of_register c.args.register.0 (operations c.args.arena.now)) c.told.ensures.history (c.args.id.0 + 2) c.args.last c.in-Some.cluster f c.requires.so_far k (c.is_forward.ensures.0 c.if-is_forward.true))
 
 pub returns-else-is_forward-clause-ok : goal.returns-else-is_forward-clause-ok
 returns-else-is_forward-clause-ok c =
     let f = c.in-Some.ensures in
-    let k = c.in_default-clash_with.ensures in
+    let k = c.in_default-conflict_with.ensures in
     three c.args.id.0 _ _ (step_backward (of_register c.args.register.0 (operations c.args.arena.now)) c.told.ensures.history (c.args.id.0 + 2) c.args.last c.in-Some.cluster f c.requires.so_far k (λ l. false≢true (sym c.if-is_forward.false ∙ c.is_forward.ensures.1 l)))

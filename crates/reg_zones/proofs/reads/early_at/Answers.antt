@@ -1,6 +1,6 @@
 use Rattle.std.proofs.Common.{sym, ap, subst, ◌∙◌, arith}
-use Rattle.reg_arena.specs.declared.op.Op.{Op}
-use Rattle.reg_arena.specs.Operations.{Operation, of_register, operations}
+use Rattle.history_model.specs.declared.op.Op.{Op}
+use Rattle.history_model.specs.Operations.{Operation, of_register, operations}
 use Rattle.reg_zones.specs.Sweep.{IsEarlyAt}
 use Rattle.reg_zones.proofs.CalledReads.{the_write, no_write, read_of, one_write}
 use Rattle.reg_zones.proofs.reads.early_at.Goals as goal

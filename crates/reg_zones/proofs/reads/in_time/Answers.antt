@@ -1,5 +1,5 @@
 use Rattle.std.proofs.Common.{ℕ, ◌+◌, ◌<◌, None, length, subst, sym}
-use Rattle.reg_arena.specs.Operations.{of_register, operations}
+use Rattle.history_model.specs.Operations.{of_register, operations}
 use Rattle.reg_zones.specs.Sweep.{IsEarlyAt}
 use Rattle.reg_zones.proofs.Walks.{IsWalk, walk-start, walk-more, key-within, ahead, ahead-smaller}
 use Rattle.reg_zones.proofs.FirstReads.{all_in_time, first_early}

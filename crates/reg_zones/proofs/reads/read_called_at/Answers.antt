@@ -1,5 +1,5 @@
 use Rattle.std.proofs.Common.{◌+◌, sym, subst}
-use Rattle.reg_arena.specs.Operations.{of_register, operations}
+use Rattle.history_model.specs.Operations.{of_register, operations}
 use Rattle.reg_zones.specs.Sweep.{IsReadCalledAt}
 use Rattle.reg_zones.proofs.CalledReads.{not_write, not_pending, not_empty}
 use Rattle.reg_zones.proofs.reads.read_called_at.Goals as goal

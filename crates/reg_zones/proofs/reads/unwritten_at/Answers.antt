@@ -1,5 +1,5 @@
 use Rattle.std.proofs.Common.{sym, ap, ◌∙◌}
-use Rattle.reg_arena.specs.Operations.{Operation}
+use Rattle.history_model.specs.Operations.{Operation}
 use Rattle.reg_zones.proofs.CalledReads.{the_write, no_write, read_of}
 use Rattle.reg_zones.proofs.reads.unwritten_at.Goals as goal
 

@@ -1,5 +1,5 @@
 use Rattle.std.proofs.Common.{◌≡◌, ◌-◌, ◌<◌, Some, length, subst, arith}
-use Rattle.reg_arena.specs.Shown.{by_value, key_at}
+use Rattle.history_model.specs.Walking.{by_value, key_at}
 use Rattle.reg_zones.proofs.ValuedEvents.{read-late, read-key}
 use Rattle.reg_zones.proofs.Walks.{value-within}
 use Rattle.reg_zones.proofs.reads.write_of_read.Goals as goal

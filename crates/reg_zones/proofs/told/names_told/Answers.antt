@@ -1,5 +1,5 @@
 use Rattle.std.proofs.Common.{subst}
-use Rattle.reg_arena.specs.Shown.{IsOper}
+use Rattle.history_model.specs.Naming.{IsOper}
 use Rattle.reg_zones.proofs.told.names_told.Goals as goal
 
 pub returns : goal.returns

@@ -1,5 +1,5 @@
 use Rattle.std.proofs.Common.{◌<◌, sym, subst, length}
-use Rattle.reg_arena.specs.declared.op.Op.{Op}
+use Rattle.history_model.specs.declared.op.Op.{Op}
 use Rattle.reg_zones.specs.Register.{IsRegister}
 use Rattle.reg_zones.proofs.told.operation.Goals as goal
 

@@ -1,5 +1,5 @@
 use Rattle.std.proofs.Common.{inl, sym, ◌∙◌}
-use Rattle.reg_arena.proofs.Walking.{event-at}
+use Rattle.history_model.proofs.Walking.{event-at}
 use Rattle.reg_zones.proofs.Walks.{key-within}
 use Rattle.reg_zones.proofs.Registers.{begun, none-begun}
 use Rattle.reg_zones.proofs.told.operation_called.Goals as goal

@@ -1,11 +1,12 @@
 use Rattle.std.proofs.Common.{◌≡◌, sym, subst}
-use Rattle.reg_arena.specs.Operations.{Operation, operations}
-use Rattle.reg_arena.specs.Shown.{op_shown}
+use Rattle.history_model.specs.Operations.{Operation, operations}
+use Rattle.history_model.specs.Naming.{op_shown}
 use Rattle.reg_zones.specs.Sweep.{IsOperationOf}
 use Rattle.reg_zones.proofs.Walks.{key-within}
 use Rattle.reg_zones.proofs.Kept.{named-oper}
-use Rattle.reg_zones.proofs.Registers.{key-operation, of_register-In}
+use Rattle.reg_zones.proofs.Registers.{key-operation}
 use Rattle.reg_zones.proofs.told.operation_of.Goals as goal
+use Rattle.history_model.proofs.Recorded.{of_register-In}
 
 pub op_of-requires : goal.op_of-requires
 op_of-requires c = key-within c.args.arena.now.events c.args.id.0 c.args.register.0 c.requires.here

@@ -1,8 +1,8 @@
 use Rattle.std.proofs.Common.{◌≡◌, ◌-◌, Some, inl, inr, sym, ap, subst, ◌∙◌, arith}
 use Rattle.std.proofs.lemmas.Bool.{false≢true}
-use Rattle.reg_arena.specs.declared.op.Op.{Op}
-use Rattle.reg_arena.specs.Operations.{writes}
-use Rattle.reg_arena.specs.Shown.{by_value, key_at}
+use Rattle.history_model.specs.declared.op.Op.{Op}
+use Rattle.history_model.specs.Operations.{writes}
+use Rattle.history_model.specs.Walking.{by_value, key_at}
 use Rattle.reg_zones.proofs.ValuedEvents.{replied, pending, late-reply, reply-key, call-key}
 use Rattle.reg_zones.proofs.valued.valued_event.Goals as goal
 

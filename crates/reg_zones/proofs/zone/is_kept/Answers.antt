@@ -1,7 +1,7 @@
 use Rattle.std.proofs.Common.{◌↔◌, IsTrue, sym, ap, subst, ◌∙◌}
-use Rattle.reg_arena.specs.declared.op.Op.{Op}
-use Rattle.reg_arena.specs.Operations.{Operation, writes, of_register, operations}
-use Rattle.reg_arena.specs.Shown.{IsFirstReply}
+use Rattle.history_model.specs.declared.op.Op.{Op}
+use Rattle.history_model.specs.Operations.{Operation, writes, of_register, operations}
+use Rattle.history_model.specs.OfValue.{IsFirstReply}
 use Rattle.reg_zones.specs.Clusters.{IsKept}
 use Rattle.reg_zones.proofs.Kept.{the_one, kept-found}
 use Rattle.reg_zones.proofs.zone.is_kept.Goals as goal

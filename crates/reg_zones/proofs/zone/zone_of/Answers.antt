@@ -1,5 +1,5 @@
 use Rattle.std.proofs.Common.{unwrap_or, sym, ap, subst, ◌∙◌}
-use Rattle.reg_arena.specs.Operations.{Operation, of_register, operations}
+use Rattle.history_model.specs.Operations.{Operation, of_register, operations}
 use Rattle.reg_zones.specs.Clusters.{IsKept}
 use Rattle.reg_zones.specs.Sweep.{IsZone}
 use Rattle.reg_zones.proofs.Kept.{the_one, kept-value, kept-zone}

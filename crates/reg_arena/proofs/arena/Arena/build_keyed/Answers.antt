@@ -1,7 +1,7 @@
 -- The arena is the history of the parts so far, none of whose lines is faulty.
 use Rattle.std.proofs.Common.{ℕ, ◌≡◌, ◌++◌, ◌∷◌, [], List, length, flat_map, refl, sym, ap, subst, ◌∙◌, arith}
 use Rattle.reg_arena.specs.Built.{IsBuilt, IsBuiltWith}
-use Rattle.reg_arena.specs.Refusals.{Line, IsBuildError}
+use Rattle.history_model.specs.Refusals.{Line, IsBuildError}
 use Rattle.reg_arena.proofs.Reading.{nothing-built, all-built, next-part, error-of-all}
 use Rattle.reg_arena.proofs.arena.Arena.build_keyed.Goals as goal
 

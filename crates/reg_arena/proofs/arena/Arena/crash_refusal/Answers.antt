@@ -1,8 +1,8 @@
 -- After a crash the limit comes first, and then the crash.
 use Rattle.std.proofs.Common.{◌≡◌, cond, nat_le, length, slice_get, Some, None, sym, ap, subst, ◌∙◌}
 use Rattle.history_text.specs.declared.limits.TheConstants.{MAX_EVENTS}
-use Rattle.reg_arena.specs.Refusals.{refused}
-use Rattle.reg_arena.specs.History.{History}
+use Rattle.history_model.specs.Refusals.{refused}
+use Rattle.history_model.specs.History.{History}
 use Rattle.reg_arena.specs.Step.{IsStanding}
 use Rattle.reg_arena.specs.declared.standing.Standing.TheVariants.{Crashed}
 use Rattle.reg_arena.proofs.Refused.{late-full, late-crashed}

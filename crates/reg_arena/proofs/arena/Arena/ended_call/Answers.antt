@@ -1,5 +1,5 @@
 use Rattle.std.proofs.Common.{Some, None, sym, ap, subst, ◌∙◌}
-use Rattle.reg_arena.specs.History.{History}
+use Rattle.history_model.specs.History.{History}
 use Rattle.reg_arena.specs.Step.{IsStanding}
 use Rattle.reg_arena.specs.declared.standing.Standing.TheVariants.{Crashed, Free}
 use Rattle.reg_arena.proofs.Refused.{end-closed, end-crashed}

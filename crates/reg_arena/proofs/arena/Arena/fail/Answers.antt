@@ -1,5 +1,5 @@
 use Rattle.std.proofs.Common.{Some, ap, sym, subst, ◌∙◌}
-use Rattle.reg_arena.proofs.Accepted.{fail-ends}
+use Rattle.history_model.proofs.Accepted.{fail-ends}
 use Rattle.reg_arena.proofs.Step.{memory-step}
 use Rattle.reg_arena.proofs.arena.Arena.fail.Goals as goal
 

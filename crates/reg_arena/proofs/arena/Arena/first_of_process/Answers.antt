@@ -1,6 +1,6 @@
 use Rattle.std.proofs.Common.{Some, sym, subst, ◌∙◌}
-use Rattle.reg_arena.specs.History.{History}
-use Rattle.reg_arena.specs.Shown.{IsFirstOf, by_process}
+use Rattle.history_model.specs.History.{History}
+use Rattle.history_model.specs.Walking.{IsFirstOf, by_process}
 use Rattle.reg_arena.proofs.arena.Arena.first_of_process.Goals as goal
 
 pub returns-in-Some : goal.returns-in-Some

@@ -1,7 +1,7 @@
 use Rattle.std.proofs.Common.{Some, None, sym, subst, ap, option_map}
-use Rattle.reg_arena.specs.declared.ends.Entry.{Entry}
-use Rattle.reg_arena.specs.History.{History}
-use Rattle.reg_arena.specs.Shown.{IsFirstOf, by_value}
+use Rattle.reg_arena.specs.declared.list_ends.Entry.{Entry}
+use Rattle.history_model.specs.History.{History}
+use Rattle.history_model.specs.Walking.{IsFirstOf, by_value}
 use Rattle.reg_arena.proofs.arena.Arena.first_with_value.Goals as goal
 
 pub returns-in-Some : goal.returns-in-Some

@@ -1,7 +1,7 @@
 use Rattle.std.proofs.Common.{cond, nat_le, length, Some, None, sym, ap, subst, ◌∙◌}
 use Rattle.history_text.specs.declared.limits.TheConstants.{MAX_EVENTS}
-use Rattle.reg_arena.specs.Refusals.{refused}
-use Rattle.reg_arena.specs.History.{History}
+use Rattle.history_model.specs.Refusals.{refused}
+use Rattle.history_model.specs.History.{History}
 use Rattle.reg_arena.specs.Step.{IsStanding}
 use Rattle.reg_arena.specs.declared.standing.Standing.{Standing}
 use Rattle.reg_arena.specs.declared.standing.Standing.TheVariants.{Opened, Free}

@@ -1,7 +1,7 @@
 use Rattle.std.proofs.Common.{refl, sym, subst}
-use Rattle.reg_arena.specs.Operations.{initial_write}
-use Rattle.reg_arena.specs.Shown.{IsOper, IsNamed}
-use Rattle.reg_arena.specs.declared.ids.Oper.{Oper}
+use Rattle.history_model.specs.Operations.{initial_write}
+use Rattle.history_model.specs.Naming.{IsOper, IsNamed}
+use Rattle.history_model.specs.declared.ids.Oper.{Oper}
 use Rattle.reg_arena.proofs.OfValue.{initial-named}
 use Rattle.reg_arena.proofs.arena.Arena.op.Goals as goal
 

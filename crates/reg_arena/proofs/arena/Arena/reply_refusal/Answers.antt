@@ -1,10 +1,10 @@
 -- A reply of an open call is refused as the definition says, by what the arena tells of the call.
 use Rattle.std.proofs.Common.{◌≡◌, ◌<◌, cond, nat_le, length, slice_get, true, false, Some, None, inl, inr, refl, sym, ap, subst, ◌∙◌, arith}
 use Rattle.history_text.specs.declared.limits.TheConstants.{MAX_EVENTS}
-use Rattle.reg_arena.specs.Refusals.{refused}
-use Rattle.reg_arena.specs.History.{History, IsRecorded}
+use Rattle.history_model.specs.Refusals.{refused}
+use Rattle.history_model.specs.History.{History, IsRecorded}
 use Rattle.reg_arena.specs.Step.{IsOpenCall}
-use Rattle.reg_arena.proofs.Named.{event-register}
+use Rattle.history_model.proofs.Named.{event-register}
 use Rattle.reg_arena.proofs.Step.{open-named}
 use Rattle.reg_arena.proofs.Refused.{reply-disagreeing, reply-empty, reply-free}
 use Rattle.reg_arena.proofs.arena.Arena.reply_refusal.Goals as goal

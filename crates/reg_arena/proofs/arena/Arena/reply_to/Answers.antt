@@ -1,20 +1,19 @@
 -- The reply of a call is the next event of its process, if that is a reply.
 use Rattle.std.proofs.lemmas.Option.{slice_get_within}
-use Rattle.reg_arena.specs.declared.ids.EvId.{EvId}
+use Rattle.history_model.specs.declared.ids.EvId.{EvId}
 use Rattle.std.proofs.Common.{◌≡◌, ◌<◌, length, Some, None, sym, ap, subst, ◌∙◌, option_and_then}
-use Rattle.reg_arena.specs.Shown.{IsNextOf, by_process}
-use Rattle.reg_arena.specs.Walking.{IsReplyOf}
+use Rattle.history_model.specs.Walking.{IsNextOf, by_process, IsReplyOf}
 use Rattle.reg_arena.proofs.Append.{key-within}
 use Rattle.reg_arena.proofs.ByCall.{reply-none, reply-some, reply-other}
-use Rattle.reg_arena.proofs.ByEvent.{element}
 use Rattle.reg_arena.proofs.arena.Arena.reply_to.Goals as goal
+use Rattle.history_model.proofs.Lists.{slice_get_inside}
 
 pub returns-in_err-next-clause-reply : goal.returns-in_err-next-clause-reply
 returns-in_err-next-clause-reply c = subst (IsReplyOf c.args.self.now.events c.args.id.0) (sym c.from_residual.ensures) (reply-none c.args.self.now.events c.args.id.0 (subst (IsNextOf by_process c.args.self.now.events c.args.id.0) c.in_err-next.was c.next_in_process.ensures))
 
 pub event-requires : goal.event-requires
 event-requires c =
-    let e = element c.args.self.now.events c.args.id.0 c.requires in
+    let e = slice_get_inside c.args.self.now.events c.args.id.0 c.requires in
     let n = subst (IsNextOf by_process c.args.self.now.events c.args.id.0) c.in_ok-next.was c.next_in_process.ensures in
     key-within by_process c.args.self.now.events c.in_ok-next.next.0 e.0.process (n e.0.process (ap (option_and_then by_process) e.1)).1
 

@@ -1,8 +1,8 @@
 use Rattle.std.proofs.Common.{◌≡◌, ◌<◌, Some, None, sym, ap, subst, ◌∙◌, option_map, ℕ}
-use Rattle.reg_arena.specs.History.{IsRecorded}
-use Rattle.reg_arena.specs.Operations.{is_a_call}
-use Rattle.reg_arena.specs.declared.ids.RegId.{RegId}
-use Rattle.reg_arena.proofs.Named.{calls-have-registers}
+use Rattle.history_model.specs.History.{IsRecorded}
+use Rattle.history_model.specs.Operations.{is_a_call}
+use Rattle.history_model.specs.declared.ids.RegId.{RegId}
+use Rattle.history_model.proofs.Named.{calls-have-registers}
 use Rattle.reg_arena.proofs.arena.Arena.standing.Goals as goal
 
 -- a call has a register

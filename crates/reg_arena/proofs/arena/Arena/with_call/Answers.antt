@@ -1,9 +1,9 @@
 -- The history with one call more is the definition's.
 use Rattle.std.proofs.Common.{◌≡◌, ◌++◌, ◌∷◌, [], length, length-append, unwrap_or, Some, ap, sym, subst, ◌∙◌, refl, arith}
-use Rattle.reg_arena.specs.History.{History}
+use Rattle.history_model.specs.History.{History}
 use Rattle.reg_arena.specs.Step.{IsLastWith, IsNumber}
-use Rattle.reg_arena.specs.declared.event.Event.{Event}
-use Rattle.reg_arena.specs.declared.event.What.TheVariants.{Call}
+use Rattle.history_model.specs.declared.event.Event.{Event}
+use Rattle.history_model.specs.declared.event.What.TheVariants.{Call}
 use Rattle.reg_arena.proofs.Step.{accepted-push, room-of, next-history, event_by, numbered, call-event_is, names-of_known, names-of_new, own-call}
 use Rattle.reg_arena.proofs.ByEvent.{alike-call}
 use Rattle.reg_arena.proofs.arena.Arena.with_call.Goals as goal
@@ -20,14 +20,14 @@ append-requires-clause-room c =
 
 pub append-requires-clause-call : goal.append-requires-clause-call
 append-requires-clause-call c =
-    let n : length c.self.inside.threads.events.items ≡ c.len.result = omega (arith, c.len.ensures) in
+    let n : length c.self.inside.lists.events.items ≡ c.len.result = omega (arith, c.len.ensures) in
     let ev : Event = event_by c.args.event.now (Some (record { 0 = c.unwrap_or.result })) (Call c.args.kind) c.args.value in
-    own-call c.self.inside.threads.events.items ev (record { 0 = c.len.result }) c.args.kind refl n
+    own-call c.self.inside.lists.events.items ev (record { 0 = c.len.result }) c.args.kind refl n
 
 pub append-requires-clause-alike : goal.append-requires-clause-alike
 append-requires-clause-alike c =
     let register = c.unwrap_or.ensures ∙ ap (unwrap_or c.args.number) (c.len-count.ensures ∙ c.self.invariant.1) in
-    alike-call c.self.inside.threads c.self.invariant.0 (event_by c.args.event.now (Some (record { 0 = c.unwrap_or.result })) (Call c.args.kind) c.args.value) (record { 0 = c.unwrap_or.result }) c.args.number c.args.last refl register
+    alike-call c.self.inside.lists c.self.invariant.0 (event_by c.args.event.now (Some (record { 0 = c.unwrap_or.result })) (Call c.args.kind) c.args.value) (record { 0 = c.unwrap_or.result }) c.args.number c.args.last refl register
     (subst (λ (h : History). IsLastWith h.events c.args.number c.args.value c.args.last) (sym c.self.view_is) c.requires.last)
 
 pub returns : goal.returns
@@ -50,7 +50,7 @@ invariant_of-result c =
     let i = c.self.invariant in
     let view = ap (λ (h : History). length h.names) c.self.view_is in
     let r = c.in_ok-append.ensures.registers in (
-      c.in_ok-append.ensures.threads,
+      c.in_ok-append.ensures.lists,
       elim c.match-number.branch [
         | in-Some w ↦
             let n = (subst (IsNumber c.args.self.names c.args.name.now) w.in-Some.is c.requires.number).1 in

@@ -1,11 +1,11 @@
 -- The history with one crash more is the definition's.
 use Rattle.std.proofs.Common.{◌≡◌, Option, ◌<◌, ◌++◌, ◌∷◌, [], length, slice_get, Some, None, refl, sym, ap, subst, ◌∙◌, arith}
 use Rattle.history_text.specs.declared.event.Val.{Val}
-use Rattle.reg_arena.specs.History.{History, IsRecorded}
+use Rattle.history_model.specs.History.{History, IsRecorded}
 use Rattle.reg_arena.specs.Step.{IsOpenCall}
-use Rattle.reg_arena.specs.declared.ids.EvId.{EvId}
-use Rattle.reg_arena.specs.declared.event.Event.{Event}
-use Rattle.reg_arena.specs.declared.event.What.TheVariants.{Crash}
+use Rattle.history_model.specs.declared.ids.EvId.{EvId}
+use Rattle.history_model.specs.declared.event.Event.{Event}
+use Rattle.history_model.specs.declared.event.What.TheVariants.{Crash}
 use Rattle.reg_arena.proofs.Step.{accepted-push, room-of, next-history, event_by, crash-event_is, names-of_crash, no-call}
 use Rattle.reg_arena.proofs.ByEvent.{alike-none}
 use Rattle.reg_arena.proofs.arena.Arena.with_crash.Goals as goal
@@ -17,10 +17,10 @@ append-requires-clause-room c =
     omega (arith, room-of t.before c.args.event.now t.free, e)
 
 pub append-requires-clause-call : goal.append-requires-clause-call
-append-requires-clause-call c = no-call c.self.inside.threads.events.items (event_by c.args.event.now None Crash None) (record { 0 = c.len.result }) refl
+append-requires-clause-call c = no-call c.self.inside.lists.events.items (event_by c.args.event.now None Crash None) (record { 0 = c.len.result }) refl
 
 pub append-requires-clause-alike : goal.append-requires-clause-alike
-append-requires-clause-alike c = alike-none c.self.inside.threads.events.items (event_by c.args.event.now None Crash None) refl
+append-requires-clause-alike c = alike-none c.self.inside.lists.events.items (event_by c.args.event.now None Crash None) refl
 
 pub returns : goal.returns
 returns c = λ before acc q.
@@ -34,7 +34,7 @@ pub invariant_of-result : goal.invariant_of-result
 invariant_of-result c =
     let t = c.requires.taken in
     let i = c.self.invariant in (
-      c.in_ok-append.ensures.threads,
+      c.in_ok-append.ensures.lists,
       omega (arith, c.in_ok-append.ensures.registers, i.1),
       record { events = t.before ++ c.args.event.now ∷ []; accepted = accepted-push t.before c.args.event.now t.accepted t.free; is = returns c t.before t.accepted t.is },
     )

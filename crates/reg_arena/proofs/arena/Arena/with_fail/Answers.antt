@@ -1,12 +1,12 @@
 -- The history with one fail more is the definition's.
 use Rattle.std.proofs.Common.{◌≡◌, Option, ◌<◌, ◌++◌, ◌∷◌, [], length, slice_get, Some, None, refl, sym, ap, subst, ◌∙◌, arith}
 use Rattle.history_text.specs.declared.event.Val.{Val}
-use Rattle.reg_arena.specs.History.{History, IsRecorded}
+use Rattle.history_model.specs.History.{History, IsRecorded}
 use Rattle.reg_arena.specs.Step.{IsOpenCall}
-use Rattle.reg_arena.specs.declared.ids.EvId.{EvId}
-use Rattle.reg_arena.specs.declared.event.Event.{Event}
-use Rattle.reg_arena.specs.declared.event.What.TheVariants.{Fail}
-use Rattle.reg_arena.proofs.Accepted.{fail-ends}
+use Rattle.history_model.specs.declared.ids.EvId.{EvId}
+use Rattle.history_model.specs.declared.event.Event.{Event}
+use Rattle.history_model.specs.declared.event.What.TheVariants.{Fail}
+use Rattle.history_model.proofs.Accepted.{fail-ends}
 use Rattle.reg_arena.proofs.Step.{accepted-push, room-of, next-history, event_by, fail-event_is, open-named, names-of_end, fail-call}
 use Rattle.reg_arena.proofs.ByEvent.{alike-none, alike-same}
 use Rattle.reg_arena.proofs.arena.Arena.with_fail.Goals as goal
@@ -27,15 +27,15 @@ append-requires-clause-room c =
 pub append-requires-clause-call : goal.append-requires-clause-call
 append-requires-clause-call c =
     let ev : Event = event_by c.args.event.now (Some c.args.opened.register) (Fail c.args.opened.kind) c.args.opened.value in
-    fail-call c.self.inside.threads.events.items ev c.args.opened c.args.opened.kind refl refl refl (subst (λ (h : History). IsOpenCall h.events c.args.event.now.process c.args.opened) (sym c.self.view_is) c.requires.opened)
+    fail-call c.self.inside.lists.events.items ev c.args.opened c.args.opened.kind refl refl refl (subst (λ (h : History). IsOpenCall h.events c.args.event.now.process c.args.opened) (sym c.self.view_is) c.requires.opened)
 
 pub append-requires-clause-alike : goal.append-requires-clause-alike
 append-requires-clause-alike c =
     let here = subst (λ (h : History). IsOpenCall h.events c.args.event.now.process c.args.opened) (sym c.self.view_is) c.requires.opened in
     let ev : Event = event_by c.args.event.now (Some c.args.opened.register) (Fail c.args.opened.kind) c.args.opened.value in
     elim c.match-opened.branch [
-      | in-Some w ↦ rw w.alike-is (alike-same c.self.inside.threads.events.items ev here.event c.args.opened.call c.args.opened.register w.in-Some.field-0 here.there here.register (here.value ∙ w.in-Some.is) refl w.in-Some.is)
-      | in-None w ↦ rw w.alike-is (alike-none c.self.inside.threads.events.items ev w.in-None.is)
+      | in-Some w ↦ rw w.alike-is (alike-same c.self.inside.lists.events.items ev here.event c.args.opened.call c.args.opened.register w.in-Some.field-0 here.there here.register (here.value ∙ w.in-Some.is) refl w.in-Some.is)
+      | in-None w ↦ rw w.alike-is (alike-none c.self.inside.lists.events.items ev w.in-None.is)
     ]
 
 pub returns : goal.returns
@@ -53,7 +53,7 @@ invariant_of-result c =
     let i = c.self.invariant in
     let r = open-named c.args.self (subst IsRecorded c.self.view_is i.2) c.args.event.now.process c.args.opened c.requires.opened in
     let n = ap (λ (h : History). length h.names) c.self.view_is in (
-      c.in_ok-append.ensures.threads,
+      c.in_ok-append.ensures.lists,
       omega (arith, c.in_ok-append.ensures.registers, i.1, r, n),
       record { events = t.before ++ c.args.event.now ∷ []; accepted = accepted-push t.before c.args.event.now t.accepted t.free; is = returns c t.before t.accepted t.is },
     )

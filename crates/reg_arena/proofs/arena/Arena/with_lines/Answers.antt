@@ -3,7 +3,7 @@ use Rattle.std.proofs.Common.{◌≡◌, ◌≤◌, ◌++◌, [], List, length, 
 use Rattle.std.proofs.lemmas.List.{append-nil}
 use Rattle.std.proofs.lemmas.Option.{slice_get_read}
 use Rattle.reg_arena.specs.Built.{IsBuilt, IsBuiltWith}
-use Rattle.reg_arena.specs.Refusals.{Line, events_of}
+use Rattle.history_model.specs.Refusals.{Line, events_of}
 use Rattle.reg_arena.proofs.Reading.{take-all, part-more, part-event-refused, part-line-refused, error-passed}
 use Rattle.reg_arena.proofs.arena.Arena.with_lines.Goals as goal
 

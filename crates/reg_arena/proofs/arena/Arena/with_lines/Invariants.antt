@@ -1,5 +1,5 @@
 use Rattle.std.proofs.Common.{◌≡◌, ◌++◌, List, take}
-use Rattle.reg_arena.specs.Refusals.{Line}
+use Rattle.history_model.specs.Refusals.{Line}
 use Rattle.reg_arena.specs.Built.{IsBuilt}
 use Rattle.reg_arena.proofs.arena.Arena.with_lines.Given as goal
 

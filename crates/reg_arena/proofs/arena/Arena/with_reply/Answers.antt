@@ -1,12 +1,12 @@
 -- The history with one reply more is the definition's.
 use Rattle.std.proofs.Common.{◌≡◌, Option, ◌<◌, ◌++◌, ◌∷◌, [], length, slice_get, Some, None, refl, sym, ap, subst, ◌∙◌, arith}
 use Rattle.history_text.specs.declared.event.Val.{Val}
-use Rattle.reg_arena.specs.History.{History, IsRecorded}
+use Rattle.history_model.specs.History.{History, IsRecorded}
 use Rattle.reg_arena.specs.Step.{IsOpenCall}
-use Rattle.reg_arena.specs.declared.ids.EvId.{EvId}
-use Rattle.reg_arena.specs.declared.event.Event.{Event}
-use Rattle.reg_arena.specs.declared.event.What.TheVariants.{Reply}
-use Rattle.reg_arena.proofs.Accepted.{reply-ends}
+use Rattle.history_model.specs.declared.ids.EvId.{EvId}
+use Rattle.history_model.specs.declared.event.Event.{Event}
+use Rattle.history_model.specs.declared.event.What.TheVariants.{Reply}
+use Rattle.history_model.proofs.Accepted.{reply-ends}
 use Rattle.reg_arena.proofs.Step.{accepted-push, room-of, next-history, event_by, reply-event_is, open-named, open-write, names-of_end, reply-call}
 use Rattle.reg_arena.proofs.ByEvent.{alike-last, alike-same}
 use Rattle.reg_arena.proofs.arena.Arena.with_reply.Goals as goal
@@ -27,7 +27,7 @@ append-requires-clause-room c =
 pub append-requires-clause-call : goal.append-requires-clause-call
 append-requires-clause-call c =
     let ev : Event = event_by c.args.event.now (Some c.args.opened.register) (Reply c.args.opened.kind) c.match-opened.value.0 in
-    reply-call c.self.inside.threads.events.items ev c.args.opened c.args.opened.kind refl (subst (λ (h : History). IsOpenCall h.events c.args.event.now.process c.args.opened) (sym c.self.view_is) c.requires.opened)
+    reply-call c.self.inside.lists.events.items ev c.args.opened c.args.opened.kind refl (subst (λ (h : History). IsOpenCall h.events c.args.event.now.process c.args.opened) (sym c.self.view_is) c.requires.opened)
 
 pub append-requires-clause-alike : goal.append-requires-clause-alike
 append-requires-clause-alike c =
@@ -35,11 +35,11 @@ append-requires-clause-alike c =
     let o = subst (λ (h : History). IsOpenCall h.events c.args.event.now.process c.args.opened) t.is c.requires.opened in
     let here = subst (λ (h : History). IsOpenCall h.events c.args.event.now.process c.args.opened) (sym c.self.view_is) c.requires.opened in
     elim c.match-opened.branch [
-      | in-ReadOp w ↦ rw w.value-is (alike-last c.self.inside.threads.events.items (event_by c.args.event.now (Some c.args.opened.register) (Reply c.args.opened.kind) c.args.parts.now.value) c.args.opened.register w.last_of_value.result refl w.last_of_value.ensures.last w.last_of_value.ensures.none)
+      | in-ReadOp w ↦ rw w.value-is (alike-last c.self.inside.lists.events.items (event_by c.args.event.now (Some c.args.opened.register) (Reply c.args.opened.kind) c.args.parts.now.value) c.args.opened.register w.last_of_value.result refl w.last_of_value.ensures.last w.last_of_value.ensures.none)
       | in-WriteOp w ↦
           let v = open-write t.before t.accepted c.args.event.now c.args.opened o w.in-WriteOp.is in
           let ev : Event = event_by c.args.event.now (Some c.args.opened.register) (Reply c.args.opened.kind) c.args.opened.value in
-          rw w.value-is (alike-same c.self.inside.threads.events.items ev here.event c.args.opened.call c.args.opened.register v.0 here.there here.register (here.value ∙ v.1) refl v.1)
+          rw w.value-is (alike-same c.self.inside.lists.events.items ev here.event c.args.opened.call c.args.opened.register v.0 here.there here.register (here.value ∙ v.1) refl v.1)
     ]
 
 pub returns : goal.returns
@@ -59,7 +59,7 @@ invariant_of-result c =
     let i = c.self.invariant in
     let r = open-named c.args.self (subst IsRecorded c.self.view_is i.2) c.args.event.now.process c.args.opened c.requires.opened in
     let n = ap (λ (h : History). length h.names) c.self.view_is in (
-      c.in_ok-append.ensures.threads,
+      c.in_ok-append.ensures.lists,
       omega (arith, c.in_ok-append.ensures.registers, i.1, r, n),
       record { events = t.before ++ c.args.event.now ∷ []; accepted = accepted-push t.before c.args.event.now t.accepted t.free; is = returns c t.before t.accepted t.is },
     )

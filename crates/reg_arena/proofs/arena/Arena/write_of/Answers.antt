@@ -1,8 +1,8 @@
 use Rattle.std.proofs.Common.{sym, subst, ◌∙◌, Some, None}
-use Rattle.reg_arena.specs.History.{History, IsRecorded}
-use Rattle.reg_arena.specs.Shown.{IsWriteOf}
-use Rattle.reg_arena.specs.Threads.{IsKeptWrite}
-use Rattle.reg_arena.specs.declared.ids.Oper.TheVariants.{Initial}
+use Rattle.history_model.specs.History.{History, IsRecorded}
+use Rattle.history_model.specs.OfValue.{IsWriteOf}
+use Rattle.reg_arena.specs.EventLists.{IsKeptWrite}
+use Rattle.history_model.specs.declared.ids.Oper.TheVariants.{Initial}
 use Rattle.reg_arena.proofs.OfValue.{write-is, write-none, write-initial}
 use Rattle.reg_arena.proofs.Times.{null-int}
 use Rattle.reg_arena.proofs.arena.Arena.write_of.Goals as goal

@@ -1,11 +1,12 @@
 use Rattle.std.proofs.Common.{◌≡◌, ◌<◌, ℕ, length, Some, None, sym, ap, subst, ◌∙◌, option_map}
 use Rattle.history_text.specs.declared.event.Val.{Val}
 use Rattle.history_text.specs.declared.event.Val.TheVariants.{Null}
-use Rattle.reg_arena.specs.History.{History, IsRecorded}
-use Rattle.reg_arena.specs.Shown.{IsWriteOf, by_value, key_at}
-use Rattle.reg_arena.specs.Threads.{IsKeptWrite}
-use Rattle.reg_arena.specs.declared.ids.RegId.{RegId}
-use Rattle.reg_arena.specs.declared.ids.Oper.TheVariants.{Initial}
+use Rattle.history_model.specs.History.{History, IsRecorded}
+use Rattle.history_model.specs.Walking.{by_value, key_at}
+use Rattle.history_model.specs.OfValue.{IsWriteOf}
+use Rattle.reg_arena.specs.EventLists.{IsKeptWrite}
+use Rattle.history_model.specs.declared.ids.RegId.{RegId}
+use Rattle.history_model.specs.declared.ids.Oper.TheVariants.{Initial}
 use Rattle.reg_arena.proofs.OfValue.{write-is, write-none, write-initial}
 use Rattle.reg_arena.proofs.Times.{null-int, key-of, key-known, key-there}
 use Rattle.reg_arena.proofs.arena.Arena.write_of_event.Goals as goal

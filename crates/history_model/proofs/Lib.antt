@@ -1,0 +1,9 @@
+pub mod Lists
+pub mod Rows
+pub mod Numbers
+pub mod Accepted
+pub mod Walking
+pub mod Turns
+pub mod Belonging
+pub mod Recorded
+pub mod Named

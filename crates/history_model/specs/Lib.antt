@@ -1,0 +1,10 @@
+pub mod Lists
+pub mod Events
+pub mod Refusals
+pub mod History
+pub mod Operations
+pub mod Legal
+pub mod Lamport
+pub mod Walking
+pub mod Naming
+pub mod OfValue

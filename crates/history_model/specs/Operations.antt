@@ -1,0 +1,167 @@
+-- The operations of a history: each register's initial write, and each call that didn't fail, with its reply.
+use Rattle.std.specs.Prelude.{◌≡◌, ℕ, zero, suc, ◌+◌, ◌<◌, ◌≤◌, ◌==◌, ◌&&◌, not, cond, Bool, true, false, List, [], ◌∷◌, ◌++◌, length, Option, Some, None, option_and_then, ◌⊎◌}
+use Rattle.std.specs.List.{filter}
+use Rattle.history_text.specs.declared.event.Val.{Val}
+use Rattle.history_text.specs.declared.event.Val.TheVariants.{Null}
+use Rattle.history_text.specs.declared.event.OpKind.{OpKind}
+use Rattle.history_text.specs.declared.event.OpKind.TheVariants.{ReadOp, WriteOp}
+use Rattle.history_model.specs.declared.ids.RegId.{RegId}
+use Rattle.history_model.specs.declared.event.Event.{Event}
+use Rattle.history_model.specs.declared.event.What.{What}
+use Rattle.history_model.specs.declared.event.What.TheVariants.{Call, Reply, Fail, Crash}
+use Rattle.history_model.specs.Lists.{In}
+use Rattle.history_model.specs.History.{History}
+
+-- A read or a write, from its call to its reply. A pending one has as its reply the time after the last event; a pending read has no value. Nobody called an initial write.
+pub record Operation : Type 0 where
+  pub line : ℕ
+  pub call : ℕ
+  pub reply : ℕ
+  pub completed : Bool
+  pub process : Option ℕ
+  pub register : ℕ
+  pub kind : OpKind
+  pub value : Option Val
+
+-- ---- what an event is
+
+abbrev pub is_a_call : What → Bool
+is_a_call (Call kind) = true
+is_a_call (Reply kind) = false
+is_a_call (Fail kind) = false
+is_a_call Crash = false
+
+abbrev pub is_a_reply : What → Bool
+is_a_reply (Call kind) = false
+is_a_reply (Reply kind) = true
+is_a_reply (Fail kind) = false
+is_a_reply Crash = false
+
+abbrev pub is_a_fail : What → Bool
+is_a_fail (Call kind) = false
+is_a_fail (Reply kind) = false
+is_a_fail (Fail kind) = true
+is_a_fail Crash = false
+
+-- the kind of the call; a crash has none, and is never asked for it
+abbrev pub kind_in : What → OpKind
+kind_in (Call kind) = kind
+kind_in (Reply kind) = kind
+kind_in (Fail kind) = kind
+kind_in Crash = ReadOp
+
+-- the number of the register; a crash has none, and is never asked for it
+abbrev pub number_in : Option RegId → ℕ
+number_in None = 0
+number_in (Some register) = register.0
+
+-- ---- from events to operations
+
+abbrev pub writes : OpKind → Bool
+writes ReadOp = false
+writes WriteOp = true
+
+-- the first event of process p among those from time s on, with its time
+abbrev pub next_of : ℕ → ℕ → List Event → Option (ℕ × Event)
+next_of p s [] = None
+next_of p s (e ∷ es) = cond (e.process == p) (Some (s, e)) (next_of p (suc s) es)
+
+-- the next event of a call's process, if that is its reply
+abbrev pub reply_in : Option (ℕ × Event) → Option (ℕ × Event)
+reply_in next = option_and_then (λ r. cond (is_a_reply r.1.what) (Some r) None) next
+
+-- whether a call failed, by the next event of its process
+abbrev pub has_failed : Option (ℕ × Event) → Bool
+has_failed None = false
+has_failed (Some r) = is_a_fail r.1.what
+
+-- whether an event begins an operation, by the next event of its process: it is a call that didn't fail
+abbrev pub begins : Event → Option (ℕ × Event) → Bool
+begins e next = is_a_call e.what && not (has_failed next)
+
+-- The operation of the call e at time t, by its reply; n is the time of a missing reply. A write has the value of its call, a read that of its reply.
+abbrev pub operation : ℕ → ℕ → Event → Option (ℕ × Event) → Operation
+operation n t e None = record { line = e.line; call = t; reply = n; completed = false; process = Some e.process; register = number_in e.register; kind = kind_in e.what; value = e.value }
+operation n t e (Some r) = record { line = e.line; call = t; reply = r.0; completed = true; process = Some e.process; register = number_in e.register; kind = kind_in e.what; value = cond (writes (kind_in e.what)) e.value r.1.value }
+
+-- the operations of the calls among events, the first of which has time s
+abbrev pub calls_from : ℕ → ℕ → List Event → List Operation
+calls_from n s [] = []
+calls_from n s (e ∷ es) = cond (begins e (next_of e.process (suc s) es)) (operation n s e (reply_in (next_of e.process (suc s) es)) ∷ calls_from n (suc s) es) (calls_from n (suc s) es)
+
+-- the calls of a history that didn't fail, by time: event i has time i + 2, a missing reply the time after all events
+abbrev pub calls : List Event → List Operation
+calls events = calls_from (length events + 2) 2 events
+
+-- each register begins with a write of null that precedes all calls
+abbrev pub initial_write : ℕ → Operation
+initial_write r = record { line = 0; call = 0; reply = 1; completed = true; process = None; register = r; kind = WriteOp; value = Some Null }
+
+-- the initial writes of the registers below a number
+abbrev pub initial_writes : ℕ → List Operation
+initial_writes zero = []
+initial_writes (suc r) = initial_write r ∷ initial_writes r
+
+abbrev pub operations : History → List Operation
+operations h = initial_writes (length h.names) ++ calls h.events
+
+-- ---- what is said of operations
+
+-- a precedes b where a's reply comes before b's call (Lamport, On Interprocess Communication, Part I, 1986; Herlihy and Wing, Linearizability: A Correctness Condition for Concurrent Objects, 1990, section 2.2)
+abbrev pub Precedes : Operation → Operation → Type 0
+Precedes a b = a.reply < b.call
+
+-- neither precedes the other
+abbrev pub Overlaps : Operation → Operation → Type 0
+Overlaps a b = (Precedes a b → ⊥) × (Precedes b a → ⊥)
+
+abbrev pub is_write : Operation → Bool
+is_write a = writes a.kind
+
+abbrev pub IsWrite : Operation → Type 0
+IsWrite a = is_write a ≡ true
+
+abbrev pub IsCompleted : Operation → Type 0
+IsCompleted a = a.completed ≡ true
+
+pub record IsCompletedRead (a : Operation) : Type 0 where
+  pub read : is_write a ≡ false
+  pub completed : IsCompleted a
+
+-- r is a completed read of the value that w wrote
+pub record IsReadOf (w r : Operation) : Type 0 where
+  pub read : is_write r ≡ false
+  pub completed : IsCompleted r
+  pub value : r.value ≡ w.value
+
+-- the operations of one register
+abbrev pub of_register : ℕ → List Operation → List Operation
+of_register r ops = filter (λ a. a.register == r) ops
+
+-- all operations of register r of a history, its initial write among them
+abbrev pub register_of : History → ℕ → List Operation
+register_of h r = of_register r (operations h)
+
+-- ---- what holds of the operations of one register of an accepted history
+
+-- The facts on which every law above stands.
+pub record IsHistory (h : List Operation) : Type 0 where
+  -- they are of one register
+  pub one : (a b : Operation) → In a h → In b h → a.register ≡ b.register
+  -- each call comes before its reply
+  pub life : (a : Operation) → In a h → a.call < a.reply
+  -- no two events share a time
+  pub calls : (a b : Operation) → In a h → In b h → a.call ≡ b.call → a ≡ b
+  pub replies : (a b : Operation) → In a h → In b h → IsCompleted a → IsCompleted b → a.reply ≡ b.reply → a ≡ b
+  pub apart : (a b : Operation) → In a h → In b h → a.reply ≡ b.call → ⊥
+  -- a missing reply comes after every call
+  pub pending : (a b : Operation) → In a h → In b h → a.completed ≡ false → b.call < a.reply
+  -- and after every reply
+  pub horizon : (a b : Operation) → In a h → In b h → a.completed ≡ false → IsCompleted b → b.reply < a.reply
+  -- no value is written twice
+  pub values : (a b : Operation) → In a h → In b h → IsWrite a → IsWrite b → a.value ≡ b.value → a ≡ b
+  -- the operations of one process come one after another
+  pub turns : (a b : Operation) (p : ℕ) → In a h → In b h → a.process ≡ Some p → b.process ≡ Some p → (a ≡ b) ⊎ (Precedes a b ⊎ Precedes b a)
+  -- what nobody called is the initial write, and what somebody called comes after it
+  pub initial : (a : Operation) → In a h → a.process ≡ None → a ≡ initial_write a.register
+  pub called : (a : Operation) (p : ℕ) → In a h → a.process ≡ Some p → 2 ≤ a.call

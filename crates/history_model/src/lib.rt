@@ -1,0 +1,24 @@
+//! What a history means: which ones are accepted, what their operations are, and when a register is atomic, safe or regular.
+//!
+//! Nothing runs here. This crate has the types that an answer speaks of, the definitions behind each answer, and laws that hold of every accepted history.
+//! Whoever reads `specs/` knows what each verdict and each refusal says; the crates above prove that they give just that.
+//!
+//! Read the definitions in this order: `Lists`; `Events`, what a line says; `Refusals`, which histories are refused and why; `History`, the events of an accepted one;
+//! `Operations`, their times and their order; `Legal` (Herlihy and Wing, 1990) and `Lamport` (1986), the three properties; `Walking`, `Naming` and `OfValue`, in
+//! whose words the calls of the crates above answer. `laws` is what these rely on.
+#![tactic(auto)]
+
+mod event;
+mod ids;
+mod laws;
+mod op;
+mod refusal;
+
+pub use event::{Event, What};
+pub use ids::{EvId, Oper, RegId};
+pub use laws::{
+    accepted_is_history, events_have_operations, initial_is_there, names_are_unique,
+    operations_have_events, registers_are_numbered, single_writer_takes_turns, values_are_there,
+};
+pub use op::Op;
+pub use refusal::{BuildError, LineRefusal};

@@ -1,7 +1,0 @@
-use Rattle.std.proofs.Common.{subst}
-use Rattle.reg_arena.specs.Threads.{IsAlike}
-use Rattle.reg_arena.proofs.ByEvent.{number-absent}
-use Rattle.reg_arena.proofs.threads.Threads.number_of.Goals as goal
-
-pub returns-in-None : goal.returns-in-None
-returns-in-None c = λ e a. number-absent c.args.self.now c.requires.threads e (subst (IsAlike c.args.self.now.events.items e) c.in-None.is a)
