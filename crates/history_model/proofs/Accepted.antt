@@ -1,5 +1,5 @@
 -- What is known of the events of an accepted history: calls and replies of a process take turns, each reply is of its call, and no value is written twice.
-use Rattle.std.proofs.Common.{◌≡◌, ℕ, zero, suc, ◌<◌, ◌&&◌, cond, Bool, true, false, List, [], ◌∷◌, ◌++◌, take, slice_get, Option, Some, None, refl, sym, ap, subst, ◌∙◌, arith, is_some, is_none, option_map, option_and_then, append_assoc, append-nil, unwrap_or}
+use Rattle.std.proofs.Common.{◌≡◌, ℕ, zero, suc, ◌<◌, ◌&&◌, cond, Bool, true, false, List, [], ◌∷◌, ◌++◌, take, slice_get, Option, Some, None, refl, sym, ap, subst, ◌∙◌, arith, is_some, is_none, option_map, option_and_then, append_assoc, append-nil}
 use Rattle.std.specs.Option.{option_or}
 use Rattle.std.proofs.lemmas.Bool.{eqb-true, eq-eqb, false≢true}
 use Rattle.history_text.specs.declared.event.Val.{Val}
@@ -16,8 +16,8 @@ use Rattle.history_model.specs.Refusals.{AreAccepted, event_refusal, refused, ca
 use Rattle.history_model.specs.History.{history_of, events_after, event_after, event_value, asked_for, kind_asked, what_by, register_number}
 use Rattle.history_model.specs.Operations.{is_a_call, is_a_reply, is_a_fail, kind_in, number_in}
 use Rattle.history_model.specs.declared.ids.RegId.{RegId}
-use Rattle.history_model.specs.declared.event.What.{What}
 use Rattle.history_model.specs.declared.event.Event.{Event}
+use Rattle.history_model.specs.declared.refusal.Reason.TheVariants.{OpenCall, AfterCrash, NoOpenCall, NoValue}
 
 -- ---- lists
 
@@ -339,7 +339,7 @@ open-at es t p c h = go (last_with (is_of_process p) (take t es)) refl h
 pub alive-crash : (before : List LineEvent) (le : LineEvent) → after_crash before le ≡ None → crashed_at before le.process ≡ None
 alive-crash before le k = go (crashed_at before le.process) k
   where
-    go : (o : Option LineEvent) → option_map (λ (crash : LineEvent). refused le 19 (Some crash.line)) o ≡ None → o ≡ None
+    go : (o : Option LineEvent) → option_map (λ (crash : LineEvent). refused le (AfterCrash crash.line)) o ≡ None → o ≡ None
     go None m = refl
     go (Some c) m = absurd (cc (m))
 
@@ -347,28 +347,28 @@ alive-crash before le k = go (crashed_at before le.process) k
 pub end-open : (before : List LineEvent) (le : LineEvent) (parts : ReplyParts) → ended_by le.kind ≡ Some parts → IsFree before le → (c : LineEvent) × (open_call before le.process ≡ Some c)
 end-open before le parts h free =
     go (open_call before le.process) refl (is_none (crashed_at before le.process)) (ap is_none (alive-crash before le free.alive))
-    (sym (ap (option_and_then (λ (_ : ReplyParts). cond (is_none (open_call before le.process) && is_none (crashed_at before le.process)) (Some (refused le 10 None)) None)) h) ∙ free.open_one)
+    (sym (ap (option_and_then (λ (_ : ReplyParts). cond (is_none (open_call before le.process) && is_none (crashed_at before le.process)) (Some (refused le NoOpenCall)) None)) h) ∙ free.open_one)
   where
-    go : (o : Option LineEvent) → open_call before le.process ≡ o → (b : Bool) → b ≡ true → cond (is_none (open_call before le.process) && b) (Some (refused le 10 None)) None ≡ None → (c : LineEvent) × (open_call before le.process ≡ Some c)
+    go : (o : Option LineEvent) → open_call before le.process ≡ o → (b : Bool) → b ≡ true → cond (is_none (open_call before le.process) && b) (Some (refused le NoOpenCall)) None ≡ None → (c : LineEvent) × (open_call before le.process ≡ Some c)
     go (Some c) e b d m = (c, e)
-    go None e true d m = let x = sym (ap (λ o. cond (is_none o && true) (Some (refused le 10 None)) None) e) ∙ m in absurd (cc (x))
+    go None e true d m = let x = sym (ap (λ o. cond (is_none o && true) (Some (refused le NoOpenCall)) None) e) ∙ m in absurd (cc (x))
     go None e false d m = absurd (false≢true d)
 
 -- a call has none
 pub call-open : (before : List LineEvent) (le : LineEvent) (a : Asked) → asked_by le.kind ≡ Some a → call_while_open before le ≡ None → open_call before le.process ≡ None
-call-open before le a h k = go (open_call before le.process) (sym (ap (option_and_then (λ _. option_map (λ (call : LineEvent). refused le 9 (Some call.line)) (open_call before le.process))) h) ∙ k)
+call-open before le a h k = go (open_call before le.process) (sym (ap (option_and_then (λ _. option_map (λ (call : LineEvent). refused le (OpenCall call.line)) (open_call before le.process))) h) ∙ k)
   where
-    go : (o : Option LineEvent) → option_map (λ (call : LineEvent). refused le 9 (Some call.line)) o ≡ None → o ≡ None
+    go : (o : Option LineEvent) → option_map (λ (call : LineEvent). refused le (OpenCall call.line)) o ≡ None → o ≡ None
     go None m = refl
     go (Some c) m = absurd (cc (m))
 
 -- a read's reply has a value
 pub reply-value : (before : List LineEvent) (le : LineEvent) (parts : ReplyParts) (a : Asked) → replied_by le.kind ≡ Some parts → open_asked before le.process ≡ Some a → reply_without_value before le ≡ None → a.value ≡ None → (v : Val) × (parts.value ≡ Some v)
 reply-value before le parts a h k m q = go parts.value refl (is_none a.value) (ap is_none q)
-    (sym (ap (option_and_then (λ (call : Asked). cond (is_none call.value && is_none parts.value) (Some (refused le 12 None)) None)) k)
-    ∙ (sym (ap (option_and_then (λ (reply : ReplyParts). option_and_then (λ (call : Asked). cond (is_none call.value && is_none reply.value) (Some (refused le 12 None)) None) (open_asked before le.process))) h) ∙ m))
+    (sym (ap (option_and_then (λ (call : Asked). cond (is_none call.value && is_none parts.value) (Some (refused le NoValue)) None)) k)
+    ∙ (sym (ap (option_and_then (λ (reply : ReplyParts). option_and_then (λ (call : Asked). cond (is_none call.value && is_none reply.value) (Some (refused le NoValue)) None) (open_asked before le.process))) h) ∙ m))
   where
-    go : (o : Option Val) → parts.value ≡ o → (b : Bool) → b ≡ true → cond (b && is_none parts.value) (Some (refused le 12 None)) None ≡ None → (v : Val) × (parts.value ≡ Some v)
+    go : (o : Option Val) → parts.value ≡ o → (b : Bool) → b ≡ true → cond (b && is_none parts.value) (Some (refused le NoValue)) None ≡ None → (v : Val) × (parts.value ≡ Some v)
     go (Some v) e b d x = (v, e)
-    go None e true d x = let y = sym (ap (λ o. cond (is_none o) (Some (refused le 12 None)) None) e) ∙ x in absurd (cc (y))
+    go None e true d x = let y = sym (ap (λ o. cond (is_none o) (Some (refused le NoValue)) None) e) ∙ x in absurd (cc (y))
     go None e false d x = absurd (false≢true d)

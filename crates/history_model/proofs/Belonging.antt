@@ -1,5 +1,5 @@
 -- Each called operation of an accepted history has its call among the events, and its reply where it is completed.
-use Rattle.std.proofs.Common.{◌≡◌, ℕ, zero, suc, ◌+◌, ◌-◌, ◌<◌, ◌==◌, ◌&&◌, not, cond, Bool, true, false, List, [], ◌∷◌, length, drop, slice_get, Option, Some, None, ◌⊎◌, inl, inr, refl, sym, ap, subst, ◌∙◌, arith, option_and_then}
+use Rattle.std.proofs.Common.{◌≡◌, ℕ, zero, suc, ◌+◌, ◌-◌, ◌<◌, ◌==◌, ◌&&◌, not, cond, Bool, true, false, List, [], ◌∷◌, length, drop, slice_get, Option, Some, None, ◌⊎◌, inl, inr, refl, sym, ap, subst, ◌∙◌, arith}
 use Rattle.std.proofs.lemmas.Bool.{eqb-true, eqb-false, false≢true}
 use Rattle.history_model.specs.Lists.{In}
 use Rattle.history_model.specs.Operations.{Operation, operation, next_of, reply_in, has_failed, begins, is_a_call, is_a_reply, is_a_fail, kind_in, number_in, calls_from, calls, writes, IsWrite, is_write, IsCompleted}

@@ -8,7 +8,7 @@ use Rattle.history_text.specs.declared.event.Val.TheVariants.{Null, Int}
 use Rattle.history_text.specs.declared.event.LineEvent.{LineEvent}
 use Rattle.history_model.specs.Lists.{In}
 use Rattle.history_model.specs.Refusals.{AreAccepted}
-use Rattle.history_model.specs.History.{History, IsRecorded, events_after, event_after, register_names}
+use Rattle.history_model.specs.History.{History, IsRecorded, events_after, register_names}
 use Rattle.history_model.specs.Operations.{Operation, operation, next_of, reply_in, has_failed, begins, is_a_call, is_a_reply, is_a_fail, kind_in, number_in, calls, writes, is_write, IsWrite, IsCompleted, IsHistory, Precedes, initial_write, initial_writes, operations, of_register}
 use Rattle.history_model.specs.Lamport.{HasSingleWriter}
 use Rattle.history_model.specs.Walking.{by_register, key_at}
@@ -20,11 +20,11 @@ use Rattle.history_model.specs.declared.ids.Oper.TheVariants.{Initial, Called}
 use Rattle.history_model.specs.declared.event.Event.{Event}
 use Rattle.history_model.specs.declared.event.What.{What}
 use Rattle.history_model.specs.declared.event.What.TheVariants.{Call, Reply, Fail, Crash}
-use Rattle.history_model.proofs.Accepted.{line-at, at-after, call-asks, asked-call, asking, call-line, reply-line}
+use Rattle.history_model.proofs.Accepted.{line-at, call-asks, asked-call, asking, call-line, reply-line}
 use Rattle.history_model.proofs.Turns.{IsReplyTo, reply-event, write-value, register-below, register-named}
 use Rattle.history_model.proofs.Belonging.{IsReplied, IsCallOf, next-at, called-one, same-call, call-In}
-use Rattle.history_model.proofs.Walking.{HaveRegisters, begins-call, number-known}
-use Rattle.history_model.proofs.Recorded.{initials-In, In-initials, In-of_register, times, one-event, reply-no_call, apart-called, not_before}
+use Rattle.history_model.proofs.Walking.{HaveRegisters}
+use Rattle.history_model.proofs.Recorded.{initials-In, In-initials, In-of_register, one-event, apart-called, not_before}
 use Rattle.history_model.proofs.Lists.{append-In, In-left, In-right}
 
 -- ---- names

@@ -10,6 +10,7 @@ use Rattle.history_text.specs.declared.fault.LineKind.TheVariants.{NotJson}
 use Rattle.history_model.specs.Refusals.{AreAccepted, IsRefusal, IsWellFormed, refusal_at}
 use Rattle.history_model.specs.History.{history_of}
 use Rattle.history_model.specs.Operations.{initial_write, operations}
+use Rattle.history_model.specs.declared.refusal.Reason.TheVariants.{Faulty, OpenCall, NoOpenCall, Disagreement, NoValue, WrittenBefore}
 
 abbrev event : ℕ → ℕ → Kind → LineEvent
 event line process kind = record { line = line; process = process; kind = kind }
@@ -27,7 +28,7 @@ gave v = Reply (record { op = None; register = None; value = v })
 -- ---- refusals
 
 -- a call while the process has an open call, before a line that is torn: the first faulty line counts
-twice_open : IsRefusal (Ok (event 1 1 (wrote (codes "x") 1)) ∷ Ok (event 2 1 (wrote (codes "x") 2)) ∷ Err (record { line = 3; kind = NotJson }) ∷ []) (record { line = 2; number = 9; other = Some 1 })
+twice_open : IsRefusal (Ok (event 1 1 (wrote (codes "x") 1)) ∷ Ok (event 2 1 (wrote (codes "x") 2)) ∷ Err (record { line = 3; kind = NotJson }) ∷ []) (record { line = 2; reason = OpenCall 1 })
 twice_open = record { place = 1; there = refl; least = below }
   where
     below : (i : ℕ) → i < 1 → refusal_at (Ok (event 1 1 (wrote (codes "x") 1)) ∷ Ok (event 2 1 (wrote (codes "x") 2)) ∷ Err (record { line = 3; kind = NotJson }) ∷ []) i ≡ None
@@ -35,28 +36,28 @@ twice_open = record { place = 1; there = refl; least = below }
     below (suc i) h = absurd (omega arith)
 
 -- a torn line before a call while one is open
-torn_first : refusal_at (Ok (event 1 1 (CallRead (codes "x"))) ∷ Err (record { line = 3; kind = NotJson }) ∷ Ok (event 4 1 (CallRead (codes "x"))) ∷ []) 1 ≡ Some (record { line = 3; number = 2; other = None })
+torn_first : refusal_at (Ok (event 1 1 (CallRead (codes "x"))) ∷ Err (record { line = 3; kind = NotJson }) ∷ Ok (event 4 1 (CallRead (codes "x"))) ∷ []) 1 ≡ Some (record { line = 3; reason = Faulty NotJson })
 torn_first = refl
 
-no_call : refusal_at (Ok (event 1 1 done) ∷ []) 0 ≡ Some (record { line = 1; number = 10; other = None })
+no_call : refusal_at (Ok (event 1 1 done) ∷ []) 0 ≡ Some (record { line = 1; reason = NoOpenCall })
 no_call = refl
 
 -- the open call of another process is none
-no_call_of_its_own : refusal_at (Ok (event 1 1 (CallRead (codes "x"))) ∷ Ok (event 2 2 (gave (Some Null))) ∷ []) 1 ≡ Some (record { line = 2; number = 10; other = None })
+no_call_of_its_own : refusal_at (Ok (event 1 1 (CallRead (codes "x"))) ∷ Ok (event 2 2 (gave (Some Null))) ∷ []) 1 ≡ Some (record { line = 2; reason = NoOpenCall })
 no_call_of_its_own = refl
 
 -- a reply disagrees by its value, its operation or its register
-other_value : refusal_at (Ok (event 1 1 (wrote (codes "x") 5)) ∷ Ok (event 2 1 (gave (Some (Int (pos 6))))) ∷ []) 1 ≡ Some (record { line = 2; number = 11; other = None })
+other_value : refusal_at (Ok (event 1 1 (wrote (codes "x") 5)) ∷ Ok (event 2 1 (gave (Some (Int (pos 6))))) ∷ []) 1 ≡ Some (record { line = 2; reason = Disagreement })
 other_value = refl
 
-other_op : refusal_at (Ok (event 1 1 (wrote (codes "x") 5)) ∷ Ok (event 2 1 (Reply (record { op = Some ReadOp; register = None; value = None }))) ∷ []) 1 ≡ Some (record { line = 2; number = 11; other = None })
+other_op : refusal_at (Ok (event 1 1 (wrote (codes "x") 5)) ∷ Ok (event 2 1 (Reply (record { op = Some ReadOp; register = None; value = None }))) ∷ []) 1 ≡ Some (record { line = 2; reason = Disagreement })
 other_op = refl
 
 -- that a read's reply has no value is the greater number
-other_register : refusal_at (Ok (event 1 1 (CallRead (codes "x"))) ∷ Ok (event 2 1 (Reply (record { op = None; register = Some (codes "y"); value = None }))) ∷ []) 1 ≡ Some (record { line = 2; number = 11; other = None })
+other_register : refusal_at (Ok (event 1 1 (CallRead (codes "x"))) ∷ Ok (event 2 1 (Reply (record { op = None; register = Some (codes "y"); value = None }))) ∷ []) 1 ≡ Some (record { line = 2; reason = Disagreement })
 other_register = refl
 
-no_value : refusal_at (Ok (event 1 1 (CallRead (codes "x"))) ∷ Ok (event 2 1 done) ∷ []) 1 ≡ Some (record { line = 2; number = 12; other = None })
+no_value : refusal_at (Ok (event 1 1 (CallRead (codes "x"))) ∷ Ok (event 2 1 done) ∷ []) 1 ≡ Some (record { line = 2; reason = NoValue })
 no_value = refl
 
 -- null is a value for a read, and agrees with every write
@@ -66,11 +67,11 @@ null_read = refl
 null_for_a_write : refusal_at (Ok (event 1 1 (wrote (codes "x") 5)) ∷ Ok (event 2 1 (gave (Some Null))) ∷ []) 1 ≡ None
 null_for_a_write = refl
 
-written_twice : refusal_at (Ok (event 1 1 (wrote (codes "x") 5)) ∷ Ok (event 2 1 done) ∷ Ok (event 3 1 (wrote (codes "x") 5)) ∷ []) 2 ≡ Some (record { line = 3; number = 13; other = Some 1 })
+written_twice : refusal_at (Ok (event 1 1 (wrote (codes "x") 5)) ∷ Ok (event 2 1 done) ∷ Ok (event 3 1 (wrote (codes "x") 5)) ∷ []) 2 ≡ Some (record { line = 3; reason = WrittenBefore 1 })
 written_twice = refl
 
 -- of two reasons the least number
-open_and_written : refusal_at (Ok (event 1 1 (wrote (codes "x") 5)) ∷ Ok (event 2 1 (wrote (codes "x") 5)) ∷ []) 1 ≡ Some (record { line = 2; number = 9; other = Some 1 })
+open_and_written : refusal_at (Ok (event 1 1 (wrote (codes "x") 5)) ∷ Ok (event 2 1 (wrote (codes "x") 5)) ∷ []) 1 ≡ Some (record { line = 2; reason = OpenCall 1 })
 open_and_written = refl
 
 -- one value in two registers is accepted

@@ -25,6 +25,7 @@ use Rattle.history_model.specs.Walking.{by_register}
 use Rattle.history_model.proofs.Walking.{number-known}
 use Rattle.history_model.proofs.Numbers.{is-In, place-in, place-out, keeps-push, called-known}
 use Rattle.history_model.proofs.Accepted.{take-get, take-of, take-push, take-past, IsLastPassing, last-none, last-some, first-none, IsLineAt, at-after, free-of, asked-value, call-replies, reply-parts, call-asks, IsAsking, asking, asked-call, asked-end, alive-crash, call-line, reply-ends, open-none, open-at, end-open, call-open, reply-value}
+use Rattle.history_model.specs.declared.refusal.Reason.TheVariants.{WrittenBefore}
 
 accepted-at : (es : List LineEvent) → AreAccepted es → (t : ℕ) (e : LineEvent) → slice_get es t ≡ Some e → event_refusal (take t es) e ≡ None
 accepted-at es a t e h = sym (ap (option_and_then (event_refusal (take t es))) h) ∙ a t
@@ -198,9 +199,9 @@ same-number names m n i q =
 value-fresh : (before : List LineEvent) (le : LineEvent) (name : List ℕ) (n : _) → le.kind ≡ CallWrite name n → value_written before le ≡ None → first_with (λ (w : LineEvent). writes_to name (Int n) w.kind) before ≡ None
 value-fresh before le name n h k =
     none-of (first_with (λ (w : LineEvent). writes_to name (Int n) w.kind) before)
-    (sym (ap (λ (x : Kind). option_and_then (λ (call : Asked). option_and_then (λ v. option_map (λ (w : LineEvent). refused le 13 (Some w.line)) (first_with (λ (w : LineEvent). writes_to call.register v w.kind) before)) call.value) (asked_by x)) h) ∙ k)
+    (sym (ap (λ (x : Kind). option_and_then (λ (call : Asked). option_and_then (λ v. option_map (λ (w : LineEvent). refused le (WrittenBefore w.line)) (first_with (λ (w : LineEvent). writes_to call.register v w.kind) before)) call.value) (asked_by x)) h) ∙ k)
   where
-    none-of : (o : Option LineEvent) → option_map (λ (w : LineEvent). refused le 13 (Some w.line)) o ≡ None → o ≡ None
+    none-of : (o : Option LineEvent) → option_map (λ (w : LineEvent). refused le (WrittenBefore w.line)) o ≡ None → o ≡ None
     none-of None e = refl
     none-of (Some x) e = absurd (cc (e))
 

@@ -10,7 +10,6 @@ use Rattle.history_text.specs.declared.event.Kind.TheVariants.{CallRead, CallWri
 use Rattle.history_text.specs.declared.event.LineEvent.{LineEvent}
 use Rattle.history_model.specs.Events.{Asked, asked_by, replied_by, ended_by, open_asked}
 use Rattle.history_model.specs.Refusals.{AreAccepted}
-use Rattle.history_model.specs.declared.ids.RegId.{RegId}
 use Rattle.history_model.specs.declared.event.Event.{Event}
 use Rattle.history_model.specs.declared.event.What.{What}
 use Rattle.history_model.specs.declared.event.What.TheVariants.{Call, Reply as ReplyTo, Fail as FailOf, Crash as Crashes}

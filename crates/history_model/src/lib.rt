@@ -21,4 +21,4 @@ pub use laws::{
     operations_have_events, registers_are_numbered, single_writer_takes_turns, values_are_there,
 };
 pub use op::Op;
-pub use refusal::{BuildError, LineRefusal};
+pub use refusal::{BuildError, LineRefusal, Reason};

@@ -16,17 +16,21 @@ use crate::name::Name;
 use crate::refused::Refused;
 use serde_json::Value;
 use std::alloc::Global;
+use thiserror::Error;
 
 /// Why a line gave no event. Nothing of the line is kept.
-#[derive(Clone, Copy, Debug, PartialEq, Eq)]
+#[derive(Clone, Copy, Debug, PartialEq, Eq, Error)]
 pub enum LineError {
     /// The line has this fault, and no lower-numbered one.
+    #[error(transparent)]
     Fault(LineFault),
     /// Memory was refused; nothing is known of the line.
+    #[error("out of memory")]
     Memory,
 }
 
-/// The event of line `line`, which is not blank and given without its line feed, or its lowest-numbered fault.
+/// The event of line `line`, given without its line feed, or its lowest-numbered fault. [`lines_of`](crate::lines_of) leaves
+/// out blank lines; here one would be `NotJson`.
 ///
 /// JSON is read as `serde_json`'s `Value::from_slice` reads it; of equal names in one object the
 /// last counts, and names that the format doesn't know are ignored.

@@ -17,8 +17,8 @@ pub struct Span {
     pub to: usize,
 }
 
-/// The lines that are not blank, in order. Blank lines have no span and still count; a line holds
-/// only spaces, tabs and carriage returns if it is blank.
+/// The lines that are not blank, in order. Blank lines have no span and still count; a line is blank
+/// if it holds nothing but spaces, tabs and carriage returns.
 ///
 /// The error is the want of memory; nothing is kept then.
 pub fn lines_of(alloc: Global, bytes: &[u8]) -> Result<Vec<Span>, AllocError>

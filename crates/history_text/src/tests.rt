@@ -233,6 +233,39 @@ fn faults_of_lines(rt: HostRuntime) -> Result<(), Fail> {
     Ok(())
 }
 
+// What each fault says to a person, with its line; an error that is a fault says the same.
+#[test]
+fn words_of_errors(rt: HostRuntime) -> Result<(), Fail> {
+    let alloc = rt.alloc();
+    for (kind, want) in [
+        (LineKind::TooLong, "line 7: line is longer than 65536 bytes"),
+        (LineKind::NotJson, "line 7: not JSON"),
+        (LineKind::NotObject, "line 7: not an object"),
+        (
+            LineKind::BadProcess,
+            "line 7: process is not a whole number from 0 to 4294967295",
+        ),
+        (
+            LineKind::BadEvent,
+            "line 7: event is not call, reply, fail or crash",
+        ),
+        (LineKind::BadOp, "line 7: op is neither read nor write"),
+        (
+            LineKind::BadRegister,
+            "line 7: register is not a text of 1 to 255 bytes",
+        ),
+        (LineKind::BadValue, "line 7: value does not fit the event"),
+    ] {
+        let fault = LineFault { line: 7, kind };
+        let error = LineError::Fault(fault);
+        assert_eq!(rt; format!(in alloc; "{fault}")?.as_str(), want);
+        assert_eq!(rt; format!(in alloc; "{error}")?.as_str(), want);
+    }
+    let memory = LineError::Memory;
+    assert_eq!(rt; format!(in alloc; "{memory}")?.as_str(), "out of memory");
+    Ok(())
+}
+
 // What W stands for in the lines below.
 const PARTS: &str = r#""process":1,"event":"call","op":"write""#;
 

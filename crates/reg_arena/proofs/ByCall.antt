@@ -1,14 +1,13 @@
 -- The operation of a call, by the link to the next event of its process.
-use Rattle.std.proofs.Common.{◌≡◌, ℕ, suc, ◌+◌, ◌-◌, ◌<◌, ◌≤◌, cond, Bool, true, false, List, [], ◌∷◌, ◌++◌, length, drop, slice_get, Option, Some, None, inl, inr, refl, sym, ap, subst, ◌∙◌, arith, option_map, option_and_then, unwrap_or}
+use Rattle.std.proofs.Common.{◌≡◌, ℕ, suc, ◌+◌, ◌-◌, ◌<◌, cond, true, false, List, length, drop, slice_get, Option, Some, None, inl, inr, refl, sym, ap, subst, ◌∙◌, arith, option_map, option_and_then, unwrap_or}
 use Rattle.std.proofs.lemmas.Bool.{cases_order}
 use Rattle.history_model.specs.declared.event.Event.{Event}
 use Rattle.history_model.specs.declared.ids.EvId.{EvId}
 use Rattle.history_model.specs.declared.ids.RegId.{RegId}
 use Rattle.history_model.specs.Lists.{In}
 use Rattle.history_model.specs.History.{History}
-use Rattle.history_model.specs.Operations.{Operation, next_of, reply_in, operation, is_a_reply, kind_in, number_in, calls, initial_writes, operations, writes}
+use Rattle.history_model.specs.Operations.{Operation, next_of, reply_in, operation, is_a_reply, kind_in, number_in, calls, initial_writes, writes}
 use Rattle.history_model.specs.declared.op.Op.{Op}
-use Rattle.history_text.specs.declared.event.OpKind.{OpKind}
 use Rattle.history_text.specs.declared.event.Val.{Val}
 use Rattle.history_model.specs.declared.ids.Oper.TheVariants.{Called}
 use Rattle.history_model.specs.Walking.{IsLeastFrom, IsNextOf, key_at, by_process, IsReplyOf, timed}

@@ -1,6 +1,7 @@
 -- The entry of an event's register and value, by the number beside the event or beside another of the same.
-use Rattle.std.proofs.Common.{◌≡◌, ℕ, ◌^◌, ◌<◌, nat_eq, cond, false, length, slice_get, Option, Some, None, inl, inr, refl, ap, ◌∙◌, ◌||◌, Bool, true, is_some, arith, option_and_then, option_map, unwrap_or, sym, subst, List}
-use Rattle.std.proofs.lemmas.Option.{slice_get_cases, slice_get_past}
+use Rattle.std.proofs.Common.{◌≡◌, ℕ, ◌<◌, nat_eq, cond, false, length, slice_get, Option, Some, None, inl, inr, refl, ap, ◌∙◌, ◌||◌, Bool, true, is_some, arith, option_and_then, option_map, unwrap_or, sym, subst, List}
+use Rattle.history_text.specs.declared.limits.TheConstants.{MAX_EVENTS}
+use Rattle.std.proofs.lemmas.Option.{slice_get_past}
 use Rattle.std.proofs.lemmas.Bool.{cases_order, eqb-true, eqb-false, eq-eqb, ne_eqb, false≢true}
 use Rattle.history_text.specs.declared.event.Val.{Val}
 use Rattle.history_model.specs.declared.event.Event.{Event}
@@ -152,7 +153,7 @@ pub column-some : (calls : List EvId) (i : ℕ) (c : EvId) → slice_get calls i
 column-some calls i c at ne = ap (option_and_then (λ (c : EvId). cond (nat_eq c.0 NO_CALL) None (Some c))) at ∙ ap (λ b. cond b None (Some c)) (ne_eqb c.0 NO_CALL ne)
 
 -- an event begins an operation where it is its own call
-pub begins-column : (es : List Event) (calls : List EvId) (i : ℕ) (e : Event) (c : EvId) → i < 2 ^ 20 → slice_get es i ≡ Some e → slice_get calls i ≡ Some c → IsCallOf es i e (call_at calls i) → nat_eq c.0 i ≡ begins_at es i e
+pub begins-column : (es : List Event) (calls : List EvId) (i : ℕ) (e : Event) (c : EvId) → i < MAX_EVENTS → slice_get es i ≡ Some e → slice_get calls i ≡ Some c → IsCallOf es i e (call_at calls i) → nat_eq c.0 i ≡ begins_at es i e
 begins-column es calls i e c l at said k = go (nat_eq c.0 NO_CALL) refl
   where
     or-second : (a b : Bool) → (a || b) ≡ false → b ≡ false

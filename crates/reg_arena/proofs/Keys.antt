@@ -1,4 +1,4 @@
--- The keys of a set: the place of one, and one key more.
+-- The elements of an index set (not the key of the hashes): the place of one, and one key more.
 use Rattle.std.proofs.Common.{◌≡◌, ℕ, zero, suc, ◌+◌, ◌<◌, ◌≤◌, cond, nat_lt, eqb, get_or, not, slice_get, Bool, true, false, ◌||◌, List, [], ◌∷◌, ◌++◌, length, map, Some, None, refl, sym, ap, ◌∙◌, arith, length-append}
 use Rattle.std.specs.Prelude.{if◌then◌else◌}
 use Rattle.std.specs.List.{position, position_or_len, list_any}

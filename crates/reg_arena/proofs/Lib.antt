@@ -4,6 +4,8 @@ pub mod Joining
 pub mod Keys
 pub mod Values
 pub mod Append
+pub mod AppendCalls
+pub mod AppendEntries
 pub mod ByValue
 pub mod ByEvent
 pub mod ByCall

@@ -13,22 +13,22 @@ use Rattle.history_model.specs.Operations.{Operation, calls, operations, is_a_ca
 use Rattle.history_model.specs.Walking.{IsFirstOf, key_at, by_process, by_register, by_value}
 use Rattle.history_model.specs.Naming.{IsNamed, IsEventOf, IsEventIn, IsOperOf, begins_at, belongs_at, name_by}
 use Rattle.history_model.specs.OfValue.{IsMember, IsWriteOf, IsLastCall, IsFirstReply}
-use Rattle.reg_arena.specs.EventLists.{IsCallAt, IsCallOf as IsColumnCall, IsKeptWrite, IsLastRead, IsEntry, call_at, by_write, by_reply, by_read, initial_call, later}
+use Rattle.reg_arena.specs.EventLists.{IsCallAt, IsCallOf as IsColumnCall, IsKeptWrite, IsLastRead, call_at, by_write, by_reply, by_read, initial_call, later}
 use Rattle.history_model.specs.declared.ids.EvId.{EvId}
 use Rattle.history_model.specs.declared.ids.RegId.{RegId}
 use Rattle.history_model.specs.declared.ids.Oper.TheVariants.{Initial, Called}
 use Rattle.history_model.specs.declared.event.Event.{Event}
 use Rattle.history_model.specs.declared.event.What.{What}
-use Rattle.history_model.specs.declared.event.What.TheVariants.{Call, Reply}
-use Rattle.reg_arena.specs.declared.list_ends.Entry.{Entry}
-use Rattle.reg_arena.proofs.Append.{key-within, key-along, write-call, write-value, reply-said, reply-value, read-said, read-value, and-left}
+use Rattle.history_model.specs.declared.event.What.TheVariants.{Reply}
+use Rattle.reg_arena.proofs.Append.{key-within, write-call, write-value, reply-said, reply-value, read-said, read-value}
+use Rattle.reg_arena.proofs.AppendCalls.{and-left}
 use Rattle.reg_arena.proofs.ByValue.{key-both, key-parts}
 use Rattle.history_model.proofs.Walking.{number-known}
 use Rattle.history_model.proofs.Recorded.{In-initials, initials-In}
 use Rattle.history_model.proofs.Belonging.{IsCallOf, IsReplied, called-one}
 use Rattle.history_model.proofs.Accepted.{line-at, call-asks, asked-value, call-line}
 use Rattle.history_model.proofs.Turns.{call-event, not-again}
-use Rattle.history_model.proofs.Named.{begun-at, event-has-operation, event-has-no-operation, event-has-one, operation-has-call, operation-has-reply}
+use Rattle.history_model.proofs.Named.{begun-at, event-has-operation, event-has-no-operation, operation-has-call, operation-has-reply}
 use Rattle.history_model.proofs.Lists.{In-left, append-In, slice_get_inside}
 
 -- ---- names

@@ -1,5 +1,5 @@
 -- The arena's events against the lines' events: the call that a process has open, and the call that wrote a value before.
-use Rattle.std.proofs.Common.{◌≡◌, ℕ, ℤ, zero, suc, ◌<◌, ◌&&◌, cond, Bool, true, false, List, [], ◌∷◌, length, take, slice_get, Option, Some, None, inl, inr, refl, sym, ap, subst, ◌∙◌, arith, is_some, option_map, option_and_then}
+use Rattle.std.proofs.Common.{◌≡◌, ℕ, ℤ, zero, suc, ◌<◌, ◌&&◌, cond, Bool, true, false, List, [], ◌∷◌, length, take, slice_get, Option, Some, None, inl, inr, refl, sym, ap, subst, ◌∙◌, arith, is_some, option_and_then}
 use Rattle.std.specs.Prelude.{bytes_eq}
 use Rattle.std.specs.Option.{option_or}
 use Rattle.std.proofs.lemmas.Bool.{cases_order, eq-eqb, eqb-true, false≢true}
@@ -15,17 +15,16 @@ use Rattle.history_text.specs.declared.event.LineEvent.{LineEvent}
 use Rattle.history_text.specs.declared.event.Kind.{Kind}
 use Rattle.history_text.specs.declared.event.Kind.TheVariants.{CallRead, CallWrite, Reply, Fail, Crash}
 use Rattle.history_model.specs.Lists.{In, last_with, first_with}
-use Rattle.history_model.specs.Events.{Asked, asked_by, replied_by, failed_by, is_call, is_crash, is_crash_kind, is_of_process, open_call, open_asked, crashed_at}
+use Rattle.history_model.specs.Events.{Asked, asked_by, is_call, is_crash, is_crash_kind, is_of_process, open_call, open_asked, crashed_at}
 use Rattle.history_model.specs.Refusals.{AreAccepted, writes_to}
 use Rattle.history_model.specs.History.{history_of, event_after, register_names, register_number, what_by}
 use Rattle.history_model.specs.Walking.{key_at, by_process, by_value}
-use Rattle.reg_arena.specs.EventLists.{IsCall, IsLastOf, by_write}
-use Rattle.reg_arena.specs.Step.{IsOpenCall, IsStanding, IsCrash, IsNumber, IsWritten}
+use Rattle.reg_arena.specs.EventLists.{IsLastOf, by_write}
+use Rattle.reg_arena.specs.Step.{IsOpenCall, IsStanding, IsNumber, IsWritten}
 use Rattle.reg_arena.specs.declared.standing.Open.{Open}
-use Rattle.reg_arena.specs.declared.standing.Standing.TheVariants.{Opened, Crashed, Free}
+use Rattle.reg_arena.specs.declared.standing.Standing.TheVariants.{Crashed, Free}
 use Rattle.history_model.specs.Operations.{is_a_call, kind_in, number_in}
 use Rattle.history_model.specs.declared.ids.RegId.{RegId}
-use Rattle.history_model.specs.declared.event.What.{What}
 use Rattle.history_model.specs.declared.event.What.TheVariants.{Call, Crash as Crashes}
 use Rattle.history_model.specs.declared.ids.EvId.{EvId}
 use Rattle.history_model.specs.declared.event.Event.{Event}

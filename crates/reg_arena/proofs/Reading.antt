@@ -1,23 +1,23 @@
 -- The lines built so far, and one line more or all that are left.
-use Rattle.std.proofs.Common.{◌≡◌, ℕ, zero, suc, ◌+◌, ◌<◌, ◌≤◌, List, [], ◌∷◌, ◌++◌, length, take, slice_get, drop, Option, Some, None, inl, inr, refl, sym, ap, subst, ◌∙◌, arith, option_and_then}
+use Rattle.std.proofs.Common.{◌≡◌, ℕ, zero, suc, ◌+◌, ◌<◌, ◌≤◌, List, [], ◌∷◌, ◌++◌, length, take, slice_get, drop, Some, None, inl, inr, refl, sym, ap, subst, ◌∙◌, arith, option_and_then}
 use Rattle.std.specs.Prelude.{Result, Ok, Err, flat_map}
 use Rattle.std.specs.Result.{result_ok, IsErrAnd, IfErr}
 use Rattle.std.proofs.lemmas.Bool.{cases_order}
 use Rattle.std.proofs.lemmas.List.{append_assoc, append-nil, length-append}
 use Rattle.std.proofs.lemmas.List.Elements.{filter_map-append}
 use Rattle.std.proofs.lemmas.Option.{slice_get_past}
-use Rattle.history_text.specs.Faults.{fault_number}
 use Rattle.history_text.specs.declared.event.LineEvent.{LineEvent}
 use Rattle.history_text.specs.declared.fault.LineFault.{LineFault}
 use Rattle.reg_arena.specs.Built.{IsBuilt, IsBuiltWith}
 use Rattle.history_model.specs.Refusals.{Line, AreAccepted, IsBuildError, IsRefusal, IsWellFormed, event_refusal, events_of, line_refusal, refusal_at}
 use Rattle.history_model.specs.History.{History, history_of}
-use Rattle.reg_arena.specs.Step.{IsStep}
+use Rattle.reg_arena.specs.Step.{IsStep, step_result}
 use Rattle.history_model.specs.declared.refusal.BuildError.{BuildError}
 use Rattle.history_model.specs.declared.refusal.BuildError.TheVariants.{Refused, Memory}
 use Rattle.history_model.specs.declared.refusal.LineRefusal.{LineRefusal}
 use Rattle.history_model.proofs.Accepted.{take-push}
 use Rattle.reg_arena.proofs.Step.{accepted-push}
+use Rattle.history_model.specs.declared.refusal.Reason.TheVariants.{Faulty}
 
 -- a whole list is taken
 pub take-all : {X : Type 0} (xs : List X) (n : ℕ) → length xs ≤ n → take n xs ≡ xs
@@ -80,7 +80,7 @@ module _ (lines : List Line) (h : History) (built : IsBuilt lines h) where
   refused-event e Memory s after = tt
 
   -- and so does a line that has a fault
-  pub refused-line : (f : LineFault) (r : LineRefusal) → r ≡ record { line = f.line; number = fault_number f.kind; other = None } → (after : List Line) → IsRefusal (lines ++ Err f ∷ after) r
+  pub refused-line : (f : LineFault) (r : LineRefusal) → r ≡ record { line = f.line; reason = Faulty f.kind } → (after : List Line) → IsRefusal (lines ++ Err f ∷ after) r
   refused-line f r q after = record { place = length lines; there = refusal-behind lines (Err f) after ∙ ap Some (sym q); least = free-before (Err f ∷ after) }
 
 -- a list is what stands before a place, what stands there, and what stands behind it
@@ -100,13 +100,13 @@ module _ (before lines : List Line) (n : ℕ) (h : History) (built : IsBuilt (be
   pub part-event-refused : (e : LineEvent) (x : BuildError) → slice_get lines n ≡ Some (Ok e) → IsStep (events_of (before ++ take n lines)) e (Err x) → (after : List Line) → IsBuildError (before ++ lines ++ after) x
   part-event-refused e x at s after = subst (λ xs. IsBuildError xs x) (whole (Ok e) at after) (refused-event (before ++ take n lines) h built e x s (drop (suc n) lines ++ after))
 
-  pub part-line-refused : (f : LineFault) (r : LineRefusal) → slice_get lines n ≡ Some (Err f) → r ≡ record { line = f.line; number = fault_number f.kind; other = None } → (after : List Line) → IsRefusal (before ++ lines ++ after) r
+  pub part-line-refused : (f : LineFault) (r : LineRefusal) → slice_get lines n ≡ Some (Err f) → r ≡ record { line = f.line; reason = Faulty f.kind } → (after : List Line) → IsRefusal (before ++ lines ++ after) r
   part-line-refused f r at q after = subst (λ xs. IsRefusal xs r) (whole (Err f) at after) (refused-line (before ++ take n lines) h built f r q (drop (suc n) lines ++ after))
 
 -- an error that is passed on tells of the same lines
-pub error-passed : (before lines : List Line) (r : Result History BuildError) (x : BuildError) → IsErrAnd r (λ y. y ≡ x) → ((after : List Line) → IsBuildError (before ++ lines ++ after) x) → IsBuiltWith before lines r
-error-passed before lines (Ok h) x p refused = absurd p
-error-passed before lines (Err y) x p refused = λ after. subst (IsBuildError (before ++ lines ++ after)) (sym p) (refused after)
+pub error-passed : (before lines : List Line) (h : History) (r : Result (Unit {0}) BuildError) (x : BuildError) → IsErrAnd r (λ y. y ≡ x) → ((after : List Line) → IsBuildError (before ++ lines ++ after) x) → IsBuiltWith before lines (step_result h r)
+error-passed before lines h (Ok z) x p refused = absurd p
+error-passed before lines h (Err y) x p refused = λ after. subst (IsBuildError (before ++ lines ++ after)) (sym p) (refused after)
 
 -- ---- lines in parts
 

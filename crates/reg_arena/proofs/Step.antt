@@ -1,5 +1,5 @@
 -- The history with one event more.
-use Rattle.std.proofs.Common.{◌≡◌, ℕ, ◌<◌, ◌^◌, nat_le, is_some, option_map, cond, Bool, true, false, List, [], ◌∷◌, ◌++◌, length, take, slice_get, Option, Some, None, inl, inr, refl, sym, ap, subst, ◌∙◌, arith, option_and_then, unwrap_or, append_assoc, append-nil, length-append}
+use Rattle.std.proofs.Common.{◌≡◌, ℕ, ◌<◌, nat_le, option_map, cond, Bool, true, false, List, [], ◌∷◌, ◌++◌, length, take, slice_get, Option, Some, None, inl, inr, refl, sym, ap, subst, ◌∙◌, arith, option_and_then, unwrap_or, append_assoc, append-nil, length-append}
 use Rattle.std.proofs.lemmas.Bool.{cases_order, leb-false, false≢true}
 use Rattle.std.specs.Option.{option_or}
 use Rattle.std.proofs.lemmas.Option.{slice_get_past}
@@ -12,7 +12,7 @@ use Rattle.history_text.specs.declared.event.OpKind.TheVariants.{ReadOp, WriteOp
 use Rattle.history_text.specs.declared.event.LineEvent.{LineEvent}
 use Rattle.history_text.specs.declared.event.ReplyParts.{ReplyParts}
 use Rattle.history_model.specs.Lists.{In}
-use Rattle.history_model.specs.Events.{Asked, asked_by, replied_by, failed_by, ended_by, open_asked, is_call, is_crash, is_crash_kind}
+use Rattle.history_model.specs.Events.{Asked, asked_by, replied_by, failed_by, ended_by, open_asked, is_crash, is_crash_kind}
 use Rattle.history_model.specs.Refusals.{AreAccepted, event_refusal, refused}
 use Rattle.history_model.specs.History.{History, IsRecorded, history_of, events_after, event_after, asked_for, event_value, kind_asked, register_names, register_number, what_by}
 use Rattle.history_model.specs.Operations.{is_a_call, is_a_fail}
@@ -23,15 +23,16 @@ use Rattle.reg_arena.specs.declared.standing.Open.{Open}
 use Rattle.history_text.specs.declared.event.Kind.{Kind}
 use Rattle.history_text.specs.declared.event.Kind.TheVariants.{CallRead, CallWrite, Reply as AReply, Fail as AFail, Crash as ACrash}
 use Rattle.history_model.specs.Walking.{key_at, by_process, by_register, by_value}
-use Rattle.reg_arena.specs.EventLists.{IsCall, IsCallAt, IsAppendable}
+use Rattle.reg_arena.specs.EventLists.{IsCallAt, IsAppendable}
 use Rattle.std.specs.Prelude.{Result, Ok, Err}
 use Rattle.std.specs.Result.{IsErrAnd}
 use Rattle.history_model.specs.declared.refusal.BuildError.{BuildError}
 use Rattle.history_model.specs.declared.refusal.BuildError.TheVariants.{Memory}
-use Rattle.reg_arena.specs.Step.{IsNumber, IsOpenCall, IsStep}
+use Rattle.reg_arena.specs.Step.{IsNumber, IsOpenCall, IsStep, step_result}
 use Rattle.history_model.specs.declared.ids.EvId.{EvId}
 use Rattle.history_model.specs.declared.event.Event.{Event}
-use Rattle.reg_arena.proofs.Append.{call-keep, key-back, key-within}
+use Rattle.reg_arena.proofs.Append.{key-back, key-within}
+use Rattle.reg_arena.proofs.AppendCalls.{call-keep}
 use Rattle.history_model.proofs.Numbers.{is-In, place-in, place-out, names-replied, names-known, names-new}
 use Rattle.history_model.proofs.Accepted.{free-of, asked-call, asked-end, asked-value, reply-asks, reply-ends, fail-ends}
 use Rattle.history_model.proofs.Turns.{value-of-call}
@@ -39,6 +40,7 @@ use Rattle.reg_arena.proofs.Open.{open-some, number-stays}
 use Rattle.history_model.proofs.Named.{event-register}
 use Rattle.reg_arena.proofs.Refused.{events-length, crash-none}
 use Rattle.history_model.proofs.Lists.{slice_get-push, slice_get-push_other}
+use Rattle.history_model.specs.declared.refusal.Reason.TheVariants.{TooMany}
 
 take-length : {X : Type 0} (xs : List X) → take (length xs) xs ≡ xs
 take-length [] = refl
@@ -65,10 +67,10 @@ events-push b [] e = ap (λ xs. event_after xs e ∷ []) (sym (append-nil b))
 events-push b (x ∷ es) e = ap (λ ys. event_after b x ∷ ys) (events-push (b ++ x ∷ []) es e ∙ ap (λ xs. events_after (b ++ x ∷ []) es ++ event_after xs e ∷ []) (append_assoc b (x ∷ []) es))
 
 -- there is room for an event that isn't refused
-pub room-of : (es : List LineEvent) (e : LineEvent) → event_refusal es e ≡ None → length (history_of es).events < 2 ^ 20
+pub room-of : (es : List LineEvent) (e : LineEvent) → event_refusal es e ≡ None → length (history_of es).events < MAX_EVENTS
 room-of es e free = go (nat_le MAX_EVENTS (length es)) refl (free-of es e free).room
   where
-    go : (b : Bool) → nat_le MAX_EVENTS (length es) ≡ b → cond b (Some (refused e 14 None)) None ≡ None → length (history_of es).events < 2 ^ 20
+    go : (b : Bool) → nat_le MAX_EVENTS (length es) ≡ b → cond b (Some (refused e TooMany)) None ≡ None → length (history_of es).events < MAX_EVENTS
     go true q h = absurd (cc (h))
     go false q h = omega (arith, events-length [] es, leb-false MAX_EVENTS (length es) q)
 
@@ -257,6 +259,6 @@ fail-call events ev o kind w register value h = record {
 }
 
 -- want of memory says nothing of the event
-pub memory-step : (es : List LineEvent) (e : LineEvent) (r : Result History BuildError) → IsErrAnd r (λ x. x ≡ Memory) → IsStep es e r
-memory-step es e (Ok h) p = absurd p
-memory-step es e (Err x) p = subst (λ (x : BuildError). IsStep es e (Err x)) (sym p) tt
+pub memory-step : (es : List LineEvent) (e : LineEvent) (h : History) (r : Result (Unit {0}) BuildError) → IsErrAnd r (λ x. x ≡ Memory) → IsStep es e (step_result h r)
+memory-step es e h (Ok x) p = absurd p
+memory-step es e h (Err x) p = subst (λ (x : BuildError). IsStep es e (Err x)) (sym p) tt

@@ -1,5 +1,6 @@
 -- The times and the write of a register's value, by the entry in the arena.
-use Rattle.std.proofs.Common.{◌≡◌, ℕ, ◌^◌, ◌<◌, nat_lt, cond, Bool, true, false, length, take, slice_get, Option, Some, None, List, refl, sym, ap, subst, ◌∙◌, arith, option_map, option_and_then}
+use Rattle.std.proofs.Common.{◌≡◌, ℕ, ◌<◌, nat_lt, cond, Bool, true, false, length, take, slice_get, Option, Some, None, List, refl, sym, ap, subst, ◌∙◌, arith, option_map, option_and_then}
+use Rattle.history_text.specs.declared.limits.TheConstants.{MAX_EVENTS}
 use Rattle.history_text.specs.declared.event.Val.{Val}
 use Rattle.history_text.specs.declared.event.Val.TheVariants.{Null, Int}
 use Rattle.history_model.specs.History.{History, IsRecorded, asked_for, event_value}
@@ -32,12 +33,12 @@ kept-called (Written w) id h = h
 kept-called (Failed w) id h = absurd (cc (h))
 
 -- the later of two fits where both do
-pub later-fits : (a b : Option EvId) → ((id : EvId) → a ≡ Some id → id.0 < 2 ^ 20) → ((id : EvId) → b ≡ Some id → id.0 < 2 ^ 20) → (id : EvId) → later a b ≡ Some id → id.0 < 2 ^ 20
+pub later-fits : (a b : Option EvId) → ((id : EvId) → a ≡ Some id → id.0 < MAX_EVENTS) → ((id : EvId) → b ≡ Some id → id.0 < MAX_EVENTS) → (id : EvId) → later a b ≡ Some id → id.0 < MAX_EVENTS
 later-fits None b f g id h = g id h
 later-fits (Some a) None f g id h = f id h
 later-fits (Some a) (Some b) f g id h = go (nat_lt a.0 b.0) h
   where
-    go : (t : Bool) → Some (cond t b a) ≡ Some id → id.0 < 2 ^ 20
+    go : (t : Bool) → Some (cond t b a) ≡ Some id → id.0 < MAX_EVENTS
     go true h = g id h
     go false h = f id h
 
@@ -51,7 +52,7 @@ has-times t a k y q =
       reply = λ id r. let f = subst (IsFirstOf by_reply t.events.items k) r e.reply in let w = key-within by_reply t.events.items id.0 k f.1 in omega (arith, w, a.room);
     }
   where
-    read : (id : EvId) → IsLastRead t.events.items t.calls.items k (Some id) → id.0 < 2 ^ 20
+    read : (id : EvId) → IsLastRead t.events.items t.calls.items k (Some id) → id.0 < MAX_EVENTS
     read id l =
         let i = l.0.0 in
         let w = key-within by_read t.events.items i k l.0.1 in

@@ -1,7 +1,5 @@
 -- What has been built of some lines, none of which is faulty.
-use Rattle.std.specs.Prelude.{◌≡◌, ◌++◌, List, flat_map, Result, Ok, Err}
-use Rattle.history_text.specs.declared.event.LineEvent.{LineEvent}
-use Rattle.history_text.specs.declared.fault.LineFault.{LineFault}
+use Rattle.std.specs.Prelude.{◌≡◌, ◌++◌, List, Result, Ok, Err}
 use Rattle.history_model.specs.declared.refusal.BuildError.{BuildError}
 use Rattle.history_model.specs.History.{History, history_of}
 use Rattle.history_model.specs.Refusals.{Line, AreAccepted, IsBuildError, IsWellFormed, events_of}

@@ -1,5 +1,6 @@
 -- The threaded lists of an arena: each family is the filter of the one list of events, ascending.
-use Rattle.std.specs.Prelude.{◌≡◌, ℕ, ◌+◌, ◌^◌, ◌<◌, ◌≤◌, ◌⊎◌, ◌&&◌, not, Bool, true, false, nat_lt, nat_eq, cond, ℤ, List, [], ◌∷◌, ◌++◌, length, set, slice_get, Option, Some, None, option_map, option_and_then}
+use Rattle.std.specs.Prelude.{◌≡◌, ℕ, ◌+◌, ◌<◌, ◌≤◌, ◌⊎◌, ◌&&◌, not, Bool, true, false, nat_lt, nat_eq, cond, ℤ, List, [], ◌∷◌, ◌++◌, length, set, slice_get, Option, Some, None, option_map, option_and_then}
+use Rattle.history_text.specs.declared.limits.TheConstants.{MAX_EVENTS}
 use Rattle.std.specs.List.{position}
 use Rattle.std.specs.Ordering.{int_eq}
 use Rattle.std.specs.Option.{option_eq, option_or}
@@ -254,9 +255,9 @@ reply_time (Int n) y = option_map (λ id. id.0 + 2) (option_and_then (λ y. y.fi
 
 -- the times of an entry's events fit 32 bits
 pub record HasTimes (y : Entry) : Type 0 where
-  pub write : (id : EvId) → write_kept y.write ≡ Some id → id.0 < 2 ^ 20
-  pub read : (id : EvId) → y.last_read ≡ Some id → id.0 < 2 ^ 20
-  pub reply : (id : EvId) → y.first_reply ≡ Some id → id.0 < 2 ^ 20
+  pub write : (id : EvId) → write_kept y.write ≡ Some id → id.0 < MAX_EVENTS
+  pub read : (id : EvId) → y.last_read ≡ Some id → id.0 < MAX_EVENTS
+  pub reply : (id : EvId) → y.first_reply ≡ Some id → id.0 < MAX_EVENTS
 
 -- ---- all
 
@@ -279,4 +280,4 @@ pub record AreEventLists (t : EventLists) : Type 0 where
   pub number_column : length t.numbers.items ≡ length t.events.items
   pub known : length t.registers.items ≤ length t.events.items
   pub few : length t.entries.items ≤ length t.events.items
-  pub room : length t.events.items ≤ 2 ^ 20
+  pub room : length t.events.items ≤ MAX_EVENTS

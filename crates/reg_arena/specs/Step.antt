@@ -60,6 +60,11 @@ pub record IsTaken (h : History) (e : LineEvent) : Type 0 where
   pub is : h ≡ history_of before
   pub free : event_refusal before e ≡ None
 
+-- what a step gave: the history after it, or its error
+abbrev pub step_result : {E : Type 0} → History → Result (Unit {0}) E → Result History E
+step_result h (Ok x) = Ok h
+step_result h (Err e) = Err e
+
 -- where memory is there, the next history is that of the events with e
 abbrev pub OnOkAfter : History → LineEvent → Result History AllocError → Type 0
 OnOkAfter h e (Ok g) = (before : List LineEvent) → AreAccepted before → h ≡ history_of before → g ≡ history_of (before ++ e ∷ [])

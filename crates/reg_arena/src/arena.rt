@@ -1,5 +1,6 @@
 //! An accepted history, and what is asked of it. No call takes memory, and each always answers.
-ghost use Rattle.std.specs.Prelude.{◌≡◌, ◌<◌, ◌≤◌, ◌^◌, ◌↔◌, length, slice_get, None, Some, IsTrue};
+ghost use Rattle.std.specs.Prelude.{◌≡◌, ◌<◌, ◌≤◌, ◌↔◌, length, slice_get, None, Some, IsTrue};
+ghost use Rattle.history_text.specs.declared.limits.TheConstants.{MAX_EVENTS};
 ghost use Rattle.history_text.specs.Limits.{IsName};
 ghost use Rattle.history_model.specs.History.{IsRecorded};
 ghost use Rattle.history_model.specs.Operations.{Operation, Precedes};
@@ -38,7 +39,7 @@ impl Arena {
     /// How many events there are, at most [`MAX_EVENTS`](history_text::MAX_EVENTS).
     pub fn event_count(&self) -> u32
         ensures count { result ≡ length self.now.events }
-        ensures bound { result ≤ 2 ^ 20 }
+        ensures bound { result ≤ MAX_EVENTS }
         ensures recorded { IsRecorded self.now }
     {
         self.lists.events.len() as u32
@@ -47,7 +48,7 @@ impl Arena {
     /// How many registers there are: no more than events.
     pub fn register_count(&self) -> u32
         ensures count { result ≡ length self.now.names }
-        ensures bound { result ≤ 2 ^ 20 }
+        ensures bound { result ≤ MAX_EVENTS }
     {
         self.names.len() as u32
     }
@@ -65,7 +66,7 @@ impl Arena {
     pub fn event(&self, id: EvId) -> Event
         requires { id.0 < length self.now.events }
         ensures at { slice_get self.now.events id.0 ≡ Some result }
-        ensures bound { length self.now.events ≤ 2 ^ 20 }
+        ensures bound { length self.now.events ≤ MAX_EVENTS }
     {
         self.lists.events[id.0 as usize]
     }

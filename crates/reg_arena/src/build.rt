@@ -1,16 +1,17 @@
 //! From lines to an arena: each event is refused, or taken into the history so far.
 //!
-//! Each step takes the arena by value and gives back the next one. If the arena were lent, its invariant would have to hold even after an
-//! append that ran out of memory half way. The steps are inlined, so that none of them copies it.
+//! A step that runs out of memory half way leaves an empty arena: an arena is the history of some events at any time.
 ghost use Rattle.std.specs.Prelude.{◌≡◌, [], ℕ, List, Option, length, cond, nat_le, flat_map, IfOk, IfErr, Some, None, true};
 ghost use Rattle.history_text.specs.declared.event.LineEvent.{LineEvent as ALineEvent};
 ghost use Rattle.history_text.specs.declared.event.ReplyParts.{ReplyParts as AReplyParts};
 ghost use Rattle.history_text.specs.declared.event.Val.{Val as AVal};
 ghost use Rattle.reg_arena.specs.Built.{IsBuilt, IsBuiltWith};
+ghost use Rattle.reg_arena.specs.EventLists.{AreEventLists};
 ghost use Rattle.history_model.specs.Events.{Asked, asked_by, ended_by, failed_by, is_crash, replied_by};
 ghost use Rattle.history_model.specs.History.{history_of};
+ghost use Rattle.history_model.specs.declared.refusal.Reason.TheVariants.{TooMany};
 ghost use Rattle.history_model.specs.Refusals.{AreAccepted, IsBuildError, Line, IsWellFormed, event_refusal, events_of, late_refusal};
-ghost use Rattle.reg_arena.specs.Step.{IsLastWith, IsNumber, IsRefusedAfter, IsStanding, IsStep, IsTaken, IsWritten, OnOkAfter};
+ghost use Rattle.reg_arena.specs.Step.{IsLastWith, IsNumber, IsRefusedAfter, IsStanding, IsStep, IsTaken, IsWritten, OnOkAfter, step_result};
 ghost use Rattle.reg_arena.specs.declared.standing.Standing.TheVariants.{Crashed, Opened};
 
 use crate::agrees::{fail_agrees, reply_agrees};
@@ -20,19 +21,15 @@ use crate::hash_key::HashKey;
 use crate::names::Names;
 use crate::seeded::Seeded;
 use crate::standing::{Open, Standing};
-use history_model::{BuildError, EvId, Event, LineRefusal, RegId, What};
+use history_model::{BuildError, EvId, Event, LineRefusal, Reason, RegId, What};
 use history_text::{Kind, LineEvent, LineFault, MAX_EVENTS, Name, OpKind, ReplyParts, Val};
 use std::alloc::{AllocError, Global};
 
 /// The refusal of a line.
-fn refused(line: u32, number: u8, other: Option<u32>) -> LineRefusal
-    ensures { result ≡ record { line = line; number = number; other = other } }
+fn refused(line: u32, reason: Reason) -> LineRefusal
+    ensures { result ≡ record { line = line; reason = reason } }
 {
-    LineRefusal {
-        line,
-        number,
-        other,
-    }
+    LineRefusal { line, reason }
 }
 
 /// Lines as the only part.
@@ -83,29 +80,29 @@ impl Arena {
         }
         let mut arena = Arena::new(alloc, count, Seeded::new(key))?;
         for part in parts {
-            arena = arena.with_lines(alloc, &part)?;
+            arena.add_lines(alloc, &part)?;
         }
         Ok(arena)
     }
 
     /// The arena with the events of more lines behind the others, or the refusal of the first faulty one of these.
-    fn with_lines(
-        self,
+    fn add_lines(
+        &mut self,
         alloc: Global,
         lines: &[Result<LineEvent, LineFault>],
-    ) -> Result<Self, BuildError>
-        ensures { (before : List Line) → IsBuilt before self → IsBuiltWith before lines.now result }
+    ) -> Result<(), BuildError>
+        ensures { (before : List Line) → IsBuilt before self.old → IsBuiltWith before lines.now (step_result self.new result) }
     {
-        let mut arena = self;
         for line in lines {
             match line {
                 Err(fault) => {
-                    return Err(BuildError::Refused(refused(fault.line, fault.number(), None)));
+                    let refusal = refused(fault.line, Reason::Faulty(fault.kind));
+                    return Err(BuildError::Refused(refusal));
                 }
-                Ok(event) => arena = arena.step(alloc, event)?,
+                Ok(event) => self.step(alloc, event)?,
             }
         }
-        Ok(arena)
+        Ok(())
     }
 
     /// The arena of no events, with room for as many as `count`.
@@ -119,9 +116,8 @@ impl Arena {
     }
 
     /// The arena with the event of a line behind the others, or the event's refusal.
-    #[inline(always)]
-    fn step(self, alloc: Global, event: &LineEvent) -> Result<Self, BuildError>
-        ensures { (es : List ALineEvent) → AreAccepted es → self ≡ history_of es → IsStep es event.now result }
+    fn step(&mut self, alloc: Global, event: &LineEvent) -> Result<(), BuildError>
+        ensures { (es : List ALineEvent) → AreAccepted es → self.old ≡ history_of es → IsStep es event.now (step_result self.new result) }
     {
         match &event.kind {
             Kind::CallRead(name) => self.call(alloc, event, name, OpKind::ReadOp, None),
@@ -135,70 +131,73 @@ impl Arena {
     }
 
     /// A step by a call.
-    #[inline(always)]
     fn call(
-        self,
+        &mut self,
         alloc: Global,
         event: &LineEvent,
         name: &Name,
         kind: OpKind,
         value: Option<Val>,
-    ) -> Result<Self, BuildError>
+    ) -> Result<(), BuildError>
         requires { asked_by event.now.kind ≡ Some (record { register = name.now; kind = kind; value = value }) }
-        ensures { (es : List ALineEvent) → AreAccepted es → self ≡ history_of es → IsStep es event.now result }
+        ensures { (es : List ALineEvent) → AreAccepted es → self.old ≡ history_of es → IsStep es event.now (step_result self.new result) }
     {
         let number = self.names.number(name);
         let last = self.last_with(number, value);
         match self.call_refusal(event, last) {
             Some(refusal) => Err(BuildError::Refused(refusal)),
-            None => Ok(self.with_call(alloc, event, name, number, kind, value, last)?),
+            None => Ok(self.add_call(alloc, event, name, number, kind, value, last)?),
         }
     }
 
     /// A step by a reply.
-    #[inline(always)]
-    fn reply(self, event: &LineEvent, parts: &ReplyParts) -> Result<Self, BuildError>
+    fn reply(&mut self, event: &LineEvent, parts: &ReplyParts) -> Result<(), BuildError>
         requires { replied_by event.now.kind ≡ Some parts.now }
-        ensures { (es : List ALineEvent) → AreAccepted es → self ≡ history_of es → IsStep es event.now result }
+        ensures { (es : List ALineEvent) → AreAccepted es → self.old ≡ history_of es → IsStep es event.now (step_result self.new result) }
     {
+        // The arena's invariant is known once a field is used.
+        let _ = &self.names;
         let opened = match self.ended_call(event) {
             Ok(opened) => opened,
             Err(refusal) => return Err(BuildError::Refused(refusal)),
         };
         match self.reply_refusal(event, parts, opened) {
             Some(refusal) => Err(BuildError::Refused(refusal)),
-            None => Ok(self.with_reply(event, parts, opened)?),
+            None => Ok(self.add_reply(event, parts, opened)?),
         }
     }
 
     /// A step by a fail.
-    fn fail(self, event: &LineEvent, parts: &ReplyParts) -> Result<Self, BuildError>
+    fn fail(&mut self, event: &LineEvent, parts: &ReplyParts) -> Result<(), BuildError>
         requires { failed_by event.now.kind ≡ Some parts.now }
-        ensures { (es : List ALineEvent) → AreAccepted es → self ≡ history_of es → IsStep es event.now result }
+        ensures { (es : List ALineEvent) → AreAccepted es → self.old ≡ history_of es → IsStep es event.now (step_result self.new result) }
     {
+        // The arena's invariant is known once a field is used.
+        let _ = &self.names;
         let opened = match self.ended_call(event) {
             Ok(opened) => opened,
             Err(refusal) => return Err(BuildError::Refused(refusal)),
         };
         match self.fail_refusal(event, parts, opened) {
             Some(refusal) => Err(BuildError::Refused(refusal)),
-            None => Ok(self.with_fail(event, opened)?),
+            None => Ok(self.add_fail(event, opened)?),
         }
     }
 
     /// A step by a crash, which needs no open call.
-    fn crash(self, event: &LineEvent) -> Result<Self, BuildError>
+    fn crash(&mut self, event: &LineEvent) -> Result<(), BuildError>
         requires { is_crash event.now ≡ true }
-        ensures { (es : List ALineEvent) → AreAccepted es → self ≡ history_of es → IsStep es event.now result }
+        ensures { (es : List ALineEvent) → AreAccepted es → self.old ≡ history_of es → IsStep es event.now (step_result self.new result) }
     {
+        // The arena's invariant is known once a field is used.
+        let _ = &self.names;
         match self.late_refusal(event, self.standing(event.process)) {
             Some(refusal) => Err(BuildError::Refused(refusal)),
-            None => Ok(self.with_crash(event)?),
+            None => Ok(self.add_crash(event)?),
         }
     }
 
     /// How a process stands by its last event.
-    #[inline(always)]
     fn standing(&self, process: u32) -> Standing
         ensures { IsStanding self.now.events process result }
     {
@@ -222,7 +221,6 @@ impl Arena {
     }
 
     /// The open call that a reply or a fail ends, or the refusal of that event if there is none.
-    #[inline(always)]
     fn ended_call(&self, event: &LineEvent) -> Result<Open, LineRefusal>
         requires { (parts : AReplyParts) × (ended_by event.now.kind ≡ Some parts) }
         ensures ok { IfOk result (λ o. IsStanding self.now.events event.now.process (Opened o)) }
@@ -231,7 +229,7 @@ impl Arena {
         match self.standing(event.process) {
             Standing::Opened(opened) => Ok(opened),
             Standing::Crashed(crash) => Err(self.crash_refusal(event, crash)),
-            Standing::Free => Err(refused(event.line, 10, None)),
+            Standing::Free => Err(refused(event.line, Reason::NoOpenCall)),
         }
     }
 
@@ -242,10 +240,10 @@ impl Arena {
     {
         let standing = self.standing(event.process);
         if let Standing::Opened(opened) = standing {
-            return Some(refused(event.line, 9, Some(self.event(opened.call).line)));
+            return Some(refused(event.line, Reason::OpenCall(self.event(opened.call).line)));
         }
         if let Some(write) = self.written(last) {
-            return Some(refused(event.line, 13, Some(self.event(write).line)));
+            return Some(refused(event.line, Reason::WrittenBefore(self.event(write).line)));
         }
         self.late_refusal(event, standing)
     }
@@ -265,10 +263,10 @@ impl Arena {
         let _ = &self.names;
         let name = self.name(opened.register);
         if !reply_agrees(parts, name, opened.kind, opened.value) {
-            return Some(refused(event.line, 11, None));
+            return Some(refused(event.line, Reason::Disagreement));
         }
         if opened.value.is_none() && parts.value.is_none() {
-            return Some(refused(event.line, 12, None));
+            return Some(refused(event.line, Reason::NoValue));
         }
         self.too_many(event)
     }
@@ -288,7 +286,7 @@ impl Arena {
         let _ = &self.names;
         let name = self.name(opened.register);
         if !fail_agrees(parts, name, opened.kind, opened.value) {
-            return Some(refused(event.line, 11, None));
+            return Some(refused(event.line, Reason::Disagreement));
         }
         self.too_many(event)
     }
@@ -312,16 +310,16 @@ impl Arena {
     {
         match self.too_many(event) {
             Some(refusal) => refusal,
-            None => refused(event.line, 19, Some(self.event(crash).line)),
+            None => refused(event.line, Reason::AfterCrash(self.event(crash).line)),
         }
     }
 
     /// The refusal of an event past the limit.
     fn too_many(&self, event: &LineEvent) -> Option<LineRefusal>
-        ensures { result ≡ cond (nat_le MAX_EVENTS (length self.now.events)) (Some (record { line = event.now.line; number = 14; other = None })) None }
+        ensures { result ≡ cond (nat_le MAX_EVENTS (length self.now.events)) (Some (record { line = event.now.line; reason = TooMany })) None }
     {
         if self.lists.events.len() >= MAX_EVENTS {
-            Some(refused(event.line, 14, None))
+            Some(refused(event.line, Reason::TooMany))
         } else {
             None
         }
@@ -349,9 +347,8 @@ impl Arena {
     }
 
     /// Appends a call that isn't refused. `last` is the last event of its register and value.
-    #[inline(always)]
-    fn with_call(
-        self,
+    fn add_call(
+        &mut self,
         alloc: Global,
         event: &LineEvent,
         name: &Name,
@@ -359,20 +356,15 @@ impl Arena {
         kind: OpKind,
         value: Option<Val>,
         last: Option<EvId>,
-    ) -> Result<Self, AllocError>
+    ) -> Result<(), AllocError>
         requires asked { asked_by event.now.kind ≡ Some (record { register = name.now; kind = kind; value = value }) }
-        requires number { IsNumber self.names name.now number }
-        requires last { IsLastWith self.events number value last }
-        requires taken { IsTaken self event.now }
-        ensures { OnOkAfter self event.now result }
+        requires number { IsNumber self.old.names name.now number }
+        requires last { IsLastWith self.old.events number value last }
+        requires taken { IsTaken self.old event.now }
+        ensures { OnOkAfter self.old event.now (step_result self.new result) }
     {
-        let Arena { names, mut lists } = self;
-        let count = names.len() as u32;
-        let names = match number {
-            Some(_) => names,
-            None => names.push(alloc, name)?,
-        };
-        let id = EvId(lists.events.len() as u32);
+        let count = self.names.len() as u32;
+        let id = EvId(self.lists.events.len() as u32);
         let event = Event {
             line: event.line,
             process: event.process,
@@ -380,29 +372,42 @@ impl Arena {
             what: What::Call(kind),
             value,
         };
-        lists.append(event, id, last)?;
-        Ok(Arena { names, lists })
+        match self.lists.append(event, id, last) {
+            Ok(()) => {}
+            Err(error) => {
+                forget(&mut self.names, &mut self.lists);
+                return Err(error);
+            }
+        }
+        match number {
+            Some(_) => Ok(()),
+            None => match self.names.push(alloc, name) {
+                Ok(()) => Ok(()),
+                Err(error) => {
+                    forget(&mut self.names, &mut self.lists);
+                    Err(error)
+                }
+            },
+        }
     }
 
     /// Appends a reply that isn't refused.
-    #[inline(always)]
-    fn with_reply(
-        self,
+    fn add_reply(
+        &mut self,
         event: &LineEvent,
         parts: &ReplyParts,
         opened: Open,
-    ) -> Result<Self, AllocError>
+    ) -> Result<(), AllocError>
         requires reply { replied_by event.now.kind ≡ Some parts.now }
-        requires opened { IsStanding self.events event.now.process (Opened opened) }
-        requires taken { IsTaken self event.now }
-        ensures { OnOkAfter self event.now result }
+        requires opened { IsStanding self.old.events event.now.process (Opened opened) }
+        requires taken { IsTaken self.old event.now }
+        ensures { OnOkAfter self.old event.now (step_result self.new result) }
     {
-        let Arena { names, mut lists } = self;
         // A write's call has the value of its reply, so that nothing is looked up.
         let (value, alike) = match opened.kind {
             OpKind::ReadOp => (
                 parts.value,
-                lists.last_of_value(opened.register, parts.value),
+                self.lists.last_of_value(opened.register, parts.value),
             ),
             OpKind::WriteOp => (opened.value, Some(opened.call)),
         };
@@ -413,18 +418,22 @@ impl Arena {
             what: What::Reply(opened.kind),
             value,
         };
-        lists.append(event, opened.call, alike)?;
-        Ok(Arena { names, lists })
+        match self.lists.append(event, opened.call, alike) {
+            Ok(()) => Ok(()),
+            Err(error) => {
+                forget(&mut self.names, &mut self.lists);
+                Err(error)
+            }
+        }
     }
 
     /// Appends a fail that isn't refused.
-    fn with_fail(self, event: &LineEvent, opened: Open) -> Result<Self, AllocError>
+    fn add_fail(&mut self, event: &LineEvent, opened: Open) -> Result<(), AllocError>
         requires fail { (parts : AReplyParts) × (failed_by event.now.kind ≡ Some parts) }
-        requires opened { IsStanding self.events event.now.process (Opened opened) }
-        requires taken { IsTaken self event.now }
-        ensures { OnOkAfter self event.now result }
+        requires opened { IsStanding self.old.events event.now.process (Opened opened) }
+        requires taken { IsTaken self.old event.now }
+        ensures { OnOkAfter self.old event.now (step_result self.new result) }
     {
-        let Arena { names, mut lists } = self;
         let alike = match opened.value {
             Some(_) => Some(opened.call),
             None => None,
@@ -436,18 +445,22 @@ impl Arena {
             what: What::Fail(opened.kind),
             value: opened.value,
         };
-        lists.append(event, opened.call, alike)?;
-        Ok(Arena { names, lists })
+        match self.lists.append(event, opened.call, alike) {
+            Ok(()) => Ok(()),
+            Err(error) => {
+                forget(&mut self.names, &mut self.lists);
+                Err(error)
+            }
+        }
     }
 
     /// Appends a crash that isn't refused.
-    fn with_crash(self, event: &LineEvent) -> Result<Self, AllocError>
+    fn add_crash(&mut self, event: &LineEvent) -> Result<(), AllocError>
         requires crash { is_crash event.now ≡ true }
-        requires taken { IsTaken self event.now }
-        ensures { OnOkAfter self event.now result }
+        requires taken { IsTaken self.old event.now }
+        ensures { OnOkAfter self.old event.now (step_result self.new result) }
     {
-        let Arena { names, mut lists } = self;
-        let id = EvId(lists.events.len() as u32);
+        let id = EvId(self.lists.events.len() as u32);
         let event = Event {
             line: event.line,
             process: event.process,
@@ -455,7 +468,23 @@ impl Arena {
             what: What::Crash,
             value: None,
         };
-        lists.append(event, id, None)?;
-        Ok(Arena { names, lists })
+        match self.lists.append(event, id, None) {
+            Ok(()) => Ok(()),
+            Err(error) => {
+                forget(&mut self.names, &mut self.lists);
+                Err(error)
+            }
+        }
     }
+}
+
+/// Empties an arena's parts, one of which ran out of memory half way.
+fn forget(names: &mut Names, lists: &mut EventLists)
+    ensures names { names.new ≡ [] }
+    ensures lists { AreEventLists lists.new }
+    ensures events { lists.new.events.items ≡ [] }
+    ensures registers { lists.new.registers.items ≡ [] }
+{
+    names.clear();
+    lists.clear();
 }

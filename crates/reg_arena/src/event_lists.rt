@@ -1,5 +1,6 @@
 //! Events in one list, and beside it the links of three families of lists: of each register, of each process, and of each register and value.
-ghost use Rattle.std.specs.Prelude.{◌≡◌, ◌<◌, ◌≤◌, ◌^◌, ◌+◌, ◌++◌, ◌∷◌, [], true, length, max, OnOk, IfOk};
+ghost use Rattle.std.specs.Prelude.{◌≡◌, ◌<◌, ◌≤◌, ◌+◌, ◌++◌, ◌∷◌, [], true, length, max, OnOk, IfOk};
+ghost use Rattle.history_text.specs.declared.limits.TheConstants.{MAX_EVENTS};
 ghost use Rattle.reg_arena.specs.EventLists.{AreEventLists, IsAlike, IsAppendable, calls_with, end_of};
 ghost use Rattle.history_model.specs.Operations.{is_a_fail, number_in};
 
@@ -51,6 +52,24 @@ impl EventLists {
         })
     }
 
+    /// Forgets all events.
+    pub(crate) fn clear(&mut self)
+        ensures lists { AreEventLists self.new }
+        ensures none { self.new.events.items ≡ [] }
+        ensures registers { self.new.registers.items ≡ [] }
+    {
+        self.events.clear();
+        self.calls.clear();
+        self.in_register.clear();
+        self.in_process.clear();
+        self.in_value.clear();
+        self.numbers.clear();
+        self.registers.clear();
+        self.processes.clear();
+        self.values.clear();
+        self.entries.clear();
+    }
+
     /// Appends an event with the event of its call, and joins it to its lists. `alike` is an event of the same register and value, if there is one.
     ///
     /// A crash has no call, and `call` is then not read. A fail takes the call that it ends from the operations.
@@ -62,7 +81,7 @@ impl EventLists {
     ) -> Result<(), AllocError>
         requires lists { AreEventLists self.old }
         requires register { number_in event.register ≤ length self.old.registers.items }
-        requires room { length self.old.events.items < 2 ^ 20 }
+        requires room { length self.old.events.items < MAX_EVENTS }
         requires call { IsAppendable self.old.events.items event call }
         requires alike { IsAlike self.old.events.items event alike }
         ensures lists { OnOk result (AreEventLists self.new) }

@@ -1,14 +1,17 @@
-//! The key of an arena's hashes, which nobody who makes up a history can know.
+//! The key of an arena's hashes: two random words if the system gives them, which nobody can know beforehand; else a digest
+//! of the events, which can be computed.
 use history_text::{Kind, LineEvent, LineFault, Val};
 use std::hash::{DefaultHasher, Hash, Hasher};
 use std::io;
 use std::random::RandomSource;
 
-/// The secret of an arena's hashes. It changes no answer; it only keeps names, values and process numbers from being chosen so that their hashes collide.
+/// The key of an arena's hashes, which is secret only if it was drawn. It changes no answer; it only keeps names, values and process numbers from being chosen so that their hashes collide.
 #[derive(Clone, Copy, Debug, PartialEq, Eq)]
 pub struct HashKey {
-    pub(crate) first: u64,
-    pub(crate) second: u64,
+    /// The first word.
+    pub first: u64,
+    /// The second word.
+    pub second: u64,
 }
 
 impl HashKey {
@@ -20,7 +23,7 @@ impl HashKey {
         }
     }
 
-    /// A digest of all events. It reads the process, kind, name and value of each, so that a change to any of them changes the key.
+    /// A digest of all events. It reads the process, kind, name and value of each, so a change to any of them almost surely changes the key.
     ///
     /// It is SipHash's and no fold: the last value of a history is free, and could be chosen so that a fold ends in a key that was picked beforehand.
     pub(crate) fn digest(parts: &[Vec<Result<LineEvent, LineFault>>]) -> Self {
@@ -61,15 +64,26 @@ fn read(kind: &Kind, state: &mut DefaultHasher) {
             name.as_str().hash(state);
             value.hash(state);
         }
-        Kind::Reply(parts) => match parts.value {
-            None => 2_u8.hash(state),
-            Some(Val::Null) => 3_u8.hash(state),
-            Some(Val::Int(value)) => {
-                4_u8.hash(state);
-                value.hash(state);
-            }
-        },
-        Kind::Fail(_) => 5_u8.hash(state),
-        Kind::Crash => 6_u8.hash(state),
+        Kind::Reply(parts) => {
+            2_u8.hash(state);
+            read_value(parts.value, state);
+        }
+        Kind::Fail(parts) => {
+            3_u8.hash(state);
+            read_value(parts.value, state);
+        }
+        Kind::Crash => 4_u8.hash(state),
+    }
+}
+
+/// Reads whether there is a value, and which.
+fn read_value(value: Option<Val>, state: &mut DefaultHasher) {
+    match value {
+        None => 0_u8.hash(state),
+        Some(Val::Null) => 1_u8.hash(state),
+        Some(Val::Int(value)) => {
+            2_u8.hash(state);
+            value.hash(state);
+        }
     }
 }

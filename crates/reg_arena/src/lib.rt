@@ -16,8 +16,6 @@ mod called;
 mod entries;
 mod event_lists;
 mod hash_key;
-#[cfg(test)]
-mod hash_tests;
 mod joins;
 mod list_ends;
 mod names;
@@ -25,10 +23,6 @@ mod of_value;
 mod processes;
 mod seeded;
 mod standing;
-#[cfg(test)]
-mod tables;
-#[cfg(test)]
-mod tests;
 
 pub use arena::Arena;
 pub use hash_key::HashKey;

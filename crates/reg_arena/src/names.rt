@@ -1,5 +1,5 @@
 //! The names of the registers, in the order of their first calls.
-ghost use Rattle.std.specs.Prelude.{◌≡◌, ◌<◌, ◌^◌, ◌++◌, ◌∷◌, [], ℕ, List, length, slice_get, bytes_eq, MatchOption, Some, IfOk};
+ghost use Rattle.std.specs.Prelude.{◌≡◌, ◌<◌, ◌^◌, ◌++◌, ◌∷◌, [], ℕ, List, length, slice_get, bytes_eq, MatchOption, Some, OnOk};
 ghost use Rattle.std.specs.List.{All, position_or_len};
 ghost use Rattle.history_text.specs.Limits.{IsName};
 
@@ -63,13 +63,25 @@ impl Names {
         self.names.as_slice()[number as usize].as_str()
     }
 
-    /// Adds a name that is new.
-    pub(crate) fn push(self, alloc: Global, name: &Name) -> Result<Self, AllocError>
-        requires { position_or_len (bytes_eq name.now) self ≡ length self }
-        ensures { IfOk result (λ n. n ≡ self ++ name.now ∷ []) }
+    /// Adds a name that is new. If memory is refused, no name is left.
+    pub(crate) fn push(&mut self, alloc: Global, name: &Name) -> Result<(), AllocError>
+        requires { position_or_len (bytes_eq name.now) self.old ≡ length self.old }
+        ensures { OnOk result (self.new ≡ self.old ++ name.now ∷ []) }
     {
-        let mut names = self.names;
-        names.insert(String::from_str(alloc, name.as_str())?)?;
-        Ok(Names { names })
+        let text = String::from_str(alloc, name.as_str())?;
+        match self.names.insert(text) {
+            Ok(_) => Ok(()),
+            Err(error) => {
+                self.names.clear();
+                Err(error.into())
+            }
+        }
+    }
+
+    /// Forgets all names.
+    pub(crate) fn clear(&mut self)
+        ensures { self.new ≡ [] }
+    {
+        self.names.clear();
     }
 }

@@ -28,6 +28,14 @@ impl Processes {
         }
     }
 
+    /// Forgets all ends.
+    pub(crate) fn clear(&mut self)
+        ensures { (p : ℕ) → process_ends self.new p ≡ None }
+    {
+        self.table.clear();
+        self.others.clear();
+    }
+
     /// The ends of a process's list.
     pub(crate) fn get(&self, process: u32) -> Option<Ends>
         ensures { result ≡ process_ends self.now process }

@@ -53,7 +53,7 @@ fn keeps(arena: &Arena, register: RegId, entry: &ReadEntry, level: Level) -> boo
     }
 }
 
-/// Whether a write that overlaps the read has its value.
+/// Whether a write that overlaps the read, pending or not, has its value.
 fn has_overlapped_value(arena: &Arena, register: RegId, name: Oper, read: &Op) -> bool
     requires { IsReadShown arena.now register.0 name read.now }
     ensures { (r : Operation) → IsNamed arena.now name r → IsTrue result ↔ HasOverlappedValue (of_register register.0 (operations arena.now)) r }

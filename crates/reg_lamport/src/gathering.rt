@@ -16,7 +16,7 @@ pub(crate) struct ReadEntry {
     pub(crate) reply: u32,
     /// The last write that precedes it.
     pub(crate) old_write: Oper,
-    /// Whether a write overlaps it.
+    /// Whether a write overlaps it, pending or not. Only `safe` asks.
     pub(crate) is_overlapped: bool,
 }
 

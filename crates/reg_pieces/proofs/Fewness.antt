@@ -4,8 +4,7 @@ use Rattle.std.proofs.lemmas.Bool.{eqb-true}
 use Rattle.std.proofs.lemmas.List.Sums.{length-filter, count_by-le-length}
 use Rattle.history_model.specs.History.{History}
 use Rattle.history_model.specs.Lamport.{completed_reads, is_completed_read}
-use Rattle.history_model.specs.Operations.{Operation, operation, next_of, reply_in, begins, operations, of_register, initial_writes, calls_from, calls, register_of}
-use Rattle.history_model.specs.declared.event.Event.{Event}
+use Rattle.history_model.specs.Operations.{Operation, operations, of_register, initial_writes, calls, register_of}
 use Rattle.reg_lamport.specs.Reads.{ListedReads, IsEntryOf}
 use Rattle.reg_lamport.proofs.Zipped.{zip-length}
 use Rattle.reg_pieces.specs.Plan.{AreCutsOf, AreTasks, IsListOf, PlanShown}

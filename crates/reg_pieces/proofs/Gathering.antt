@@ -12,7 +12,7 @@ use Rattle.history_model.specs.History.{History}
 use Rattle.reg_pieces.specs.Plan.{IsFirstPlan, IsPieceOf, PlanShown}
 use Rattle.reg_pieces.specs.Slots.{AreDone, AreSlots, AreWithin, IsFull, with_pieces}
 use Rattle.reg_pieces.specs.Work.{Flags, HasWorked, faulty_numbers, numbers_of}
-use Rattle.reg_pieces.specs.Workers.{IsHandedBack, IsJoined, IsNewSeat, view_with, weight_back, weight_of_all, weight_so_far}
+use Rattle.reg_pieces.specs.Workers.{ClosesWhole, IsHandedBack, IsJoined, IsNewSeat, view_with, weight_back, weight_of_all, weight_so_far}
 use Rattle.reg_pieces.specs.declared.piece.Piece.{Piece}
 use Rattle.reg_pieces.specs.declared.tasks.Task.{Task}
 use Rattle.reg_pieces.specs.declared.worker.Worked.{Worked}
@@ -117,6 +117,11 @@ one-joined h plan board slots refused before w joined flag back within j here vi
         | inr full ↦ inr full
       ]);
 }
+
+-- all slots are full once the board is closed
+pub closed-full : (board : BoardValue) (slots : List (Option Piece)) (refused : Bool) (whole : Option SeatValue) (jobs least : ℕ) → IfSome whole (IsJoined board slots refused) → ClosesWhole jobs whole least → refused ≡ false → (n : ℕ) → n < jobs → IsFull slots n
+closed-full board slots refused None jobs least j c f n l = absurd c
+closed-full board slots refused (Some seat) jobs least j c f n l = j.full f n (c.0 (j.exhausted f) n l)
 
 -- what each slot has once all numbers were drawn
 pub all-done : (h : History) (tasks : List Task) (slots : List (Option Piece)) → AreSlots h tasks slots → ((n : ℕ) → n < length tasks → IsFull slots n) → AreDone h tasks slots

@@ -1,5 +1,5 @@
 -- What the seats know together of the registers that they drew.
-use Rattle.std.proofs.Common.{◌≡◌, ℕ, zero, suc, ◌+◌, ◌<◌, ◌≤◌, ◌==◌, ◌⊎◌, inl, inr, Bool, true, false, ◌||◌, List, [], ◌∷◌, ◌++◌, length, slice_get, Option, Some, None, refl, sym, ap, subst, ◌∙◌, arith}
+use Rattle.std.proofs.Common.{◌≡◌, ℕ, zero, suc, ◌+◌, ◌<◌, ◌==◌, ◌⊎◌, inl, inr, Bool, true, false, ◌||◌, List, [], ◌∷◌, ◌++◌, slice_get, Option, Some, None, refl, sym, ap, subst, ◌∙◌, arith}
 use Rattle.std.specs.Prelude.{IfSome}
 use Rattle.std.proofs.lemmas.Bool.{cases_Bool, eqb-true, eqb-false, false≢true}
 use Rattle.job_board.specs.Numbers.{one_if, times}
@@ -13,10 +13,10 @@ use Rattle.history_model.specs.Operations.{register_of}
 use Rattle.reg_pieces.specs.Judged.{IsLookedAt, is_faulty}
 use Rattle.reg_pieces.specs.Plan.{IsFirstPlan, IsPieceAt, IsPieceOf, PlanShown}
 use Rattle.reg_pieces.specs.Work.{ArePieces, AreSkippedAbove, faulty_numbers, number_where, numbers_of}
-use Rattle.reg_pieces.specs.Workers.{IsFoundAt, IsHandedBack, IsJoinedSearch, IsSearched, view_with}
+use Rattle.reg_pieces.specs.Workers.{ClosesWhole, IsFoundAt, IsHandedBack, IsJoinedSearch, IsSearched, view_with}
+use Rattle.reg_pieces.specs.declared.judgement.Judgement.TheVariants.{Order, Faulty}
 use Rattle.reg_pieces.specs.declared.piece.Piece.{Piece}
-use Rattle.reg_pieces.specs.declared.piece.Piece.TheVariants.{Order, Faulty, Reads, Clean, Skipped}
-use Rattle.reg_pieces.specs.declared.tasks.Task.TheVariants.{First}
+use Rattle.reg_pieces.specs.declared.piece.Piece.TheVariants.{Judged, Reads, Clean, Skipped}
 use Rattle.reg_pieces.specs.declared.worker.Worked.{Worked}
 
 -- ---- one seat
@@ -68,16 +68,16 @@ module _ (h : History) (plan : PlanShown) (p : IsFirstPlan h plan) (v : View) (d
   looked-at i d e = let x : IsPieceAt h plan.tasks d.0 d.1 = a i d e in subst (λ t. IsPieceOf h t d.1) (p.each d.0 x.0 x.1) x.2
 
   known : (i : ℕ) (m : ℕ) (q : Piece) → slice_get done i ≡ Some (m, q) → IsAtomic (register_of h m) ⊎ ((0 < times m v.flagged) ⊎ (v.seen < m))
-  known i m (Order order) e = absurd (looked-at i (m, Order order) e)
-  known i m (Faulty fault) e = inr (inl (subst (λ xs. 0 < times m xs) (sym flags) (faulty-there done i (m, Faulty fault) e refl)))
-  known i m (Reads safe regular) e = absurd (looked-at i (m, Reads safe regular) e)
+  known i m (Judged (Order order)) e = absurd (looked-at i (m, Judged (Order order)) e)
+  known i m (Judged (Faulty fault)) e = inr (inl (subst (λ xs. 0 < times m xs) (sym flags) (faulty-there done i (m, Judged (Faulty fault)) e refl)))
+  known i m (Reads reads) e = absurd (looked-at i (m, Reads reads) e)
   known i m Clean e = inl (looked-at i (m, Clean) e)
   known i m Skipped e = inr (inr (s i (m, Skipped) e refl))
 
   not-atomic : (m : ℕ) (q : Piece) → is_faulty q ≡ true → IsLookedAt (register_of h m) q → IsAtomic (register_of h m) → ⊥
-  not-atomic m (Order order) f l = absurd l
-  not-atomic m (Faulty fault) f l = l.0
-  not-atomic m (Reads safe regular) f l = absurd l
+  not-atomic m (Judged (Order order)) f l = absurd l
+  not-atomic m (Judged (Faulty fault)) f l = l.0
+  not-atomic m (Reads reads) f l = absurd l
   not-atomic m Clean f l = absurd (false≢true f)
   not-atomic m Skipped f l = absurd (false≢true f)
 
@@ -135,7 +135,7 @@ module _ (h : History) (plan : PlanShown) (p : IsFirstPlan h plan) (board : Boar
 -- ---- all seats as one
 
 -- what the closing says of a seat that drew all numbers
-pub found-at : (h : History) (registers jobs n : ℕ) (v : View) → jobs ≡ registers → ClosesWith jobs v n → ((k : ℕ) → k < jobs → 0 < times k v.drawn) → IsSearched h v → IsFoundAt h registers n
+found-at : (h : History) (registers jobs n : ℕ) (v : View) → jobs ≡ registers → ClosesWith jobs v n → ((k : ℕ) → k < jobs → 0 < times k v.drawn) → IsSearched h v → IsFoundAt h registers n
 found-at h registers jobs n v e c all s = record {
   within = omega (arith, c.least.at_most, e);
   below = λ r l. elim (s.passed r (all r (omega (arith, l, c.least.at_most)))) [
@@ -147,3 +147,8 @@ found-at h registers jobs n v e c all s = record {
   ];
   at = λ l. elim c.least.found [ inl q ↦ absurd (omega (arith, q, l, e)) | inr f ↦ s.flagged n f ];
 }
+
+-- the closed board has found the register
+pub closed-found : (h : History) (board : BoardValue) (refused : Bool) (whole : Option SeatValue) (registers jobs least : ℕ) → IfSome whole (IsJoinedSearch h board refused) → ClosesWhole jobs whole least → refused ≡ false → jobs ≡ registers → IsFoundAt h registers least
+closed-found h board refused None registers jobs least j c f e = absurd c
+closed-found h board refused (Some seat) registers jobs least j c f e = found-at h registers jobs least seat.view e c.1 (c.0 (j.exhausted f)) (j.searched f)

@@ -1,14 +1,13 @@
 -- What a worker has drawn, done, flagged and seen so far.
-use Rattle.std.proofs.Common.{◌≡◌, ℕ, zero, suc, ◌<◌, ◌≤◌, ◌==◌, Bool, true, false, List, [], ◌∷◌, ◌++◌, length, slice_get, Some, inl, inr, refl, sym, ap, subst, ◌∙◌, arith, append_assoc, append-nil}
-use Rattle.std.proofs.lemmas.Bool.{eqb-false, false≢true}
-use Rattle.job_board.specs.Numbers.{one_if, times}
+use Rattle.std.proofs.Common.{◌≡◌, ℕ, zero, suc, ◌<◌, ◌≤◌, Bool, true, false, List, [], ◌∷◌, ◌++◌, length, slice_get, Some, inl, inr, refl, sym, ap, subst, ◌∙◌, arith, append_assoc, append-nil}
+use Rattle.std.proofs.lemmas.Bool.{false≢true}
+use Rattle.job_board.specs.Numbers.{times}
 use Rattle.job_board.specs.declared.view.View.{View}
 use Rattle.job_board.proofs.Lacking.{lacking, lacks_less}
-use Rattle.job_board.proofs.Times.{times-append}
 use Rattle.job_board.specs.Seats.{SeatValue, with_drawn, with_exhausted}
 use Rattle.history_model.specs.History.{History}
 use Rattle.reg_pieces.specs.Judged.{is_faulty}
-use Rattle.reg_pieces.specs.Plan.{IsFirstPlan, IsPieceAt, IsPieceOf, IsPlan, IsSomePlan, PlanShown}
+use Rattle.reg_pieces.specs.Plan.{IsFirstPlan, IsPieceOf, IsPlan, IsSomePlan, PlanShown}
 use Rattle.reg_pieces.specs.Work.{AddsPiece, AddsRegister, ArePieces, AreSkippedAbove, Flags, HasWorked, KeepsSeat, faulty_numbers, number_where, numbers_of}
 use Rattle.reg_pieces.specs.declared.piece.Piece.{Piece}
 use Rattle.reg_pieces.specs.declared.piece.Piece.TheVariants.{Skipped}

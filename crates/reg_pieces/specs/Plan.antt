@@ -3,11 +3,12 @@ use Rattle.std.specs.Prelude.{◌≡◌, ℕ, suc, ◌<◌, ◌≤◌, ◌+◌, 
 use Rattle.job_board.specs.declared.limits.TheConstants.{MAX_JOBS}
 use Rattle.history_model.specs.History.{History}
 use Rattle.history_model.specs.Lamport.{HasSingleWriter}
-use Rattle.reg_lamport.specs.Levels.{IsFirstBadRead}
 use Rattle.reg_lamport.specs.Reads.{IsReadList, ListedReads}
-use Rattle.reg_lamport.specs.declared.level.Level.TheVariants.{Safe, Regular}
+use Rattle.reg_pieces.specs.BadReads.{AreFirstBad}
 use Rattle.reg_pieces.specs.Judged.{IsJudged, IsLookedAt}
 use Rattle.history_model.specs.Operations.{register_of}
+use Rattle.reg_pieces.specs.declared.bad_reads.BadReads.{BadReads}
+use Rattle.reg_pieces.specs.declared.judgement.Judgement.{Judgement}
 use Rattle.reg_pieces.specs.declared.piece.Piece.{Piece}
 use Rattle.reg_pieces.specs.declared.piece.Piece.TheVariants as piece
 use Rattle.reg_pieces.specs.declared.tasks.Task.{Task}
@@ -66,14 +67,17 @@ IsPlanBy h cut first plan = MatchBool first (IsFirstPlan h plan) (IsPlan h cut p
 abbrev pub IsSomePlan : History → PlanShown → Type 0
 IsSomePlan h plan = IsFirstPlan h plan ⊎ ((cut : ℕ) × IsPlan h cut plan)
 
+-- whether there is a task, and it is a cut
+abbrev pub is_cut : Option Task → Bool
+is_cut None = false
+is_cut (Some (Judge r)) = false
+is_cut (Some (Reads r from to)) = true
+is_cut (Some (First r)) = false
+
 -- what is done for a task
 abbrev pub IsPieceOf : History → Task → Piece → Type 0
-IsPieceOf h (Judge r) p = IsJudged (register_of h r.0) p
-IsPieceOf h (Reads r from to) (piece.Order order) = ⊥
-IsPieceOf h (Reads r from to) (piece.Faulty fault) = ⊥
-IsPieceOf h (Reads r from to) (piece.Reads safe regular) = IsFirstBadRead h r.0 Safe from to safe × IsFirstBadRead h r.0 Regular from to regular
-IsPieceOf h (Reads r from to) piece.Clean = ⊥
-IsPieceOf h (Reads r from to) piece.Skipped = ⊥
+IsPieceOf h (Judge r) p = (judgement : Judgement) × (p ≡ piece.Judged judgement) × IsJudged (register_of h r.0) judgement
+IsPieceOf h (Reads r from to) p = (reads : BadReads) × (p ≡ piece.Reads reads) × AreFirstBad h r.0 from to reads
 IsPieceOf h (First r) p = IsLookedAt (register_of h r.0) p
 
 -- there is a task of this number, and this is done for it

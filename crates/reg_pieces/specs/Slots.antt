@@ -2,7 +2,10 @@
 use Rattle.std.specs.Prelude.{◌≡◌, ◌<◌, ◌≤◌, ℕ, List, [], ◌∷◌, set, slice_get, Option, Some}
 use Rattle.history_model.specs.History.{History}
 use Rattle.reg_pieces.specs.Plan.{IsPieceAt, IsPieceOf}
+use Rattle.reg_pieces.specs.declared.bad_reads.BadReads.{BadReads}
+use Rattle.reg_pieces.specs.declared.judgement.Judgement.{Judgement}
 use Rattle.reg_pieces.specs.declared.piece.Piece.{Piece}
+use Rattle.reg_pieces.specs.declared.piece.Piece.TheVariants.{Judged, Reads}
 use Rattle.reg_pieces.specs.declared.tasks.Task.{Task}
 
 -- no slot has a piece
@@ -12,6 +15,14 @@ AreEmpty slots = (number : ℕ) (p : Piece) → slice_get slots number ≡ Some 
 -- a piece stands in the slot of this number
 abbrev pub IsFull : List (Option Piece) → ℕ → Type 0
 IsFull slots number = (p : Piece) × (slice_get slots number ≡ Some (Some p))
+
+-- a judgement stands in the slot of this number
+abbrev pub HasJudged : List (Option Piece) → ℕ → Type 0
+HasJudged slots number = (judgement : Judgement) × (slice_get slots number ≡ Some (Some (Judged judgement)))
+
+-- the first bad reads of a cut stand in the slot of this number
+abbrev pub HasReads : List (Option Piece) → ℕ → Type 0
+HasReads slots number = (reads : BadReads) × (slice_get slots number ≡ Some (Some (Reads reads)))
 
 -- what stands in a slot is what is done for the task of its number
 abbrev pub AreSlots : History → List Task → List (Option Piece) → Type 0

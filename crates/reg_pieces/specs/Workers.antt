@@ -2,6 +2,7 @@
 use Rattle.std.specs.Prelude.{◌≡◌, ◌+◌, ◌<◌, ◌≤◌, ◌⊎◌, ℕ, length, Bool, false, true, List, [], ◌∷◌, Option, Some, None}
 use Rattle.job_board.specs.Numbers.{times}
 use Rattle.job_board.specs.Seats.{BoardValue, SeatValue, joint_view}
+use Rattle.job_board.specs.Steps.{ClosesWith}
 use Rattle.job_board.specs.declared.view.View.{View}
 use Rattle.history_model.specs.History.{History}
 use Rattle.history_model.specs.Legal.{IsAtomic}
@@ -70,6 +71,11 @@ pub record IsJoinedSearch (h : History) (board : BoardValue) (refused : Bool) (s
   pub here : seat.board ≡ board.id
   pub exhausted : refused ≡ false → seat.view.exhausted ≡ true
   pub searched : refused ≡ false → IsSearched h seat.view
+
+-- what the closing of a board of so many jobs says: there is the one seat, and if it is exhausted, it drew each number
+abbrev pub ClosesWhole : ℕ → Option SeatValue → ℕ → Type 0
+ClosesWhole jobs None least = ⊥
+ClosesWhole jobs (Some seat) least = (seat.view.exhausted ≡ true → (n : ℕ) → n < jobs → 0 < times n seat.view.drawn) × ClosesWith jobs seat.view least
 
 -- ---- the first register that isn't atomic
 

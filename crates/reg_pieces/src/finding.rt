@@ -38,8 +38,7 @@ fn least_flagged(
         refused = refused || worked.refused;
         whole = Some(joined(&board, whole, worked.seat));
     }
-    let Some(seat) = whole else { unreachable!() };
-    let least = closed(board, seat);
+    let least = closed(board, whole);
     if refused { Err(AllocError) } else { Ok(least) }
 }
 

@@ -6,12 +6,15 @@
 //! task asks for; [`first_faulty`] has them find the first register that isn't atomic, with one piece a register. Neither
 //! the number of workers nor the [`Gate`] that they pass changes what is given. [`do_pieces_alone`] starts no thread.
 //!
-//! Read it in this order: `settings`; `tasks` and `planning`, which number the work; `order` and `piece`, what is done for
-//! one number; `gate` and `worker`; `pieces`, where what is done is kept; `workers`, all of it at once; `finding`.
+//! Read it in this order: `settings`; `tasks` and `planning`, which number the work; `order`, `judgement`, `bad_reads` and
+//! `piece`, what is done for one number; `gate` and `worker`; `pieces`, where what is done is kept; `workers`, all of it at
+//! once; `finding`.
 #![tactic(auto)]
 
+mod bad_reads;
 mod finding;
 mod gate;
+mod judgement;
 mod order;
 mod piece;
 mod pieces;
@@ -23,10 +26,12 @@ mod tests;
 mod worker;
 mod workers;
 
+pub use bad_reads::BadReads;
 pub use finding::first_faulty;
 pub use gate::{Gate, OpenGate};
+pub use judgement::{Judgement, judge};
 pub use order::Order;
-pub use piece::{Piece, judge};
+pub use piece::Piece;
 pub use pieces::Pieces;
 pub use planning::{list_of, plan};
 pub use settings::{MAX_CUT, MAX_WORKERS, Settings};

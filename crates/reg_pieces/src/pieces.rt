@@ -1,7 +1,9 @@
 //! What is done, by its number.
 ghost use Rattle.std.specs.Prelude.{◌≡◌, ◌<◌, length, set, slice_get, IfOk, Some, None};
-ghost use Rattle.reg_pieces.specs.Slots.{AreEmpty, AreWithin, IsFull, with_pieces};
+ghost use Rattle.reg_pieces.specs.Slots.{AreEmpty, AreWithin, HasJudged, HasReads, with_pieces};
 
+use crate::bad_reads::BadReads;
+use crate::judgement::Judgement;
 use crate::piece::Piece;
 use std::alloc::{AllocError, Global};
 use std::marker::Model;
@@ -53,15 +55,36 @@ impl Pieces {
         }
     }
 
-    /// Takes a piece out of its slot.
-    pub fn take(&mut self, number: usize) -> Piece
-        requires { IsFull self.old number }
-        ensures piece { slice_get self.old number ≡ Some (Some result) }
+    /// Takes out what is in a slot.
+    fn take(&mut self, number: usize) -> Option<Piece>
+        requires { number < length self.old }
+        ensures piece { slice_get self.old number ≡ Some result }
         ensures left { self.new ≡ set self.old number None }
     {
-        match self.slots[number].take() {
-            Some(piece) => piece,
-            None => unreachable!(),
+        self.slots[number].take()
+    }
+
+    /// Takes the judgement of a register out of its slot.
+    pub fn take_judged(&mut self, number: usize) -> Judgement
+        requires { HasJudged self.old number }
+        ensures piece { slice_get self.old number ≡ Some (Some (Piece.Judged result)) }
+        ensures left { self.new ≡ set self.old number None }
+    {
+        match self.take(number) {
+            Some(Piece::Judged(judgement)) => judgement,
+            _ => unreachable!(),
+        }
+    }
+
+    /// Takes the first bad reads of a cut out of their slot.
+    pub fn take_reads(&mut self, number: usize) -> BadReads
+        requires { HasReads self.old number }
+        ensures piece { slice_get self.old number ≡ Some (Some (Piece.Reads result)) }
+        ensures left { self.new ≡ set self.old number None }
+    {
+        match self.take(number) {
+            Some(Piece::Reads(reads)) => reads,
+            _ => unreachable!(),
         }
     }
 }

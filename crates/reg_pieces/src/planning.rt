@@ -1,5 +1,6 @@
 //! How the work of a history is cut into pieces.
-ghost use Rattle.std.specs.Prelude.{◌<◌, ◌≤◌, ◌^◌, length, IfOk, OnOk};
+ghost use Rattle.std.specs.Prelude.{◌<◌, ◌≤◌, length, IfOk, OnOk};
+ghost use Rattle.history_text.specs.declared.limits.TheConstants.{MAX_EVENTS};
 ghost use Rattle.job_board.specs.declared.limits.TheConstants.{MAX_JOBS};
 ghost use Rattle.reg_pieces.specs.Plan.{AddsCuts, IsFirstPlan, IsListOf, IsPlan, IsPlanBy, IsSomePlan};
 
@@ -53,7 +54,7 @@ fn add_cuts(
 
 /// A history has no more events than an arena takes. It does nothing.
 fn few_events(arena: &Arena)
-    ensures { length arena.now.events ≤ 2 ^ 20 }
+    ensures { length arena.now.events ≤ MAX_EVENTS }
 {
     let _count = arena.event_count();
 }

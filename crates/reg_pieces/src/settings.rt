@@ -1,5 +1,5 @@
 //! How many workers there are, how many reads a cut has, and whether the first register that isn't atomic is all that is asked for.
-ghost use Rattle.std.specs.Prelude.{◌≡◌, ◌≤◌, ◌↔◌, IsSome, IfSome};
+ghost use Rattle.std.specs.Prelude.{◌≡◌, ◌≤◌, ◌↔◌, false, IsSome, IfSome};
 ghost use Rattle.reg_pieces.specs.Settings.{SettingsShown};
 
 use std::marker::Model;
@@ -47,6 +47,17 @@ impl Settings {
             cut,
             first,
         })
+    }
+
+    /// One worker, and cuts of the greatest size, since there is nobody to share a register's reads with; the whole report.
+    pub fn alone() -> Settings
+        ensures { result ≡ record { workers = 1; cut = MAX_CUT; first = false } }
+    {
+        Settings {
+            workers: 1,
+            cut: MAX_CUT,
+            first: false,
+        }
     }
 
     /// How many workers there are, 1 to [`MAX_WORKERS`].

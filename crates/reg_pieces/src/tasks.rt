@@ -39,6 +39,9 @@ impl Model for Plan {
 }
 
 impl Plan {
+    ghost use Rattle.std.specs.Prelude.{◌≡◌, ◌<◌, length, slice_get, Some};
+    ghost use Rattle.reg_pieces.specs.Plan.{is_cut};
+
     /// How many pieces there are.
     pub fn len(&self) -> u64
         ensures { result ≡ length self.now.tasks }
@@ -59,6 +62,13 @@ impl Plan {
         ensures { slice_get self.now.tasks number ≡ Some result }
     {
         self.tasks[number as usize]
+    }
+
+    /// Whether the task of this number, if there is one, is a cut.
+    pub fn is_cut(&self, number: usize) -> bool
+        ensures { result ≡ is_cut (slice_get self.now.tasks number) }
+    {
+        matches!(self.tasks.get(number), Some(Task::Reads { .. }))
     }
 
     /// The completed reads of this register, if it has a single writer.

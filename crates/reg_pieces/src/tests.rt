@@ -108,7 +108,7 @@ fn registers_above_a_fault_are_skipped(rt: HostRuntime) -> Result<(), Fail> {
     let worked = work(alloc, &arena, &plan, &board, seat, &OpenGate);
     let done = worked.done.as_slice();
     assert_eq!(rt; done.len(), 2);
-    assert!(rt; matches!(done.first(), Some((0, Piece::Faulty(_)))));
+    assert!(rt; matches!(done.first(), Some((0, Piece::Judged(Judgement::Faulty(_))))));
     assert!(rt; matches!(done.get(1), Some((1, Piece::Skipped))));
     Ok(())
 }

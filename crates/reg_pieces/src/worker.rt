@@ -1,8 +1,8 @@
 //! One worker: it draws pieces from a board and does them.
-ghost use Rattle.std.specs.Prelude.{◌≡◌, ◌<◌, ◌≤◌, ℕ, length, IsErr, OnOk};
+ghost use Rattle.std.specs.Prelude.{◌≡◌, ◌<◌, ◌≤◌, length, IsErr, OnOk};
 ghost use Rattle.job_board.specs.Numbers.{times};
 ghost use Rattle.job_board.specs.declared.limits.TheConstants.{MAX_JOBS};
-ghost use Rattle.reg_pieces.specs.Plan.{IsPlan, IsSomePlan};
+ghost use Rattle.reg_pieces.specs.Plan.{IsSomePlan};
 ghost use Rattle.reg_pieces.specs.Work.{AddsPiece, AddsRegister, HasWorked, IsSeatFor, KeepsSeat};
 
 use crate::gate::Gate;
@@ -32,7 +32,7 @@ fn do_piece(
     number: u64,
     done: &mut Vec<(u64, Piece)>,
 ) -> Result<(), AllocError>
-    requires plan { (cut : ℕ) × IsPlan arena.now cut plan.now }
+    requires plan { IsSomePlan arena.now plan.now }
     requires number { number < length plan.now.tasks }
     ensures ok { OnOk result (AddsPiece arena.now plan.now.tasks number done.old.items done.new.items) }
     ensures err { IsErr result → done.new.items ≡ done.old.items }

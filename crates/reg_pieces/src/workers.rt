@@ -1,12 +1,10 @@
 //! All workers at once, or one alone.
-ghost use Rattle.std.specs.Prelude.{◌≡◌, ◌<◌, ◌≤◌, ℕ, All, IfOk, IfSome, true, length};
-ghost use Rattle.job_board.specs.Numbers.{times};
-ghost use Rattle.job_board.specs.Steps.{ClosesWith};
+ghost use Rattle.std.specs.Prelude.{◌≡◌, ◌≤◌, ℕ, All, IfOk, IfSome, length};
 ghost use Rattle.job_board.specs.declared.limits.TheConstants.{FULL_WEIGHT};
 ghost use Rattle.reg_pieces.specs.Plan.{IsPlan, IsSomePlan};
 ghost use Rattle.reg_pieces.specs.Slots.{AreDone, AreEmpty};
 ghost use Rattle.reg_pieces.specs.Work.{HasWorked};
-ghost use Rattle.reg_pieces.specs.Workers.{IsHandedBack, IsNewSeat, view_with, weight_back, weight_of_all};
+ghost use Rattle.reg_pieces.specs.Workers.{ClosesWhole, IsHandedBack, IsNewSeat, view_with, weight_back, weight_of_all, weight_so_far};
 
 use crate::gate::{Gate, OpenGate};
 use crate::pieces::Pieces;
@@ -82,18 +80,19 @@ pub(crate) fn joined(board: &Board<Global>, before: Option<Seat>, seat: Seat) ->
     }
 }
 
-/// Closes the board with the one seat that all others were made into; the lowest number that was flagged, or the number of
-/// pieces.
-pub(crate) fn closed(board: Board<Global>, seat: Seat) -> u64
-    requires board { seat.board ≡ board.id }
-    requires weight { seat.view.weight ≡ FULL_WEIGHT }
-    ensures drawn { seat.view.exhausted ≡ true → (n : ℕ) → n < board.jobs → 0 < times n seat.view.drawn }
-    ensures least { ClosesWith board.jobs seat.view result }
+/// Closes the board with the one seat that all of its seats were made into; the lowest number that was flagged, or the
+/// number of pieces.
+pub(crate) fn closed(board: Board<Global>, whole: Option<Seat>) -> u64
+    requires board { IfSome whole (λ seat. seat.board ≡ board.id) }
+    requires weight { weight_so_far whole ≡ FULL_WEIGHT }
+    ensures { ClosesWhole board.jobs whole result }
 {
-    match board.close(seat) {
-        Ok(least) => least,
-        Err(_) => unreachable!(),
+    if let Some(seat) = whole {
+        if let Ok(least) = board.close(seat) {
+            return least;
+        }
     }
+    unreachable!()
 }
 
 /// What all workers did, by number, put into slots that are empty. Their seats are made one again, and the board is
@@ -122,8 +121,7 @@ fn gathered(
         refused = refused || worked.refused;
         whole = Some(joined(&board, whole, worked.seat));
     }
-    let Some(seat) = whole else { unreachable!() };
-    closed(board, seat);
+    closed(board, whole);
     if refused { Err(AllocError) } else { Ok(pieces) }
 }
 

@@ -1,22 +1,42 @@
 -- The pieces of one register are put together, and those of the next stand behind them.
-use Rattle.std.proofs.Common.{◌≡◌, ℕ, zero, suc, ◌+◌, ◌<◌, List, [], ◌∷◌, ◌++◌, length, drop, slice_get, Option, Some, refl, sym, ap, subst, ◌∙◌, arith}
+use Rattle.std.proofs.Common.{◌≡◌, ℕ, zero, suc, ◌+◌, ◌-◌, ◌<◌, min, List, [], ◌∷◌, ◌++◌, length, drop, drop-drop, slice_get, Option, Some, None, refl, sym, ap, subst, ◌∙◌, arith}
+use Rattle.std.proofs.Math.Seq.{drop-append_seam}
 use Rattle.std.proofs.lemmas.Option.{slice_get_within}
 use Rattle.history_model.specs.History.{History}
 use Rattle.reg_lamport.specs.Reads.{ListedReads}
 use Rattle.reg_pieces.specs.Judged.{IsJudged}
-use Rattle.reg_report.specs.Cuts.{HasCutsOf, LeavesOf}
+use Rattle.reg_report.specs.Cuts.{HasCutsOf, HasTasks, cuts_ahead}
 use Rattle.history_model.specs.Operations.{register_of}
-use Rattle.reg_pieces.specs.Plan.{AreTasks, PlanShown}
-use Rattle.reg_pieces.specs.Slots.{AreDoneFrom, IsFull}
+use Rattle.reg_pieces.specs.Plan.{AreCuts, AreCutsOf, AreTasks, PlanShown}
+use Rattle.reg_pieces.specs.Slots.{AreDoneFrom, HasJudged}
+use Rattle.reg_pieces.specs.declared.judgement.Judgement.{Judgement}
 use Rattle.reg_pieces.specs.declared.piece.Piece.{Piece}
+use Rattle.reg_pieces.specs.declared.piece.Piece.TheVariants.{Judged}
+use Rattle.reg_pieces.specs.declared.tasks.Task.{Task}
 use Rattle.reg_pieces.specs.declared.tasks.Task.TheVariants.{Judge}
-use Rattle.reg_report.proofs.Cutting.{drop-head, stands, taken-piece}
+use Rattle.reg_report.proofs.Cutting.{drop-head, taken-piece}
 
 -- what stands at a place of a list, and behind it
 there : {X : Type 0} (xs : List X) (i : ℕ) → i < length xs → (x : X) × (slice_get xs i ≡ Some x) × (drop i xs ≡ x ∷ drop (suc i) xs)
 there [] i l = absurd (omega arith)
 there (x ∷ xs) zero l = (x, refl, refl)
 there (x ∷ xs) (suc i) l = there xs i (omega arith)
+
+-- a register's tasks begin with no cut
+no-cut-first : (cut r : ℕ) (lists : List (Option ListedReads)) (tasks : List Task) → AreTasks cut r lists tasks → cuts_ahead tasks ≡ 0
+no-cut-first cut r [] tasks a = ap cuts_ahead a
+no-cut-first cut r (l ∷ lists) tasks a = ap cuts_ahead a.4
+
+all-ahead : (cut r from len : ℕ) (cuts rest : List Task) → AreCuts cut r from len cuts → cuts_ahead rest ≡ 0 → cuts_ahead (cuts ++ rest) ≡ length cuts
+all-ahead cut r from len [] rest c z = z
+all-ahead cut r from len (u ∷ cuts) rest c z = ap (λ x. cuts_ahead (x ∷ cuts ++ rest)) c.1 ∙ ap suc (all-ahead cut r (from + min (len - from) cut) len cuts rest c.2 z)
+
+cuts-counted : (cut r : ℕ) (list : Option ListedReads) (cuts rest : List Task) → AreCutsOf cut r list cuts → cuts_ahead rest ≡ 0 → cuts_ahead (cuts ++ rest) ≡ length cuts
+cuts-counted cut r None cuts rest c z = ap (λ cs. cuts_ahead (cs ++ rest)) c ∙ (z ∙ sym (ap length c))
+cuts-counted cut r (Some list) cuts rest c z = all-ahead cut r 0 (length list.entries) cuts rest c z
+
+same-judgement : (x y : Judgement) → Judged x ≡ Judged y → x ≡ y
+same-judgement x y e = cc e
 
 module _ (h : History) (cut r start : ℕ) (plan : PlanShown) (inside : r < length plan.lists) (a : AreTasks cut r (drop r plan.lists) (drop start plan.tasks)) where
   list : (o : Option ListedReads) × (slice_get plan.lists r ≡ Some o) × (drop r plan.lists ≡ o ∷ drop (r + 1) plan.lists)
@@ -32,19 +52,27 @@ module _ (h : History) (cut r start : ℕ) (plan : PlanShown) (inside : r < leng
   inside-tasks = slice_get_within plan.tasks start (Judge (record { 0 = r })) head.0
 
   -- the first piece judges the register
-  pub judged-stands : (slots : List (Option Piece)) → AreDoneFrom start h plan.tasks slots → IsFull slots start
-  judged-stands slots a = stands h plan.tasks start (Judge (record { 0 = r })) slots head.0 a
+  pub judged-stands : (slots : List (Option Piece)) → AreDoneFrom start h plan.tasks slots → HasJudged slots start
+  judged-stands slots a = let d = a start (Judge (record { 0 = r })) (omega arith) head.0 in (d.2.0, d.1 ∙ ap (λ x. Some (Some x)) d.2.1)
 
-  pub judged-there : (slots : List (Option Piece)) (p : Piece) → AreDoneFrom start h plan.tasks slots → slice_get slots start ≡ Some (Some p) → IsJudged (register_of h r) p
-  judged-there slots p a e = taken-piece h plan.tasks start (Judge (record { 0 = r })) slots head.0 a p e
+  pub judged-there : (slots : List (Option Piece)) (judgement : Judgement) → AreDoneFrom start h plan.tasks slots → slice_get slots start ≡ Some (Some (Judged judgement)) → IsJudged (register_of h r) judgement
+  judged-there slots judgement a e =
+      let p = taken-piece h plan.tasks start (Judge (record { 0 = r })) slots head.0 a (Judged judgement) e in
+      subst (IsJudged (register_of h r)) (sym (same-judgement judgement p.0 p.1)) p.2
 
   -- then come the cuts of its reads
-  pub cuts-there : HasCutsOf cut r plan (drop (start + 1) plan.tasks)
-  cuts-there = (list.0, at.0, at.1, list.1, at.2, head.1)
+  none-behind : cuts_ahead at.1 ≡ 0
+  none-behind = no-cut-first cut (suc r) (drop (r + 1) plan.lists) at.1 at.3
+
+  pub cuts-there : HasCutsOf r plan (drop (start + 1) plan.tasks)
+  cuts-there = (cut, list.0, at.0, at.1, list.1, at.2, head.1, none-behind)
 
   -- and then the next register's pieces
-  pub next-there : (next : ℕ) → LeavesOf cut r plan (drop (start + 1) plan.tasks) (drop next plan.tasks) → AreTasks cut (r + 1) (drop (r + 1) plan.lists) (drop next plan.tasks)
+  pub next-there : (next : ℕ) → next ≡ start + 1 + cuts_ahead (drop (start + 1) plan.tasks) → HasTasks (r + 1) next plan
   next-there next l =
       let e : suc r ≡ r + 1 = omega arith in
-      subst (λ n. AreTasks cut n (drop (r + 1) plan.lists) (drop next plan.tasks)) e
-      (subst (AreTasks cut (suc r) (drop (r + 1) plan.lists)) (sym (l list.0 at.0 at.1 list.1 at.2 head.1)) at.3)
+      let count = ap cuts_ahead head.1 ∙ cuts-counted cut r list.0 at.0 at.1 at.2 none-behind in
+      let far : start + 1 + length at.0 ≡ next = omega (arith, l, count) in
+      let behind : drop next plan.tasks ≡ at.1 =
+      ap (λ n. drop n plan.tasks) (sym far) ∙ (sym (drop-drop (length at.0) (start + 1) plan.tasks) ∙ (ap (drop (length at.0)) head.1 ∙ drop-append_seam at.0 at.1)) in
+      (cut, subst (λ n. AreTasks cut n (drop (r + 1) plan.lists) (drop next plan.tasks)) e (subst (AreTasks cut (suc r) (drop (r + 1) plan.lists)) (sym behind) at.3))

@@ -13,7 +13,7 @@ use Rattle.reg_report.specs.Meaning.{IsAtomicity, IsWholeAtomicity, ShowsFault}
 use Rattle.reg_report.specs.Merged.{AreFirstOrders, IsMergedAnswer}
 use Rattle.reg_report.specs.Registers.{AreOrdersSoFar}
 use Rattle.reg_report.specs.Told.{IsTold}
-use Rattle.reg_pieces.specs.declared.piece.Piece.TheVariants.{Order, Faulty}
+use Rattle.reg_pieces.specs.declared.judgement.Judgement.TheVariants.{Order, Faulty}
 use Rattle.reg_report.specs.declared.report.FaultLines.{FaultLines}
 use Rattle.reg_pieces.proofs.Pushed.{length-push, push-cases}
 use Rattle.reg_report.proofs.OrderLines.{calls-lines, points-lines, calls-there, points-there, placed-inside}

@@ -1,17 +1,19 @@
 -- The first bad reads of a register are put together cut by cut.
-use Rattle.std.proofs.Common.{◌≡◌, ℕ, zero, suc, ◌+◌, ◌-◌, ◌<◌, ◌≤◌, min, List, [], ◌∷◌, ◌++◌, drop, length, set, slice_get, Option, Some, None, refl, sym, ap, subst, ◌∙◌, arith}
+use Rattle.std.proofs.Common.{◌≡◌, ℕ, zero, suc, ◌+◌, ◌-◌, ◌<◌, ◌≤◌, min, List, [], ◌∷◌, ◌++◌, drop, length, set, slice_get, Option, Some, None, true, false, refl, sym, ap, subst, ◌∙◌, arith}
+use Rattle.std.proofs.lemmas.Bool.{false≢true}
 use Rattle.std.proofs.lemmas.Option.{same_Some, slice_get_within}
 use Rattle.history_model.specs.History.{History}
 use Rattle.reg_lamport.specs.declared.level.Level.TheVariants.{Safe, Regular}
 use Rattle.reg_lamport.proofs.Cuts.{named-cuts-join}
-use Rattle.reg_report.specs.Cuts.{AreFirstBad, HasCuts, IsCut, Leaves, with_cut}
-use Rattle.reg_pieces.specs.Plan.{AreCuts, IsPieceOf}
-use Rattle.reg_pieces.specs.Slots.{AreDoneFrom, IsFull}
-use Rattle.reg_report.specs.declared.levels.FirstBad.{FirstBad}
+use Rattle.reg_report.specs.Cuts.{HasCuts, cuts_ahead}
+use Rattle.reg_pieces.specs.BadReads.{AreFirstBad, joint_reads, no_reads}
+use Rattle.reg_pieces.specs.Plan.{AreCuts, IsPieceOf, is_cut}
+use Rattle.reg_pieces.specs.Slots.{AreDoneFrom, HasReads}
+use Rattle.reg_pieces.specs.declared.bad_reads.BadReads.{BadReads}
 use Rattle.reg_pieces.specs.declared.piece.Piece.{Piece}
 use Rattle.reg_pieces.specs.declared.piece.Piece.TheVariants as piece
 use Rattle.reg_pieces.specs.declared.tasks.Task.{Task}
-use Rattle.reg_pieces.specs.declared.tasks.Task.TheVariants.{Reads}
+use Rattle.reg_pieces.specs.declared.tasks.Task.TheVariants.{Judge, Reads, First}
 use Rattle.history_model.proofs.Lists.{slice_get-set_other}
 
 head-dropped : {X : Type 0} (xs : List X) (i : ℕ) (y : X) (ys : List X) → drop i xs ≡ y ∷ ys → (slice_get xs i ≡ Some y) × (drop (suc i) xs ≡ ys)
@@ -33,78 +35,109 @@ done-behind h tasks n old new e a i t l at =
     (d.0, ap (λ xs. slice_get xs i) e ∙ (slice_get-set_other old n i None (λ q. absurd (omega (arith, q, l))) ∙ d.1), d.2)
 
 module _ (h : History) (tasks : List Task) (n : ℕ) (t : Task) (slots : List (Option Piece)) (at : slice_get tasks n ≡ Some t) (a : AreDoneFrom n h tasks slots) where
-  pub stands : IsFull slots n
-  stands = let d = a n t (omega arith) at in (d.0, d.1)
-
   pub taken-piece : (p : Piece) → slice_get slots n ≡ Some (Some p) → IsPieceOf h t p
   taken-piece p e = let d = a n t (omega arith) at in subst (IsPieceOf h t) (same_Some _ _ (same_Some _ _ (sym d.1 ∙ e))) d.2
 
+-- ---- the cuts that tasks begin with
+
+cut-ahead : (tasks : List Task) (n : ℕ) → is_cut (slice_get tasks n) ≡ true → cuts_ahead (drop n tasks) ≡ suc (cuts_ahead (drop (suc n) tasks))
+cut-ahead [] n e = absurd (false≢true e)
+cut-ahead (Judge k ∷ tasks) zero e = absurd (false≢true e)
+cut-ahead (Reads k from to ∷ tasks) zero e = refl
+cut-ahead (First k ∷ tasks) zero e = absurd (false≢true e)
+cut-ahead (t ∷ tasks) (suc n) e = cut-ahead tasks n e
+
+no-cut-ahead : (tasks : List Task) (n : ℕ) → is_cut (slice_get tasks n) ≡ false → cuts_ahead (drop n tasks) ≡ 0
+no-cut-ahead [] zero e = refl
+no-cut-ahead [] (suc n) e = refl
+no-cut-ahead (Judge k ∷ tasks) zero e = refl
+no-cut-ahead (Reads k from to ∷ tasks) zero e = absurd (false≢true (sym e))
+no-cut-ahead (First k ∷ tasks) zero e = refl
+no-cut-ahead (t ∷ tasks) (suc n) e = no-cut-ahead tasks n e
+
 -- ---- the cuts of one register
 
--- what the cuts up to read number `from` have, of a list of so many reads whose cuts stand from `start` on
-pub record IsPutTogether (h : History) (tasks : List Task) (r cut len start from next : ℕ) (first : FirstBad) (slots : List (Option Piece)) : Type 0 where
-  pub within : from ≤ len
-  pub bad : AreFirstBad h r 0 from first
-  pub filled : AreDoneFrom next h tasks slots
-  pub ahead : (cuts rest : List Task) → AreCuts cut r 0 len cuts → drop start tasks ≡ cuts ++ rest → (more : List Task) × AreCuts cut r from len more × (drop next tasks ≡ more ++ rest)
-
-pub together-starts : (h : History) (tasks : List Task) (r cut len start : ℕ) (slots : List (Option Piece)) → AreDoneFrom start h tasks slots → IsPutTogether h tasks r cut len start 0 start (record { safe = None; regular = None }) slots
-together-starts h tasks r cut len start slots a = record {
-  within = omega arith;
-  bad = (λ i o l k. absurd (omega arith), λ i o l k. absurd (omega arith));
-  filled = a;
-  ahead = λ cuts rest c e. (cuts, c, e);
-}
-
-cut-piece : (h : History) (r from to : ℕ) (first : FirstBad) (p : Piece) → from ≤ to → IsPieceOf h (Reads (record { 0 = r }) from to) p → AreFirstBad h r 0 from first → IsCut p × AreFirstBad h r 0 to (with_cut first p)
-cut-piece h r from to first (piece.Order order) l f b = absurd f
-cut-piece h r from to first (piece.Faulty fault) l f b = absurd f
-cut-piece h r from to first piece.Clean l f b = absurd f
-cut-piece h r from to first piece.Skipped l f b = absurd f
-cut-piece h r from to first (piece.Reads safe regular) l f b = (
-  tt,
-  (
-    named-cuts-join h r Safe 0 from to first.safe safe (omega arith) l b.0 f.0,
-    named-cuts-join h r Regular 0 from to first.regular regular (omega arith) l b.1 f.1,
-  ),
+cut-more : (h : History) (r from to : ℕ) (first reads : BadReads) → from ≤ to → AreFirstBad h r from to reads → AreFirstBad h r 0 from first → AreFirstBad h r 0 to (joint_reads first reads)
+cut-more h r from to first reads l f b = (
+  named-cuts-join h r Safe 0 from to first.safe reads.safe (omega arith) l b.0 f.0,
+  named-cuts-join h r Regular 0 from to first.regular reads.regular (omega arith) l b.1 f.1,
 )
 
-module _ (h : History) (tasks : List Task) (r cut len start from next : ℕ) (first : FirstBad) (slots : List (Option Piece)) (has : HasCuts cut r len (drop start tasks)) (t : IsPutTogether h tasks r cut len start from next first slots) (less : from < len) where
-  abbrev to : ℕ
-  to = from + min (len - from) cut
+same-reads : (x y : BadReads) → piece.Reads x ≡ piece.Reads y → x ≡ y
+same-reads x y e = cc e
 
+-- what is put together of a list of so many reads, whose cuts stand from `start` on, once those before number `next` are taken
+pub record IsPutTogether (h : History) (tasks : List Task) (r len start next : ℕ) (first : BadReads) (slots : List (Option Piece)) : Type 0 where
+  pub cut : ℕ
+  pub from : ℕ
+  pub more : List Task
+  pub rest : List Task
+  pub bad : AreFirstBad h r 0 from first
+  pub filled : AreDoneFrom next h tasks slots
+  pub cuts : AreCuts cut r from len more
+  pub ahead : drop next tasks ≡ more ++ rest
+  pub ends : cuts_ahead rest ≡ 0
+  pub counted : next + cuts_ahead (drop next tasks) ≡ start + cuts_ahead (drop start tasks)
+
+pub together-starts : (h : History) (tasks : List Task) (r len start : ℕ) (slots : List (Option Piece)) → HasCuts r len (drop start tasks) → AreDoneFrom start h tasks slots → IsPutTogether h tasks r len start start no_reads slots
+together-starts h tasks r len start slots has a = record {
+  cut = has.0;
+  from = 0;
+  more = has.1;
+  rest = has.2;
+  bad = (λ i o l k. absurd (omega arith), λ i o l k. absurd (omega arith));
+  filled = a;
+  cuts = has.3;
+  ahead = has.4;
+  ends = has.5;
+  counted = refl;
+}
+
+module _ (h : History) (tasks : List Task) (r len start next : ℕ) (first : BadReads) (slots : List (Option Piece)) (t : IsPutTogether h tasks r len start next first slots) (is : is_cut (slice_get tasks next) ≡ true) where
   -- the next task is the next cut
-  next-cut : (more rest : List Task) → AreCuts cut r from len more → drop next tasks ≡ more ++ rest → (ms : List Task) × (slice_get tasks next ≡ Some (Reads (record { 0 = r }) from to)) × AreCuts cut r to len ms × (drop (next + 1) tasks ≡ ms ++ rest)
-  next-cut [] rest c e = absurd (omega (arith, c, less))
-  next-cut (u ∷ ms) rest c e = let k = drop-head tasks next u (ms ++ rest) e in (ms, k.0 ∙ ap (λ z. Some z) c.1, c.2, k.1)
+  next-cut : (to : ℕ) × (ms : List Task) × (t.from ≤ to) × (slice_get tasks next ≡ Some (Reads (record { 0 = r }) t.from to)) × AreCuts t.cut r to len ms × (drop (next + 1) tasks ≡ ms ++ t.rest)
+  next-cut = go t.more t.cuts t.ahead
+    where
+      go : (more : List Task) → AreCuts t.cut r t.from len more → drop next tasks ≡ more ++ t.rest
+          → (to : ℕ) × (ms : List Task) × (t.from ≤ to) × (slice_get tasks next ≡ Some (Reads (record { 0 = r }) t.from to)) × AreCuts t.cut r to len ms × (drop (next + 1) tasks ≡ ms ++ t.rest)
+      go [] c e = let one = cut-ahead tasks next is in let none = t.ends in absurd (omega (arith, one, ap cuts_ahead e, none))
+      go (u ∷ ms) c e = let k = drop-head tasks next u (ms ++ t.rest) e in (t.from + min (len - t.from) t.cut, ms, omega arith, k.0 ∙ ap (λ z. Some z) c.1, c.2, k.1)
 
-  at-next : slice_get tasks next ≡ Some (Reads (record { 0 = r }) from to)
-  at-next = let a = t.ahead has.0 has.1 has.2 has.3 in (next-cut a.0 has.1 a.1 a.2).1
-
-  pub cut-stands : IsFull slots next
-  cut-stands = stands h tasks next (Reads (record { 0 = r }) from to) slots at-next t.filled
+  pub cut-stands : HasReads slots next
+  cut-stands = let d = t.filled next (Reads (record { 0 = r }) t.from next-cut.0) (omega arith) next-cut.3 in (d.2.0, d.1 ∙ ap (λ x. Some (Some x)) d.2.1)
 
   pub inside : next < length tasks
-  inside = slice_get_within tasks next (Reads (record { 0 = r }) from to) at-next
+  inside = slice_get_within tasks next (Reads (record { 0 = r }) t.from next-cut.0) next-cut.3
 
-  pub piece-fits : (p : Piece) → slice_get slots next ≡ Some (Some p) → IsCut p × AreFirstBad h r 0 to (with_cut first p)
-  piece-fits p e = cut-piece h r from to first p (omega arith) (taken-piece h tasks next (Reads (record { 0 = r }) from to) slots at-next t.filled p e) t.bad
+  reads-fit : (reads : BadReads) → slice_get slots next ≡ Some (Some (piece.Reads reads)) → AreFirstBad h r 0 next-cut.0 (joint_reads first reads)
+  reads-fit reads e =
+      let p = taken-piece h tasks next (Reads (record { 0 = r }) t.from next-cut.0) slots next-cut.3 t.filled (piece.Reads reads) e in
+      cut-more h r t.from next-cut.0 first reads next-cut.2 (subst (AreFirstBad h r t.from next-cut.0) (sym (same-reads reads p.0 p.1)) p.2) t.bad
 
-  pub together-goes-on : (p : Piece) (new : List (Option Piece)) → slice_get slots next ≡ Some (Some p) → new ≡ set slots next None → IsPutTogether h tasks r cut len start to (next + 1) (with_cut first p) new
-  together-goes-on p new e f = record {
-    within = omega (arith, less);
-    bad = (piece-fits p e).1;
+  pub together-goes-on : (reads : BadReads) (new : List (Option Piece)) → slice_get slots next ≡ Some (Some (piece.Reads reads)) → new ≡ set slots next None → IsPutTogether h tasks r len start (next + 1) (joint_reads first reads) new
+  together-goes-on reads new e f = record {
+    cut = t.cut;
+    from = next-cut.0;
+    more = next-cut.1;
+    rest = t.rest;
+    bad = reads-fit reads e;
     filled = done-behind h tasks next slots new f t.filled;
-    ahead = λ cuts rest c q. let a = t.ahead cuts rest c q in let k = next-cut a.0 rest a.1 a.2 in (k.0, k.2, k.3);
+    cuts = next-cut.4;
+    ahead = next-cut.5;
+    ends = t.ends;
+    counted =
+        let z : suc next ≡ next + 1 = omega arith in
+        let one = cut-ahead tasks next is in
+        let same = ap (λ n. cuts_ahead (drop n tasks)) z in
+        omega (arith, one, same, t.counted);
   }
 
-pub together-ends : (h : History) (tasks : List Task) (r cut len start from next : ℕ) (first : FirstBad) (slots : List (Option Piece)) → IsPutTogether h tasks r cut len start from next first slots → len ≤ from → AreFirstBad h r 0 len first × Leaves cut r len (drop start tasks) (drop next tasks)
-together-ends h tasks r cut len start from next first slots t l =
-    let e : from ≡ len = omega (arith, t.within, l) in (
-      subst (λ n. AreFirstBad h r 0 n first) e t.bad,
-      λ cuts rest c q. let a = t.ahead cuts rest c q in a.2 ∙ ap (λ ts. ts ++ rest) (nothing-left a.0 a.1),
-    )
+pub together-ends : (h : History) (tasks : List Task) (r len start next : ℕ) (first : BadReads) (slots : List (Option Piece)) → IsPutTogether h tasks r len start next first slots → is_cut (slice_get tasks next) ≡ false → AreFirstBad h r 0 len first × (next ≡ start + cuts_ahead (drop start tasks))
+together-ends h tasks r len start next first slots t is = (
+  subst (λ n. AreFirstBad h r 0 n first) (go t.more t.cuts t.ahead) t.bad,
+  (let none = no-cut-ahead tasks next is in omega (arith, none, t.counted)),
+)
   where
-    nothing-left : (more : List Task) → AreCuts cut r from len more → more ≡ []
-    nothing-left [] c = refl
-    nothing-left (u ∷ ms) c = absurd (omega (arith, c.0, l))
+    go : (more : List Task) → AreCuts t.cut r t.from len more → drop next tasks ≡ more ++ t.rest → t.from ≡ len
+    go [] c e = c
+    go (u ∷ ms) c e = let k = drop-head tasks next u (ms ++ t.rest) e in absurd (false≢true (sym is ∙ ap is_cut (k.0 ∙ ap (λ z. Some z) c.1)))

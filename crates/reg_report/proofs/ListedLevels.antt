@@ -5,27 +5,22 @@ use Rattle.history_model.specs.History.{History}
 use Rattle.history_model.specs.Lamport.{HasSingleWriter}
 use Rattle.history_model.specs.Operations.{register_of}
 use Rattle.reg_lamport.specs.Reads.{ListedReads}
-use Rattle.reg_report.specs.Cuts.{HasCuts, HasCutsOf, Leaves, LeavesOf}
+use Rattle.reg_report.specs.Cuts.{HasCuts, HasCutsOf, cuts_ahead}
 use Rattle.reg_pieces.specs.Plan.{AreCutsOf, IsListOf, IsPlan, PlanShown}
 use Rattle.reg_pieces.specs.declared.tasks.Task.{Task}
 
 module _ (h : History) (cut r : ℕ) (plan : PlanShown) (p : IsPlan h cut plan) (o : Option ListedReads) (at : slice_get plan.lists r ≡ Some o) where
-  pub list-cuts : (list : ListedReads) (tasks : List Task) → o ≡ Some list → HasCutsOf cut r plan tasks → HasCuts cut list.register (length list.entries) tasks
+  pub list-cuts : (list : ListedReads) (tasks : List Task) → o ≡ Some list → HasCutsOf r plan tasks → HasCuts list.register (length list.entries) tasks
   list-cuts list tasks s c =
-      let same : c.0 ≡ Some list = same_Some _ _ (sym c.3 ∙ at) ∙ s in
+      let same : c.1 ≡ Some list = same_Some _ _ (sym c.4 ∙ at) ∙ s in
       let own : IsListOf h r (Some list) = subst (IsListOf h r) s (p.lists r o at) in
-      subst (λ n. HasCuts cut n (length list.entries) tasks) (sym own.1) (c.1, c.2, subst (λ x. AreCutsOf cut r x c.1) same c.4, c.5)
+      subst (λ n. HasCuts n (length list.entries) tasks) (sym own.1) (c.0, c.2, c.3, subst (λ x. AreCutsOf c.0 r x c.2) same c.5, c.6, c.7)
 
-  pub list-leaves : (list : ListedReads) (tasks left : List Task) → o ≡ Some list → Leaves cut list.register (length list.entries) tasks left → LeavesOf cut r plan tasks left
-  list-leaves list tasks left s l x cuts rest there c q =
-      let same : x ≡ Some list = same_Some _ _ (sym there ∙ at) ∙ s in
-      let own : IsListOf h r (Some list) = subst (IsListOf h r) s (p.lists r o at) in
-      subst (λ n. Leaves cut n (length list.entries) tasks left) own.1 l cuts rest (subst (λ y. AreCutsOf cut r y cuts) same c) q
-
-  pub none-leaves : (tasks : List Task) → o ≡ None → LeavesOf cut r plan tasks tasks
-  none-leaves tasks s x cuts rest there c q =
-      let same : x ≡ None = same_Some _ _ (sym there ∙ at) ∙ s in
-      q ∙ ap (λ ts. ts ++ rest) (subst (λ y. AreCutsOf cut r y cuts) same c)
+  -- a register with several writers has no cuts
+  pub none-ahead : (tasks : List Task) → o ≡ None → HasCutsOf r plan tasks → cuts_ahead tasks ≡ 0
+  none-ahead tasks s c =
+      let same : c.1 ≡ None = same_Some _ _ (sym c.4 ∙ at) ∙ s in
+      ap cuts_ahead (c.6 ∙ ap (λ ts. ts ++ c.3) (subst (λ y. AreCutsOf c.0 r y c.2) same c.5)) ∙ c.7
 
 -- the list of a register is that of its own one
 pub own-list : (h : History) (r : ℕ) (list : ListedReads) → IsListOf h r (Some list) → IsListOf h list.register (Some list)

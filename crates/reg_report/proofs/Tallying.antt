@@ -4,8 +4,9 @@ use Rattle.std.specs.List.{count_by}
 use Rattle.std.proofs.lemmas.Bool.{eq-eqb, ne_eqb}
 use Rattle.std.proofs.lemmas.List.{length-set, length-replicate}
 use Rattle.std.proofs.lemmas.List.Sums.{sum_by-cons, length-filter, count_by-le-length}
+use Rattle.history_text.specs.declared.limits.TheConstants.{MAX_EVENTS}
 use Rattle.history_model.specs.History.{History}
-use Rattle.history_model.specs.Operations.{Operation, operation, next_of, reply_in, begins, calls_from, calls, of_register, is_write, writes}
+use Rattle.history_model.specs.Operations.{Operation, calls_from, calls, of_register, is_write, writes}
 use Rattle.history_model.specs.Naming.{IsNamed, begins_at, op_shown}
 use Rattle.history_model.specs.Walking.{called_at}
 use Rattle.history_model.proofs.Walking.{drop-at, named-is-called, calls-few}
@@ -174,7 +175,7 @@ count-few p h r =
     let c = calls-few (length h.events + 2) 2 h.events in
     omega arith
 
-pub tally-room : (h : History) (n : ℕ) (ts : List Tally) → AreCounting h n ts → length h.events ≤ 2 ^ 20 → (r : ℕ) (t : Tally) → slice_get ts r ≡ Some t → HasRoom t
+pub tally-room : (h : History) (n : ℕ) (ts : List Tally) → AreCounting h n ts → length h.events ≤ MAX_EVENTS → (r : ℕ) (t : Tally) → slice_get ts r ≡ Some t → HasRoom t
 tally-room h n ts cs few r t q =
     let c = cs.each r t q in
     let a = count-few is_write h r in

@@ -15,7 +15,7 @@ use Rattle.reg_report.specs.declared.refusal.Refusal.TheVariants.{At, TooLong, I
 -- Of the lines of an input: the report of their history if they are well formed, otherwise the refusal of the first faulty one. `first` says that only the first register that isn't atomic is asked for.
 abbrev pub IsAnswerToLines : Bool → List Line → Result Report Refusal → Type 0
 IsAnswerToLines first lines (Ok report) = IsWellFormed lines × IsReportBy first (history_of (events_of lines)) report
-IsAnswerToLines first lines (Err (At line number other)) = IsRefusal lines (record { line = line; number = number; other = other })
+IsAnswerToLines first lines (Err (At r)) = IsRefusal lines r
 IsAnswerToLines first lines (Err TooLong) = ⊥
 IsAnswerToLines first lines (Err InputFailed) = ⊥
 IsAnswerToLines first lines (Err NoRoom) = ⊥

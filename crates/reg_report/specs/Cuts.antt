@@ -1,47 +1,25 @@
--- The first bad reads of a register, put together from its cuts.
-use Rattle.std.specs.Prelude.{◌≡◌, ℕ, List, ◌++◌, slice_get, Option, Some}
-use Rattle.std.specs.Option.{option_or}
-use Rattle.history_model.specs.History.{History}
-use Rattle.reg_lamport.specs.Levels.{IsFirstBadRead}
+-- Where the cuts of a register's reads stand among the tasks.
+use Rattle.std.specs.Prelude.{◌≡◌, ℕ, suc, List, [], ◌∷◌, ◌++◌, drop, slice_get, Option, Some}
 use Rattle.reg_lamport.specs.Reads.{ListedReads}
-use Rattle.reg_lamport.specs.declared.level.Level.TheVariants.{Safe, Regular}
-use Rattle.reg_pieces.specs.Plan.{AreCuts, AreCutsOf, PlanShown}
-use Rattle.reg_report.specs.declared.levels.FirstBad.{FirstBad}
-use Rattle.reg_pieces.specs.declared.piece.Piece.{Piece}
-use Rattle.reg_pieces.specs.declared.piece.Piece.TheVariants as piece
+use Rattle.reg_pieces.specs.Plan.{AreCuts, AreCutsOf, AreTasks, PlanShown}
 use Rattle.reg_pieces.specs.declared.tasks.Task.{Task}
+use Rattle.reg_pieces.specs.declared.tasks.Task.TheVariants.{Judge, Reads, First}
 
--- of the completed reads of register r numbered from `from` up to and without `to`, the first that isn't safe, and the first that isn't regular
-abbrev pub AreFirstBad : History → ℕ → ℕ → ℕ → FirstBad → Type 0
-AreFirstBad h r from to first = IsFirstBadRead h r Safe from to first.safe × IsFirstBadRead h r Regular from to first.regular
+-- how many cuts the tasks begin with
+abbrev pub cuts_ahead : List Task → ℕ
+cuts_ahead [] = 0
+cuts_ahead (Judge r ∷ ts) = 0
+cuts_ahead (Reads r from to ∷ ts) = suc (cuts_ahead ts)
+cuts_ahead (First r ∷ ts) = 0
 
--- the piece is that of a cut
-abbrev pub IsCut : Piece → Type 0
-IsCut (piece.Order order) = ⊥
-IsCut (piece.Faulty fault) = ⊥
-IsCut (piece.Reads safe regular) = Unit {0}
-IsCut piece.Clean = ⊥
-IsCut piece.Skipped = ⊥
-
--- a cut besides: what came before goes first
-abbrev pub with_cut : FirstBad → Piece → FirstBad
-with_cut first (piece.Order order) = first
-with_cut first (piece.Faulty fault) = first
-with_cut first (piece.Reads safe regular) = record { safe = option_or first.safe safe; regular = option_or first.regular regular }
-with_cut first piece.Clean = first
-with_cut first piece.Skipped = first
-
--- the tasks begin with the cuts of so many reads of register r
-abbrev pub HasCuts : ℕ → ℕ → ℕ → List Task → Type 0
-HasCuts cut r len tasks = (cuts : List Task) × (rest : List Task) × AreCuts cut r 0 len cuts × (tasks ≡ cuts ++ rest)
-
--- `left` is what the tasks have behind these cuts
-abbrev pub Leaves : ℕ → ℕ → ℕ → List Task → List Task → Type 0
-Leaves cut r len tasks left = (cuts rest : List Task) → AreCuts cut r 0 len cuts → tasks ≡ cuts ++ rest → left ≡ rest
+-- the tasks begin with all cuts of so many reads of register r, and no other
+abbrev pub HasCuts : ℕ → ℕ → List Task → Type 0
+HasCuts r len tasks = (cut : ℕ) × (cuts : List Task) × (rest : List Task) × AreCuts cut r 0 len cuts × (tasks ≡ cuts ++ rest) × (cuts_ahead rest ≡ 0)
 
 -- the same of the list that the plan has of register r
-abbrev pub HasCutsOf : ℕ → ℕ → PlanShown → List Task → Type 0
-HasCutsOf cut r plan tasks = (list : Option ListedReads) × (cuts : List Task) × (rest : List Task) × (slice_get plan.lists r ≡ Some list) × AreCutsOf cut r list cuts × (tasks ≡ cuts ++ rest)
+abbrev pub HasCutsOf : ℕ → PlanShown → List Task → Type 0
+HasCutsOf r plan tasks = (cut : ℕ) × (list : Option ListedReads) × (cuts : List Task) × (rest : List Task) × (slice_get plan.lists r ≡ Some list) × AreCutsOf cut r list cuts × (tasks ≡ cuts ++ rest) × (cuts_ahead rest ≡ 0)
 
-abbrev pub LeavesOf : ℕ → ℕ → PlanShown → List Task → List Task → Type 0
-LeavesOf cut r plan tasks left = (list : Option ListedReads) (cuts rest : List Task) → slice_get plan.lists r ≡ Some list → AreCutsOf cut r list cuts → tasks ≡ cuts ++ rest → left ≡ rest
+-- from number `start` on the plan has the tasks of the registers from r on
+abbrev pub HasTasks : ℕ → ℕ → PlanShown → Type 0
+HasTasks r start plan = (cut : ℕ) × AreTasks cut r (drop r plan.lists) (drop start plan.tasks)

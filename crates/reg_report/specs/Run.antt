@@ -15,7 +15,7 @@ use Rattle.reg_report.specs.declared.refusal.Refusal.TheVariants.{At, TooLong, I
 
 -- a refusal of the input itself, and of no failure or want of memory
 abbrev pub IsOfInput : Refusal → Type 0
-IsOfInput (At line number other) = Unit {0}
+IsOfInput (At r) = Unit {0}
 IsOfInput TooLong = Unit {0}
 IsOfInput InputFailed = ⊥
 IsOfInput NoRoom = ⊥
@@ -23,7 +23,7 @@ IsOfInput OutputFailed = ⊥
 
 -- why not all bytes of a source could be had
 abbrev pub IsOfPull : Refusal → Type 0
-IsOfPull (At line number other) = ⊥
+IsOfPull (At r) = ⊥
 IsOfPull TooLong = Unit {0}
 IsOfPull InputFailed = Unit {0}
 IsOfPull NoRoom = Unit {0}

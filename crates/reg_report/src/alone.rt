@@ -9,27 +9,16 @@ use crate::refusal::Refusal;
 use crate::report::Report;
 use history_text::{MAX_INPUT, read_lines_alone};
 use reg_arena::Arena;
-use reg_pieces::{MAX_CUT, Settings, do_pieces_alone, plan};
+use reg_pieces::{Settings, do_pieces_alone, plan};
 use std::alloc::{AllocError, Global};
-
-/// One worker, and cuts of the greatest size, since there is nobody to share a register's reads with; the whole report.
-fn settings() -> Settings
-    ensures { result.first ≡ false }
-{
-    match Settings::new(1, MAX_CUT, false) {
-        Some(settings) => settings,
-        None => unreachable!(),
-    }
-}
 
 /// The report of an accepted history, with all its pieces done here.
 fn report_alone(alloc: Global, arena: &Arena) -> Result<Report, AllocError>
     ensures { IfOk result (IsReport arena.now) }
 {
-    let settings = settings();
-    let plan = plan(alloc, arena, settings)?;
+    let plan = plan(alloc, arena, Settings::alone())?;
     let pieces = do_pieces_alone(alloc, arena, &plan)?;
-    history_report(alloc, arena, &plan, settings.cut(), pieces)
+    history_report(alloc, arena, &plan, pieces)
 }
 
 /// The report of the history in the input, the same as [`check`](crate::check) gives. It takes no right to start threads

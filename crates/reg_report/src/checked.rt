@@ -30,7 +30,7 @@ fn report_by<R: Threads + Sync, G: Gate + Sync>(
         first_report(alloc, arena, found)
     } else {
         let pieces = do_pieces(rt, alloc, arena, &plan, settings, gate)?;
-        history_report(alloc, arena, &plan, settings.cut(), pieces)
+        history_report(alloc, arena, &plan, pieces)
     }
 }
 

@@ -1,15 +1,13 @@
 //! The report of the first register that isn't atomic.
 ghost use Rattle.std.specs.Prelude.{◌≡◌, ◌<◌, length, slice_get, is_none, Some, IfOk};
 ghost use Rattle.history_model.specs.Operations.{register_of};
-ghost use Rattle.reg_pieces.specs.Plan.{IsListOf};
 ghost use Rattle.reg_pieces.specs.Workers.{IsFirstFound};
-ghost use Rattle.reg_report.specs.Cuts.{AreFirstBad};
 ghost use Rattle.reg_report.specs.First.{AreFoundLines, IsFirstReport};
 ghost use Rattle.reg_report.specs.Levels.{AreLevels};
 ghost use Rattle.reg_report.specs.Meaning.{IsRegisterReport};
 
 use crate::history::count_operations;
-use crate::levels::{FirstBad, Levels, listed_levels, several_writers};
+use crate::levels::{Levels, listed_levels, several_writers};
 use crate::lists::Registers;
 use crate::register::register_report;
 use crate::report::{RegReport, Report};
@@ -17,21 +15,8 @@ use crate::tally::count_calls;
 use crate::told::told;
 use history_model::RegId;
 use reg_arena::Arena;
-use reg_lamport::{Level, ReadList, first_bad};
-use reg_pieces::{judge, list_of};
+use reg_pieces::{BadReads, judge, list_of};
 use std::alloc::{AllocError, Global};
-
-/// The first of all reads of a register that isn't safe, and the first that isn't regular.
-fn bad_reads(arena: &Arena, list: &ReadList) -> FirstBad
-    requires { IsListOf arena.now list.now.register (Some list.now) }
-    ensures { AreFirstBad arena.now list.now.register 0 (length list.now.entries) result }
-{
-    let len = list.len();
-    FirstBad {
-        safe: first_bad(arena, list, 0, len, Level::Safe),
-        regular: first_bad(arena, list, 0, len, Level::Regular),
-    }
-}
 
 /// Both levels of a register, from all its reads.
 fn whole_levels(alloc: Global, arena: &Arena, register: RegId) -> Result<Levels, AllocError>
@@ -39,7 +24,7 @@ fn whole_levels(alloc: Global, arena: &Arena, register: RegId) -> Result<Levels,
 {
     match list_of(alloc, arena, register)? {
         Some(list) => {
-            let first = bad_reads(arena, &list);
+            let first = BadReads::among(arena, &list, 0, list.len());
             Ok(listed_levels(arena, &list, first))
         }
         None => Ok(several_writers()),

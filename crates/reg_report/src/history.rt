@@ -1,10 +1,11 @@
 //! The report of an accepted history.
-ghost use Rattle.std.specs.Prelude.{◌≡◌, ◌+◌, ◌<◌, length, drop, is_some, IfOk};
+ghost use Rattle.std.specs.Prelude.{◌≡◌, ◌+◌, ◌<◌, ℕ, length, is_some, IfOk};
 ghost use Rattle.history_model.specs.Operations.{calls, register_of};
 ghost use Rattle.reg_pieces.specs.Judged.{IsJudged};
 ghost use Rattle.reg_report.specs.Levels.{AreLevels};
 ghost use Rattle.reg_report.specs.Meaning.{IsReport, IsWholeAtomicity};
-ghost use Rattle.reg_pieces.specs.Plan.{AreTasks, IsPlan};
+ghost use Rattle.reg_pieces.specs.Plan.{IsPlan};
+ghost use Rattle.reg_report.specs.Cuts.{HasTasks};
 ghost use Rattle.reg_report.specs.Registers.{AreReported, AreOrdersSoFar};
 ghost use Rattle.reg_pieces.specs.Slots.{AreDone, AreDoneFrom};
 
@@ -18,7 +19,7 @@ use crate::tally::count_calls;
 use crate::told::told;
 use history_model::{EvId, RegId};
 use reg_arena::Arena;
-use reg_pieces::{Order, Piece, Pieces, Plan};
+use reg_pieces::{Judgement, Pieces, Plan};
 use std::alloc::{AllocError, Global};
 
 /// The lines of the registers, and their orders if all of them are atomic.
@@ -46,16 +47,15 @@ fn with_order(
     arena: &Arena,
     register: RegId,
     orders: Option<Orders>,
-    judged: Piece,
+    judged: Judgement,
 ) -> Result<Option<Orders>, AllocError>
     requires orders { AreOrdersSoFar arena.now register.0 orders }
     requires judged { IsJudged (register_of arena.now register.0) judged }
     ensures { IfOk result (AreOrdersSoFar arena.now (register.0 + 1)) }
 {
     match judged {
-        Piece::Faulty(_) => Ok(None),
-        Piece::Reads { .. } | Piece::Clean | Piece::Skipped => unreachable!(),
-        Piece::Order(order) => match orders {
+        Judgement::Faulty(_) => Ok(None),
+        Judgement::Order(order) => match orders {
             None => Ok(None),
             Some(orders) => Ok(Some(orders.with(order)?)),
         },
@@ -67,22 +67,20 @@ fn register_pieces(
     arena: &Arena,
     plan: &Plan,
     register: RegId,
-    cut: u32,
     pieces: &mut Pieces,
     start: usize,
-) -> (Piece, Levels, usize)
+) -> (Judgement, Levels, usize)
     requires register { register.0 < length arena.now.names }
-    requires plan { IsPlan arena.now cut plan.now }
-    requires cut { 0 < cut }
+    requires plan { (cut : ℕ) × IsPlan arena.now cut plan.now }
     requires done { AreDoneFrom start arena.now plan.now.tasks pieces.old }
-    requires tasks { AreTasks cut register.0 (drop register.0 plan.now.lists) (drop start plan.now.tasks) }
+    requires tasks { HasTasks register.0 start plan.now }
     ensures judged { IsJudged (register_of arena.now register.0) result.0 }
     ensures levels { AreLevels (register_of arena.now register.0) result.1 }
-    ensures tasks { AreTasks cut (register.0 + 1) (drop (register.0 + 1) plan.now.lists) (drop result.2 plan.now.tasks) }
+    ensures tasks { HasTasks (register.0 + 1) result.2 plan.now }
     ensures done { AreDoneFrom result.2 arena.now plan.now.tasks pieces.new }
 {
-    let judged = pieces.take(start);
-    let (levels, next) = levels_of(arena, plan, register, cut, pieces, start + 1);
+    let judged = pieces.take_judged(start);
+    let (levels, next) = levels_of(arena, plan, register, pieces, start + 1);
     (judged, levels, next)
 }
 
@@ -91,11 +89,9 @@ fn register_reports(
     alloc: Global,
     arena: &Arena,
     plan: &Plan,
-    cut: u32,
     mut pieces: Pieces,
 ) -> Result<Reported, AllocError>
-    requires plan { IsPlan arena.now cut plan.now }
-    requires cut { 0 < cut }
+    requires plan { (cut : ℕ) × IsPlan arena.now cut plan.now }
     requires done { AreDone arena.now plan.now.tasks pieces }
     ensures { IfOk result (AreReported arena.now) }
 {
@@ -105,14 +101,7 @@ fn register_reports(
     let mut next = 0;
     for number in 0..arena.register_count() {
         let register = RegId(number);
-        let (judged, levels, after) = register_pieces(
-            arena,
-            plan,
-            register,
-            cut,
-            &mut pieces,
-            next,
-        );
+        let (judged, levels, after) = register_pieces(arena, plan, register, &mut pieces, next);
         regs.push(register_report(
             alloc,
             arena,
@@ -154,15 +143,13 @@ pub(crate) fn history_report(
     alloc: Global,
     arena: &Arena,
     plan: &Plan,
-    cut: u32,
     pieces: Pieces,
 ) -> Result<Report, AllocError>
-    requires plan { IsPlan arena.now cut plan.now }
-    requires cut { 0 < cut }
+    requires plan { (cut : ℕ) × IsPlan arena.now cut plan.now }
     requires done { AreDone arena.now plan.now.tasks pieces }
     ensures { IfOk result (IsReport arena.now) }
 {
-    let reported = register_reports(alloc, arena, plan, cut, pieces)?;
+    let reported = register_reports(alloc, arena, plan, pieces)?;
     let order = whole_order(alloc, arena, &reported.orders)?;
     Ok(Report {
         regs: reported.regs,

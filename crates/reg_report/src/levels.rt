@@ -1,11 +1,12 @@
 //! Whether a register is safe and regular, with the reads that break it.
-ghost use Rattle.std.specs.Prelude.{◌≡◌, ◌<◌, length, drop, Some};
+ghost use Rattle.std.specs.Prelude.{◌≡◌, ◌+◌, ◌<◌, ℕ, length, drop, Some};
 ghost use Rattle.history_model.specs.Lamport.{HasSingleWriter};
 ghost use Rattle.reg_lamport.specs.Levels.{IsFirstBadRead};
 ghost use Rattle.reg_lamport.specs.Reads.{IsReadList};
-ghost use Rattle.reg_report.specs.Cuts.{AreFirstBad, HasCuts, HasCutsOf, IsCut, Leaves, LeavesOf, with_cut};
+ghost use Rattle.reg_report.specs.Cuts.{HasCuts, HasCutsOf, cuts_ahead};
 ghost use Rattle.reg_report.specs.Levels.{AreLevels, IsLevelAnswer};
 ghost use Rattle.history_model.specs.Operations.{register_of};
+ghost use Rattle.reg_pieces.specs.BadReads.{AreFirstBad};
 ghost use Rattle.reg_pieces.specs.Plan.{IsListOf, IsPlan};
 ghost use Rattle.reg_pieces.specs.Slots.{AreDoneFrom};
 
@@ -14,7 +15,7 @@ use crate::report::Verdict;
 use history_model::{EvId, Oper, RegId};
 use reg_arena::Arena;
 use reg_lamport::{Level, ReadList};
-use reg_pieces::{Piece, Pieces, Plan};
+use reg_pieces::{BadReads, Pieces, Plan};
 
 /// What is said of one level: the verdict, and if it is no, the line of the read that breaks the level.
 #[derive(Clone, Copy, Debug, PartialEq, Eq)]
@@ -28,29 +29,6 @@ pub(crate) struct LevelAnswer {
 pub(crate) struct Levels {
     pub(crate) safe: LevelAnswer,
     pub(crate) regular: LevelAnswer,
-}
-
-/// The first read of some cuts that isn't safe, and the first that isn't regular.
-#[derive(Clone, Copy, Debug, PartialEq, Eq)]
-pub(crate) struct FirstBad {
-    pub(crate) safe: Option<EvId>,
-    pub(crate) regular: Option<EvId>,
-}
-
-impl FirstBad {
-    /// With one cut more, which comes behind the others.
-    fn or(self, piece: Piece) -> FirstBad
-        requires { IsCut piece }
-        ensures { result ≡ with_cut self piece }
-    {
-        match piece {
-            Piece::Reads { safe, regular } => FirstBad {
-                safe: self.safe.or(safe),
-                regular: self.regular.or(regular),
-            },
-            _ => unreachable!(),
-        }
-    }
 }
 
 /// One level of a register with a single writer, by the first of its listed reads that breaks it.
@@ -73,7 +51,7 @@ fn level_answer(arena: &Arena, list: &ReadList, level: Level, first: Option<EvId
 }
 
 /// Both levels of a register with a single writer, by the first of its listed reads that break them.
-pub(crate) fn listed_levels(arena: &Arena, list: &ReadList, first: FirstBad) -> Levels
+pub(crate) fn listed_levels(arena: &Arena, list: &ReadList, first: BadReads) -> Levels
     requires list { IsListOf arena.now list.now.register (Some list.now) }
     requires first { AreFirstBad arena.now list.now.register 0 (length list.now.entries) first }
     ensures { AreLevels (register_of arena.now list.now.register) result }
@@ -104,28 +82,20 @@ fn first_bad_of(
     arena: &Arena,
     plan: &Plan,
     list: &ReadList,
-    cut: u32,
     pieces: &mut Pieces,
     start: usize,
-) -> (FirstBad, usize)
-    requires plan { IsPlan arena.now cut plan.now }
-    requires cut { 0 < cut }
+) -> (BadReads, usize)
+    requires plan { (cut : ℕ) × IsPlan arena.now cut plan.now }
     requires done { AreDoneFrom start arena.now plan.now.tasks pieces.old }
-    requires cuts { HasCuts cut list.now.register (length list.now.entries) (drop start plan.now.tasks) }
+    requires cuts { HasCuts list.now.register (length list.now.entries) (drop start plan.now.tasks) }
     ensures first { AreFirstBad arena.now list.now.register 0 (length list.now.entries) result.0 }
-    ensures next { Leaves cut list.now.register (length list.now.entries) (drop start plan.now.tasks) (drop result.1 plan.now.tasks) }
+    ensures next { result.1 ≡ start + cuts_ahead (drop start plan.now.tasks) }
     ensures done { AreDoneFrom result.1 arena.now plan.now.tasks pieces.new }
 {
-    let len = list.len();
-    let mut first = FirstBad {
-        safe: None,
-        regular: None,
-    };
-    let mut from = 0;
+    let mut first = BadReads::none();
     let mut next = start;
-    while from < len {
-        first = first.or(pieces.take(next));
-        from += (len - from).min(cut as usize);
+    while plan.is_cut(next) {
+        first = first.or(pieces.take_reads(next));
         next += 1;
     }
     (first, next)
@@ -136,23 +106,21 @@ pub(crate) fn levels_of(
     arena: &Arena,
     plan: &Plan,
     register: RegId,
-    cut: u32,
     pieces: &mut Pieces,
     start: usize,
 ) -> (Levels, usize)
     requires register { register.0 < length arena.now.names }
-    requires plan { IsPlan arena.now cut plan.now }
-    requires cut { 0 < cut }
+    requires plan { (cut : ℕ) × IsPlan arena.now cut plan.now }
     requires done { AreDoneFrom start arena.now plan.now.tasks pieces.old }
-    requires cuts { HasCutsOf cut register.0 plan.now (drop start plan.now.tasks) }
+    requires cuts { HasCutsOf register.0 plan.now (drop start plan.now.tasks) }
     ensures levels { AreLevels (register_of arena.now register.0) result.0 }
-    ensures next { LeavesOf cut register.0 plan.now (drop start plan.now.tasks) (drop result.1 plan.now.tasks) }
+    ensures next { result.1 ≡ start + cuts_ahead (drop start plan.now.tasks) }
     ensures done { AreDoneFrom result.1 arena.now plan.now.tasks pieces.new }
 {
     match plan.list(register) {
         None => (several_writers(), start),
         Some(list) => {
-            let (first, next) = first_bad_of(arena, plan, list, cut, pieces, start);
+            let (first, next) = first_bad_of(arena, plan, list, pieces, start);
             (listed_levels(arena, list, first), next)
         }
     }

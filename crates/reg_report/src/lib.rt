@@ -45,7 +45,8 @@ pub use merged::merge;
 pub use outcome::Outcome;
 pub use refusal::Refusal;
 pub use reg_pieces::{
-    Gate, MAX_CUT, MAX_WORKERS, OpenGate, Order, Piece, Plan, Settings, Worked, plan, work,
+    BadReads, Gate, Judgement, MAX_CUT, MAX_WORKERS, OpenGate, Order, Piece, Plan, Settings,
+    Worked, plan, work,
 };
 pub use report::{FaultLines, RegReport, Report, Verdict};
 pub use whole::run;

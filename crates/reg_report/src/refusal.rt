@@ -2,26 +2,28 @@
 ghost use Rattle.std.specs.Prelude.{◌≡◌};
 ghost use Rattle.reg_report.specs.Refusals.{number_of, line_of, other_of};
 
-use history_model::BuildError;
+use history_model::{BuildError, LineRefusal};
+use history_text::MAX_INPUT;
 use std::alloc::AllocError;
+use thiserror::Error;
 
 /// Why there is no report. Nothing was written then, but for `OutputFailed`.
-#[derive(Clone, Copy, Debug, PartialEq, Eq)]
+#[derive(Clone, Copy, Debug, PartialEq, Eq, Error)]
 pub enum Refusal {
-    /// The history isn't well formed: its first faulty line (from 1), the lowest number that applies there (1 to 14 or 19),
-    /// and for 9, 13 and 19 the other line.
-    At {
-        line: u32,
-        number: u8,
-        other: Option<u32>,
-    },
-    /// 15: the input is longer than its limit.
+    /// 1 to 14 or 19: the history isn't well formed. Its first faulty line is refused, for the lowest-numbered reason that applies there.
+    #[error(transparent)]
+    At(LineRefusal),
+    /// 15: the input is longer than its limit, [`MAX_INPUT`].
+    #[error("input is longer than {most} bytes", most = MAX_INPUT)]
     TooLong,
     /// 16: the source failed.
+    #[error("input could not be read")]
     InputFailed,
     /// 17: memory was refused.
+    #[error("no memory or no thread")]
     NoRoom,
     /// 18: the sink failed, and a beginning of the report may be out.
+    #[error("output could not be written")]
     OutputFailed,
 }
 
@@ -32,11 +34,7 @@ impl From<BuildError> for Refusal {
 
     fn from(error: BuildError) -> Refusal {
         match error {
-            BuildError::Refused(refusal) => Refusal::At {
-                line: refusal.line,
-                number: refusal.number,
-                other: refusal.other,
-            },
+            BuildError::Refused(refusal) => Refusal::At(refusal),
             BuildError::Memory => Refusal::NoRoom,
         }
     }
@@ -58,7 +56,7 @@ impl Refusal {
         ensures { result ≡ number_of self.now }
     {
         match self {
-            Refusal::At { number, .. } => *number,
+            Refusal::At(refusal) => refusal.reason.number(),
             Refusal::TooLong => 15,
             Refusal::InputFailed => 16,
             Refusal::NoRoom => 17,
@@ -71,7 +69,7 @@ impl Refusal {
         ensures { result ≡ line_of self.now }
     {
         match self {
-            Refusal::At { line, .. } => Some(*line),
+            Refusal::At(refusal) => Some(refusal.line),
             _ => None,
         }
     }
@@ -81,7 +79,7 @@ impl Refusal {
         ensures { result ≡ other_of self.now }
     {
         match self {
-            Refusal::At { other, .. } => *other,
+            Refusal::At(refusal) => refusal.reason.other(),
             _ => None,
         }
     }

@@ -22,7 +22,7 @@ use crate::told::told;
 use history_model::RegId;
 use history_text::Name;
 use reg_arena::Arena;
-use reg_pieces::{Order, Piece};
+use reg_pieces::{Judgement, Order};
 use reg_zones::laws::inversions_decide;
 use reg_zones::{Fault, inversion_of};
 use std::alloc::{AllocError, Global};
@@ -44,7 +44,7 @@ fn ordered(
     register: RegId,
     order: &Order,
 ) -> Result<Atomicity, AllocError>
-    requires { IsJudged (register_of arena.now register.0) (Piece.Order order.now) }
+    requires { IsJudged (register_of arena.now register.0) (Judgement.Order order.now) }
     ensures { (regular : _) → IfOk result (IsAtomicityShown arena.now (register_of arena.now register.0) regular) }
 {
     told(arena);
@@ -91,7 +91,7 @@ fn inversion_lines(
 
 /// The fault by lines. `regular` is what is said of regular.
 fn faulty(arena: &Arena, register: RegId, fault: Fault, regular: LevelAnswer) -> Atomicity
-    requires judged { IsJudged (register_of arena.now register.0) (Piece.Faulty fault) }
+    requires judged { IsJudged (register_of arena.now register.0) (Judgement.Faulty fault) }
     requires regular { IsLevelAnswer Regular (register_of arena.now register.0) regular }
     ensures { IsAtomicityShown arena.now (register_of arena.now register.0) regular.verdict result }
 {
@@ -109,7 +109,7 @@ fn atomicity_of(
     alloc: Global,
     arena: &Arena,
     register: RegId,
-    judged: &Piece,
+    judged: &Judgement,
     regular: LevelAnswer,
 ) -> Result<Atomicity, AllocError>
     requires judged { IsJudged (register_of arena.now register.0) judged.now }
@@ -117,9 +117,8 @@ fn atomicity_of(
     ensures { IfOk result (IsAtomicityShown arena.now (register_of arena.now register.0) regular.verdict) }
 {
     match judged {
-        Piece::Order(order) => ordered(alloc, arena, register, order),
-        Piece::Faulty(fault) => Ok(faulty(arena, register, *fault, regular)),
-        Piece::Reads { .. } | Piece::Clean | Piece::Skipped => unreachable!(),
+        Judgement::Order(order) => ordered(alloc, arena, register, order),
+        Judgement::Faulty(fault) => Ok(faulty(arena, register, *fault, regular)),
     }
 }
 
@@ -128,7 +127,7 @@ pub(crate) fn register_report(
     alloc: Global,
     arena: &Arena,
     register: RegId,
-    judged: &Piece,
+    judged: &Judgement,
     levels: Levels,
     tally: Tally,
 ) -> Result<RegReport, AllocError>

@@ -10,13 +10,13 @@ use Rattle.history_model.specs.Operations.{Operation, IsWrite, IsCompletedRead, 
 use Rattle.history_model.specs.declared.ids.Oper.{Oper}
 use Rattle.history_model.specs.Naming.{IsNamed}
 use Rattle.history_model.specs.OfValue.{IsWriteOf}
-use Rattle.reg_zones.specs.Register.{IsRegister}
+use Rattle.reg_zones.proofs.Known.{IsKnown}
 use Rattle.reg_zones.specs.Sweep.{IsBelonging}
 use Rattle.reg_zones.proofs.Registers.{member-cluster, cluster-member}
 use Rattle.reg_zones.proofs.ValuedEvents.{same, pending}
 use Rattle.history_model.proofs.Recorded.{of_register-In}
 
-module _ (h : History) (r : ℕ) (y : IsRegister h r) (i : ℕ) (o : Operation) (op : Op) (b : IsBelonging h r i o op)
+module _ (h : History) (r : ℕ) (y : IsKnown h r) (i : ℕ) (o : Operation) (op : Op) (b : IsBelonging h r i o op)
     (a : Operation) (k : In a (of_register r (operations h))) (d : IsCompletedRead a) (e : a.call ≡ i + 2) where
   is : o ≡ a
   is = same h r y i o op b a k (inl e)
@@ -35,7 +35,7 @@ module _ (h : History) (r : ℕ) (y : IsRegister h r) (i : ℕ) (o : Operation) 
 
 -- ---- the write of a read
 
-module _ (h : History) (r : ℕ) (y : IsRegister h r) (v : Val) where
+module _ (h : History) (r : ℕ) (y : IsKnown h r) (v : Val) where
   -- the write that the arena names
   pub the_write : (name : Oper) → IsWriteOf h r v (Some name) → (w : Operation) × IsNamed h name w × In w (of_register r (operations h)) × IsWrite w × (w.value ≡ Some v)
   the_write name f = let m = member-cluster h r y v f.0 f.2 in (f.0, f.1, m.within, f.3, f.2.value)

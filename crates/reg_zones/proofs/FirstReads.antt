@@ -9,12 +9,12 @@ use Rattle.history_model.specs.Operations.{Operation, IsCompletedRead, of_regist
 use Rattle.history_model.specs.Walking.{by_register, key_at}
 use Rattle.reg_zones.specs.declared.fault.Fault.TheVariants.{Unwritten, Early}
 use Rattle.reg_zones.specs.Faults.{IsEarly, IsFault}
-use Rattle.reg_zones.specs.Register.{IsRegister}
+use Rattle.reg_zones.proofs.Known.{IsKnown}
 use Rattle.reg_zones.specs.Sweep.{AreWritten, AreInTime, IsUnwrittenAt, IsEarlyAt}
 use Rattle.reg_zones.proofs.Registers.{cases_process, event-key}
 use Rattle.reg_zones.proofs.Walks.{IsWalk, IsPassed}
 
-module _ (h : History) (r : ℕ) (y : IsRegister h r) where
+module _ (h : History) (r : ℕ) (y : IsKnown h r) where
   -- the call of a completed read is an event
   read-call : (a : Operation) → In a (of_register r (operations h)) → IsCompletedRead a → 2 ≤ a.call
   read-call a k d = elim (cases_process a.process) [

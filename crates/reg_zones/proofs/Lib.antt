@@ -13,6 +13,7 @@ pub mod OneFault
 pub mod Points
 pub mod Initial
 pub mod Inversions
+pub mod Known
 pub mod Registers
 pub mod Walks
 pub mod ValuedEvents

@@ -11,7 +11,7 @@ use Rattle.reg_zones.specs.declared.entry.Entry.{Entry}
 use Rattle.reg_zones.specs.declared.zone.Zone.{Zone}
 use Rattle.reg_zones.specs.Clusters.{low_end}
 use Rattle.reg_zones.specs.Order.{IsListed}
-use Rattle.reg_zones.specs.Register.{IsRegister}
+use Rattle.reg_zones.proofs.Known.{IsKnown}
 use Rattle.reg_zones.specs.Sweep.{IsBelonging, IsZoneFound}
 use Rattle.reg_zones.specs.Entries.{turn, IsListedAt}
 use Rattle.reg_zones.proofs.Registers.{cluster-member, kept-completed, completed-kept}
@@ -21,7 +21,7 @@ use Rattle.reg_zones.proofs.Kept.{zone-found}
 use Rattle.reg_zones.proofs.LowEndAt.{zone-low}
 use Rattle.std.proofs.lemmas.Bool.{false≢true}
 
-module _ (h : History) (r : ℕ) (y : IsRegister h r) (i : ℕ) (o : Operation) (op : Op) (b : IsBelonging h r i o op) where
+module _ (h : History) (r : ℕ) (y : IsKnown h r) (i : ℕ) (o : Operation) (op : Op) (b : IsBelonging h r i o op) where
   -- a listed operation that is called here is the event's
   is : (a : Operation) → IsListed (of_register r (operations h)) a → a.call ≡ i + 2 → o ≡ a
   is a l e = same h r y i o op b a (listed-in (of_register r (operations h)) a l) (inl e)

@@ -10,7 +10,7 @@ use Rattle.history_model.specs.Walking.{IsFirstOf, IsNextOf, by_register, key_at
 use Rattle.reg_zones.specs.declared.entry.Entry.{Entry}
 use Rattle.reg_zones.specs.Clusters.{low_end}
 use Rattle.reg_zones.specs.Order.{IsListed, IsSooner}
-use Rattle.reg_zones.specs.Register.{IsRegister}
+use Rattle.reg_zones.proofs.Known.{IsKnown}
 use Rattle.reg_zones.specs.Entries.{turn, entry_of, same_place, ComesFirst, IsListing, IsListedAt}
 use Rattle.reg_zones.proofs.Complete.{listed-in, listed-member}
 use Rattle.reg_zones.proofs.LowEnds.{low_apart}
@@ -33,7 +33,7 @@ turn-write a w = ap (λ b. cond b 0 a.call) w
 turn-read : (a : Operation) → is_write a ≡ false → turn a ≡ a.call
 turn-read a w = ap (λ b. cond b 0 a.call) w
 
-module _ (h : History) (r : ℕ) (y : IsRegister h r) where
+module _ (h : History) (r : ℕ) (y : IsKnown h r) where
   abbrev ops : List Operation
   ops = of_register r (operations h)
 

@@ -8,7 +8,7 @@ use Rattle.history_model.specs.Operations.{Operation, IsWrite, IsCompleted, of_r
 use Rattle.history_model.specs.OfValue.{IsWriteOf}
 use Rattle.reg_zones.specs.declared.zone.Zone.{Zone}
 use Rattle.reg_zones.specs.Clusters.{IsKept, IsInCluster, low_end}
-use Rattle.reg_zones.specs.Register.{IsRegister}
+use Rattle.reg_zones.proofs.Known.{IsKnown}
 use Rattle.reg_zones.specs.Sweep.{IsBelonging, IsZone, IsZoneFound, IsLowEndAt}
 use Rattle.reg_zones.proofs.Registers.{low_end-event, kept-completed, completed-kept}
 use Rattle.reg_zones.proofs.Kept.{zone-found}
@@ -19,7 +19,7 @@ use Rattle.history_model.proofs.Recorded.{of_register-In}
 pub zone-low : (ops : List Operation) (w : Operation) (v : Val) (zone : Zone) → w.value ≡ Some v → IsZone ops (Some v) zone → low_end ops w.value ≡ min zone.f zone.s
 zone-low ops w v zone e z = ap (low_end ops) e ∙ omega (arith, z.reply, z.call)
 
-module _ (h : History) (r : ℕ) (y : IsRegister h r) (i : ℕ) (o : Operation) (op : Op) (b : IsBelonging h r i o op) where
+module _ (h : History) (r : ℕ) (y : IsKnown h r) (i : ℕ) (o : Operation) (op : Op) (b : IsBelonging h r i o op) where
   -- a cluster that has its low end here is that of the event's operation
   here : (w : Operation) → IsKept (of_register r (operations h)) w → low_end (of_register r (operations h)) w.value ≡ i + 2 → IsInCluster (of_register r (operations h)) w.value o
   here w k e = low_end-event h r y i o w (of_register-In r (operations h) o b.one).0 b.event k e

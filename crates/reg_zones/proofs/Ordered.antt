@@ -9,7 +9,7 @@ use Rattle.reg_zones.specs.declared.entry.Entry.{Entry}
 use Rattle.reg_zones.specs.declared.placed.Placed.{Placed}
 use Rattle.reg_zones.specs.Faults.{HasNoFault}
 use Rattle.reg_zones.specs.Order.{IsCanonical, IsOrder, placed_from, shown}
-use Rattle.reg_zones.specs.Register.{IsRegister}
+use Rattle.reg_zones.proofs.Known.{IsKnown}
 use Rattle.reg_zones.specs.Entries.{entry_of, entries_placed, ComesFirst, IsListing}
 use Rattle.history_model.proofs.Lists.{In-map, map-In, map-Before, Before-first, Before-second}
 use Rattle.reg_zones.proofs.Indexes.{In-from_Contains, Contains-from_In, Before-from_pairs}
@@ -33,7 +33,7 @@ entries_placed-of : (ops : List Operation) (n : ℕ) (order : List Operation) �
 entries_placed-of ops n [] = refl
 entries_placed-of ops n (a ∷ order) = ap (λ xs. shown (record { operation = a; point = max n a.call }) ∷ xs) (entries_placed-of ops (max n a.call) order)
 
-module _ (h : History) (r : ℕ) (y : IsRegister h r) (entries sorted : List Entry) (l : IsListing (of_register r (operations h)) entries) (p : IsPermutation entries sorted) (up : AllPairs ComesFirst sorted) where
+module _ (h : History) (r : ℕ) (y : IsKnown h r) (entries sorted : List Entry) (l : IsListing (of_register r (operations h)) entries) (p : IsPermutation entries sorted) (up : AllPairs ComesFirst sorted) where
   abbrev ops : List Operation
   ops = of_register r (operations h)
 

@@ -6,7 +6,7 @@ use Rattle.history_model.specs.Operations.{Operation, of_register, operations, i
 use Rattle.history_model.specs.Walking.{IsFirstOf, IsNextOf, IsLeastFrom, by_register, key_at}
 use Rattle.reg_zones.specs.declared.pass.Cluster.{Cluster}
 use Rattle.reg_zones.specs.Clusters.{IsKept, IsConflict, IsForward, low_end}
-use Rattle.reg_zones.specs.Register.{IsRegister}
+use Rattle.reg_zones.proofs.Known.{IsKnown}
 use Rattle.reg_zones.specs.Sweep.{IsClusterOf, IsLastMet, IsMet}
 use Rattle.reg_zones.proofs.Ends.{first_reply-le}
 use Rattle.reg_zones.proofs.Registers.{no_low_end, initial_low}
@@ -24,7 +24,7 @@ pub record IsPassing (ops : List Operation) (last : Option Cluster) (next : Opti
   pub reach : (id : EvId) → next ≡ Some id → time ≤ id.0 + 2
   pub clear : (w : Operation) → IsKept ops w → time ≤ low_end ops w.value → IsBefore (low_end ops w.value) next → ⊥
 
-module _ (h : History) (r : ℕ) (y : IsRegister h r) where
+module _ (h : History) (r : ℕ) (y : IsKnown h r) where
   -- where the event at place i isn't of the register, no low end has its time
   none_at : (w : Operation) → IsKept (of_register r (operations h)) w → 2 ≤ low_end (of_register r (operations h)) w.value → (key_at by_register h.events (low_end (of_register r (operations h)) w.value - 2) ≡ Some r → ⊥) → ⊥
   none_at w k l none = no_low_end h r y (low_end (of_register r (operations h)) w.value - 2) w none k (omega arith)

@@ -1,7 +1,6 @@
 -- The events of a register and its operations belong together.
-use Rattle.std.proofs.Common.{◌≡◌, ℕ, ◌+◌, ◌-◌, ◌<◌, ◌≤◌, ◌==◌, true, false, List, Option, Some, None, unwrap_or, length, ◌⊎◌, inl, inr, refl, sym, ap, subst, ◌∙◌, arith, option_and_then}
-use Rattle.std.proofs.lemmas.Bool.{eqb-true, eq-eqb, cases_Bool, cases_lt, false≢true}
-use Rattle.std.proofs.lemmas.Option.{slice_get_within}
+use Rattle.std.proofs.Common.{◌≡◌, ℕ, ◌+◌, ◌-◌, ◌<◌, ◌≤◌, true, false, Option, Some, None, unwrap_or, length, ◌⊎◌, inl, inr, refl, sym, ap, subst, ◌∙◌, arith}
+use Rattle.std.proofs.lemmas.Bool.{cases_Bool, cases_lt, false≢true}
 use Rattle.std.specs.List.{slice_get}
 use Rattle.history_text.specs.declared.event.Val.{Val}
 use Rattle.history_model.specs.declared.event.Event.{Event}
@@ -12,13 +11,14 @@ use Rattle.history_model.specs.Lists.{In}
 use Rattle.history_model.specs.History.{History}
 use Rattle.history_model.specs.Operations.{Operation, IsWrite, IsCompleted, is_write, of_register, operations, initial_write}
 use Rattle.history_model.specs.Walking.{by_register, key_at}
-use Rattle.history_model.specs.Naming.{IsEventIn, IsEventOf, IsNamed, IsOper, IsOperOf, begins_at, belongs_at, name_by, name_of}
+use Rattle.history_model.specs.Naming.{IsEventOf, IsNamed, IsOper, IsOperOf, begins_at, name_by, name_of}
 use Rattle.history_model.specs.OfValue.{IsMember, IsFirstReply, IsLastCall}
 use Rattle.reg_zones.specs.Clusters.{IsKept, IsInCluster, first_reply, last_call, low_end, HasFirstReply, HasLastCall}
-use Rattle.reg_zones.specs.Register.{IsRegister}
-use Rattle.history_model.proofs.Lists.{In-filter, filter-In}
+use Rattle.reg_zones.proofs.Known.{IsKnown, process-of}
+use Rattle.history_model.proofs.Named.{has-oper}
 use Rattle.reg_zones.proofs.Ends.{kept-member, first_reply-at, first_reply-is, last_call-at, last_call-is}
 use Rattle.reg_zones.proofs.ClearBelow.{first_completed}
+use Rattle.reg_zones.proofs.Walks.{key-within}
 use Rattle.history_model.proofs.Recorded.{In-of_register, of_register-In}
 
 -- nobody called it, or some process did
@@ -26,49 +26,20 @@ pub cases_process : (p : Option ℕ) → (p ≡ None) ⊎ ((q : ℕ) × (p ≡ S
 cases_process None = inl refl
 cases_process (Some q) = inr (q, refl)
 
-module _ (h : History) (r : ℕ) (y : IsRegister h r) where
+module _ (h : History) (r : ℕ) (y : IsKnown h r) where
   -- an operation of the register that has an event was called by a process
   pub event-process : (i : ℕ) (o : Operation) → In o (of_register r (operations h)) → IsEventOf i o → (p : ℕ) × (o.process ≡ Some p)
-  event-process i o k t = elim (cases_process o.process) [
-    | inr p ↦ p
-    | inl n ↦
-        let e = y.history.initial o k n in
-        absurd (elim t [
-          | inl c ↦ omega (arith, c, ap (λ (a : Operation). a.call) e)
-          | inr c ↦ omega (arith, c.1, ap (λ (a : Operation). a.reply) e)
-        ])
-  ]
+  event-process = process-of (of_register r (operations h)) y.history
 
   -- the event of an operation of the register is of the register
   pub event-key : (i : ℕ) (o : Operation) → In o (of_register r (operations h)) → IsEventOf i o → key_at by_register h.events i ≡ Some r
   event-key i o k t =
-      let p = event-process i o k t in
       let j = of_register-In r (operations h) o k in
-      let at : (n : ℕ) (e : Event) → IsEventIn h n e o → n ≡ i → key_at by_register h.events i ≡ Some r =
-      λ n e s q. subst (λ m. key_at by_register h.events m ≡ Some r) q (ap (option_and_then by_register) s.at ∙ (s.register ∙ ap Some j.1)) in
-      elim t [
-        | inl c ↦ let e = y.call o p.0 j.0 p.1 in at (o.call - 2) e.0 e.1 (omega (arith, c))
-        | inr c ↦ let e = y.reply o p.0 j.0 p.1 c.0 in at (o.reply - 2) e.0 e.1 (omega (arith, c.1))
-      ]
+      y.event i o j.0 t ∙ ap Some j.1
 
   -- an event of the register is of an operation of the register
-  pub event-of : (i : ℕ) (e : Event) (o : Operation) → IsEventIn h i e o → IsEventOf i o
-  event-of i e o s = elim s.is [ inl c ↦ inl (s.call c).1 | inr c ↦ let q = s.reply c in inr (q.0, q.1) ]
-
   pub key-operation : (i : ℕ) (o : Operation) → key_at by_register h.events i ≡ Some r → In o (operations h) → IsEventOf i o → In o (of_register r (operations h))
-  key-operation i o k j t = go (slice_get h.events i) refl k
-    where
-      go : (s : Option Event) → slice_get h.events i ≡ s → option_and_then by_register s ≡ Some r → In o (of_register r (operations h))
-      go None q n = absurd (cc n)
-      go (Some e) q n = elim (cases_Bool (belongs_at h.events i e)) [
-        | inl c ↦
-            let x = y.event i e q c in
-            let same = y.one i x.0 o x.1.one j (event-of i e x.0 x.1) t in
-            let a = x.1.register in
-            let reg : x.0.register ≡ r = cc (a, n) in
-            In-of_register r (operations h) o j (ap (λ (a : Operation). a.register) (sym same) ∙ reg)
-        | inr c ↦ absurd (y.none i e q c o j t)
-      ]
+  key-operation i o k j t = let own = y.event i o j t in In-of_register r (operations h) o j (cc (own, k))
 
   -- the operation that an event of the register begins
   pub begun : (id : EvId) (o : Operation) → key_at by_register h.events id.0 ≡ Some r → IsNamed h (Called id) o → In o (of_register r (operations h)) × (o.call ≡ id.0 + 2)
@@ -77,11 +48,9 @@ module _ (h : History) (r : ℕ) (y : IsRegister h r) where
     | inr p ↦
         let w : Called (record { 0 = o.call - 2 }) ≡ Called id = sym (ap (λ q. name_by q o) p.1) ∙ n.named in
         let v : record { 0 = o.call - 2 } ≡ id = cc (w) in
-        let u : o.call - 2 ≡ id.0 = ap (λ (x : EvId). x.0) v in
-        let e = y.call o p.0 n.one p.1 in
-        let own : key_at by_register h.events id.0 ≡ Some o.register = subst (λ m. key_at by_register h.events m ≡ Some o.register) u (ap (option_and_then by_register) e.1.at ∙ e.1.register) in
-        let reg : o.register ≡ r = cc (own, k) in
-        (In-of_register r (operations h) o n.one reg, (e.1.call e.2).1 ∙ ap (λ m. m + 2) u)
+        let c = y.called o p.0 n.one p.1 in
+        let u : o.call ≡ id.0 + 2 = omega (arith, ap (λ (x : EvId). x.0) v) in
+        (key-operation id.0 o k n.one (inl u), u)
   ]
 
   -- ---- names
@@ -99,7 +68,7 @@ module _ (h : History) (r : ℕ) (y : IsRegister h r) where
   -- an event that begins no operation calls none
   pub none-begun : (i : ℕ) (e : Event) (o : Operation) → slice_get h.events i ≡ Some e → begins_at h.events i e ≡ false → In o (of_register r (operations h)) → o.call ≡ i + 2 → ⊥
   none-begun i e o at none k c =
-      let named = subst (IsOper h) ((call-name o k).1 (omega (arith, c))) (y.oper o (of_register-In r (operations h) o k).0) in
+      let named = subst (IsOper h) ((call-name o k).1 (omega (arith, c))) (has-oper h o (of_register-In r (operations h) o k).0) in
       let q : o.call - 2 ≡ i = omega (arith, c) in
       let x = subst (λ m. (f : Event) × (slice_get h.events m ≡ Some f) × (begins_at h.events m f ≡ true)) q named in
       let same : x.0 ≡ e = let a = x.1 in cc (a, at) in
@@ -115,10 +84,7 @@ module _ (h : History) (r : ℕ) (y : IsRegister h r) where
   early-reply a k l = let lives = y.history.life a k in (call-name a k).0 (omega arith)
 
   pub reply-event : (a : Operation) → In a (of_register r (operations h)) → IsCompleted a → 2 ≤ a.reply → a.reply - 2 < length h.events
-  reply-event a k d l = elim (cases_process a.process) [
-    | inl n ↦ absurd (omega (arith, l, ap (λ (o : Operation). o.reply) (y.history.initial a k n)))
-    | inr p ↦ let e = y.reply a p.0 (of_register-In r (operations h) a k).0 p.1 d in slice_get_within h.events (a.reply - 2) e.0 e.1.at
-  ]
+  reply-event a k d l = key-within h.events (a.reply - 2) r (event-key (a.reply - 2) a k (inr (d, omega arith)))
 
   -- ---- clusters
 

@@ -1,4 +1,4 @@
--- Where a register has a legal order, it has no fault.
+-- If a register has a legal order, it has no fault; so a fault excludes every order (the law `fault_means_no_order`).
 use Rattle.std.proofs.Common.{◌≡◌, ◌<◌, List, ◌⊎◌, inl, inr, sym, ap, subst, ◌∙◌, arith}
 use Rattle.std.proofs.lemmas.Bool.{cases_Bool, false≢true}
 use Rattle.history_model.specs.Lists.{In, Before}

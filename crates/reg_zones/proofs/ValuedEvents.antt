@@ -1,20 +1,17 @@
 -- Which event has the value of an operation.
-use Rattle.std.proofs.Common.{◌≡◌, ℕ, ◌-◌, ◌≤◌, Bool, true, false, cond, Option, Some, None, inl, inr, refl, sym, ap, subst, ◌∙◌, arith, option_and_then, option_map}
+use Rattle.std.proofs.Common.{◌≡◌, ℕ, ◌-◌, ◌≤◌, Bool, true, false, cond, Some, None, inl, inr, refl, sym, ap, subst, ◌∙◌, arith}
 use Rattle.std.proofs.lemmas.Bool.{false≢true}
 use Rattle.history_text.specs.declared.event.Val.{Val}
-use Rattle.history_model.specs.declared.event.Event.{Event}
-use Rattle.history_model.specs.declared.ids.RegId.{RegId}
 use Rattle.history_model.specs.declared.op.Op.{Op}
 use Rattle.history_model.specs.Lists.{In}
 use Rattle.history_model.specs.History.{History}
 use Rattle.history_model.specs.Operations.{Operation, IsWrite, IsCompleted, IsCompletedRead, is_write, of_register, operations}
-use Rattle.history_model.specs.Walking.{by_register, by_value, key_at}
-use Rattle.history_model.specs.Naming.{IsEventIn, IsEventOf, op_shown}
-use Rattle.reg_zones.specs.Register.{IsRegister}
+use Rattle.history_model.specs.Walking.{by_value, key_at}
+use Rattle.history_model.specs.Naming.{IsEventOf, op_shown}
+use Rattle.reg_zones.proofs.Known.{IsKnown}
 use Rattle.reg_zones.specs.Sweep.{IsBelonging}
 use Rattle.reg_zones.proofs.Registers.{event-process, cases_process}
 use Rattle.history_model.proofs.Recorded.{of_register-In}
-use Rattle.history_model.proofs.Walking.{keyed}
 
 -- an operation that shows a reply is completed, with this reply
 pub shown-reply : (o : Operation) (t : ℕ) → (op_shown o).reply ≡ Some t → IsCompleted o × (o.reply ≡ t)
@@ -31,12 +28,8 @@ shown-pending o e = go o.completed refl e
     go true d q = absurd (cc q)
     go false d q = d
 
--- the key of an event with the register and the value of an operation
-pub value-key : (h : History) (i : ℕ) (e : Event) (o : Operation) (v : Val) → IsEventIn h i e o → e.value ≡ Some v → key_at by_value h.events i ≡ Some (o.register, v)
-value-key h i e o v s q = ap (option_and_then by_value) s.at ∙ keyed e o.register v s.register q
-
 -- the reply of a completed read is an event with its value
-module _ (h : History) (r : ℕ) (y : IsRegister h r) (a : Operation) (k : In a (of_register r (operations h))) (d : IsCompletedRead a) where
+module _ (h : History) (r : ℕ) (y : IsKnown h r) (a : Operation) (k : In a (of_register r (operations h))) (d : IsCompletedRead a) where
   caller : (p : ℕ) × (a.process ≡ Some p)
   caller = elim (cases_process a.process) [
     | inl n ↦ absurd (false≢true (sym d.read ∙ ap (λ (x : Operation). is_write x) (y.history.initial a k n)))
@@ -54,10 +47,9 @@ module _ (h : History) (r : ℕ) (y : IsRegister h r) (a : Operation) (k : In a 
   read-key v q =
       let p = caller in
       let at = of_register-In r (operations h) a k in
-      let e = y.reply a p.0 at.0 p.1 d.completed in
-      value-key h (a.reply - 2) e.0 a v e.1 (sym (e.1.reply e.2).2 ∙ q) ∙ ap (λ n. Some (n, v)) at.1
+      y.replied a p.0 v at.0 p.1 d.completed q ∙ ap (λ n. Some (n, v)) at.1
 
-module _ (h : History) (r : ℕ) (y : IsRegister h r) (i : ℕ) (o : Operation) (op : Op) (b : IsBelonging h r i o op) where
+module _ (h : History) (r : ℕ) (y : IsKnown h r) (i : ℕ) (o : Operation) (op : Op) (b : IsBelonging h r i o op) where
   -- an operation with an event was called by a process
   called : (p : ℕ) × (o.process ≡ Some p)
   called = event-process h r y i o b.one b.event
@@ -86,17 +78,15 @@ module _ (h : History) (r : ℕ) (y : IsRegister h r) (i : ℕ) (o : Operation) 
   reply-key d =
       let p = called in
       let v = y.value o there (inr d) in
-      let e = y.reply o p.0 there p.1 d in
-      (v.0, v.1, value-key h (o.reply - 2) e.0 o v.0 e.1 (sym (e.1.reply e.2).2 ∙ v.1) ∙ ap (λ n. Some (n, v.0)) numbered)
+      (v.0, v.1, y.replied o p.0 v.0 there p.1 d v.1 ∙ ap (λ n. Some (n, v.0)) numbered)
 
   -- the call of a pending write has its value
   pub call-key : o.completed ≡ false → IsWrite o → (v : Val) × (o.value ≡ Some v) × (key_at by_value h.events i ≡ Some (r, v))
   call-key d w =
       let p = called in
       let v = y.value o there (inl w) in
-      let e = y.call o p.0 there p.1 in
       let q : o.call - 2 ≡ i = elim b.event [ inl c ↦ omega (arith, c) | inr c ↦ absurd (false≢true (sym d ∙ c.0)) ] in
-      (v.0, v.1, subst (λ n. key_at by_value h.events n ≡ Some (r, v.0)) q (value-key h (o.call - 2) e.0 o v.0 e.1 (sym ((e.1.call e.2).2 w) ∙ v.1) ∙ ap (λ n. Some (n, v.0)) numbered))
+      (v.0, v.1, subst (λ n. key_at by_value h.events n ≡ Some (r, v.0)) q (y.written o p.0 v.0 there p.1 w v.1 ∙ ap (λ n. Some (n, v.0)) numbered))
 
   -- an event has one operation
   pub same : (a : Operation) → In a (of_register r (operations h)) → IsEventOf i a → o ≡ a

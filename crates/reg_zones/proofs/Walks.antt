@@ -67,3 +67,21 @@ ahead n (Some id) = suc (n - id.0)
 pub ahead-smaller : (events : List Event) (r : ℕ) (id : EvId) (next : Option EvId) → key_at by_register events id.0 ≡ Some r → IsNextOf by_register events id.0 next → ahead (length events) next < ahead (length events) (Some id)
 ahead-smaller events r id None k n = omega arith
 ahead-smaller events r id (Some j) k n = let f = n r k in let l = key-within events id.0 r k in omega (arith, f.0)
+
+-- ---- a loop that stands at `next`
+
+module _ {events : List Event} {r : ℕ} {Q : ℕ → Type 0} {next : Option EvId} {id : EvId} (w : IsWalk events r Q next) (e : next ≡ Some id) where
+  pub met-here : IsWalk events r Q (Some id)
+  met-here = subst (IsWalk events r Q) e w
+
+  pub met-within : id.0 < length events
+  met-within = key-within events id.0 r (w.here id e)
+
+  pub met-more : (after : Option EvId) → Q id.0 → IsNextOf by_register events id.0 after → IsWalk events r Q after
+  met-more after q n = walk-more events r Q id after met-here q n
+
+  pub met-smaller : (after : Option EvId) → IsNextOf by_register events id.0 after → ahead (length events) after < ahead (length events) next
+  met-smaller after n = subst (λ (o : Option EvId). ahead (length events) after < ahead (length events) o) (sym e) (ahead-smaller events r id after (w.here id e) n)
+
+pub walk-over : {events : List Event} {r : ℕ} {Q : ℕ → Type 0} {next : Option EvId} → IsWalk events r Q next → next ≡ None → IsWalk events r Q None
+walk-over {events} {r} {Q} w e = subst (IsWalk events r Q) e w

@@ -1,5 +1,5 @@
 -- Zones as the code has them, and what is found at each event of a register.
-use Rattle.std.specs.Prelude.{◌≡◌, ℕ, ◌+◌, ◌<◌, ◌⊎◌, List, length, Option, Some, None}
+use Rattle.std.specs.Prelude.{◌≡◌, ℕ, ◌+◌, ◌<◌, ◌⊎◌, List, Option, Some, None}
 use Rattle.history_text.specs.declared.event.Val.{Val}
 use Rattle.history_model.specs.declared.ids.EvId.{EvId}
 use Rattle.history_model.specs.declared.ids.Oper.{Oper}
@@ -12,17 +12,9 @@ use Rattle.history_model.specs.Naming.{IsNamed, IsEventOf, name_of, op_shown}
 use Rattle.history_model.specs.OfValue.{IsMember, IsFirstReply, IsLastCall}
 use Rattle.reg_zones.specs.Clusters.{IsKept, IsClearBelow, IsForward, IsLastForward, first_reply, last_call, low_end}
 use Rattle.reg_zones.specs.Faults.{IsUnwritten, IsEarly}
-use Rattle.reg_zones.specs.Register.{IsRegister}
 use Rattle.reg_zones.specs.declared.zone.Zone.{Zone}
 use Rattle.reg_zones.specs.declared.pass.Cluster.{Cluster}
 use Rattle.reg_zones.specs.declared.reads.Read.{Read}
-
--- the operation o of this name, with its register
-pub record IsOperation (h : History) (name : Oper) (o : Operation) (op : Op) : Type 0 where
-  pub named : IsNamed h name o
-  pub shown : op ≡ op_shown o
-  pub number : o.register < length h.names
-  pub register : IsRegister h o.register
 
 -- the event at place i belongs to the operation o of register r
 pub record IsBelonging (h : History) (r i : ℕ) (o : Operation) (op : Op) : Type 0 where
@@ -113,11 +105,11 @@ pub record IsMet (ops : List Operation) (n : ℕ) (cluster : Option Cluster) : T
   pub clear : IsClearBelow ops n
   pub last : IsLastMet ops n cluster
 
--- the zones overlap
+-- each zone's first reply comes before the other's last call
 abbrev pub ZonesConflict : Zone → Zone → Type 0
 ZonesConflict y z = (y.f < z.s) × (z.f < y.s)
 
--- the cluster met last, if its zone conflicts with this one
+-- the last forward cluster met, if its zone conflicts with this one
 abbrev pub IsConflictWith : Option Cluster → Cluster → Option Cluster → Type 0
 IsConflictWith last cluster None = (c : Cluster) → last ≡ Some c → ZonesConflict c.zone cluster.zone → ⊥
 IsConflictWith last cluster (Some c) = (last ≡ Some c) × ZonesConflict c.zone cluster.zone

@@ -7,7 +7,7 @@ ghost use Rattle.reg_zones.specs.Faults.{HasNoFault, IsFault};
 use crate::fault::Fault;
 use crate::pass::compatible;
 use crate::reads::{in_time, written};
-use crate::told::told;
+use crate::register::Register;
 use history_model::RegId;
 use reg_arena::Arena;
 
@@ -21,8 +21,8 @@ pub fn sweep(arena: &Arena, register: RegId) -> Result<(), Fault>
         (λ fault. IsFault (of_register register.0 (operations arena.now)) fault) }
     ensures atomic { IsOk result ↔ IsAtomic (of_register register.0 (operations arena.now)) }
 {
-    told(arena, register);
-    written(arena, register)?;
-    in_time(arena, register)?;
-    compatible(arena, register)
+    let register = Register::new(arena, register);
+    written(register)?;
+    in_time(register)?;
+    compatible(register)
 }

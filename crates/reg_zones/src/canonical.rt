@@ -7,7 +7,7 @@ ghost use Rattle.reg_zones.specs.Order.{IsOrder};
 
 use crate::entry::{Entry, listed};
 use crate::placed::Placed;
-use crate::told::told;
+use crate::register::Register;
 use history_model::RegId;
 use reg_arena::Arena;
 use std::alloc::{AllocError, Global};
@@ -21,8 +21,7 @@ pub fn order(alloc: Global, arena: &Arena, register: RegId) -> Result<Vec<Placed
     requires faultless { HasNoFault (of_register register.0 (operations arena.now)) }
     ensures { IfOk result (λ v. IsOrder (of_register register.0 (operations arena.now)) v.items) }
 {
-    told(arena, register);
-    let mut entries = listed(alloc, arena, register)?;
+    let mut entries = listed(alloc, Register::new(arena, register))?;
     rank(&mut entries);
     placed(alloc, &entries)
 }

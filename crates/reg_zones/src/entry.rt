@@ -1,15 +1,14 @@
 //! The operations that the canonical order lists, with what places them.
 ghost use Rattle.std.specs.Prelude.{◌≡◌, ◌<◌, ◌+◌, length, Some, IfOk};
-ghost use Rattle.history_model.specs.Operations.{initial_write, of_register, operations};
-ghost use Rattle.history_model.specs.Walking.{by_register, key_at};
+ghost use Rattle.history_model.specs.Operations.{initial_write};
 ghost use Rattle.reg_zones.specs.Entries.{IsListedAt, IsListing, entry_of};
+ghost use Rattle.reg_zones.specs.Register.{HasEvent, operations_of};
 
-use crate::told::{operation_called, told};
+use crate::register::Register;
 use crate::valued::valued_event;
 use crate::zone::{zone_at, zone_of};
-use history_model::{EvId, Oper, RegId};
+use history_model::{EvId, Oper};
 use history_text::OpKind;
-use reg_arena::Arena;
 use std::alloc::{AllocError, Global};
 
 /// A kept write or a completed read.
@@ -25,35 +24,27 @@ pub(crate) struct Entry {
 }
 
 /// The kept writes and the completed reads of a register, each once, by call.
-pub(crate) fn listed(
-    alloc: Global,
-    arena: &Arena,
-    register: RegId,
-) -> Result<Vec<Entry>, AllocError>
-    requires { register.0 < length arena.now.names }
-    ensures { IfOk result (λ v. IsListing (of_register register.0 (operations arena.now)) v.items) }
+pub(crate) fn listed(alloc: Global, register: Register<'_>) -> Result<Vec<Entry>, AllocError>
+    ensures { IfOk result (λ v. IsListing (operations_of register.entry) v.items) }
 {
-    told(arena, register);
     let mut entries = Vec::new(alloc);
-    entries.push(initial_entry(arena, register))?;
-    let mut next = arena.first_of_register(register);
+    entries.push(initial_entry(register))?;
+    let mut next = register.arena.first_of_register(register.id);
     while let Some(id) = next {
-        if let Some(entry) = listed_at(arena, register, id) {
+        if let Some(entry) = listed_at(register, id) {
             entries.push(entry)?;
         }
-        next = arena.next_in_register(id);
+        next = register.arena.next_in_register(id);
     }
     Ok(entries)
 }
 
 /// The entry of the initial write.
-fn initial_entry(arena: &Arena, register: RegId) -> Entry
-    requires { register.0 < length arena.now.names }
-    ensures { result ≡ entry_of (of_register register.0 (operations arena.now)) (initial_write register.0) }
+fn initial_entry(register: Register<'_>) -> Entry
+    ensures { result ≡ entry_of (operations_of register.entry) (initial_write register.entry.id.0) }
 {
-    told(arena, register);
-    let oper = Oper::Initial(register);
-    let zone = zone_of(arena, oper);
+    let oper = Oper::Initial(register.id);
+    let zone = zone_of(register.arena, oper);
     Entry {
         low: zone.low(),
         turn: 0,
@@ -63,15 +54,13 @@ fn initial_entry(arena: &Arena, register: RegId) -> Entry
 }
 
 /// The listed operation that the event calls, if it calls one.
-fn listed_at(arena: &Arena, register: RegId, id: EvId) -> Option<Entry>
-    requires register { register.0 < length arena.now.names }
-    requires here { key_at by_register arena.now.events id.0 ≡ Some register.0 }
-    ensures { IsListedAt (of_register register.0 (operations arena.now)) (id.0 + 2) result }
+fn listed_at(register: Register<'_>, id: EvId) -> Option<Entry>
+    requires { HasEvent register id }
+    ensures { IsListedAt (operations_of register.entry) (id.0 + 2) result }
 {
-    told(arena, register);
-    let (oper, op) = operation_called(arena, register, id)?;
-    let valued = valued_event(arena, register, op, id)?;
-    let zone = zone_at(arena, valued)?;
+    let (oper, op) = register.operation_called(id)?;
+    let valued = valued_event(register, op, id)?;
+    let zone = zone_at(register.arena, valued)?;
     let turn = match op.kind {
         OpKind::WriteOp => 0,
         OpKind::ReadOp => op.call,

@@ -1,15 +1,15 @@
 //! Why a register isn't atomic.
 ghost use Rattle.std.specs.Prelude.{◌≡◌, ◌<◌, length};
 ghost use Rattle.history_model.specs.Lists.{In};
-ghost use Rattle.history_model.specs.Operations.{Operation, IsCompleted, of_register, operations};
+ghost use Rattle.history_model.specs.Operations.{Operation, IsCompleted};
 ghost use Rattle.history_model.specs.Naming.{name_of};
 ghost use Rattle.reg_zones.specs.Faults.{IsFault, IsFirstClash};
+ghost use Rattle.reg_zones.specs.Register.{operations_of};
 ghost use Rattle.reg_zones.specs.Sweep.{IsClusterOf};
 
 use crate::pass::Cluster;
-use crate::told::told;
-use history_model::{EvId, Oper, RegId};
-use reg_arena::Arena;
+use crate::register::Register;
+use history_model::{EvId, Oper};
 
 /// The fault of a register: the first of these that applies.
 #[derive(Clone, Copy, Debug, PartialEq, Eq)]
@@ -36,51 +36,45 @@ pub enum Fault {
 }
 
 /// The fault of the first two clusters that conflict, with the operations that show it.
-pub(crate) fn conflict_of(arena: &Arena, register: RegId, first: Cluster, second: Cluster) -> Fault
-    requires register { register.0 < length arena.now.names }
-    requires first { (v : Operation) × (w : Operation) × IsFirstClash (of_register register.0 (operations arena.now)) v w
-        × IsClusterOf (of_register register.0 (operations arena.now)) v first
-        × IsClusterOf (of_register register.0 (operations arena.now)) w second }
-    ensures { IsFault (of_register register.0 (operations arena.now)) result }
+pub(crate) fn conflict_of(register: Register<'_>, first: Cluster, second: Cluster) -> Fault
+    requires { (v : Operation) × (w : Operation) × IsFirstClash (operations_of register) v w
+        × IsClusterOf (operations_of register) v first
+        × IsClusterOf (operations_of register) w second }
+    ensures { IsFault (operations_of register.entry) result }
 {
-    told(arena, register);
     Fault::Zones {
         writes: (first.write, second.write),
         first: (
-            replied_at(arena, register, first.zone.f),
-            called_at(arena, register, second.zone.s),
+            replied_at(register, first.zone.f),
+            called_at(register, second.zone.s),
         ),
         second: (
-            replied_at(arena, register, second.zone.f),
-            called_at(arena, register, first.zone.s),
+            replied_at(register, second.zone.f),
+            called_at(register, first.zone.s),
         ),
     }
 }
 
 /// The operation of a register that was called at a time.
-fn called_at(arena: &Arena, register: RegId, time: u32) -> Oper
-    requires { register.0 < length arena.now.names }
-    ensures { (a : Operation) → In a (of_register register.0 (operations arena.now)) → a.call ≡ time → name_of a ≡ result }
+fn called_at(register: Register<'_>, time: u32) -> Oper
+    ensures { (a : Operation) → In a (operations_of register.entry) → a.call ≡ time → name_of a ≡ result }
 {
-    told(arena, register);
     if time < 2 {
-        Oper::Initial(register)
+        Oper::Initial(register.id)
     } else {
         Oper::Called(EvId(time - 2))
     }
 }
 
 /// The operation of a register that replied at a time.
-fn replied_at(arena: &Arena, register: RegId, time: u32) -> Oper
-    requires register { register.0 < length arena.now.names }
-    requires there { (a : Operation) × In a (of_register register.0 (operations arena.now)) × IsCompleted a × (a.reply ≡ time) }
-    ensures { (a : Operation) → In a (of_register register.0 (operations arena.now)) → IsCompleted a → a.reply ≡ time → name_of a ≡ result }
+fn replied_at(register: Register<'_>, time: u32) -> Oper
+    requires { (a : Operation) × In a (operations_of register) × IsCompleted a × (a.reply ≡ time) }
+    ensures { (a : Operation) → In a (operations_of register.entry) → IsCompleted a → a.reply ≡ time → name_of a ≡ result }
 {
-    told(arena, register);
-    let initial = Oper::Initial(register);
+    let initial = Oper::Initial(register.id);
     if time < 2 {
         initial
     } else {
-        arena.op_of(EvId(time - 2)).unwrap_or(initial)
+        register.arena.op_of(EvId(time - 2)).unwrap_or(initial)
     }
 }

@@ -3,11 +3,11 @@
 //! What the floor above may rely on: [`sweep`] answers with the fault that the definitions name, and with `Ok` exactly
 //! if the register is atomic (Herlihy and Wing, 1990). [`order`] lists the canonical order of a register without
 //! fault, which is a legal one, with a point for each operation between its call and its reply. [`is_kept`] and
-//! [`zone_of`] are the definitions of a kept write and of a zone, and [`laws`] says why zones decide.
+//! [`zone_of`], which nothing above calls today, tell a kept write and a zone. [`laws`] says why zones decide.
 //!
 //! The method is that of Gibbons and Korach (Testing Shared Memories, 1997) for distinct written values. To read: `zone`,
 //! then `reads` (the two faults of single reads) and `pass` (one pass over low ends), which `atomic` puts together; then
-//! `entry` and `canonical` for the order, and `inversion`. `told` asks the arena for what its laws say, and `valued` for an operation's value.
+//! `entry` and `canonical` for the order, and `inversion`. `register` is a register with what is known of it, and `valued` asks for an operation's value.
 #![tactic(auto)]
 
 mod atomic;
@@ -19,9 +19,9 @@ pub mod laws;
 mod pass;
 mod placed;
 mod reads;
+mod register;
 #[cfg(test)]
 mod tests;
-mod told;
 mod valued;
 mod zone;
 

@@ -1,7 +1,6 @@
 ghost use Rattle.std.specs.Prelude.{◌<◌, length};
 
 use super::*;
-use crate::told::names_told;
 use history_model::{BuildError, EvId, Oper, RegId};
 use history_text::{Kind, LineEvent, LineFault, Name, ReplyParts, Val};
 use reg_arena::Arena;
@@ -217,7 +216,6 @@ fn verdict(alloc: Global, arena: &Arena) -> Result<String, AllocError>
 fn kept_zone(arena: &Arena, id: EvId) -> Option<Zone>
     requires { id.0 < length arena.now.events }
 {
-    names_told(arena);
     let oper = arena.op_of(id)?;
     if is_kept(arena, oper) {
         Some(zone_of(arena, oper))

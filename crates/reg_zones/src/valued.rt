@@ -3,18 +3,15 @@ ghost use Rattle.std.specs.Prelude.{◌<◌, length};
 ghost use Rattle.history_model.specs.Operations.{Operation};
 ghost use Rattle.reg_zones.specs.Sweep.{IsBelonging, IsValuedEvent};
 
-use crate::told::told;
-use history_model::{EvId, Op, RegId};
+use crate::register::Register;
+use history_model::{EvId, Op};
 use history_text::OpKind;
-use reg_arena::Arena;
 
 /// An event with the value of the operation to which `id` belongs: its reply, or the call of a pending write.
-pub(crate) fn valued_event(arena: &Arena, register: RegId, op: Op, id: EvId) -> Option<EvId>
-    requires register { register.0 < length arena.now.names }
-    requires there { (o : Operation) × IsBelonging arena.now register.0 id.0 o op }
-    ensures { (o : Operation) → IsBelonging arena.now register.0 id.0 o op → IsValuedEvent arena.now register.0 o result }
+pub(crate) fn valued_event(register: Register<'_>, op: Op, id: EvId) -> Option<EvId>
+    requires { (o : Operation) × IsBelonging register.arena.now register.id.0 id.0 o op }
+    ensures { (o : Operation) → IsBelonging register.entry.arena.now register.entry.id.0 id.0 o op → IsValuedEvent register.entry.arena.now register.entry.id.0 o result }
 {
-    told(arena, register);
     match (op.reply, op.kind) {
         (Some(reply), _) => Some(EvId(reply - 2)),
         (None, OpKind::WriteOp) => Some(id),

@@ -7,8 +7,8 @@ ghost use Rattle.history_model.specs.Naming.{IsNamed, IsOper};
 ghost use Rattle.reg_zones.specs.Clusters.{IsKept};
 ghost use Rattle.reg_zones.specs.Sweep.{IsKeptWrite, IsZone, IsZoneFound};
 
-use crate::told::{names_told, operation};
-use history_model::{EvId, Oper, RegId};
+use crate::register::Register;
+use history_model::{EvId, Oper};
 use history_text::{OpKind, Val};
 use reg_arena::Arena;
 
@@ -19,7 +19,7 @@ use reg_arena::Arena;
 pub struct Zone {
     /// The first reply.
     pub f: u32,
-    /// The greatest call.
+    /// The last call.
     pub s: u32,
 }
 
@@ -45,9 +45,9 @@ pub fn is_kept(arena: &Arena, oper: Oper) -> bool
     requires { IsOper arena.now oper }
     ensures { (w : Operation) → IsNamed arena.now oper w → (IsTrue result ↔ IsKept (of_register w.register (operations arena.now)) w) }
 {
-    let op = operation(arena, oper);
+    let (register, op) = Register::with_operation(arena, oper);
     match (op.kind, op.value) {
-        (OpKind::WriteOp, Some(value)) => arena.first_reply(op.register, value).is_some(),
+        (OpKind::WriteOp, Some(value)) => arena.first_reply(register.id, value).is_some(),
         (OpKind::WriteOp, None) | (OpKind::ReadOp, _) => false,
     }
 }
@@ -57,22 +57,20 @@ pub fn zone_of(arena: &Arena, write: Oper) -> Zone
     requires { IsKeptWrite arena.now write }
     ensures { (w : Operation) → IsNamed arena.now write w → IsZone (of_register w.register (operations arena.now)) w.value result }
 {
-    names_told(arena);
-    let op = operation(arena, write);
+    let (register, op) = Register::with_operation(arena, write);
     let found = match op.value {
-        Some(value) => zone_with(arena, op.register, value),
+        Some(value) => zone_with(register, value),
         None => None,
     };
     found.unwrap_or(Zone { f: 0, s: 0 })
 }
 
 /// The zone of the cluster of a value, if it has a completed operation.
-fn zone_with(arena: &Arena, register: RegId, value: Val) -> Option<Zone>
-    requires { register.0 < length arena.now.names }
-    ensures { IsZoneFound arena.now register.0 value result }
+fn zone_with(register: Register<'_>, value: Val) -> Option<Zone>
+    ensures { IsZoneFound register.entry.arena.now register.entry.id.0 value result }
 {
-    let f = arena.first_reply(register, value)?;
-    let s = arena.last_call(register, value)?;
+    let f = register.arena.first_reply(register.id, value)?;
+    let s = register.arena.last_call(register.id, value)?;
     Some(Zone { f, s })
 }
 

@@ -7,9 +7,10 @@ ghost use Rattle.regcheck.specs.Numbers.{HasNumber};
 ghost use Rattle.regcheck.specs.Words.{command_line, cut_named, file_named, file_of, file_rule, first_given, first_rule, number_rule, workers_named, IsFaultless, IsFlag, IsTaken};
 
 use clap::error::ErrorKind;
-use clap::{Arg, ArgAction, ArgMatches, Command, Error, value_parser};
+use clap::{Arg, ArgAction, ArgMatches, Command, value_parser};
 use reg_report::{MAX_CUT, MAX_WORKERS, Settings};
 use std::alloc::{AllocError, Global};
+use thiserror::Error;
 
 const ABOUT: &str =
     "Checks a recorded history of reads and writes of registers: whether each is safe, regular and atomic.";
@@ -63,11 +64,13 @@ impl Words {
 }
 
 /// Why there are no words.
-#[derive(Drop)]
+#[derive(Debug, Drop, Error)]
 pub enum WordsFault {
     /// They are refused, or ask for help or the version: the text of the parser, with its line ends.
+    #[error("{0}")]
     Bad(String),
     /// Memory was refused.
+    #[error("out of memory")]
     Memory,
 }
 
@@ -127,7 +130,7 @@ fn command<'a>(alloc: Global) -> Result<Command<'a>, AllocError>
         .arg(first(alloc))
 }
 
-fn fault(alloc: Global, error: &Error) -> WordsFault
+fn fault(alloc: Global, error: &clap::Error) -> WordsFault
     ensures { kind_of error.now ≡ ErrorKind.OutOfMemory → result ≡ WordsFault.Memory }
 {
     if error.kind() == ErrorKind::OutOfMemory {

@@ -2,6 +2,8 @@
 ghost use Rattle.std.specs.Prelude.{◌≡◌};
 
 use crate::histories::settings;
+use history_model::{LineRefusal, Reason};
+use history_text::LineKind;
 use reg_report::{MemSink, MemSource, OpenGate, Outcome, Refusal, Sink, Source, run};
 use std::random::RandomSource;
 use std::test::Fail;
@@ -144,19 +146,15 @@ fn ten_bytes(rt: HostRuntime) -> Result<(), Fail> {
 #[test]
 fn refused_input(rt: HostRuntime) -> Result<(), Fail> {
     let alloc = rt.alloc();
-    for (input, line, number) in [("{\n", 1, 2), ("\n[]\n", 2, 3)] {
+    for (input, line, kind) in [
+        ("{\n", 1, LineKind::NotJson),
+        ("\n[]\n", 2, LineKind::NotObject),
+    ] {
         let source = MemSource::new(input.as_bytes(), 1, None);
         let sink = MemSink::new(alloc, 4096, 1, false)?;
         let ran = run_between(&rt, source, sink)?;
-        let other = None;
-        assert_eq!(rt;
-            ran.answer,
-            Err(Refusal::At {
-                line,
-                number,
-                other
-            })
-        );
+        let reason = Reason::Faulty(kind);
+        assert_eq!(rt; ran.answer, Err(Refusal::At(LineRefusal { line, reason })));
         assert_eq!(rt; ran.taken.len(), 0);
         assert_eq!(rt; ran.failures, (0, 0));
     }

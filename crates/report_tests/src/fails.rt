@@ -494,7 +494,7 @@ fn crash_alone(rt: HostRuntime) -> Result<(), Fail> {
     Ok(())
 }
 
-// The early answer goes by the operations as well.
+// The early answer too judges operations, so a failed call doesn't count.
 #[test]
 fn first_after_a_fail(rt: HostRuntime) -> Result<(), Fail> {
     for row in [FIRST_AFTER_A_FAIL, SECOND_AFTER_A_FAIL, ATOMIC_AFTER_A_FAIL] {

@@ -1,5 +1,6 @@
 //! What a run answers to whole histories.
 use crate::rows::{REFUSALS, REPORTS};
+use history_model::{LineRefusal, Reason};
 use reg_report::{Gate, MemSink, MemSource, OpenGate, Outcome, Refusal, Settings, message, run};
 use std::alloc::{AllocError, Global};
 use std::random::RandomSource;
@@ -225,11 +226,10 @@ fn longest_history(rt: HostRuntime) -> Result<(), Fail> {
     let four = settings(4, 4096)?;
     assert!(rt; run_on(&rt, input.as_slice(), LONGEST_REPORT, four, &OpenGate).is_ok());
     input.extend_from_slice(CALL.as_bytes())?;
-    let one_too_many = Refusal::At {
+    let one_too_many = Refusal::At(LineRefusal {
         line: 1_048_577,
-        number: 14,
-        other: None,
-    };
+        reason: Reason::TooMany,
+    });
     assert_eq!(rt;
         message(alloc, &one_too_many)?.as_str(),
         "line 1048577: more than 1048576 events"

@@ -1,4 +1,6 @@
 //! What is said of a line that is refused, whatever its number.
+use history_model::{LineRefusal, Reason};
+use history_text::LineKind;
 use reg_report::{Refusal, message};
 use std::alloc::{AllocError, Global};
 use std::process::Abort;
@@ -29,41 +31,75 @@ const LINES: [u32; 21] = [
     4_294_967_295,
 ];
 
-// What is said of a line with this refusal, and another line if it names one.
-fn said(alloc: Global, line: u32, number: u8, other: Option<u32>) -> Result<String, AllocError> {
-    message(
-        alloc,
-        &Refusal::At {
-            line,
-            number,
-            other,
-        },
-    )
+// The reasons that name no other line.
+const ALONE: [Reason; 12] = [
+    Reason::Faulty(LineKind::TooLong),
+    Reason::Faulty(LineKind::NotJson),
+    Reason::Faulty(LineKind::NotObject),
+    Reason::Faulty(LineKind::BadProcess),
+    Reason::Faulty(LineKind::BadEvent),
+    Reason::Faulty(LineKind::BadOp),
+    Reason::Faulty(LineKind::BadRegister),
+    Reason::Faulty(LineKind::BadValue),
+    Reason::NoOpenCall,
+    Reason::Disagreement,
+    Reason::NoValue,
+    Reason::TooMany,
+];
+
+// What is said of a line that is refused for this reason.
+fn said(alloc: Global, line: u32, reason: Reason) -> Result<String, AllocError> {
+    message(alloc, &Refusal::At(LineRefusal { line, reason }))
 }
 
-// The message of a number, on any line and with any other line, has this reason.
-fn expect_lines(rt: &(impl AllocGlobal + Abort), number: u8, reason: &str) -> Result<(), Fail> {
-    let alloc = rt.alloc();
-    for line in LINES {
-        let want = format!(in alloc; "line {line}: {reason}")?;
-        assert_eq!(rt; said(alloc, line, number, None)?.as_str(), want.as_str());
-        for other in LINES {
-            let want = format!(in alloc; "line {line}: {reason} {other}")?;
-            let given = said(alloc, line, number, Some(other))?;
-            assert_eq!(rt; given.as_str(), want.as_str());
-        }
+// The reasons that name another line, with this one.
+fn naming(other: u32) -> [Reason; 3] {
+    [
+        Reason::OpenCall(other),
+        Reason::WrittenBefore(other),
+        Reason::AfterCrash(other),
+    ]
+}
+
+// What is said of the first line for this reason, without the line's number.
+fn words_of(alloc: Global, reason: Reason) -> Result<String, Fail> {
+    let first = said(alloc, 1, reason)?;
+    let (begin, words) = first.as_str().split_once(": ").ok_or("no reason")?;
+    if begin != "line 1" {
+        return Err(Fail::from("another line"));
     }
-    Ok(())
+    Ok(String::from_str(alloc, words)?)
 }
 
 // A refusal says the same of each line but for the number of the line.
 #[test]
 fn each_line_by_its_number(rt: HostRuntime) -> Result<(), Fail> {
-    for number in [1, 2, 3, 4, 5, 6, 7, 8, 9, 10, 11, 12, 13, 14, 19u8] {
-        let first = said(rt.alloc(), 1, number, None)?;
-        let (begin, reason) = first.as_str().split_once(": ").ok_or("no reason")?;
-        assert_eq!(rt; begin, "line 1", "{number}");
-        expect_lines(&rt, number, reason)?;
+    let alloc = rt.alloc();
+    for reason in ALONE {
+        let words = words_of(alloc, reason)?;
+        for line in LINES {
+            let want = format!(in alloc; "line {line}: {words}")?;
+            assert_eq!(rt; said(alloc, line, reason)?.as_str(), want.as_str());
+        }
+    }
+    Ok(())
+}
+
+// And the same of each other line but for that line's number, which comes last.
+#[test]
+fn each_other_line_by_its_number(rt: HostRuntime) -> Result<(), Fail> {
+    let alloc = rt.alloc();
+    for number in 0..3 {
+        let words = words_of(alloc, naming(1)[number])?;
+        let (begin, end) = words.as_str().rsplit_once(' ').ok_or("no other line")?;
+        assert_eq!(rt; end, "1");
+        for line in LINES {
+            for other in LINES {
+                let want = format!(in alloc; "line {line}: {begin} {other}")?;
+                let given = said(alloc, line, naming(other)[number])?;
+                assert_eq!(rt; given.as_str(), want.as_str());
+            }
+        }
     }
     Ok(())
 }

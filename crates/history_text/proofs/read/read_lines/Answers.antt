@@ -1,5 +1,5 @@
 -- The parts, one behind the other, are the lines of the definition.
-use Rattle.std.proofs.Common.{ℕ, ◌≡◌, ◌+◌, ◌<◌, ◌++◌, ◌∷◌, [], List, length, ap, sym, subst, flat_map, ◌∙◌, refl, arith}
+use Rattle.std.proofs.Common.{◌≡◌, ◌++◌, ◌∷◌, [], List, length, ap, sym, subst, flat_map, ◌∙◌, refl, arith}
 use Rattle.std.proofs.lemmas.List.{append_assoc, append-nil}
 use Rattle.history_text.specs.Reading.{IsAscending, history_lines}
 use Rattle.history_text.proofs.Ascending.{lines-ascend}

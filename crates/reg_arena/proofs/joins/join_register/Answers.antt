@@ -1,8 +1,7 @@
 -- An event joins the list of its register, where it has one.
-use Rattle.std.proofs.Common.{◌≡◌, ℕ, List, Option, Some, None, refl, sym, subst, ap, ◌∙◌, option_map, slice_get}
-use Rattle.reg_arena.specs.EventLists.{IsJoinedBy, link_at}
+use Rattle.std.proofs.Common.{List, Option, refl, ap, ◌∙◌, slice_get}
+use Rattle.reg_arena.specs.EventLists.{link_at}
 use Rattle.history_model.specs.declared.ids.EvId.{EvId}
-use Rattle.history_model.specs.declared.ids.RegId.{RegId}
 use Rattle.reg_arena.proofs.Links.{link-push}
 use Rattle.reg_arena.proofs.Joining.{joined-pushed}
 use Rattle.reg_arena.proofs.joins.join_register.Goals as goal

@@ -1,4 +1,5 @@
-use Rattle.std.proofs.Common.{◌≡◌, ◌<◌, ◌^◌, Some, sym, ap, ◌∙◌, arith}
+use Rattle.std.proofs.Common.{◌<◌, sym, ◌∙◌, arith}
+use Rattle.history_text.specs.declared.limits.TheConstants.{MAX_EVENTS}
 use Rattle.reg_arena.specs.EventLists.{write_kept}
 use Rattle.reg_arena.proofs.Times.{later-fits}
 use Rattle.reg_arena.proofs.of_value.last_time.Goals as goal
@@ -6,7 +7,7 @@ use Rattle.reg_arena.proofs.of_value.last_time.Goals.{in-Some, in-None}
 
 pub overflow_add-result : goal.overflow_add-result
 overflow_add-result c =
-    let fits : c.in-Some-default.call.0 < 2 ^ 20 = elim c.match-entry.branch [
+    let fits : c.in-Some-default.call.0 < MAX_EVENTS = elim c.match-entry.branch [
       | in-Some w ↦
           let t = c.requires w.in-Some.entry w.in-Some.is in
           later-fits (write_kept w.in-Some.entry.write) w.in-Some.entry.last_read t.write t.read c.in-Some-default.call (sym w.last_call-last.ensures ∙ (sym w.last-is ∙ c.in-Some-default.is-0))

@@ -1,9 +1,8 @@
-use Rattle.std.proofs.Common.{◌≡◌, ◌∙◌, false, sym, ap, subst, arith}
+use Rattle.std.proofs.Common.{◌≡◌, ◌∙◌, false, sym, ap, arith}
 use Rattle.std.proofs.lemmas.Bool.{false≢true}
-use Rattle.std.specs.Prelude.{IfSome}
-use Rattle.reg_pieces.specs.Workers.{IsHandedBack, IsJoinedSearch, weight_back}
+use Rattle.reg_pieces.specs.Workers.{IsHandedBack, weight_back}
 use Rattle.reg_pieces.proofs.Gathering.{back-push, first-ones, last-one, weight-with}
-use Rattle.reg_pieces.proofs.Searching.{found-at, search-joined}
+use Rattle.reg_pieces.proofs.Searching.{closed-found, search-joined}
 use Rattle.reg_pieces.proofs.finding.least_flagged.Goals as goal
 use Rattle.reg_pieces.proofs.finding.least_flagged.Goals.{then-refused, else-refused}
 
@@ -30,6 +29,4 @@ loop-worked-preserved c =
 pub returns : goal.returns
 returns c =
     let l = c.loop-worked in
-    let seat = c.in-Some-whole.seat in
-    let joined : IsJoinedSearch c.args.arena.now c.args.board l.refused seat = subst (λ o. IfSome o (IsJoinedSearch c.args.arena.now c.args.board l.refused)) c.in-Some-whole.is l.invariant.whole in
-    found-at c.args.arena.now _ c.args.board.jobs c.closed-least.result seat.view c.requires.jobs c.closed-least.ensures.least (c.closed-least.ensures.drawn (joined.exhausted c.if-refused-2.false)) (joined.searched c.if-refused-2.false)
+    closed-found c.args.arena.now c.args.board l.refused l.whole _ c.args.board.jobs c.closed-least.result l.invariant.whole c.closed-least.ensures c.if-refused-2.false c.requires.jobs

@@ -1,9 +1,8 @@
 use Rattle.std.proofs.Common.{◌≡◌, ◌∙◌, false, length, sym, ap, subst, arith}
 use Rattle.std.proofs.lemmas.Bool.{false≢true}
-use Rattle.std.specs.Prelude.{IfSome}
 use Rattle.reg_pieces.specs.Slots.{AreSlots, AreWithin}
 use Rattle.reg_pieces.specs.Workers.{IsHandedBack, IsJoined, weight_back}
-use Rattle.reg_pieces.proofs.Gathering.{all-done, back-push, first-ones, last-one, one-joined, weight-with}
+use Rattle.reg_pieces.proofs.Gathering.{all-done, back-push, closed-full, first-ones, last-one, one-joined, weight-with}
 use Rattle.reg_pieces.proofs.Putting.{length-with, pieces-within, with-slots}
 use Rattle.reg_pieces.proofs.workers.gathered.Goals as goal
 use Rattle.reg_pieces.proofs.workers.gathered.Goals.{then-refused, else-refused}
@@ -46,7 +45,5 @@ loop-worked-preserved c =
 pub returns-else-refused-2 : goal.returns-else-refused-2
 returns-else-refused-2 c =
     let l = c.loop-worked in
-    let seat = c.in-Some-whole.seat in
-    let joined : IsJoined c.args.board l.pieces l.refused seat = subst (λ o. IfSome o (IsJoined c.args.board l.pieces l.refused)) c.in-Some-whole.is l.invariant.whole in
-    let drawn = c.closed.ensures.drawn (joined.exhausted c.if-refused-2.false) in
-    all-done c.args.arena.now c.args.plan.now.tasks l.pieces l.invariant.slots (λ n inside. joined.full c.if-refused-2.false n (drawn n (omega (arith, inside, c.requires.jobs))))
+    let full = closed-full c.args.board l.pieces l.refused l.whole c.args.board.jobs c.closed.result l.invariant.whole c.closed.ensures c.if-refused-2.false in
+    all-done c.args.arena.now c.args.plan.now.tasks l.pieces l.invariant.slots (λ n inside. full n (omega (arith, inside, c.requires.jobs)))

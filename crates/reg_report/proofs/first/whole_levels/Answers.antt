@@ -3,8 +3,8 @@ use Rattle.reg_pieces.specs.Plan.{IsListOf}
 use Rattle.reg_report.proofs.ListedLevels.{own-list}
 use Rattle.reg_report.proofs.first.whole_levels.Goals as goal
 
-pub bad_reads-first-requires : goal.bad_reads-first-requires
-bad_reads-first-requires c =
+pub among-first-requires-clause-list : goal.among-first-requires-clause-list
+among-first-requires-clause-list c =
     let h = c.args.arena.now in
     own-list h c.args.register.0 c.in-Some.list (subst (IsListOf h c.args.register.0) c.in-Some.is c.in_ok-list.ensures)
 

@@ -3,26 +3,26 @@ use Rattle.reg_report.proofs.Assembly.{inside-tasks, judged-stands, judged-there
 use Rattle.reg_report.proofs.Cutting.{done-behind}
 use Rattle.reg_report.proofs.history.register_pieces.Goals as goal
 
-pub take-judged-requires : goal.take-judged-requires
-take-judged-requires c =
-    judged-stands c.args.arena.now c.args.cut c.args.register.0 c.args.start c.args.plan.now (subst (λ n. c.args.register.0 < n) (sym c.requires.plan.registers) c.requires.register) c.requires.tasks c.args.pieces.now c.requires.done
+pub take_judged-judged-requires : goal.take_judged-judged-requires
+take_judged-judged-requires c =
+    judged-stands c.args.arena.now c.requires.tasks.0 c.args.register.0 c.args.start c.args.plan.now (subst (λ n. c.args.register.0 < n) (sym c.requires.plan.1.registers) c.requires.register) c.requires.tasks.1 c.args.pieces.now c.requires.done
 
 pub overflow_add-start : goal.overflow_add-start
 overflow_add-start c =
-    let inside = inside-tasks c.args.arena.now c.args.cut c.args.register.0 c.args.start c.args.plan.now (subst (λ n. c.args.register.0 < n) (sym c.requires.plan.registers) c.requires.register) c.requires.tasks in
-    omega (arith, inside, c.requires.plan.few)
+    let inside = inside-tasks c.args.arena.now c.requires.tasks.0 c.args.register.0 c.args.start c.args.plan.now (subst (λ n. c.args.register.0 < n) (sym c.requires.plan.1.registers) c.requires.register) c.requires.tasks.1 in
+    omega (arith, inside, c.requires.plan.1.few)
 
 pub levels_of-next-requires-clause-done : goal.levels_of-next-requires-clause-done
-levels_of-next-requires-clause-done c = done-behind c.args.arena.now c.args.plan.now.tasks c.args.start c.args.pieces.now c.take-judged.new.self c.take-judged.ensures.left c.requires.done
+levels_of-next-requires-clause-done c = done-behind c.args.arena.now c.args.plan.now.tasks c.args.start c.args.pieces.now c.take_judged-judged.new.self c.take_judged-judged.ensures.left c.requires.done
 
 pub levels_of-next-requires-clause-cuts : goal.levels_of-next-requires-clause-cuts
 levels_of-next-requires-clause-cuts c =
-    cuts-there c.args.arena.now c.args.cut c.args.register.0 c.args.start c.args.plan.now (subst (λ n. c.args.register.0 < n) (sym c.requires.plan.registers) c.requires.register) c.requires.tasks
+    cuts-there c.args.arena.now c.requires.tasks.0 c.args.register.0 c.args.start c.args.plan.now (subst (λ n. c.args.register.0 < n) (sym c.requires.plan.1.registers) c.requires.register) c.requires.tasks.1
 
 pub returns-clause-judged : goal.returns-clause-judged
 returns-clause-judged c =
-    judged-there c.args.arena.now c.args.cut c.args.register.0 c.args.start c.args.plan.now (subst (λ n. c.args.register.0 < n) (sym c.requires.plan.registers) c.requires.register) c.requires.tasks c.args.pieces.now c.take-judged.result c.requires.done c.take-judged.ensures.piece
+    judged-there c.args.arena.now c.requires.tasks.0 c.args.register.0 c.args.start c.args.plan.now (subst (λ n. c.args.register.0 < n) (sym c.requires.plan.1.registers) c.requires.register) c.requires.tasks.1 c.args.pieces.now c.take_judged-judged.result c.requires.done c.take_judged-judged.ensures.piece
 
 pub returns-clause-tasks : goal.returns-clause-tasks
 returns-clause-tasks c =
-    next-there c.args.arena.now c.args.cut c.args.register.0 c.args.start c.args.plan.now (subst (λ n. c.args.register.0 < n) (sym c.requires.plan.registers) c.requires.register) c.requires.tasks c.levels_of-next.result.1 c.levels_of-next.ensures.next
+    next-there c.args.arena.now c.requires.tasks.0 c.args.register.0 c.args.start c.args.plan.now (subst (λ n. c.args.register.0 < n) (sym c.requires.plan.1.registers) c.requires.register) c.requires.tasks.1 c.levels_of-next.result.1 c.levels_of-next.ensures.next

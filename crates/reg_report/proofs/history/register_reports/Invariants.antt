@@ -1,5 +1,4 @@
-use Rattle.std.proofs.Common.{drop}
-use Rattle.reg_pieces.specs.Plan.{AreTasks}
+use Rattle.reg_report.specs.Cuts.{HasTasks}
 use Rattle.reg_report.specs.Registers.{AreFirstLines, AreOrdersSoFar}
 use Rattle.reg_pieces.specs.Slots.{AreDoneFrom}
 use Rattle.reg_report.proofs.history.register_reports.Given as goal
@@ -9,5 +8,5 @@ invariant-loop-number l = record {
   lines : AreFirstLines l.arena l.number l.regs.items;
   orders : AreOrdersSoFar l.arena l.number l.orders;
   done : AreDoneFrom l.next l.arena l.plan.tasks l.pieces;
-  tasks : AreTasks l.cut l.number (drop l.number l.plan.lists) (drop l.next l.plan.tasks);
+  tasks : HasTasks l.number l.next l.plan;
 }

@@ -1,59 +1,53 @@
-use Rattle.std.proofs.Common.{◌+◌, drop, sym, subst, arith}
-use Rattle.reg_report.specs.Cuts.{AreFirstBad, HasCuts, Leaves, with_cut}
-use Rattle.reg_report.specs.declared.levels.FirstBad.{FirstBad}
-use Rattle.reg_report.proofs.Cutting.{IsPutTogether, cut-stands, inside, piece-fits, together-goes-on, together-ends, together-starts}
+use Rattle.std.proofs.Common.{◌+◌, ◌∙◌, length, sym, subst, arith}
+use Rattle.reg_pieces.specs.declared.bad_reads.BadReads.{BadReads}
+use Rattle.reg_report.proofs.Cutting.{IsPutTogether, cut-stands, inside, together-goes-on, together-ends, together-starts}
 use Rattle.reg_report.proofs.levels.first_bad_of.Goals as goal
 
-pub loop-from-init : goal.loop-from-init
-loop-from-init c = together-starts c.args.arena.now c.args.plan.now.tasks c.args.list.now.register c.args.cut c.len-len.result c.args.start c.args.pieces.now c.requires.done
+pub loop-pieces-init : goal.loop-pieces-init
+loop-pieces-init c =
+    let h = c.args.arena.now in
+    let tasks = c.args.plan.now.tasks in
+    let list = c.args.list.now in
+    subst (λ (f : BadReads). IsPutTogether h tasks list.register (length list.entries) c.args.start c.args.start f c.args.pieces.now) (sym c.none-first.ensures)
+    (together-starts h tasks list.register (length list.entries) c.args.start c.args.pieces.now c.requires.cuts c.requires.done)
 
-pub take-requires : goal.take-requires
-take-requires c =
-    let l = c.loop-from in
-    cut-stands c.args.arena.now c.args.plan.now.tasks c.args.list.now.register c.args.cut c.len-len.result c.args.start l.from l.next l.first l.pieces
-    (subst (λ n. HasCuts c.args.cut c.args.list.now.register n (drop c.args.start c.args.plan.now.tasks)) (sym c.len-len.ensures) c.requires.cuts) l.invariant c.loop-from-test.true
-
-pub or-first-requires : goal.or-first-requires
-or-first-requires c =
-    let l = c.loop-from in
-    (piece-fits c.args.arena.now c.args.plan.now.tasks c.args.list.now.register c.args.cut c.len-len.result c.args.start l.from l.next l.first l.pieces
-    (subst (λ n. HasCuts c.args.cut c.args.list.now.register n (drop c.args.start c.args.plan.now.tasks)) (sym c.len-len.ensures) c.requires.cuts) l.invariant c.loop-from-test.true c.take.result c.take.ensures.piece).0
+pub take_reads-requires : goal.take_reads-requires
+take_reads-requires c =
+    let l = c.loop-pieces in
+    let list = c.args.list.now in
+    cut-stands c.args.arena.now c.args.plan.now.tasks list.register (length list.entries) c.args.start l.next l.first l.pieces l.invariant (sym c.is_cut.ensures ∙ c.loop-pieces-test.true)
 
 pub overflow_add-next : goal.overflow_add-next
 overflow_add-next c =
-    let l = c.loop-from in
-    let at = inside c.args.arena.now c.args.plan.now.tasks c.args.list.now.register c.args.cut c.len-len.result c.args.start l.from l.next l.first l.pieces
-    (subst (λ n. HasCuts c.args.cut c.args.list.now.register n (drop c.args.start c.args.plan.now.tasks)) (sym c.len-len.ensures) c.requires.cuts) l.invariant c.loop-from-test.true in
-    omega (arith, at, c.requires.plan.few)
+    let l = c.loop-pieces in
+    let list = c.args.list.now in
+    let at = inside c.args.arena.now c.args.plan.now.tasks list.register (length list.entries) c.args.start l.next l.first l.pieces l.invariant (sym c.is_cut.ensures ∙ c.loop-pieces-test.true) in
+    omega (arith, at, c.requires.plan.1.few)
 
-pub loop-from-preserved : goal.loop-from-preserved
-loop-from-preserved c =
-    let l = c.loop-from in
+pub loop-pieces-preserved : goal.loop-pieces-preserved
+loop-pieces-preserved c =
     let h = c.args.arena.now in
     let tasks = c.args.plan.now.tasks in
-    let r = c.args.list.now.register in
-    let cut = c.args.cut in
-    let len = c.len-len.result in
-    let start = c.args.start in
-    let new = c.take.new.self in
-    let t = together-goes-on h tasks r cut len start l.from l.next l.first l.pieces
-    (subst (λ n. HasCuts cut r n (drop start tasks)) (sym c.len-len.ensures) c.requires.cuts) l.invariant c.loop-from-test.true c.take.result new c.take.ensures.piece c.take.ensures.left in
-    subst (λ (f : FirstBad). IsPutTogether h tasks r cut len start (l.from + c.min-from.result) (l.next + 1) f new) (sym c.or-first.ensures)
-    (subst (λ n. IsPutTogether h tasks r cut len start (l.from + n) (l.next + 1) (with_cut l.first c.take.result) new) (sym c.min-from.ensures) t)
+    let l = c.loop-pieces in
+    let list = c.args.list.now in
+    subst (λ (f : BadReads). IsPutTogether h tasks list.register (length list.entries) c.args.start (l.next + 1) f c.take_reads.new.self) (sym c.or-first.ensures)
+    (together-goes-on h tasks list.register (length list.entries) c.args.start l.next l.first l.pieces l.invariant (sym c.is_cut.ensures ∙ c.loop-pieces-test.true) c.take_reads.result c.take_reads.new.self c.take_reads.ensures.piece c.take_reads.ensures.left)
+
+pub loop-pieces-smaller : goal.loop-pieces-smaller
+loop-pieces-smaller c =
+    let l = c.loop-pieces in
+    let list = c.args.list.now in
+    let at = inside c.args.arena.now c.args.plan.now.tasks list.register (length list.entries) c.args.start l.next l.first l.pieces l.invariant (sym c.is_cut.ensures ∙ c.loop-pieces-test.true) in
+    omega (arith, at)
 
 pub returns-clause-first : goal.returns-clause-first
 returns-clause-first c =
-    let l = c.loop-from in
-    let h = c.args.arena.now in
-    let r = c.args.list.now.register in
-    subst (λ n. AreFirstBad h r 0 n l.first) c.len-len.ensures
-    (together-ends h c.args.plan.now.tasks r c.args.cut c.len-len.result c.args.start l.from l.next l.first l.pieces l.invariant (omega (arith, c.loop-from-test.false))).0
+    let l = c.loop-pieces in
+    let list = c.args.list.now in
+    (together-ends c.args.arena.now c.args.plan.now.tasks list.register (length list.entries) c.args.start l.next l.first l.pieces l.invariant (sym c.is_cut.ensures ∙ c.loop-pieces-test.false)).0
 
 pub returns-clause-next : goal.returns-clause-next
 returns-clause-next c =
-    let l = c.loop-from in
-    let h = c.args.arena.now in
-    let tasks = c.args.plan.now.tasks in
-    let r = c.args.list.now.register in
-    subst (λ n. Leaves c.args.cut r n (drop c.args.start tasks) (drop l.next tasks)) c.len-len.ensures
-    (together-ends h tasks r c.args.cut c.len-len.result c.args.start l.from l.next l.first l.pieces l.invariant (omega (arith, c.loop-from-test.false))).1
+    let l = c.loop-pieces in
+    let list = c.args.list.now in
+    (together-ends c.args.arena.now c.args.plan.now.tasks list.register (length list.entries) c.args.start l.next l.first l.pieces l.invariant (sym c.is_cut.ensures ∙ c.loop-pieces-test.false)).1

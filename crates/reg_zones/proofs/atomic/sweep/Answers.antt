@@ -1,16 +1,26 @@
-use Rattle.history_model.specs.Operations.{of_register, operations}
+use Rattle.std.proofs.Common.{◌↔◌, IsOk, List, subst}
+use Rattle.history_model.specs.Legal.{IsAtomic}
+use Rattle.history_model.specs.Operations.{Operation}
+use Rattle.reg_zones.proofs.Known.{facts, operations-at}
 use Rattle.reg_zones.proofs.Verdict.{refused, verdict}
 use Rattle.reg_zones.proofs.atomic.sweep.Goals as goal
 
 pub returns-in_err-written-clause-atomic : goal.returns-in_err-written-clause-atomic
 returns-in_err-written-clause-atomic c =
+    let register = c.new-register.result in
     let f = c.in_err-written.ensures in
-    refused (of_register c.args.register.0 (operations c.args.arena.now)) _ c.from_residual.result c.told.ensures.history c.from_residual.ensures.0 f.err
+    subst (λ (ops : List Operation). IsOk c.from_residual.result ↔ IsAtomic ops) (operations-at register c.new-register.ensures.arena c.new-register.ensures.id)
+    (refused _ _ c.from_residual.result (facts register).history c.from_residual.ensures.0 f.err)
 
 pub returns-in_err-in_time-clause-atomic : goal.returns-in_err-in_time-clause-atomic
 returns-in_err-in_time-clause-atomic c =
+    let register = c.new-register.result in
     let f = c.in_err-in_time.ensures in
-    refused (of_register c.args.register.0 (operations c.args.arena.now)) _ c.from_residual-in_err-in_time.result c.told.ensures.history c.from_residual-in_err-in_time.ensures.0 f.err
+    subst (λ (ops : List Operation). IsOk c.from_residual-in_err-in_time.result ↔ IsAtomic ops) (operations-at register c.new-register.ensures.arena c.new-register.ensures.id)
+    (refused _ _ c.from_residual-in_err-in_time.result (facts register).history c.from_residual-in_err-in_time.ensures.0 f.err)
 
 pub returns-clause-atomic : goal.returns-clause-atomic
-returns-clause-atomic c = verdict (of_register c.args.register.0 (operations c.args.arena.now)) c.compatible.result c.told.ensures.history c.compatible.ensures.ok c.compatible.ensures.err
+returns-clause-atomic c =
+    let register = c.new-register.result in
+    subst (λ (ops : List Operation). IsOk c.compatible.result ↔ IsAtomic ops) (operations-at register c.new-register.ensures.arena c.new-register.ensures.id)
+    (verdict _ c.compatible.result (facts register).history c.compatible.ensures.ok c.compatible.ensures.err)

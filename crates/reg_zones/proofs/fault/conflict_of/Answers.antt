@@ -1,30 +1,31 @@
 use Rattle.std.proofs.Common.{◌≡◌, sym, ap, ◌∙◌}
 use Rattle.history_model.specs.declared.ids.Oper.{Oper}
+use Rattle.reg_zones.proofs.Known.{facts}
 use Rattle.reg_zones.proofs.Registers.{first_replied, last_called}
 use Rattle.reg_zones.proofs.fault.conflict_of.Goals as goal
 
 both : (a b c d : Oper) → a ≡ c → b ≡ d → ◌≡◌ {A = Oper × Oper} (a, b) (c, d)
 both a b c d e f = ap (λ x. (x, b)) e ∙ ap (λ x. (c, x)) f
 
-pub replied_at-requires-clause-there : goal.replied_at-requires-clause-there
-replied_at-requires-clause-there c =
-    let q = c.requires.first in
-    let a = first_replied c.args.arena.now c.args.register.0 c.told.ensures q.0 q.3.kept in
+pub replied_at-requires : goal.replied_at-requires
+replied_at-requires c =
+    let q = c.requires in
+    let a = first_replied c.args.register.arena.now c.args.register.id.0 (facts c.args.register) q.0 q.3.kept in
     (a.0, a.1.member.within, a.2, a.1.least ∙ sym q.3.zone.reply)
 
-pub replied_at-requires-2-clause-there : goal.replied_at-requires-2-clause-there
-replied_at-requires-2-clause-there c =
-    let q = c.requires.first in
-    let a = first_replied c.args.arena.now c.args.register.0 c.told.ensures q.1 q.4.kept in
+pub replied_at-requires-2 : goal.replied_at-requires-2
+replied_at-requires-2 c =
+    let q = c.requires in
+    let a = first_replied c.args.register.arena.now c.args.register.id.0 (facts c.args.register) q.1 q.4.kept in
     (a.0, a.1.member.within, a.2, a.1.least ∙ sym q.4.zone.reply)
 
 pub returns : goal.returns
 returns c =
-    let q = c.requires.first in
-    let a = first_replied c.args.arena.now c.args.register.0 c.told.ensures q.0 q.3.kept in
-    let b = last_called c.args.arena.now c.args.register.0 c.told.ensures q.1 q.4.kept in
-    let x = first_replied c.args.arena.now c.args.register.0 c.told.ensures q.1 q.4.kept in
-    let y = last_called c.args.arena.now c.args.register.0 c.told.ensures q.0 q.3.kept in (
+    let q = c.requires in
+    let a = first_replied c.args.register.arena.now c.args.register.id.0 (facts c.args.register) q.0 q.3.kept in
+    let b = last_called c.args.register.arena.now c.args.register.id.0 (facts c.args.register) q.1 q.4.kept in
+    let x = first_replied c.args.register.arena.now c.args.register.id.0 (facts c.args.register) q.1 q.4.kept in
+    let y = last_called c.args.register.arena.now c.args.register.id.0 (facts c.args.register) q.0 q.3.kept in (
       q.0,
       q.1,
       a.0,

@@ -1,18 +1,18 @@
-use Rattle.std.proofs.Common.{◌<◌, ◌∙◌, length, sym, subst, Option}
+use Rattle.std.proofs.Common.{◌∙◌, sym, subst, Option}
 use Rattle.std.proofs.lemmas.Bool.{false≢true}
-use Rattle.history_model.specs.declared.ids.EvId.{EvId}
 use Rattle.history_model.specs.Operations.{of_register, operations}
 use Rattle.reg_zones.specs.declared.pass.Cluster.{Cluster}
-use Rattle.reg_zones.proofs.Walks.{IsWalk, walk-start, walk-more, key-within, ahead, ahead-smaller}
+use Rattle.reg_zones.proofs.Known.{facts}
+use Rattle.reg_zones.proofs.Walks.{walk-start, met-within, met-more, met-smaller}
 use Rattle.reg_zones.proofs.Passing.{IsPassing, started_forward, started_backward, met_here, passed, at_end}
 use Rattle.reg_zones.proofs.pass.compatible.Goals as goal
 use Rattle.reg_zones.proofs.pass.compatible.Goals.{then-is_forward, else-is_forward}
 
 pub loop-next-init : goal.loop-next-init
 loop-next-init c =
-    let h = c.args.arena.now in
-    let r = c.args.register.0 in
-    let y = c.told.ensures in
+    let h = c.args.register.arena.now in
+    let r = c.args.register.id.0 in
+    let y = facts c.args.register in
     let ops = of_register r (operations h) in
     let next = c.first_of_register-next.result in
     let first = c.first_of_register-next.ensures in
@@ -30,36 +30,32 @@ met-requires-clause-here c = c.loop-next.invariant.walk.here c.in-Some.id c.in-S
 
 pub met-requires-clause-so_far : goal.met-requires-clause-so_far
 met-requires-clause-so_far c =
-    let h = c.args.arena.now in
-    let r = c.args.register.0 in
-    met_here h r c.told.ensures c.loop-next.last c.in-Some.id (subst (IsPassing (of_register r (operations h)) c.loop-next.last) c.in-Some.is c.loop-next.invariant.passing)
+    let h = c.args.register.arena.now in
+    let r = c.args.register.id.0 in
+    met_here h r (facts c.args.register) c.loop-next.last c.in-Some.id (subst (IsPassing (of_register r (operations h)) c.loop-next.last) c.in-Some.is c.loop-next.invariant.passing)
 
 pub next_in_register-next-requires : goal.next_in_register-next-requires
-next_in_register-next-requires c = key-within c.args.arena.now.events c.in-Some.id.0 c.args.register.0 (c.loop-next.invariant.walk.here c.in-Some.id c.in-Some.is)
+next_in_register-next-requires c = met-within c.loop-next.invariant.walk c.in-Some.is
 
 pub loop-next-smaller : goal.loop-next-smaller
-loop-next-smaller c =
-    let n = length c.args.arena.now.events in
-    let l = ahead-smaller c.args.arena.now.events c.args.register.0 c.in-Some.id c.next_in_register-next.result (c.loop-next.invariant.walk.here c.in-Some.id c.in-Some.is) c.next_in_register-next.ensures.next in
-    subst (λ (o : Option EvId). ahead n c.next_in_register-next.result < ahead n o) (sym c.in-Some.is) l
+loop-next-smaller c = met-smaller c.loop-next.invariant.walk c.in-Some.is _ c.next_in_register-next.ensures.next
 
 pub loop-next-preserved : goal.loop-next-preserved
 loop-next-preserved c =
-    let h = c.args.arena.now in
-    let r = c.args.register.0 in
+    let h = c.args.register.arena.now in
+    let r = c.args.register.id.0 in
     let at = c.loop-next.invariant.walk.here c.in-Some.id c.in-Some.is in
-    let walk = subst (IsWalk h.events r (λ _. Unit {0})) c.in-Some.is c.loop-next.invariant.walk in
     record {
-      walk = walk-more h.events r (λ _. Unit {0}) c.in-Some.id c.next_in_register-next.result walk tt c.next_in_register-next.ensures.next;
-      passing = passed h r c.told.ensures c.in_ok-last.last c.in-Some.id c.next_in_register-next.result at c.in_ok-last.ensures.ok c.next_in_register-next.ensures.next;
+      walk = met-more c.loop-next.invariant.walk c.in-Some.is _ tt c.next_in_register-next.ensures.next;
+      passing = passed h r (facts c.args.register) c.in_ok-last.last c.in-Some.id c.next_in_register-next.result at c.in_ok-last.ensures.ok c.next_in_register-next.ensures.next;
     }
 
 pub returns-clause-ok : goal.returns-clause-ok
 returns-clause-ok c =
-    let h = c.args.arena.now in
-    let r = c.args.register.0 in
+    let h = c.args.register.arena.now in
+    let r = c.args.register.id.0 in
     record {
       written = c.requires.written;
       in_time = c.requires.in_time;
-      compatible = at_end h r c.told.ensures c.loop-next.last (subst (IsPassing (of_register r (operations h)) c.loop-next.last) c.in_default.is c.loop-next.invariant.passing);
+      compatible = at_end h r (facts c.args.register) c.loop-next.last (subst (IsPassing (of_register r (operations h)) c.loop-next.last) c.in_default.is c.loop-next.invariant.passing);
     }

@@ -1,8 +1,10 @@
 use Rattle.std.proofs.Common.{◌≡◌, ℕ, ◌+◌, List, Option, ◌∙◌, sym, subst, arith}
 use Rattle.std.proofs.lemmas.Bool.{false≢true}
-use Rattle.history_model.specs.Operations.{Operation, of_register, operations}
+use Rattle.history_model.specs.Operations.{Operation}
 use Rattle.reg_zones.specs.declared.pass.Cluster.{Cluster}
+use Rattle.reg_zones.specs.Register.{operations_of}
 use Rattle.reg_zones.specs.Sweep.{IsMet}
+use Rattle.reg_zones.proofs.Known.{facts}
 use Rattle.reg_zones.proofs.OnePass.{step_none, step_forward, step_backward, step_found}
 use Rattle.reg_zones.proofs.pass.met.Goals as goal
 
@@ -12,13 +14,13 @@ three i ops last m = let e : i + 2 + 1 ≡ i + 3 = omega arith in subst (λ t. I
 pub returns-in_default-clause-ok : goal.returns-in_default-clause-ok
 returns-in_default-clause-ok c =
     let none = c.in_default.ensures in
-    three c.args.id.0 _ _ (step_none (of_register c.args.register.0 (operations c.args.arena.now)) c.told.ensures.history (c.args.id.0 + 2) c.args.last none c.requires.so_far)
+    three c.args.id.0 _ _ (step_none (operations_of c.args.register) (facts c.args.register).history (c.args.id.0 + 2) c.args.last none c.requires.so_far)
 
-pub conflict_of-requires-clause-first : goal.conflict_of-requires-clause-first
-conflict_of-requires-clause-first c =
+pub conflict_of-requires : goal.conflict_of-requires
+conflict_of-requires c =
     let f = c.in-Some.ensures in
     let k = c.in-Some-conflict_with.ensures in
-    let q = step_found (of_register c.args.register.0 (operations c.args.arena.now)) c.told.ensures.history (c.args.id.0 + 2) c.args.last c.in-Some-conflict_with.first c.in-Some.cluster f c.requires.so_far k in (
+    let q = step_found (operations_of c.args.register) (facts c.args.register).history (c.args.id.0 + 2) c.args.last c.in-Some-conflict_with.first c.in-Some.cluster f c.requires.so_far k in (
       q.0,
       q.1,
       record {
@@ -34,10 +36,10 @@ pub returns-then-is_forward-clause-ok : goal.returns-then-is_forward-clause-ok
 returns-then-is_forward-clause-ok c =
     let f = c.in-Some.ensures in
     let k = c.in_default-conflict_with.ensures in
-    three c.args.id.0 _ _ (step_forward (of_register c.args.register.0 (operations c.args.arena.now)) c.told.ensures.history (c.args.id.0 + 2) c.args.last c.in-Some.cluster f c.requires.so_far k (c.is_forward.ensures.0 c.if-is_forward.true))
+    three c.args.id.0 _ _ (step_forward (operations_of c.args.register) (facts c.args.register).history (c.args.id.0 + 2) c.args.last c.in-Some.cluster f c.requires.so_far k (c.is_forward.ensures.0 c.if-is_forward.true))
 
 pub returns-else-is_forward-clause-ok : goal.returns-else-is_forward-clause-ok
 returns-else-is_forward-clause-ok c =
     let f = c.in-Some.ensures in
     let k = c.in_default-conflict_with.ensures in
-    three c.args.id.0 _ _ (step_backward (of_register c.args.register.0 (operations c.args.arena.now)) c.told.ensures.history (c.args.id.0 + 2) c.args.last c.in-Some.cluster f c.requires.so_far k (λ l. false≢true (sym c.if-is_forward.false ∙ c.is_forward.ensures.1 l)))
+    three c.args.id.0 _ _ (step_backward (operations_of c.args.register) (facts c.args.register).history (c.args.id.0 + 2) c.args.last c.in-Some.cluster f c.requires.so_far k (λ l. false≢true (sym c.if-is_forward.false ∙ c.is_forward.ensures.1 l)))

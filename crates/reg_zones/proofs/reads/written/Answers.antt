@@ -1,35 +1,25 @@
-use Rattle.std.proofs.Common.{ℕ, ◌+◌, ◌<◌, None, length, subst, sym}
-use Rattle.history_model.specs.Operations.{of_register, operations}
+use Rattle.std.proofs.Common.{◌+◌, None}
+use Rattle.reg_zones.specs.Register.{operations_of}
 use Rattle.reg_zones.specs.Sweep.{IsUnwrittenAt}
-use Rattle.reg_zones.proofs.Walks.{IsWalk, walk-start, walk-more, key-within, ahead, ahead-smaller}
+use Rattle.reg_zones.proofs.Known.{facts}
+use Rattle.reg_zones.proofs.Walks.{walk-start, walk-over, met-here, met-within, met-more, met-smaller}
 use Rattle.reg_zones.proofs.FirstReads.{all_written, first_unwritten}
 use Rattle.reg_zones.proofs.reads.written.Goals as goal
 
 pub loop-next-init : goal.loop-next-init
-loop-next-init c = walk-start c.args.arena.now.events c.args.register.0 (λ i. IsUnwrittenAt (of_register c.args.register.0 (operations c.args.arena.now)) (i + 2) None) c.first_of_register-next.result c.first_of_register-next.ensures
+loop-next-init c = walk-start c.args.register.arena.now.events c.args.register.id.0 (λ i. IsUnwrittenAt (operations_of c.args.register) (i + 2) None) c.first_of_register-next.result c.first_of_register-next.ensures
 
 pub loop-next-preserved : goal.loop-next-preserved
-loop-next-preserved c =
-    let Q = λ (i : ℕ). IsUnwrittenAt (of_register c.args.register.0 (operations c.args.arena.now)) (i + 2) None in
-    let w = subst (IsWalk c.args.arena.now.events c.args.register.0 Q) c.in-Some.is c.loop-next.invariant in
-    let none = c.in_default-unwritten_at.ensures in
-    walk-more c.args.arena.now.events c.args.register.0 Q c.in-Some.id c.next_in_register-next.result w none c.next_in_register-next.ensures.next
+loop-next-preserved c = let none = c.in_default-unwritten_at.ensures in met-more c.loop-next.invariant c.in-Some.is _ none c.next_in_register-next.ensures.next
 
 pub next_in_register-next-requires : goal.next_in_register-next-requires
-next_in_register-next-requires c = key-within c.args.arena.now.events c.in-Some.id.0 c.args.register.0 (c.loop-next.invariant.here c.in-Some.id c.in-Some.is)
+next_in_register-next-requires c = met-within c.loop-next.invariant c.in-Some.is
 
 pub loop-next-smaller : goal.loop-next-smaller
-loop-next-smaller c =
-    let l = ahead-smaller c.args.arena.now.events c.args.register.0 c.in-Some.id c.next_in_register-next.result (c.loop-next.invariant.here c.in-Some.id c.in-Some.is) c.next_in_register-next.ensures.next in
-    subst (λ n. ahead (length c.args.arena.now.events) c.next_in_register-next.result < ahead (length c.args.arena.now.events) n) (sym c.in-Some.is) l
+loop-next-smaller c = met-smaller c.loop-next.invariant c.in-Some.is _ c.next_in_register-next.ensures.next
 
 pub returns-in-Some-unwritten_at-clause-err : goal.returns-in-Some-unwritten_at-clause-err
-returns-in-Some-unwritten_at-clause-err c =
-    let Q = λ (i : ℕ). IsUnwrittenAt (of_register c.args.register.0 (operations c.args.arena.now)) (i + 2) None in
-    let w = subst (IsWalk c.args.arena.now.events c.args.register.0 Q) c.in-Some.is c.loop-next.invariant in
-    first_unwritten c.args.arena.now c.args.register.0 c.told.ensures c.in-Some.id _ w c.in-Some-unwritten_at.ensures
+returns-in-Some-unwritten_at-clause-err c = first_unwritten c.args.register.arena.now c.args.register.id.0 (facts c.args.register) c.in-Some.id _ (met-here c.loop-next.invariant c.in-Some.is) c.in-Some-unwritten_at.ensures
 
 pub returns-clause-ok : goal.returns-clause-ok
-returns-clause-ok c =
-    let Q = λ (i : ℕ). IsUnwrittenAt (of_register c.args.register.0 (operations c.args.arena.now)) (i + 2) None in
-    all_written c.args.arena.now c.args.register.0 c.told.ensures (subst (IsWalk c.args.arena.now.events c.args.register.0 Q) c.in_default.is c.loop-next.invariant)
+returns-clause-ok c = all_written c.args.register.arena.now c.args.register.id.0 (facts c.args.register) (walk-over c.loop-next.invariant c.in_default.is)

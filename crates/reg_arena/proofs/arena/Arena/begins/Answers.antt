@@ -1,5 +1,5 @@
 -- An event begins an operation where it is its own call.
-use Rattle.std.proofs.Common.{◌≡◌, ◌<◌, ◌^◌, nat_eq, length, refl, ap, sym, subst, ◌∙◌, arith, slice_get}
+use Rattle.std.proofs.Common.{◌≡◌, ◌<◌, nat_eq, length, refl, ap, subst, ◌∙◌, arith, slice_get}
 use Rattle.std.proofs.lemmas.Option.{slice_get_read}
 use Rattle.history_model.specs.History.{History}
 use Rattle.history_model.specs.Naming.{begins_at}

@@ -1,11 +1,12 @@
-use Rattle.std.proofs.Common.{◌≡◌, ◌≤◌, ◌^◌, ◌++◌, List, flat_map}
+use Rattle.std.proofs.Common.{◌≡◌, ◌≤◌, ◌++◌, List, flat_map}
+use Rattle.history_text.specs.declared.limits.TheConstants.{MAX_EVENTS}
 use Rattle.history_model.specs.Refusals.{Line}
 use Rattle.reg_arena.specs.Built.{IsBuilt}
 use Rattle.reg_arena.proofs.arena.Arena.build_keyed.Given as goal
 
 abbrev pub invariant-loop-part : goal.invariant-loop-part
 invariant-loop-part l = record {
-  bound : l.count ≤ 2 ^ 20;
+  bound : l.count ≤ MAX_EVENTS;
 }
 
 -- the arena is of some lines, behind which stand the parts that are left

@@ -1,5 +1,5 @@
 -- A call is refused as the definition says, by what the arena tells of its process, its register and its value.
-use Rattle.std.proofs.Common.{◌≡◌, length, slice_get, Some, None, refl, sym, ap, subst, ◌∙◌}
+use Rattle.std.proofs.Common.{◌≡◌, slice_get, Some, None, refl, sym, ap, subst, ◌∙◌}
 use Rattle.history_model.specs.History.{History}
 use Rattle.reg_arena.specs.Step.{IsOpenCall, IsStanding, IsNumber, IsWritten}
 use Rattle.reg_arena.proofs.Refused.{call-open, call-wrote, call-free, unopened, written-within}

@@ -1,4 +1,4 @@
-use Rattle.std.proofs.Common.{Some, None, sym, ap, subst, ◌∙◌}
+use Rattle.std.proofs.Common.{Some, sym, ap, subst, ◌∙◌}
 use Rattle.history_model.specs.History.{History}
 use Rattle.reg_arena.specs.Step.{IsStanding}
 use Rattle.reg_arena.specs.declared.standing.Standing.TheVariants.{Crashed, Free}

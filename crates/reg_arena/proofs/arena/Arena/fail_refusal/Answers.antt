@@ -1,13 +1,13 @@
 -- A fail of an open call is refused as the definition says, by what the arena tells of the call.
-use Rattle.std.proofs.Common.{◌≡◌, ◌<◌, cond, nat_le, length, slice_get, true, false, Some, None, inl, inr, refl, sym, ap, subst, ◌∙◌, arith}
+use Rattle.std.proofs.Common.{cond, nat_le, length, slice_get, true, false, Some, None, sym, ap, subst, ◌∙◌}
 use Rattle.history_text.specs.declared.limits.TheConstants.{MAX_EVENTS}
 use Rattle.history_model.specs.Refusals.{refused}
 use Rattle.history_model.specs.History.{History, IsRecorded}
 use Rattle.reg_arena.specs.Step.{IsOpenCall}
-use Rattle.history_model.proofs.Named.{event-register}
 use Rattle.reg_arena.proofs.Step.{open-named}
 use Rattle.reg_arena.proofs.Refused.{fail-tested}
 use Rattle.reg_arena.proofs.arena.Arena.fail_refusal.Goals as goal
+use Rattle.history_model.specs.declared.refusal.Reason.TheVariants.{TooMany}
 
 pub name-name-requires : goal.name-name-requires
 name-name-requires c = open-named c.args.self.now (subst IsRecorded c.self.view_is c.self.invariant.2) c.args.event.now.process c.args.opened c.requires.opened
@@ -22,5 +22,5 @@ pub returns : goal.returns
 returns c = λ es acc q.
     let o = subst (λ (h : History). IsOpenCall h.events c.args.event.now.process c.args.opened) q c.requires.opened in
     let name = ap (λ (h : History). slice_get h.names c.args.opened.register.0) (sym q) ∙ c.name-name.ensures.at in
-    c.too_many.ensures ∙ (ap (λ (h : History). cond (nat_le MAX_EVENTS (length h.events)) (Some (refused c.args.event.now 14 None)) None) q
+    c.too_many.ensures ∙ (ap (λ (h : History). cond (nat_le MAX_EVENTS (length h.events)) (Some (refused c.args.event.now TooMany)) None) q
     ∙ sym (fail-tested es c.args.event.now acc c.args.opened c.name-name.result.now o name c.args.parts.now c.requires.fail c.fail_agrees.result true c.fail_agrees.ensures c.if-not-fail_agrees.false))

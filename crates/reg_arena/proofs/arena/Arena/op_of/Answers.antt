@@ -1,5 +1,5 @@
 -- The call beside an event is that of the event's operation.
-use Rattle.std.proofs.Common.{◌<◌, length, Some, None, refl, ap, sym, subst, ◌∙◌, arith, slice_get}
+use Rattle.std.proofs.Common.{◌<◌, length, Some, None, refl, ap, subst, ◌∙◌, arith, slice_get}
 use Rattle.std.proofs.lemmas.Option.{slice_get_read}
 use Rattle.history_model.specs.History.{History, IsRecorded}
 use Rattle.reg_arena.specs.EventLists.{IsCallOf}

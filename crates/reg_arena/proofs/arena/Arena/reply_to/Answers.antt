@@ -1,7 +1,7 @@
 -- The reply of a call is the next event of its process, if that is a reply.
 use Rattle.std.proofs.lemmas.Option.{slice_get_within}
 use Rattle.history_model.specs.declared.ids.EvId.{EvId}
-use Rattle.std.proofs.Common.{◌≡◌, ◌<◌, length, Some, None, sym, ap, subst, ◌∙◌, option_and_then}
+use Rattle.std.proofs.Common.{◌≡◌, ◌<◌, length, sym, ap, subst, option_and_then}
 use Rattle.history_model.specs.Walking.{IsNextOf, by_process, IsReplyOf}
 use Rattle.reg_arena.proofs.Append.{key-within}
 use Rattle.reg_arena.proofs.ByCall.{reply-none, reply-some, reply-other}

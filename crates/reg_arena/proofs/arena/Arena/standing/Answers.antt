@@ -1,4 +1,4 @@
-use Rattle.std.proofs.Common.{◌≡◌, ◌<◌, Some, None, sym, ap, subst, ◌∙◌, option_map, ℕ}
+use Rattle.std.proofs.Common.{ap, subst, option_map, ℕ}
 use Rattle.history_model.specs.History.{IsRecorded}
 use Rattle.history_model.specs.Operations.{is_a_call}
 use Rattle.history_model.specs.declared.ids.RegId.{RegId}

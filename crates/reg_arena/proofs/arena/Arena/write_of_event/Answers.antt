@@ -1,5 +1,4 @@
 use Rattle.std.proofs.Common.{◌≡◌, ◌<◌, ℕ, length, Some, None, sym, ap, subst, ◌∙◌, option_map}
-use Rattle.history_text.specs.declared.event.Val.{Val}
 use Rattle.history_text.specs.declared.event.Val.TheVariants.{Null}
 use Rattle.history_model.specs.History.{History, IsRecorded}
 use Rattle.history_model.specs.Walking.{by_value, key_at}

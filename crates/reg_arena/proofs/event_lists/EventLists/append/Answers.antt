@@ -5,7 +5,8 @@ use Rattle.history_model.specs.declared.ids.EvId.{EvId}
 use Rattle.reg_arena.specs.declared.list_ends.Entry.{Entry}
 use Rattle.history_model.specs.Walking.{key_at, by_register, by_process, by_value}
 use Rattle.reg_arena.specs.EventLists.{value_entry, value_number}
-use Rattle.reg_arena.proofs.Append.{end-known, ends-within, family, calls-push, calls-length, fail-within, entries-push, numbers-push}
+use Rattle.reg_arena.proofs.Append.{ends-within, family}
+use Rattle.reg_arena.proofs.AppendEntries.{end-known, calls-push, calls-length, fail-within, entries-push, numbers-push}
 use Rattle.reg_arena.proofs.event_lists.EventLists.append.Goals as goal
 
 pub join_register-requires-clause-within : goal.join_register-requires-clause-within

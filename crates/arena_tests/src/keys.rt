@@ -1,0 +1,157 @@
+//! Process numbers on both sides of the table's limit, and the key of the hashes.
+use crate::short::{arena_of, lines};
+use crate::walks::{add_process, walks};
+use history_text::{LineEvent, LineFault};
+use reg_arena::{Arena, HashKey};
+use std::alloc::{AllocError, Global};
+use std::io;
+use std::process::Abort;
+use std::random::RandomSource;
+use std::test::Fail;
+use std::thread::Threads;
+
+/// Processes on both sides of the table's limit, which is the number of events, 12. Of them 1, 13 and 25 leave the same when divided by it, and so do 0 and 12.
+const MIXED: &str =
+    "p11 W x 1; p12 R x; p1 R y; p4294967295 R x; p13 R y; p11 ok; p12 = 1; p0 R x; p25 R y; p1 = null; p13 = null; p12 R x";
+
+/// The lines of each process in `MIXED`, and of some that have none.
+const LINES: [(u32, &str); 11] = [
+    (0, " 8"),
+    (1, " 3 10"),
+    (2, ""),
+    (10, ""),
+    (11, " 1 6"),
+    (12, " 2 7 12"),
+    (13, " 5 11"),
+    (14, ""),
+    (24, ""),
+    (25, " 9"),
+    (4_294_967_295, " 4"),
+];
+
+#[test]
+fn small_and_large_processes_keep_their_lists(rt: HostRuntime) -> Result<(), Fail> {
+    let alloc = rt.alloc();
+    let arena = arena_of(&rt, alloc, MIXED)?;
+    for (process, want) in LINES {
+        let mut text = String::new(alloc);
+        add_process(&mut text, alloc, &arena, process)?;
+        assert_eq!(rt; text.as_str(), want, "process {process}");
+    }
+    Ok(())
+}
+
+// A system whose random bytes are all the same.
+struct Alike {
+    byte: u8,
+}
+
+impl RandomSource for Alike {
+    fn fill_bytes(&self, buf: &mut [u8]) -> io::Result<()> {
+        for byte in buf.iter_mut() {
+            *byte = self.byte;
+        }
+        Ok(())
+    }
+}
+
+// A system that gives no random bytes.
+struct Refusing;
+
+impl RandomSource for Refusing {
+    fn fill_bytes(&self, _buf: &mut [u8]) -> io::Result<()> {
+        Err(io::Error::from_raw_os_error(5))
+    }
+}
+
+// The lines of a history in short, each of them a part, and a part without lines.
+fn parts(
+    rt: &(impl Threads + Sync),
+    alloc: Global,
+    history: &str,
+) -> Result<Vec<Vec<Result<LineEvent, LineFault>>>, AllocError> {
+    let mut parts = Vec::new(alloc);
+    parts.push(Vec::new(alloc))?;
+    for line in lines(rt, alloc, history)? {
+        let mut part = Vec::new(alloc);
+        part.push(line)?;
+        parts.push(part)?;
+    }
+    Ok(parts)
+}
+
+#[test]
+fn a_key_is_drawn_or_a_digest(rt: HostRuntime) -> Result<(), Fail> {
+    let parts = parts(&rt, rt.alloc(), "p1 W x 5; p1 ok")?;
+    let drawn = HashKey::drawn(&Alike { byte: 0x5A }, &parts);
+    assert_eq!(rt; drawn.first, 0x5A5A_5A5A_5A5A_5A5A);
+    assert_eq!(rt; drawn.second, 0x5A5A_5A5A_5A5A_5A5A);
+    let digest = HashKey::drawn(&Refusing, &parts);
+    assert_ne!(rt; digest, drawn);
+    assert_eq!(rt; digest, HashKey::drawn(&Refusing, &parts));
+    Ok(())
+}
+
+/// Lines that differ from one another in one part: a process, a kind, a name, a value, whether a reply has one, or the order.
+const DIFFERENT: [&str; 14] = [
+    "p1 W x 5; p1 ok",
+    "p2 W x 5; p1 ok",
+    "p65537 W x 5; p1 ok",
+    "p1 W y 5; p1 ok",
+    "p1 W x 6; p1 ok",
+    "p1 R x; p1 ok",
+    "p1 W x 5; p1 = 5",
+    "p1 W x 5; p1 = 6",
+    "p1 W x 5; p1 = null",
+    "p1 W x 5; p2 ok",
+    "p1 ok; p1 W x 5",
+    "p1 W x 5; p1 fail",
+    "p1 W x 5; p1 fail = 5",
+    "p1 W x 5; p1 crash",
+];
+
+#[test]
+fn a_digest_reads_every_part(rt: HostRuntime) -> Result<(), Fail> {
+    let alloc = rt.alloc();
+    for one in 0..DIFFERENT.len() {
+        let digest = HashKey::drawn(&Refusing, &parts(&rt, alloc, DIFFERENT[one])?);
+        assert_ne!(rt; digest.first, digest.second, "{}", DIFFERENT[one]);
+        for other in 0..one {
+            let before = HashKey::drawn(&Refusing, &parts(&rt, alloc, DIFFERENT[other])?);
+            assert_ne!(rt; digest.first, before.first, "{one} and {other}");
+            assert_ne!(rt; digest.second, before.second, "{one} and {other}");
+        }
+    }
+    Ok(())
+}
+
+/// Registers, values and processes whose hashes all collide under a second word of 0.
+const KEYED: &str =
+    "p1 R x; p2 R y; p70000 W x 1; p70001 W y 2; p1 = 1; p2 = 2; p70000 ok; p70001 ok; p3 W y 1; p70000 R y";
+
+/// The walks of `KEYED`, and the lines of process 70,000 behind them.
+const WALKS: &str =
+    "register 0: 1 3 5 7 | | 3 5 7 | | |; register 1: 2 4 6 8 9 10 | | 9 | 4 6 8 | |; p1: 1 5; p2: 2 6; p3: 9; p4:;  3 7 10";
+
+#[test]
+fn no_key_changes_an_answer(rt: HostRuntime) -> Result<(), Fail> {
+    let alloc = rt.alloc();
+    for (first, second) in [
+        (0, 0),
+        (0, 1),
+        (1, 0),
+        (u64::MAX, u64::MAX),
+        (0x5A5A, 0xA5A5),
+    ] {
+        let key = HashKey { first, second };
+        match Arena::build_keyed(alloc, key, parts(&rt, alloc, KEYED)?) {
+            Ok(arena) => {
+                let mut text = walks(alloc, &arena)?;
+                add_process(&mut text, alloc, &arena, 70_000)?;
+                assert_eq!(rt; text.as_str(), WALKS, "{first} and {second}");
+            }
+            Err(error) => assert!(rt; false, "{first} and {second}: {error:?}"),
+        }
+    }
+    Ok(())
+}

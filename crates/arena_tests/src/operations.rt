@@ -1,0 +1,150 @@
+//! The operations of events, their times, and which of them precede which.
+ghost use Rattle.std.specs.Prelude.{◌<◌, length};
+
+use crate::short::arena_of;
+use history_model::{EvId, Op, Oper};
+use reg_arena::Arena;
+use std::alloc::AllocError;
+use std::process::Abort;
+use std::test::Fail;
+
+/// Of each event of `p1 W x 5; p2 R x; p2 = null; p1 ok; p1 W x 7; p2 R y`, which have the times 2 to 7, the operation; the call of line 5 has no reply.
+const OPERATIONS: [(u32, &str); 6] = [
+    (
+        0,
+        "Op { line: 1, call: 2, reply: Some(5), process: Some(1), register: RegId(0), kind: WriteOp, value: Some(Int(5)) }",
+    ),
+    (
+        1,
+        "Op { line: 2, call: 3, reply: Some(4), process: Some(2), register: RegId(0), kind: ReadOp, value: Some(Null) }",
+    ),
+    (
+        2,
+        "Op { line: 2, call: 3, reply: Some(4), process: Some(2), register: RegId(0), kind: ReadOp, value: Some(Null) }",
+    ),
+    (
+        3,
+        "Op { line: 1, call: 2, reply: Some(5), process: Some(1), register: RegId(0), kind: WriteOp, value: Some(Int(5)) }",
+    ),
+    (
+        4,
+        "Op { line: 5, call: 6, reply: None, process: Some(1), register: RegId(0), kind: WriteOp, value: Some(Int(7)) }",
+    ),
+    (
+        5,
+        "Op { line: 6, call: 7, reply: None, process: Some(2), register: RegId(1), kind: ReadOp, value: None }",
+    ),
+];
+
+// The operation of an event, if it belongs to one.
+fn op_at(arena: &Arena, id: EvId) -> Option<Op>
+    requires { id.0 < length arena.now.events }
+{
+    match arena.op_of(id) {
+        Some(oper) => Some(arena.op(oper)),
+        None => None,
+    }
+}
+
+#[test]
+fn operations_have_their_times(rt: HostRuntime) -> Result<(), Fail> {
+    let alloc = rt.alloc();
+    let arena = arena_of(
+        &rt,
+        alloc,
+        "p1 W x 5; p2 R x; p2 = null; p1 ok; p1 W x 7; p2 R y",
+    )?;
+    for (event, want) in OPERATIONS {
+        if event < arena.event_count() {
+            match op_at(&arena, EvId(event)) {
+                Some(op) => {
+                    let got = format!(in alloc; "{op:?}")?;
+                    assert_eq!(rt; got.as_str(), want, "event {event}");
+                }
+                None => assert!(rt; false, "event {event} has no operation"),
+            }
+        }
+    }
+    assert_eq!(rt; arena.event_count(), 6);
+    assert_eq!(rt; arena.register_count(), 2);
+    Ok(())
+}
+
+/// A failed write with a read of its value before it and one that ends after it, a write that fails unread, a failed read, and a write that a crash leaves open.
+pub(crate) const FAILED: &str =
+    "p2 R x; p2 = 5; p2 R x; p1 W x 5; p1 fail; p2 = 5; p1 W x 6; p1 fail; p3 R x; p1 W x 7; p1 crash; p3 fail";
+
+/// An event of this history, its operation, and whether it begins one.
+const FAILED_OPERATIONS: [(u32, Option<Oper>, bool); 12] = [
+    (0, Some(Oper::Called(EvId(0))), true),
+    (1, Some(Oper::Called(EvId(0))), false),
+    (2, Some(Oper::Called(EvId(2))), true),
+    (3, None, false),
+    (4, None, false),
+    (5, Some(Oper::Called(EvId(2))), false),
+    (6, None, false),
+    (7, None, false),
+    (8, None, false),
+    (9, Some(Oper::Called(EvId(9))), true),
+    (10, None, false),
+    (11, None, false),
+];
+
+// Fails and crashes, the calls that failed and those that a crash left open.
+#[test]
+fn failed_calls_are_no_operations(rt: HostRuntime) -> Result<(), Fail> {
+    let arena = arena_of(&rt, rt.alloc(), FAILED)?;
+    for (event, oper, begins) in FAILED_OPERATIONS {
+        if event < arena.event_count() {
+            let id = EvId(event);
+            assert_eq!(rt; arena.op_of(id), oper, "operation of event {event}");
+            assert_eq!(rt; arena.begins(id), begins, "event {event} begins one");
+        }
+    }
+    if arena.event_count() != 12 {
+        return Err(Fail::from(AllocError));
+    }
+    // The crash has no register, and the call that it left open is pending.
+    assert_eq!(rt; arena.next_in_register(EvId(10)), None);
+    assert_eq!(rt; arena.next_with_value(EvId(10)), None);
+    assert_eq!(rt; arena.next_in_process(EvId(9)), Some(EvId(10)));
+    match op_at(&arena, EvId(9)) {
+        Some(op) => assert_eq!(rt; op.reply, None),
+        None => assert!(rt; false, "the last write has no operation"),
+    }
+    Ok(())
+}
+
+// Whether the operation of one event precedes that of another.
+fn precedes(arena: &Arena, one: u32, other: u32) -> bool
+    requires one { one < length arena.now.events }
+    requires other { other < length arena.now.events }
+{
+    match (arena.op_of(EvId(one)), arena.op_of(EvId(other))) {
+        (Some(one), Some(other)) => arena.precedes(one, other),
+        _ => false,
+    }
+}
+
+#[test]
+fn operations_precede_by_reply_and_call(rt: HostRuntime) -> Result<(), Fail> {
+    let alloc = rt.alloc();
+    let arena = arena_of(
+        &rt,
+        alloc,
+        "p1 W x 5; p2 R x; p1 ok; p1 W x 6; p2 = 5; p2 R x",
+    )?;
+    for (one, other, want) in [
+        (0, 1, false),
+        (0, 3, true),
+        (1, 3, false),
+        (1, 5, true),
+        (3, 5, false),
+        (5, 0, false),
+    ] {
+        if one < arena.event_count() && other < arena.event_count() {
+            assert_eq!(rt; precedes(&arena, one, other), want, "{one} and {other}");
+        }
+    }
+    Ok(())
+}

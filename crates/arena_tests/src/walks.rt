@@ -1,0 +1,156 @@
+//! Walks through the events of a register, a process and a value.
+use crate::short::{arena_of, lines};
+use history_model::RegId;
+use history_text::Val;
+use reg_arena::Arena;
+use std::alloc::{AllocError, Global};
+use std::process::Abort;
+use std::test::Fail;
+
+// The lines of a register's events, as its walk meets them.
+fn add_register(
+    text: &mut String,
+    alloc: Global,
+    arena: &Arena,
+    register: RegId,
+) -> Result<(), AllocError> {
+    let mut at = arena.first_of_register(register);
+    for _ in 0..arena.event_count() {
+        let Some(id) = at else { break };
+        if id.0 >= arena.event_count() {
+            break;
+        }
+        text.push_str(format!(in alloc; " {}", arena.event(id).line)?.as_str())?;
+        at = arena.next_in_register(id);
+    }
+    Ok(())
+}
+
+// The lines of a process's events, as its walk meets them.
+pub(crate) fn add_process(
+    text: &mut String,
+    alloc: Global,
+    arena: &Arena,
+    process: u32,
+) -> Result<(), AllocError> {
+    let mut at = arena.first_of_process(process);
+    for _ in 0..arena.event_count() {
+        let Some(id) = at else { break };
+        if id.0 >= arena.event_count() {
+            break;
+        }
+        text.push_str(format!(in alloc; " {}", arena.event(id).line)?.as_str())?;
+        at = arena.next_in_process(id);
+    }
+    Ok(())
+}
+
+// The lines of a value's events in a register, as its walk meets them.
+fn add_value(
+    text: &mut String,
+    alloc: Global,
+    arena: &Arena,
+    register: RegId,
+    value: Val,
+) -> Result<(), AllocError> {
+    let mut at = arena.first_with_value(register, value);
+    for _ in 0..arena.event_count() {
+        let Some(id) = at else { break };
+        if id.0 >= arena.event_count() {
+            break;
+        }
+        text.push_str(format!(in alloc; " {}", arena.event(id).line)?.as_str())?;
+        at = arena.next_with_value(id);
+    }
+    Ok(())
+}
+
+// The walks of a register and of its values null, 1, 2, 5 and 9.
+fn add_register_walks(
+    text: &mut String,
+    alloc: Global,
+    arena: &Arena,
+    register: u32,
+) -> Result<(), AllocError> {
+    text.push_str(format!(in alloc; "register {register}:")?.as_str())?;
+    add_register(text, alloc, arena, RegId(register))?;
+    for value in [
+        Val::Null,
+        Val::Int(1),
+        Val::Int(2),
+        Val::Int(5),
+        Val::Int(9),
+    ] {
+        text.push_str(" |")?;
+        add_value(text, alloc, arena, RegId(register), value)?;
+    }
+    text.push_str("; ")
+}
+
+// The walks of the processes 1 to 4.
+fn add_process_walks(text: &mut String, alloc: Global, arena: &Arena) -> Result<(), AllocError> {
+    for process in 1..5 {
+        text.push_str(format!(in alloc; "p{process}:")?.as_str())?;
+        add_process(text, alloc, arena, process)?;
+        text.push_str("; ")?;
+    }
+    Ok(())
+}
+
+// All walks of an arena of one or two registers, x and y.
+pub(crate) fn walks(alloc: Global, arena: &Arena) -> Result<String, AllocError> {
+    let mut text = String::new(alloc);
+    add_register_walks(&mut text, alloc, arena, 0)?;
+    add_register_walks(&mut text, alloc, arena, 1)?;
+    add_process_walks(&mut text, alloc, arena)?;
+    Ok(text)
+}
+
+#[test]
+fn walks_meet_every_event(rt: HostRuntime) -> Result<(), Fail> {
+    let alloc = rt.alloc();
+    for (name, history, want) in [
+        (
+            "a read before its write",
+            "p2 R x; p2 = 5; p1 W x 5; p1 ok",
+            "register 0: 1 2 3 4 | | | | 2 3 4 |; register 1: | | | | |; p1: 3 4; p2: 1 2; p3:; p4:; ",
+        ),
+        (
+            "two registers",
+            "p1 R x; p2 R y; p3 W x 1; p4 W y 2; p1 = 1; p2 = 2; p3 ok; p4 ok",
+            "register 0: 1 3 5 7 | | 3 5 7 | | |; register 1: 2 4 6 8 | | | 4 6 8 | |; p1: 1 5; p2: 2 6; p3: 3 7; p4: 4 8; ",
+        ),
+        (
+            "one value in two registers",
+            "p1 W x 5; p1 ok; p1 W y 5; p1 ok",
+            "register 0: 1 2 | | | | 1 2 |; register 1: 3 4 | | | | 3 4 |; p1: 1 2 3 4; p2:; p3:; p4:; ",
+        ),
+        (
+            "a read around its write",
+            "p2 R x; p1 W x 5; p1 ok; p2 = 5",
+            "register 0: 1 2 3 4 | | | | 2 3 4 |; register 1: | | | | |; p1: 2 3; p2: 1 4; p3:; p4:; ",
+        ),
+        (
+            "a failed write between two reads of its value, and a crash",
+            "p2 R x; p2 = 5; p1 W x 5; p1 fail; p3 R x; p3 = 5; p1 R y; p1 crash; p2 crash",
+            "register 0: 1 2 3 4 5 6 | | | | 2 3 4 6 |; register 1: 7 | | | | |; p1: 3 4 7 8; p2: 1 2 9; p3: 5 6; p4:; ",
+        ),
+        (
+            "failed reads, one of which gives null",
+            "p1 R x; p1 fail; p2 R x; p2 fail = null; p1 R x",
+            "register 0: 1 2 3 4 5 | | | | |; register 1: | | | | |; p1: 1 2 5; p2: 3 4; p3:; p4:; ",
+        ),
+        (
+            "a value that nobody wrote, null, and pending calls",
+            "p2 R x; p2 = 9; p2 R x; p2 = null; p1 W x 5; p2 R x",
+            "register 0: 1 2 3 4 5 6 | 4 | | | 5 | 2; register 1: | | | | |; p1: 5; p2: 1 2 3 4 6; p3:; p4:; ",
+        ),
+    ] {
+        let arena = Arena::build(alloc, lines(&rt, alloc, history)?);
+        match &arena {
+            Ok(arena) => assert_eq!(rt; walks(alloc, arena)?.as_str(), want, "{name}"),
+            Err(error) => assert!(rt; false, "{name}: {error:?}"),
+        }
+    }
+    Ok(())
+}

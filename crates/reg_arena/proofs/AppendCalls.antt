@@ -1,0 +1,233 @@
+-- The calls, and which of them began an operation, after an append.
+use Rattle.std.proofs.Common.{◌≡◌, ℕ, zero, suc, ◌+◌, ◌-◌, ◌<◌, ◌≤◌, ◌==◌, ◌&&◌, ◌||◌, not, nat_eq, cond, Bool, true, false, List, [], ◌∷◌, ◌++◌, length, set, drop, slice_get, Option, Some, None, ◌⊎◌, inl, inr, refl, sym, ap, ◌∙◌, arith, option_and_then}
+use Rattle.history_text.specs.declared.limits.TheConstants.{MAX_EVENTS}
+use Rattle.std.specs.Option.{option_or}
+use Rattle.std.proofs.lemmas.List.{length-set}
+use Rattle.std.proofs.lemmas.Option.{slice_get_within}
+use Rattle.std.proofs.lemmas.Bool.{cases_order, eq-eqb, ne_eqb, false≢true}
+use Rattle.history_model.specs.declared.ids.EvId.{EvId}
+use Rattle.history_model.specs.declared.event.Event.{Event}
+use Rattle.history_model.specs.declared.event.What.{What}
+use Rattle.history_model.specs.declared.event.What.TheVariants.{Call, Reply, Fail, Crash}
+use Rattle.reg_arena.specs.declared.list_ends.TheConstants.{NO_CALL}
+use Rattle.history_model.specs.Operations.{next_of, has_failed, begins, is_a_call, is_a_reply, is_a_fail}
+use Rattle.history_model.specs.Walking.{key_at, by_process}
+use Rattle.history_model.specs.Naming.{begins_at}
+use Rattle.reg_arena.specs.EventLists.{IsCall, IsCallAt, call_at, calls_with, no_call}
+use Rattle.history_model.proofs.Belonging.{drop-get, next-some, next-none}
+use Rattle.history_model.proofs.Lists.{decide_eq, slice_get-push, slice_get-push_other, slice_get-set, slice_get-set_other}
+use Rattle.reg_arena.proofs.Append.{key-within}
+
+next-push : (p s : ℕ) (xs : List Event) (e : Event) → next_of p s (xs ++ e ∷ []) ≡ option_or (next_of p s xs) (cond (e.process == p) (Some (s + length xs, e)) None)
+next-push p s [] e = let t : s ≡ s + 0 = omega arith in ap (λ m. cond (e.process == p) (Some (m, e)) None) t
+next-push p s (x ∷ xs) e = go (x.process == p) (next-push p (suc s) xs e)
+  where
+    go : (b : Bool) → next_of p (suc s) (xs ++ e ∷ []) ≡ option_or (next_of p (suc s) xs) (cond (e.process == p) (Some (suc s + length xs, e)) None)
+        → cond b (Some (s, x)) (next_of p (suc s) (xs ++ e ∷ [])) ≡ option_or (cond b (Some (s, x)) (next_of p (suc s) xs)) (cond (e.process == p) (Some (s + suc (length xs), e)) None)
+    go true h = refl
+    go false h = let t : suc s + length xs ≡ s + suc (length xs) = omega arith in h ∙ ap (λ m. option_or (next_of p (suc s) xs) (cond (e.process == p) (Some (m, e)) None)) t
+
+drop-push : (xs : List Event) (m : ℕ) (e : Event) → m ≤ length xs → drop m (xs ++ e ∷ []) ≡ drop m xs ++ e ∷ []
+drop-push xs zero e l = refl
+drop-push [] (suc m) e l = absurd (omega arith)
+drop-push (x ∷ xs) (suc m) e l = drop-push xs m e (omega arith)
+
+next-alone : (es : List Event) (i p : ℕ) → ((u : ℕ) → i < u → key_at by_process es u ≡ Some p → ⊥) → next_of p (suc (i + 2)) (drop (suc i) es) ≡ None
+next-alone es i p h = go (next_of p (suc (i + 2)) (drop (suc i) es)) refl
+  where
+    go : (o : Option (ℕ × Event)) → next_of p (suc (i + 2)) (drop (suc i) es) ≡ o → o ≡ None
+    go None n = refl
+    go (Some r) n =
+        let x = next-some p (suc (i + 2)) (drop (suc i) es) r n in
+        absurd (h (suc i + x.place) (omega arith) (ap (option_and_then by_process) (sym (drop-get es (suc i) x.place) ∙ x.there) ∙ ap Some x.process))
+
+next-known : (es : List Event) (i p u : ℕ) → i < u → key_at by_process es u ≡ Some p → (r : ℕ × Event) × (next_of p (suc (i + 2)) (drop (suc i) es) ≡ Some r)
+next-known es i p u lt key = go (next_of p (suc (i + 2)) (drop (suc i) es)) refl
+  where
+    there : (o : Option Event) → slice_get es u ≡ o → option_and_then by_process o ≡ Some p → (g : Event) × (slice_get es u ≡ Some g) × (g.process ≡ p)
+    there None q k = absurd (cc (k))
+    there (Some g) q k = (g, q, cc (k))
+
+    go : (o : Option (ℕ × Event)) → next_of p (suc (i + 2)) (drop (suc i) es) ≡ o → (r : ℕ × Event) × (o ≡ Some r)
+    go (Some r) n = (r, refl)
+    go None n =
+        let g = there (slice_get es u) refl key in
+        let z : suc i + (u - suc i) ≡ u = omega (arith, lt) in
+        absurd (next-none p (suc (i + 2)) (drop (suc i) es) n (u - suc i) g.0 (drop-get es (suc i) (u - suc i) ∙ (ap (slice_get es) z ∙ g.1)) g.2)
+
+-- ---- the calls after an append
+
+pub fail-no_call : (w : What) → is_a_fail w ≡ true → is_a_call w ≡ true → ⊥
+fail-no_call (Call kind) f c = false≢true f
+fail-no_call (Reply kind) f c = false≢true f
+fail-no_call (Fail kind) f c = false≢true c
+fail-no_call Crash f c = false≢true f
+
+pub and-left : (a b : Bool) → (a && b) ≡ true → a ≡ true
+and-left true b h = refl
+and-left false b h = absurd (false≢true h)
+
+pub or-true : (a : Bool) → (a || true) ≡ true
+or-true true = refl
+or-true false = refl
+
+pub call-no_reply : (w : What) → is_a_call w ≡ true → is_a_reply w ≡ false
+call-no_reply (Call kind) h = refl
+call-no_reply (Reply kind) h = absurd (false≢true h)
+call-no_reply (Fail kind) h = refl
+call-no_reply Crash h = refl
+
+pub drop-all : (xs : List Event) (e : Event) → drop (suc (length xs)) (xs ++ e ∷ []) ≡ []
+drop-all [] e = refl
+drop-all (x ∷ xs) e = drop-all xs e
+
+abbrev pub event_id : ℕ → EvId
+event_id m = record { 0 = m }
+
+module _ (es : List Event) (e : Event) where
+  pub call-keep : (i : ℕ) → IsCall es i → IsCall (es ++ e ∷ []) i
+  call-keep i c = let l = slice_get_within es i c.0 c.1 in (c.0, slice_get-push_other es e i (λ q. omega arith) ∙ c.1, c.2)
+
+  same-key : (i : ℕ) → i < length es → key_at by_process (es ++ e ∷ []) i ≡ key_at by_process es i
+  same-key i l = ap (option_and_then by_process) (slice_get-push_other es e i (λ q. omega arith))
+
+  pub call_at-keep : (i c : ℕ) → i < length es → IsCallAt es i c → IsCallAt (es ++ e ∷ []) i c
+  call_at-keep i c l h =
+      let o = h.order in
+      record {
+        call = call-keep c h.call;
+        process = same-key c (omega arith) ∙ (h.process ∙ sym (same-key i l));
+        order = h.order;
+        between = λ j lo hi q. h.between j lo hi (sym (same-key j (omega arith)) ∙ (q ∙ same-key i l));
+        own = λ x. h.own (x.0, sym (slice_get-push_other es e i (λ q. omega arith)) ∙ x.1, x.2);
+      }
+
+  next-after : (i p : ℕ) → i < length es → next_of p (suc (i + 2)) (drop (suc i) (es ++ e ∷ [])) ≡ option_or (next_of p (suc (i + 2)) (drop (suc i) es)) (cond (e.process == p) (Some (suc (i + 2) + length (drop (suc i) es), e)) None)
+  next-after i p l = ap (next_of p (suc (i + 2))) (drop-push es (suc i) e (omega arith)) ∙ next-push p (suc (i + 2)) (drop (suc i) es) e
+
+  -- where the call has a next event, another one changes nothing
+  begins-next : (i : ℕ) (f : Event) (r : ℕ × Event) → i < length es → next_of f.process (suc (i + 2)) (drop (suc i) es) ≡ Some r → begins_at (es ++ e ∷ []) i f ≡ begins_at es i f
+  begins-next i f r l n = ap (begins f) (next-after i f.process l ∙ (ap (λ o. option_or o (cond (e.process == f.process) (Some (suc (i + 2) + length (drop (suc i) es), e)) None)) n ∙ sym n))
+
+  -- nor does one that isn't a fail
+  pub begins-other : (i : ℕ) (f : Event) → i < length es → is_a_fail e.what ≡ false → begins_at (es ++ e ∷ []) i f ≡ begins_at es i f
+  begins-other i f l kept = go (next_of f.process (suc (i + 2)) (drop (suc i) es)) refl
+    where
+      by_process : (b : Bool) → has_failed (cond b (Some (suc (i + 2) + length (drop (suc i) es), e)) None) ≡ false
+      by_process true = kept
+      by_process false = refl
+
+      go : (o : Option (ℕ × Event)) → next_of f.process (suc (i + 2)) (drop (suc i) es) ≡ o → begins_at (es ++ e ∷ []) i f ≡ begins_at es i f
+      go (Some r) n = begins-next i f r l n
+      go None n =
+          ap (begins f) (next-after i f.process l ∙ ap (λ o. option_or o (cond (e.process == f.process) (Some (suc (i + 2) + length (drop (suc i) es), e)) None)) n)
+          ∙ (ap (λ b. is_a_call f.what && not b) (by_process (e.process == f.process)) ∙ sym (ap (begins f) n))
+
+  -- a call of another process is kept
+  begins-apart : (i : ℕ) (f : Event) → i < length es → (e.process ≡ f.process → ⊥) → begins_at (es ++ e ∷ []) i f ≡ begins_at es i f
+  begins-apart i f l ne = ap (begins f) (next-after i f.process l ∙ (ap (λ b. option_or (next_of f.process (suc (i + 2)) (drop (suc i) es)) (cond b (Some (suc (i + 2) + length (drop (suc i) es), e)) None)) (ne_eqb e.process f.process ne) ∙ or-none (next_of f.process (suc (i + 2)) (drop (suc i) es))))
+    where
+      or-none : {A : Type 0} (o : Option A) → option_or o None ≡ o
+      or-none None = refl
+      or-none (Some x) = refl
+
+  -- the call of an appended fail fails, and no other
+  module _ (c : EvId) (h : IsCallAt (es ++ e ∷ []) (length es) c.0) (f : is_a_fail e.what ≡ true) where
+    new-at : slice_get (es ++ e ∷ []) (length es) ≡ Some e
+    new-at = slice_get-push es e
+
+    -- the fail is no call
+    pub call-before : c.0 < length es
+    call-before = elim (decide_eq c.0 (length es)) [
+      | inl q ↦ absurd (let a = h.call in let w = a.1 in let s = ap (slice_get (es ++ e ∷ [])) q in let same : a.0 ≡ e = cc (w, s, new-at) in fail-no_call e.what f (sym (ap (λ (v : Event). is_a_call v.what) same) ∙ a.2))
+      | inr ne ↦ let o = h.order in omega (arith, o, ne)
+    ]
+
+    call-process : key_at by_process es c.0 ≡ Some e.process
+    call-process = sym (same-key c.0 call-before) ∙ (h.process ∙ ap (option_and_then by_process) new-at)
+
+    call-last : (u : ℕ) → c.0 < u → key_at by_process es u ≡ Some e.process → ⊥
+    call-last u lt key = let l = key-within by_process es u e.process key in h.between u lt l (same-key u l ∙ (key ∙ sym (ap (option_and_then by_process) new-at)))
+
+    pub begins-failed : (g : Event) → slice_get es c.0 ≡ Some g → begins_at (es ++ e ∷ []) c.0 g ≡ false
+    begins-failed g at =
+        let key = call-process in
+        let own : g.process ≡ e.process = let k = ap (option_and_then by_process) at in let w : Some g.process ≡ Some e.process = sym k ∙ key in cc (w) in
+        let none = next-alone es c.0 g.process (λ u lt k. call-last u lt (k ∙ ap Some own)) in
+        ap (begins g) (next-after c.0 g.process call-before
+        ∙ (ap (λ o. option_or o (cond (e.process == g.process) (Some (suc (c.0 + 2) + length (drop (suc c.0) es), e)) None)) none
+        ∙ ap (λ b. cond b (Some (suc (c.0 + 2) + length (drop (suc c.0) es), e)) None) (eq-eqb e.process g.process (sym own))))
+        ∙ (ap (λ b. is_a_call g.what && not b) f ∙ and-false (is_a_call g.what))
+      where
+        and-false : (b : Bool) → (b && false) ≡ false
+        and-false true = refl
+        and-false false = refl
+
+    pub begins-unfailed : (i : ℕ) (g : Event) → slice_get es i ≡ Some g → (i ≡ c.0 → ⊥) → begins_at (es ++ e ∷ []) i g ≡ begins_at es i g
+    begins-unfailed i g at ne = go (decide_eq e.process g.process)
+      where
+        l : i < length es
+        l = slice_get_within es i g at
+
+        go : (e.process ≡ g.process) ⊎ (e.process ≡ g.process → ⊥) → begins_at (es ++ e ∷ []) i g ≡ begins_at es i g
+        go (inr apart) = begins-apart i g l apart
+        go (inl own) = elim (cases_order i c.0) [
+          | inl q ↦ absurd (ne q)
+          | inr w ↦ elim w [
+            | inl less ↦ let r = next-known es i g.process c.0 less (call-process ∙ ap Some own) in begins-next i g r.0 l r.1
+            | inr more ↦ absurd (call-last i more (ap (option_and_then by_process) at ∙ ap Some (sym own)))
+          ]
+        ]
+
+-- ---- the column of calls
+
+call-set : (calls : List EvId) (k : ℕ) → k < length calls → call_at (set calls k no_call) k ≡ None
+call-set calls k l = ap (option_and_then (λ (c : EvId). cond (nat_eq c.0 NO_CALL) None (Some c))) (slice_get-set calls k no_call l)
+
+call-set_other : (calls : List EvId) (k i : ℕ) → (i ≡ k → ⊥) → call_at (set calls k no_call) i ≡ call_at calls i
+call-set_other calls k i ne = ap (option_and_then (λ (c : EvId). cond (nat_eq c.0 NO_CALL) None (Some c))) (slice_get-set_other calls k i no_call ne)
+
+call-push : (calls : List EvId) (c : EvId) (i : ℕ) → (i ≡ length calls → ⊥) → call_at (calls ++ c ∷ []) i ≡ call_at calls i
+call-push calls c i ne = ap (option_and_then (λ (c : EvId). cond (nat_eq c.0 NO_CALL) None (Some c))) (slice_get-push_other calls c i ne)
+
+call-pushed : (calls : List EvId) (c : EvId) → call_at (calls ++ c ∷ []) (length calls) ≡ cond (nat_eq c.0 NO_CALL) None (Some c)
+call-pushed calls c = ap (option_and_then (λ (c : EvId). cond (nat_eq c.0 NO_CALL) None (Some c))) (slice_get-push calls c)
+
+call-some : (c : EvId) → c.0 < MAX_EVENTS → cond (nat_eq c.0 NO_CALL) None (Some c) ≡ Some c
+call-some c l = ap (λ b. cond b None (Some c)) (ne_eqb c.0 NO_CALL (λ q. omega (arith, l, q)))
+
+-- what the column says after an append
+pub record AreCallsAfter (calls new : List EvId) (n : ℕ) (w : What) (call : EvId) : Type 0 where
+  pub kept : (i : ℕ) → i < n → (is_a_fail w ≡ true → i ≡ call.0 → ⊥) → call_at new i ≡ call_at calls i
+  pub failed : is_a_fail w ≡ true → call_at new call.0 ≡ None
+  pub none : is_a_call w ≡ false → is_a_reply w ≡ false → call_at new n ≡ None
+  pub some : (is_a_call w || is_a_reply w) ≡ true → call_at new n ≡ Some call
+
+pub calls-after : (calls : List EvId) (n : ℕ) (w : What) (call : EvId) → n ≡ length calls → n < MAX_EVENTS → ((w ≡ Crash → ⊥) → call.0 ≤ n) → (is_a_fail w ≡ true → call.0 < n) → AreCallsAfter calls (calls_with calls w call) n w call
+calls-after calls n (Call kind) call q room le lt = let b = le (λ x. cc (x)) in record {
+  kept = λ i l ne. call-push calls call i (λ c. omega (arith, l, c, q));
+  failed = λ f. absurd (false≢true f);
+  none = λ c r. absurd (false≢true (sym c));
+  some = λ x. ap (call_at (calls ++ call ∷ [])) q ∙ (call-pushed calls call ∙ call-some call (omega (arith, b, room)));
+}
+calls-after calls n (Reply kind) call q room le lt = let b = le (λ x. cc (x)) in record {
+  kept = λ i l ne. call-push calls call i (λ c. omega (arith, l, c, q));
+  failed = λ f. absurd (false≢true f);
+  none = λ c r. absurd (false≢true (sym r));
+  some = λ x. ap (call_at (calls ++ call ∷ [])) q ∙ (call-pushed calls call ∙ call-some call (omega (arith, b, room)));
+}
+calls-after calls n (Fail kind) call q room le lt =
+    let l = lt refl in
+    let long : length (set calls call.0 no_call) ≡ n = length-set calls call.0 no_call ∙ sym q in
+    record {
+      kept = λ i l ne. call-push (set calls call.0 no_call) no_call i (λ c. omega (arith, l, c, long)) ∙ call-set_other calls call.0 i (ne refl);
+      failed = λ f. call-push (set calls call.0 no_call) no_call call.0 (λ c. omega (arith, l, c, long)) ∙ call-set calls call.0 (omega (arith, l, q));
+      none = λ c r. ap (call_at (set calls call.0 no_call ++ no_call ∷ [])) (sym long) ∙ call-pushed (set calls call.0 no_call) no_call;
+      some = λ x. absurd (false≢true x);
+    }
+calls-after calls n Crash call q room le lt = record {
+  kept = λ i l ne. call-push calls no_call i (λ c. omega (arith, l, c, q));
+  failed = λ f. absurd (false≢true f);
+  none = λ c r. ap (call_at (calls ++ no_call ∷ [])) q ∙ call-pushed calls no_call;
+  some = λ x. absurd (false≢true x);
+}

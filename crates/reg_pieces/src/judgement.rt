@@ -1,0 +1,33 @@
+//! Whether a register is atomic, with its order or its fault.
+ghost use Rattle.std.specs.Prelude.{◌<◌, length, IfOk};
+ghost use Rattle.history_model.specs.Operations.{register_of};
+ghost use Rattle.reg_pieces.specs.Judged.{IsJudged};
+
+use crate::order::Order;
+use history_model::RegId;
+use reg_arena::Arena;
+use reg_zones::{Fault, order, sweep};
+use std::alloc::{AllocError, Global};
+
+/// Whether a register is atomic.
+#[derive(Drop)]
+pub enum Judgement {
+    /// The canonical order of a register that is atomic.
+    Order(Order),
+    /// The fault of one that isn't.
+    Faulty(Fault),
+}
+
+/// The canonical order of a register that is atomic, and else its fault.
+///
+/// # Errors
+/// If memory was refused; the arena is as before.
+pub fn judge(alloc: Global, arena: &Arena, register: RegId) -> Result<Judgement, AllocError>
+    requires { register.0 < length arena.now.names }
+    ensures { IfOk result (IsJudged (register_of arena.now register.0)) }
+{
+    match sweep(arena, register) {
+        Ok(()) => Ok(Judgement::Order(Order::new(order(alloc, arena, register)?))),
+        Err(fault) => Ok(Judgement::Faulty(fault)),
+    }
+}
