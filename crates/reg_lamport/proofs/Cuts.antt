@@ -10,7 +10,7 @@ use Rattle.history_model.specs.Operations.{Operation, IsCompletedRead, of_regist
 use Rattle.history_model.specs.Naming.{IsNamed}
 use Rattle.history_model.specs.declared.ids.EvId.{EvId}
 use Rattle.history_model.specs.declared.ids.Oper.TheVariants.{Called}
-use Rattle.reg_lamport.specs.Levels.{Keeps, AllKeep, IsAtLevel, IsFirstBreak, IsFirstBadAt, IsFirstBad, IsFirstBadRead}
+use Rattle.reg_lamport.specs.Levels.{Keeps, AllKeep, IsAtLevel, IsFirstBadRead, IsFirstBadWithin, IsFirstBadAmong, IsFirstBadNamed}
 use Rattle.reg_lamport.specs.Reads.{ListedReads, IsReadList, IsEntryOf}
 use Rattle.reg_lamport.specs.declared.level.Level.{Level}
 use Rattle.reg_lamport.proofs.Calls.{calls-ascend, reads-called}
@@ -27,18 +27,18 @@ module _ (level : Level) (ops : List Operation) where
     | inr c ↦ elim c [ inl less ↦ a i r l less at | inr more ↦ b i r (omega arith) m at ]
   ]
 
-  bad-later : (from mid to : ℕ) (r : Operation) → from ≤ mid → AllKeep level ops from mid → IsFirstBadAt level ops mid to r → IsFirstBadAt level ops from to r
+  bad-later : (from mid to : ℕ) (r : Operation) → from ≤ mid → AllKeep level ops from mid → IsFirstBadWithin level ops mid to r → IsFirstBadWithin level ops from to r
   bad-later from mid to r l a b = record { place = b.place; from_on = omega (arith, b.from_on); below = b.below; there = b.there; breaks = b.breaks; first = keep-joined from mid b.place a b.first }
 
-  bad-earlier : (from mid to : ℕ) (r : Operation) → mid ≤ to → IsFirstBadAt level ops from mid r → IsFirstBadAt level ops from to r
+  bad-earlier : (from mid to : ℕ) (r : Operation) → mid ≤ to → IsFirstBadWithin level ops from mid r → IsFirstBadWithin level ops from to r
   bad-earlier from mid to r l a = record { place = a.place; from_on = a.from_on; below = omega (arith, a.below); there = a.there; breaks = a.breaks; first = a.first }
 
-  pub cuts-join : (from mid to : ℕ) (a b : Option Operation) → from ≤ mid → mid ≤ to → IsFirstBad level ops from mid a → IsFirstBad level ops mid to b → IsFirstBad level ops from to (option_or a b)
+  pub cuts-join : (from mid to : ℕ) (a b : Option Operation) → from ≤ mid → mid ≤ to → IsFirstBadAmong level ops from mid a → IsFirstBadAmong level ops mid to b → IsFirstBadAmong level ops from to (option_or a b)
   cuts-join from mid to None None l m x y = keep-joined from mid to x y
   cuts-join from mid to None (Some r) l m x y = bad-later from mid to r l x y
   cuts-join from mid to (Some r) b l m x y = bad-earlier from mid to r m x
 
-  same-bad : (from to : ℕ) (r q : Operation) → IsFirstBadAt level ops from to r → IsFirstBadAt level ops from to q → r ≡ q
+  same-bad : (from to : ℕ) (r q : Operation) → IsFirstBadWithin level ops from to r → IsFirstBadWithin level ops from to q → r ≡ q
   same-bad from to r q a b = elim (cases_order a.place b.place) [
     | inl e ↦ (let f = ap (slice_get (completed_reads ops)) e in let g = a.there in let k = b.there in cc (f, g, k))
     | inr c ↦ elim c [
@@ -47,7 +47,7 @@ module _ (level : Level) (ops : List Operation) where
     ]
   ]
 
-  pub one-first-bad : (from to : ℕ) (a b : Option Operation) → IsFirstBad level ops from to a → IsFirstBad level ops from to b → a ≡ b
+  pub one-first-bad : (from to : ℕ) (a b : Option Operation) → IsFirstBadAmong level ops from to a → IsFirstBadAmong level ops from to b → a ≡ b
   one-first-bad from to None None x y = refl
   one-first-bad from to None (Some r) x y = absurd (y.breaks (x y.place r y.from_on y.below y.there))
   one-first-bad from to (Some r) None x y = absurd (x.breaks (y x.place r x.from_on x.below x.there))
@@ -55,7 +55,7 @@ module _ (level : Level) (ops : List Operation) where
 
 -- ---- the same of named reads
 
-pub named-cuts-join : (h : History) (register : ℕ) (level : Level) (from mid to : ℕ) (a b : Option EvId) → from ≤ mid → mid ≤ to → IsFirstBadRead h register level from mid a → IsFirstBadRead h register level mid to b → IsFirstBadRead h register level from to (option_or a b)
+pub named-cuts-join : (h : History) (register : ℕ) (level : Level) (from mid to : ℕ) (a b : Option EvId) → from ≤ mid → mid ≤ to → IsFirstBadNamed h register level from mid a → IsFirstBadNamed h register level mid to b → IsFirstBadNamed h register level from to (option_or a b)
 named-cuts-join h register level from mid to None None l m x y = keep-joined level (of_register register (operations h)) from mid to x y
 named-cuts-join h register level from mid to None (Some id) l m x y = (y.0, y.1, bad-later level (of_register register (operations h)) from mid to y.0 l x y.2)
 named-cuts-join h register level from mid to (Some id) b l m x y = (x.0, x.1, bad-earlier level (of_register register (operations h)) from mid to x.0 m x.2)
@@ -92,7 +92,7 @@ module _ (h : History) (register : ℕ) where
       let x = number-of r i read in
       keep x.0 r (omega arith) (let w = slice_get_within (completed_reads (of_register register (operations h))) x.0 r x.1 in omega (arith, w, all)) x.1
 
-  pub whole-breaks : (level : Level) (n : ℕ) (r : Operation) → IsFirstBadAt level (of_register register (operations h)) 0 n r → IsFirstBreak level (of_register register (operations h)) r
+  pub whole-breaks : (level : Level) (n : ℕ) (r : Operation) → IsFirstBadWithin level (of_register register (operations h)) 0 n r → IsFirstBadRead level (of_register register (operations h)) r
   whole-breaks level n r b =
       let x = numbered (of_register register (operations h)) b.place r b.there in
       record { within = x.0; read = x.1; breaks = b.breaks; first = earlier }
@@ -108,8 +108,8 @@ module _ (h : History) (register : ℕ) where
             ]
           ]
 
-pub list-keeps : (h : History) (list : ListedReads) (level : Level) → IsReadList h list → IsFirstBadRead h list.register level 0 (length list.entries) None → IsAtLevel level (of_register list.register (operations h))
+pub list-keeps : (h : History) (list : ListedReads) (level : Level) → IsReadList h list → IsFirstBadNamed h list.register level 0 (length list.entries) None → IsAtLevel level (of_register list.register (operations h))
 list-keeps h list level is none = whole-keeps h list.register level (length list.entries) (zip-length (IsEntryOf h list.register) list.entries (completed_reads (of_register list.register (operations h))) is.entries) none
 
-pub list-breaks : (h : History) (list : ListedReads) (level : Level) (id : EvId) → IsReadList h list → IsFirstBadRead h list.register level 0 (length list.entries) (Some id) → (r : Operation) × IsNamed h (Called id) r × IsFirstBreak level (of_register list.register (operations h)) r
+pub list-breaks : (h : History) (list : ListedReads) (level : Level) (id : EvId) → IsReadList h list → IsFirstBadNamed h list.register level 0 (length list.entries) (Some id) → (r : Operation) × IsNamed h (Called id) r × IsFirstBadRead level (of_register list.register (operations h)) r
 list-breaks h list level id is x = (x.0, x.1, whole-breaks h list.register level (length list.entries) x.0 x.2)

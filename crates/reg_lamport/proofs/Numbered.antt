@@ -9,7 +9,7 @@ use Rattle.history_model.specs.Lamport.{HasSingleWriter, is_completed_read, comp
 use Rattle.history_model.specs.Operations.{Operation, IsCompletedRead, is_write, of_register, operations}
 use Rattle.history_model.specs.Naming.{IsNamed}
 use Rattle.history_model.specs.declared.ids.Oper.TheVariants.{Called}
-use Rattle.reg_lamport.specs.Levels.{Keeps, AllKeep, IsFirstBadRead}
+use Rattle.reg_lamport.specs.Levels.{Keeps, AllKeep, IsFirstBadNamed}
 use Rattle.reg_lamport.specs.Reads.{ListedReads, IsEntryOf, IsReadList, IsListed}
 use Rattle.reg_lamport.specs.declared.level.Level.{Level}
 use Rattle.reg_lamport.specs.declared.gathering.ReadEntry.{ReadEntry}
@@ -77,7 +77,7 @@ module _ (h : History) (list : ListedReads) (is : IsReadList h list) (single : H
     test = subst (λ k. IsTrue b ↔ Keeps level (of_register k (operations h)) p.operation) inside.register_is (decides p.operation p.named)
 
     -- a read that fails the test is the first bad one
-    pub found : b ≡ false → IsFirstBadRead h list.register level from to (Some e.read)
+    pub found : b ≡ false → IsFirstBadNamed h list.register level from to (Some e.read)
     found fails = (
       p.operation,
       p.named,

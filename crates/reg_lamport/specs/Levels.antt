@@ -20,7 +20,7 @@ abbrev pub IsAtLevel : Level → List Operation → Type 0
 IsAtLevel level ops = (r : Operation) → In r ops → IsCompletedRead r → Keeps level ops r
 
 -- of the completed reads that break the level, the one of least call
-pub record IsFirstBreak (level : Level) (ops : List Operation) (r : Operation) : Type 0 where
+pub record IsFirstBadRead (level : Level) (ops : List Operation) (r : Operation) : Type 0 where
   pub within : In r ops
   pub read : IsCompletedRead r
   pub breaks : Keeps level ops r → ⊥
@@ -33,7 +33,7 @@ abbrev pub AllKeep : Level → List Operation → ℕ → ℕ → Type 0
 AllKeep level ops from to = (i : ℕ) (r : Operation) → from ≤ i → i < to → slice_get (completed_reads ops) i ≡ Some r → Keeps level ops r
 
 -- of the completed reads numbered from `from` up to and without `to`, r breaks the level, and those of lesser number keep it
-pub record IsFirstBadAt (level : Level) (ops : List Operation) (from to : ℕ) (r : Operation) : Type 0 where
+pub record IsFirstBadWithin (level : Level) (ops : List Operation) (from to : ℕ) (r : Operation) : Type 0 where
   pub place : ℕ
   pub from_on : from ≤ place
   pub below : place < to
@@ -42,11 +42,11 @@ pub record IsFirstBadAt (level : Level) (ops : List Operation) (from to : ℕ) (
   pub first : AllKeep level ops from place
 
 -- the first bad read of that part, where there is one
-abbrev pub IsFirstBad : Level → List Operation → ℕ → ℕ → Option Operation → Type 0
-IsFirstBad level ops from to None = AllKeep level ops from to
-IsFirstBad level ops from to (Some r) = IsFirstBadAt level ops from to r
+abbrev pub IsFirstBadAmong : Level → List Operation → ℕ → ℕ → Option Operation → Type 0
+IsFirstBadAmong level ops from to None = AllKeep level ops from to
+IsFirstBadAmong level ops from to (Some r) = IsFirstBadWithin level ops from to r
 
 -- the same of a register of a history, the read named by the event of its call
-abbrev pub IsFirstBadRead : History → ℕ → Level → ℕ → ℕ → Option EvId → Type 0
-IsFirstBadRead h register level from to None = AllKeep level (of_register register (operations h)) from to
-IsFirstBadRead h register level from to (Some id) = (r : Operation) × IsNamed h (Called id) r × IsFirstBadAt level (of_register register (operations h)) from to r
+abbrev pub IsFirstBadNamed : History → ℕ → Level → ℕ → ℕ → Option EvId → Type 0
+IsFirstBadNamed h register level from to None = AllKeep level (of_register register (operations h)) from to
+IsFirstBadNamed h register level from to (Some id) = (r : Operation) × IsNamed h (Called id) r × IsFirstBadWithin level (of_register register (operations h)) from to r

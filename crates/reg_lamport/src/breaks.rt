@@ -3,7 +3,7 @@ ghost use Rattle.std.specs.Prelude.{◌≡◌, ◌≤◌, ◌↔◌, length, IsT
 ghost use Rattle.history_model.specs.Lamport.{HasOverlappedValue, HasSingleWriter};
 ghost use Rattle.history_model.specs.Operations.{Operation, Overlaps, of_register, operations};
 ghost use Rattle.history_model.specs.Naming.{IsNamed, IsOper};
-ghost use Rattle.reg_lamport.specs.Levels.{IsFirstBadRead, Keeps};
+ghost use Rattle.reg_lamport.specs.Levels.{IsFirstBadNamed, Keeps};
 ghost use Rattle.reg_lamport.specs.Reads.{IsListed, IsReadList, IsReadShown};
 
 use crate::gathering::ReadEntry;
@@ -27,7 +27,7 @@ pub fn first_bad(
     requires writer { HasSingleWriter (of_register list.now.register (operations arena.now)) }
     requires order { from ≤ to }
     requires end { to ≤ length list.now.entries }
-    ensures { IsFirstBadRead arena.now list.now.register level from to result }
+    ensures { IsFirstBadNamed arena.now list.now.register level from to result }
 {
     for entry in &list.entries[from..to] {
         if !keeps(arena, list.register, entry, level) {

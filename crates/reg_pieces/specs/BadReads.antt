@@ -2,13 +2,13 @@
 use Rattle.std.specs.Prelude.{ℕ, None}
 use Rattle.std.specs.Option.{option_or}
 use Rattle.history_model.specs.History.{History}
-use Rattle.reg_lamport.specs.Levels.{IsFirstBadRead}
+use Rattle.reg_lamport.specs.Levels.{IsFirstBadNamed}
 use Rattle.reg_lamport.specs.declared.level.Level.TheVariants.{Safe, Regular}
 use Rattle.reg_pieces.specs.declared.bad_reads.BadReads.{BadReads}
 
 -- of the completed reads of register r numbered from `from` up to and without `to`, the first that isn't safe, and the first that isn't regular
 abbrev pub AreFirstBad : History → ℕ → ℕ → ℕ → BadReads → Type 0
-AreFirstBad h r from to reads = IsFirstBadRead h r Safe from to reads.safe × IsFirstBadRead h r Regular from to reads.regular
+AreFirstBad h r from to reads = IsFirstBadNamed h r Safe from to reads.safe × IsFirstBadNamed h r Regular from to reads.regular
 
 -- none of either kind
 abbrev pub no_reads : BadReads

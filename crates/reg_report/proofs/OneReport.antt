@@ -6,7 +6,7 @@ use Rattle.history_model.specs.History.{History}
 use Rattle.history_model.specs.Operations.{Operation, IsHistory, operations, register_of}
 use Rattle.history_model.specs.Naming.{IsNamed, name_of}
 use Rattle.history_model.specs.declared.ids.Oper.{Oper}
-use Rattle.reg_lamport.specs.Levels.{IsFirstBreak}
+use Rattle.reg_lamport.specs.Levels.{IsFirstBadRead}
 use Rattle.reg_lamport.specs.declared.level.Level.{Level}
 use Rattle.reg_lamport.specs.declared.level.Level.TheVariants.{Safe, Regular}
 use Rattle.reg_zones.specs.Inversions.{inversion_named}
@@ -37,8 +37,8 @@ same_list (x ∷ xs) (y ∷ ys) l f = ap (λ z. z ∷ xs) (f 0 x y refl refl) �
 
 -- ---- levels
 
-one_break : (level : Level) (ops : List Operation) → IsHistory ops → (r q : Operation) → IsFirstBreak level ops r → IsFirstBreak level ops q → r ≡ q
-one_break level ops y r q a b = y.calls r q a.within b.within (elim (cases_order r.call q.call) [
+one_bad_read : (level : Level) (ops : List Operation) → IsHistory ops → (r q : Operation) → IsFirstBadRead level ops r → IsFirstBadRead level ops q → r ≡ q
+one_bad_read level ops y r q a b = y.calls r q a.within b.within (elim (cases_order r.call q.call) [
   | inl e ↦ e
   | inr c ↦ elim c [ inl l ↦ absurd (a.breaks (b.first r a.within a.read l)) | inr l ↦ absurd (b.breaks (a.first q b.within b.read l)) ]
 ])
@@ -48,7 +48,7 @@ one_verdict level ops y Yes Yes l m a b = (refl, a.2 ∙ sym b.2)
 one_verdict level ops y Yes No l m a b = absurd (b.1.1.breaks (a.1 b.1.0 b.1.1.within b.1.1.read))
 one_verdict level ops y Yes SeveralWriters l m a b = absurd (b.0 a.0)
 one_verdict level ops y No Yes l m a b = absurd (a.1.1.breaks (b.1 a.1.0 a.1.1.within a.1.1.read))
-one_verdict level ops y No No l m a b = (refl, a.1.2 ∙ (ap (λ (o : Operation). Some o.line) (one_break level ops y a.1.0 b.1.0 a.1.1 b.1.1) ∙ sym b.1.2))
+one_verdict level ops y No No l m a b = (refl, a.1.2 ∙ (ap (λ (o : Operation). Some o.line) (one_bad_read level ops y a.1.0 b.1.0 a.1.1 b.1.1) ∙ sym b.1.2))
 one_verdict level ops y No SeveralWriters l m a b = absurd (b.0 a.0)
 one_verdict level ops y SeveralWriters Yes l m a b = absurd (a.0 b.0)
 one_verdict level ops y SeveralWriters No l m a b = absurd (a.0 b.0)

@@ -8,7 +8,7 @@ use Rattle.history_model.specs.declared.event.Event.{Event}
 use Rattle.history_model.specs.Lamport.{HasSingleWriter}
 use Rattle.history_model.specs.Naming.{IsNamed, name_of}
 use Rattle.history_model.specs.declared.ids.Oper.{Oper}
-use Rattle.reg_lamport.specs.Levels.{IsAtLevel, IsFirstBreak}
+use Rattle.reg_lamport.specs.Levels.{IsAtLevel, IsFirstBadRead}
 use Rattle.reg_lamport.specs.declared.level.Level.{Level}
 use Rattle.reg_lamport.specs.declared.level.Level.TheVariants.{Safe, Regular}
 use Rattle.reg_zones.specs.Faults.{IsFault}
@@ -38,7 +38,7 @@ is_pending o = not o.completed
 -- Whether a register keeps a level, and of the reads that break it the line of the one of least call. The level is defined for a single writer (Lamport, On Interprocess Communication, Part II, 1986).
 abbrev pub IsVerdict : Level → List Operation → Verdict → Option ℕ → Type 0
 IsVerdict level ops Yes line = HasSingleWriter ops × IsAtLevel level ops × (line ≡ None)
-IsVerdict level ops No line = HasSingleWriter ops × ((r : Operation) × IsFirstBreak level ops r × (line ≡ Some r.line))
+IsVerdict level ops No line = HasSingleWriter ops × ((r : Operation) × IsFirstBadRead level ops r × (line ≡ Some r.line))
 IsVerdict level ops SeveralWriters line = (HasSingleWriter ops → ⊥) × (line ≡ None)
 
 -- ---- a fault

@@ -1,7 +1,7 @@
 //! Whether a register is safe and regular, with the reads that break it.
 ghost use Rattle.std.specs.Prelude.{◌≡◌, ◌+◌, ◌<◌, ℕ, length, drop, Some};
 ghost use Rattle.history_model.specs.Lamport.{HasSingleWriter};
-ghost use Rattle.reg_lamport.specs.Levels.{IsFirstBadRead};
+ghost use Rattle.reg_lamport.specs.Levels.{IsFirstBadNamed};
 ghost use Rattle.reg_lamport.specs.Reads.{IsReadList};
 ghost use Rattle.reg_report.specs.Cuts.{HasCuts, HasCutsOf, cuts_ahead};
 ghost use Rattle.reg_report.specs.Levels.{AreLevels, IsLevelAnswer};
@@ -35,7 +35,7 @@ pub(crate) struct Levels {
 fn level_answer(arena: &Arena, list: &ReadList, level: Level, first: Option<EvId>) -> LevelAnswer
     requires list { IsReadList arena.now list.now }
     requires writer { HasSingleWriter (register_of arena.now list.now.register) }
-    requires first { IsFirstBadRead arena.now list.now.register level 0 (length list.now.entries) first }
+    requires first { IsFirstBadNamed arena.now list.now.register level 0 (length list.now.entries) first }
     ensures { IsLevelAnswer level (register_of arena.now list.now.register) result }
 {
     match first {

@@ -41,7 +41,7 @@ pub record IsFirstEarly (ops : List Operation) (r w : Operation) : Type 0 where
   pub first : (q u : Operation) → IsEarly ops q u → r.call ≤ q.call
 
 -- where no read is unwritten or early: the first two writes whose zones conflict
-pub record IsFirstClash (ops : List Operation) (v w : Operation) : Type 0 where
+pub record IsConflictFault (ops : List Operation) (v w : Operation) : Type 0 where
   pub written : (q : Operation) → IsUnwritten ops q → ⊥
   pub in_time : (q u : Operation) → IsEarly ops q u → ⊥
   pub conflict : IsFirstConflict ops v w
@@ -58,5 +58,5 @@ abbrev pub IsFault : List Operation → Fault → Type 0
 IsFault ops (Unwritten read) = (r : Operation) × IsFirstUnwritten ops r × (name_of r ≡ read)
 IsFault ops (Early read write) = (r : Operation) × (w : Operation) × IsFirstEarly ops r w × (name_of r ≡ read) × (name_of w ≡ write)
 IsFault ops (Zones writes first second) = (v : Operation) × (w : Operation) × (a : Operation) × (b : Operation) × (c : Operation) × (d : Operation)
-    × IsFirstClash ops v w × IsWitness ops v w a b × IsWitness ops w v c d
+    × IsConflictFault ops v w × IsWitness ops v w a b × IsWitness ops w v c d
     × (writes ≡ (name_of v, name_of w)) × (first ≡ (name_of a, name_of b)) × (second ≡ (name_of c, name_of d))

@@ -3,7 +3,7 @@ ghost use Rattle.std.specs.Prelude.{◌≡◌, ◌<◌, length};
 ghost use Rattle.history_model.specs.Lists.{In};
 ghost use Rattle.history_model.specs.Operations.{Operation, IsCompleted};
 ghost use Rattle.history_model.specs.Naming.{name_of};
-ghost use Rattle.reg_zones.specs.Faults.{IsFault, IsFirstClash};
+ghost use Rattle.reg_zones.specs.Faults.{IsFault, IsConflictFault};
 ghost use Rattle.reg_zones.specs.Register.{operations_of};
 ghost use Rattle.reg_zones.specs.Sweep.{IsClusterOf};
 
@@ -37,7 +37,7 @@ pub enum Fault {
 
 /// The fault of the first two clusters that conflict, with the operations that show it.
 pub(crate) fn conflict_of(register: Register<'_>, first: Cluster, second: Cluster) -> Fault
-    requires { (v : Operation) × (w : Operation) × IsFirstClash (operations_of register) v w
+    requires { (v : Operation) × (w : Operation) × IsConflictFault (operations_of register) v w
         × IsClusterOf (operations_of register) v first
         × IsClusterOf (operations_of register) w second }
     ensures { IsFault (operations_of register.entry) result }
