@@ -1,6 +1,6 @@
 -- Operations, their names and their events belong to one another, one to one.
-use Rattle.std.proofs.Common.{◌≡◌, ℕ, suc, ◌+◌, ◌-◌, ◌<◌, ◌&&◌, ◌||◌, not, Bool, true, false, List, [], ◌++◌, length, drop, take, slice_get, Option, Some, None, ◌⊎◌, inl, inr, refl, sym, ap, subst, ◌∙◌, arith, option_map, option_and_then}
-use Rattle.std.proofs.lemmas.Bool.{cases_order, false≢true}
+use Rattle.std.proofs.Common.{◌≡◌, ℕ, suc, ◌+◌, ◌-◌, ◌<◌, ◌&&◌, ◌||◌, not, true, false, List, [], ◌++◌, length, drop, take, slice_get, Option, Some, None, ◌⊎◌, inl, inr, refl, sym, ap, subst, ◌∙◌, arith, option_map, option_and_then}
+use Rattle.std.proofs.lemmas.Bool.{cases_order, false≢true, or_cases, or_right}
 use Rattle.history_text.specs.declared.event.OpKind.{OpKind}
 use Rattle.history_text.specs.declared.event.OpKind.TheVariants.{ReadOp, WriteOp}
 use Rattle.history_text.specs.declared.event.Val.{Val}
@@ -23,7 +23,7 @@ use Rattle.history_model.specs.declared.event.What.TheVariants.{Call, Reply, Fai
 use Rattle.history_model.proofs.Accepted.{line-at, call-asks, asked-call, asking, call-line, reply-line}
 use Rattle.history_model.proofs.Turns.{IsReplyTo, reply-event, write-value, register-below, register-named}
 use Rattle.history_model.proofs.Belonging.{IsReplied, IsCallOf, next-at, called-one, same-call, call-In}
-use Rattle.history_model.proofs.Walking.{HaveRegisters}
+use Rattle.history_model.proofs.Walking.{HaveRegisters, operation-call}
 use Rattle.history_model.proofs.Recorded.{initials-In, In-initials, In-of_register, one-event, apart-called, not_before}
 use Rattle.history_model.proofs.Lists.{append-In, In-left, In-right}
 
@@ -104,10 +104,6 @@ reply-no_fail (Call kind) h = refl
 reply-no_fail (Reply kind) h = refl
 reply-no_fail (Fail kind) h = absurd (false≢true h)
 reply-no_fail Crash h = refl
-
-or-cases : (a b : Bool) → (a || b) ≡ true → (a ≡ true) ⊎ (b ≡ true)
-or-cases true b h = inl refl
-or-cases false b h = inr h
 
 begins-with : (e : Event) (next : Option (ℕ × Event)) → is_a_call e.what ≡ true → has_failed next ≡ false → begins e next ≡ true
 begins-with e next c f = ap (λ b. b && not (has_failed next)) c ∙ ap not f
@@ -194,17 +190,13 @@ module _ (es : List LineEvent) (acc : AreAccepted es) where
       let o = operation (length evs + 2) (2 + i) e (reply_in (next_of e.process (suc (2 + i)) (drop (suc i) evs))) in
       let inside = call-In (length evs + 2) 2 evs i e at begun in
       let x = called-one evs o inside in
-      let place : x.0 ≡ i = omega (arith, x.2.call, time (length evs + 2) (2 + i) e (reply_in (next_of e.process (suc (2 + i)) (drop (suc i) evs)))) in
+      let place : x.0 ≡ i = omega (arith, x.2.call, operation-call (length evs + 2) (2 + i) e (reply_in (next_of e.process (suc (2 + i)) (drop (suc i) evs)))) in
       let same : x.1 ≡ e = let a = x.2.there in let s = ap (slice_get evs) place in cc (a, s, at) in
       (o, inside, subst (λ (v : Event). IsCallOf evs o i v) same (subst (λ k. IsCallOf evs o k x.1) place x.2))
-    where
-      time : (n t : ℕ) (e : Event) (r : Option (ℕ × Event)) → (operation n t e r).call ≡ t
-      time n t e None = refl
-      time n t e (Some r) = refl
 
   -- the operation that an event belongs to
   pub event-has : (i : ℕ) (e : Event) → slice_get (events_after [] es) i ≡ Some e → belongs_at (events_after [] es) i e ≡ true → (o : Operation) × IsEventIn (record { names = register_names es; events = events_after [] es }) i e o
-  event-has i e at has = elim (or-cases (is_a_reply e.what) (begins_at (events_after [] es) i e) has) [
+  event-has i e at has = elim (or_cases (is_a_reply e.what) (begins_at (events_after [] es) i e) has) [
     | inr begun ↦ let x = begun-has i e at (at-begun (events_after [] es) i e begun) in (x.0, call-in x.0 i e x.1 x.2)
     | inl reply ↦
         let evs = events_after [] es in
@@ -263,7 +255,7 @@ module _ (es : List LineEvent) (acc : AreAccepted es) where
               let same = one-event es acc y.0 i y.1 e z.there at k in
               let begun = begun-at (events_after [] es) y.0 y.1 z.begun in
               let here : begins_at (events_after [] es) i e ≡ true = ap (λ (v : Event). begins_at (events_after [] es) i v) (sym same) ∙ (ap (λ m. begins_at (events_after [] es) m y.1) (sym k) ∙ begun) in
-              false≢true (sym none ∙ or-right (is_a_reply e.what) (begins_at (events_after [] es) i e) here)
+              false≢true (sym none ∙ or_right (is_a_reply e.what) (begins_at (events_after [] es) i e) here)
           | inr q ↦ elim z.ends [
             | inl p ↦ false≢true (sym p.open_one ∙ q.0)
             | inr r ↦
@@ -275,10 +267,6 @@ module _ (es : List LineEvent) (acc : AreAccepted es) where
           ]
         ]
   ]
-    where
-      or-right : (a b : Bool) → b ≡ true → (a || b) ≡ true
-      or-right true b h = refl
-      or-right false b h = h
 
   -- an event belongs to one operation
   pub event-one : (i : ℕ) (o p : Operation) → In o (operations (record { names = register_names es; events = events_after [] es })) → In p (operations (record { names = register_names es; events = events_after [] es })) → IsEventOf i o → IsEventOf i p → o ≡ p

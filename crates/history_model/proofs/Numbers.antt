@@ -5,6 +5,7 @@ use Rattle.std.specs.List.{filter, position_or_len}
 use Rattle.std.proofs.lemmas.List.Elements.{filter_map-append, filter-append}
 use Rattle.std.proofs.lemmas.Slice.Eq.{bytes_eq-Decides}
 use Rattle.std.proofs.lemmas.Bool.{false≢true}
+use Rattle.std.proofs.lemmas.List.{length_push}
 use Rattle.history_text.specs.declared.event.LineEvent.{LineEvent}
 use Rattle.history_model.specs.Lists.{In}
 use Rattle.history_model.specs.Events.{Asked, asked_by}
@@ -165,10 +166,6 @@ In-push n [] ms h = elim h [ ]
 In-push n (x ∷ ns) ms (inl e) = inl e
 In-push n (x ∷ ns) ms (inr i) = inr (In-push n ns ms i)
 
-length-push : (ns : List Name) (a : Name) → length ns ≤ length (ns ++ a ∷ [])
-length-push [] a = omega arith
-length-push (n ∷ ns) a = let r = length-push ns a in omega arith
-
 pub keeps-push : (es : List LineEvent) (e : LineEvent) → Keeps (register_names es) (register_names (es ++ e ∷ []))
 keeps-push es e = go (asked_by e.kind) refl
   where
@@ -179,7 +176,7 @@ keeps-push es e = go (asked_by e.kind) refl
       | inr f ↦ subst (Keeps (register_names es)) (sym (names-new es e a h f)) (record {
         names = λ n i. In-push n (register_names es) (a.register ∷ []) i;
         numbers = λ n i. place-append n (register_names es) (a.register ∷ []) i;
-        grows = length-push (register_names es) a.register;
+        grows = omega (arith, length_push (register_names es) a.register);
       })
     ]
 

@@ -1,11 +1,12 @@
 -- In an accepted history the calls and replies of a process take turns, a reply is of its call's register, kind and value, and no value is written twice.
-use Rattle.std.proofs.Common.{◌≡◌, ℕ, zero, suc, ◌+◌, ◌-◌, ◌<◌, ◌≤◌, ◌&&◌, cond, Bool, true, false, List, [], ◌∷◌, ◌++◌, length, take, slice_get, Option, Some, None, inl, inr, refl, sym, ap, subst, ◌∙◌, arith, is_some, option_map, option_and_then}
+use Rattle.std.proofs.Common.{◌≡◌, ℕ, zero, suc, ◌+◌, ◌-◌, ◌<◌, cond, Bool, true, false, List, [], ◌∷◌, ◌++◌, length, take, slice_get, Option, Some, None, inl, inr, refl, sym, ap, subst, ◌∙◌, arith, is_some, option_map, option_and_then}
 use Rattle.std.specs.Prelude.{bytes_eq}
 use Rattle.std.specs.Option.{option_or}
 use Rattle.std.specs.List.{position_or_len}
-use Rattle.std.proofs.lemmas.Bool.{cases_order, eq-eqb, eqb-true, false≢true}
+use Rattle.std.proofs.lemmas.Bool.{cases_order, eq-eqb, eqb-true, false≢true, and_from}
 use Rattle.std.proofs.lemmas.Bool.Decides.{Decides-int_eq}
 use Rattle.std.proofs.lemmas.Slice.Eq.{bytes_eq-Decides}
+use Rattle.std.proofs.lemmas.List.{take_all}
 use Rattle.history_text.specs.declared.event.Val.{Val}
 use Rattle.history_text.specs.declared.event.Val.TheVariants.{Int}
 use Rattle.history_text.specs.declared.event.OpKind.{OpKind}
@@ -206,10 +207,7 @@ value-fresh before le name n h k =
     none-of (Some x) e = absurd (cc (e))
 
 writes-itself : (name : List ℕ) (n : _) (k : Kind) → k ≡ CallWrite name n → writes_to name (Int n) k ≡ true
-writes-itself name n k h = ap (writes_to name (Int n)) h ∙ both (bytes_eq name name) _ ((bytes_eq-Decides name name).1 refl) ((Decides-int_eq n n).1 refl)
-  where
-    both : (a b : Bool) → a ≡ true → b ≡ true → (a && b) ≡ true
-    both a b p q = ap (λ a. a && b) p ∙ q
+writes-itself name n k h = ap (writes_to name (Int n)) h ∙ and_from (bytes_eq name name) _ ((bytes_eq-Decides name name).1 refl) ((Decides-int_eq n n).1 refl)
 
 write-asked : (a : Asked) (ev : Event) → kind_in ev.what ≡ a.kind → writes (kind_in ev.what) ≡ true → a.kind ≡ WriteOp
 write-asked a ev q w = go a.kind (ap writes (sym q) ∙ w)
@@ -254,16 +252,10 @@ register-below es acc s c e at call =
     let x = call-event es s c a.0 e at.is a.1 in
     let end : s < length es + suc s = omega arith in
     let kept = number-later es s (length es + suc s) c a.0 end at.there a.1 in
-    let all : take (length es + suc s) es ≡ es = take-all es (length es + suc s) (omega arith) in
+    let all : take (length es + suc s) es ≡ es = take_all (length es + suc s) es (omega arith) in
     let i : In a.0.register (register_names es) = subst (λ xs. In a.0.register (register_names xs)) all kept.0 in
     let n : register_number es a.0.register ≡ number_in e.register = ap (λ xs. register_number xs a.0.register) (sym all) ∙ (kept.1 ∙ sym x.says.number) in
     subst (λ k. k < length (register_names es)) n (place-in a.0.register (register_names es) i).0
-  where
-    take-all : {X : Type 0} (xs : List X) (m : ℕ) → length xs ≤ m → take m xs ≡ xs
-    take-all [] zero l = refl
-    take-all [] (suc m) l = refl
-    take-all (x ∷ xs) zero l = absurd (omega arith)
-    take-all (x ∷ xs) (suc m) l = ap (λ ys. x ∷ ys) (take-all xs m (omega arith))
 
 -- the register of any event has a name: a reply's and a fail's is that of the open call
 pub register-named : (es : List LineEvent) → AreAccepted es → (t : ℕ) (le : LineEvent) (ev : Event) → IsLineAt es t ev le → (r : ℕ) → by_register ev ≡ Some r → r < length (register_names es)

@@ -1,5 +1,5 @@
 -- The lines of an input, where the next line feed has been looked for.
-use Rattle.std.proofs.Common.{◌≡◌, ℕ, ◌+◌, ◌-◌, ◌<◌, ◌≤◌, List, [], ◌∷◌, ◌++◌, length, take, drop, get_or, Bool, true, false, Some, None, refl, sym, ap, subst, ◌∙◌, arith, suc}
+use Rattle.std.proofs.Common.{◌≡◌, ℕ, ◌+◌, ◌-◌, ◌<◌, ◌≤◌, List, [], ◌∷◌, ◌++◌, length, take, drop, get_or, Bool, true, false, Some, None, sym, ap, subst, ◌∙◌, arith, suc}
 use Rattle.std.specs.Prelude.{if◌then◌else◌, slice_range}
 use Rattle.std.proofs.lemmas.List.{take-append-drop, get_or-take, length-take-le, append-nil, take_all, drop-drop, length-drop}
 use Rattle.std.proofs.lemmas.List.Elements.{All-from_get_or, All-push}
@@ -7,17 +7,14 @@ use Rattle.std.proofs.lemmas.List.Splits.{slice_split_at, slice_split_none}
 use Rattle.std.proofs.Math.Seq.{drop-cons}
 use Rattle.std.specs.List.{All}
 use Rattle.std.specs.Prelude.{◌==◌}
+use Rattle.std.proofs.lemmas.Bool.{false_from_ne_true}
 use Rattle.memchr.specs.Find.{IsFirstByte, is_byte}
 use Rattle.history_text.specs.declared.lines.Span.{Span}
 use Rattle.history_text.specs.Lines.{lines, is_blank}
 use Rattle.history_text.proofs.Numbered.{numbered}
 
-not_feed : (b : Bool) → (b ≡ true → ⊥) → b ≡ false
-not_feed true h = absurd (h refl)
-not_feed false h = refl
-
 no_feed : (xs : List ℕ) → ((k : ℕ) → k < length xs → (get_or xs k 0 == 10) ≡ true → ⊥) → All (λ b. (b == 10) ≡ false) xs
-no_feed xs h = All-from_get_or (λ b. (b == 10) ≡ false) xs 0 (λ k lt. not_feed (get_or xs k 0 == 10) (h k lt))
+no_feed xs h = All-from_get_or (λ b. (b == 10) ≡ false) xs 0 (λ k lt. false_from_ne_true (get_or xs k 0 == 10) (h k lt))
 
 pub lines-none : (xs : List ℕ) → IsFirstByte (is_byte 10) xs None → lines xs ≡ xs ∷ []
 lines-none xs h = slice_split_none (λ b. b == 10) xs (no_feed xs (λ k lt. h k (omega arith) lt))

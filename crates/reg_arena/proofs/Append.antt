@@ -2,6 +2,7 @@
 use Rattle.std.proofs.Common.{◌≡◌, ℕ, ◌+◌, ◌<◌, ◌&&◌, not, cond, Bool, true, false, List, [], ◌∷◌, ◌++◌, length, slice_get, Option, Some, None, ◌⊎◌, inl, inr, refl, sym, ap, subst, ◌∙◌, arith, option_and_then}
 use Rattle.std.specs.Option.{option_or}
 use Rattle.std.proofs.lemmas.Option.{slice_get_past, slice_get_within}
+use Rattle.std.proofs.lemmas.Bool.{cases_eq}
 use Rattle.history_text.specs.declared.event.Val.{Val}
 use Rattle.history_model.specs.declared.ids.EvId.{EvId}
 use Rattle.history_model.specs.declared.event.Event.{Event}
@@ -10,7 +11,7 @@ use Rattle.history_model.specs.Operations.{is_a_call, is_a_reply, kind_in, write
 use Rattle.history_model.specs.Walking.{IsLeastFrom, IsFirstOf, key_at, by_value}
 use Rattle.reg_arena.specs.EventLists.{IsThreaded, IsJoinedBy, link_at, by_write, by_reply, by_read}
 use Rattle.reg_arena.proofs.Threading.{IsPushed, threaded-alone, threaded-joined}
-use Rattle.history_model.proofs.Lists.{decide_eq, slice_get-push, slice_get-push_other}
+use Rattle.history_model.proofs.Lists.{slice_get-push, slice_get-push_other}
 
 -- links and ends that are the same at each place are threaded alike
 threaded-same : {K : Type 0} (key : ℕ → Option K) (link new_link : ℕ → Option EvId) (ends new_ends : K → Option Ends) → ((i : ℕ) → new_link i ≡ link i) → ((k : K) → new_ends k ≡ ends k) → IsThreaded key link ends → IsThreaded key new_link new_ends
@@ -62,7 +63,7 @@ pub key-keep : {K : Type 0} (key : Event → Option K) (es : List Event) (e : Ev
 key-keep key es e i k h = let l = key-within key es i k h in ap (option_and_then key) (slice_get-push_other es e i (λ c. omega arith)) ∙ h
 
 pub key-back : {K : Type 0} (key : Event → Option K) (es : List Event) (e : Event) (i : ℕ) (k : K) → key_at key (es ++ e ∷ []) i ≡ Some k → ((i ≡ length es) × (key e ≡ Some k)) ⊎ (key_at key es i ≡ Some k)
-key-back key es e i k h = elim (decide_eq i (length es)) [
+key-back key es e i k h = elim (cases_eq i (length es)) [
   | inl q ↦ inl (q, sym (ap (option_and_then key) (ap (slice_get (es ++ e ∷ [])) q ∙ slice_get-push es e)) ∙ h)
   | inr ne ↦ inr (sym (ap (option_and_then key) (slice_get-push_other es e i ne)) ∙ h)
 ]

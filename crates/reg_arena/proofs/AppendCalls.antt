@@ -4,7 +4,8 @@ use Rattle.history_text.specs.declared.limits.TheConstants.{MAX_EVENTS}
 use Rattle.std.specs.Option.{option_or}
 use Rattle.std.proofs.lemmas.List.{length-set}
 use Rattle.std.proofs.lemmas.Option.{slice_get_within}
-use Rattle.std.proofs.lemmas.Bool.{cases_order, eq-eqb, ne_eqb, false≢true}
+use Rattle.std.proofs.lemmas.Bool.{cases_order, eq-eqb, ne_eqb, false≢true, cases_eq}
+use Rattle.std.proofs.Math.Bool.{and-false}
 use Rattle.history_model.specs.declared.ids.EvId.{EvId}
 use Rattle.history_model.specs.declared.event.Event.{Event}
 use Rattle.history_model.specs.declared.event.What.{What}
@@ -15,7 +16,7 @@ use Rattle.history_model.specs.Walking.{key_at, by_process}
 use Rattle.history_model.specs.Naming.{begins_at}
 use Rattle.reg_arena.specs.EventLists.{IsCall, IsCallAt, call_at, calls_with, no_call}
 use Rattle.history_model.proofs.Belonging.{drop-get, next-some, next-none}
-use Rattle.history_model.proofs.Lists.{decide_eq, slice_get-push, slice_get-push_other, slice_get-set, slice_get-set_other}
+use Rattle.history_model.proofs.Lists.{slice_get-push, slice_get-push_other, slice_get-set, slice_get-set_other, option_or-none}
 use Rattle.reg_arena.proofs.Append.{key-within}
 
 next-push : (p s : ℕ) (xs : List Event) (e : Event) → next_of p s (xs ++ e ∷ []) ≡ option_or (next_of p s xs) (cond (e.process == p) (Some (s + length xs, e)) None)
@@ -63,23 +64,11 @@ fail-no_call (Reply kind) f c = false≢true f
 fail-no_call (Fail kind) f c = false≢true c
 fail-no_call Crash f c = false≢true f
 
-pub and-left : (a b : Bool) → (a && b) ≡ true → a ≡ true
-and-left true b h = refl
-and-left false b h = absurd (false≢true h)
-
-pub or-true : (a : Bool) → (a || true) ≡ true
-or-true true = refl
-or-true false = refl
-
 pub call-no_reply : (w : What) → is_a_call w ≡ true → is_a_reply w ≡ false
 call-no_reply (Call kind) h = refl
 call-no_reply (Reply kind) h = absurd (false≢true h)
 call-no_reply (Fail kind) h = refl
 call-no_reply Crash h = refl
-
-pub drop-all : (xs : List Event) (e : Event) → drop (suc (length xs)) (xs ++ e ∷ []) ≡ []
-drop-all [] e = refl
-drop-all (x ∷ xs) e = drop-all xs e
 
 abbrev pub event_id : ℕ → EvId
 event_id m = record { 0 = m }
@@ -125,11 +114,7 @@ module _ (es : List Event) (e : Event) where
 
   -- a call of another process is kept
   begins-apart : (i : ℕ) (f : Event) → i < length es → (e.process ≡ f.process → ⊥) → begins_at (es ++ e ∷ []) i f ≡ begins_at es i f
-  begins-apart i f l ne = ap (begins f) (next-after i f.process l ∙ (ap (λ b. option_or (next_of f.process (suc (i + 2)) (drop (suc i) es)) (cond b (Some (suc (i + 2) + length (drop (suc i) es), e)) None)) (ne_eqb e.process f.process ne) ∙ or-none (next_of f.process (suc (i + 2)) (drop (suc i) es))))
-    where
-      or-none : {A : Type 0} (o : Option A) → option_or o None ≡ o
-      or-none None = refl
-      or-none (Some x) = refl
+  begins-apart i f l ne = ap (begins f) (next-after i f.process l ∙ (ap (λ b. option_or (next_of f.process (suc (i + 2)) (drop (suc i) es)) (cond b (Some (suc (i + 2) + length (drop (suc i) es), e)) None)) (ne_eqb e.process f.process ne) ∙ option_or-none (next_of f.process (suc (i + 2)) (drop (suc i) es))))
 
   -- the call of an appended fail fails, and no other
   module _ (c : EvId) (h : IsCallAt (es ++ e ∷ []) (length es) c.0) (f : is_a_fail e.what ≡ true) where
@@ -138,7 +123,7 @@ module _ (es : List Event) (e : Event) where
 
     -- the fail is no call
     pub call-before : c.0 < length es
-    call-before = elim (decide_eq c.0 (length es)) [
+    call-before = elim (cases_eq c.0 (length es)) [
       | inl q ↦ absurd (let a = h.call in let w = a.1 in let s = ap (slice_get (es ++ e ∷ [])) q in let same : a.0 ≡ e = cc (w, s, new-at) in fail-no_call e.what f (sym (ap (λ (v : Event). is_a_call v.what) same) ∙ a.2))
       | inr ne ↦ let o = h.order in omega (arith, o, ne)
     ]
@@ -158,13 +143,9 @@ module _ (es : List Event) (e : Event) where
         ∙ (ap (λ o. option_or o (cond (e.process == g.process) (Some (suc (c.0 + 2) + length (drop (suc c.0) es), e)) None)) none
         ∙ ap (λ b. cond b (Some (suc (c.0 + 2) + length (drop (suc c.0) es), e)) None) (eq-eqb e.process g.process (sym own))))
         ∙ (ap (λ b. is_a_call g.what && not b) f ∙ and-false (is_a_call g.what))
-      where
-        and-false : (b : Bool) → (b && false) ≡ false
-        and-false true = refl
-        and-false false = refl
 
     pub begins-unfailed : (i : ℕ) (g : Event) → slice_get es i ≡ Some g → (i ≡ c.0 → ⊥) → begins_at (es ++ e ∷ []) i g ≡ begins_at es i g
-    begins-unfailed i g at ne = go (decide_eq e.process g.process)
+    begins-unfailed i g at ne = go (cases_eq e.process g.process)
       where
         l : i < length es
         l = slice_get_within es i g at

@@ -1,9 +1,10 @@
 -- The entries of the values after an append.
 use Rattle.std.proofs.Common.{◌≡◌, ℕ, suc, ◌+◌, ◌<◌, ◌≤◌, ◌&&◌, ◌||◌, not, nat_lt, nat_eq, cond, Bool, true, false, List, [], ◌∷◌, ◌++◌, length, set, drop, slice_get, Option, Some, None, ◌⊎◌, inl, inr, refl, sym, ap, subst, ◌∙◌, arith, option_and_then, length-append}
 use Rattle.history_text.specs.declared.limits.TheConstants.{MAX_EVENTS}
-use Rattle.std.proofs.lemmas.List.{length-set}
+use Rattle.std.proofs.lemmas.List.{length-set, drop_all, length_push}
 use Rattle.std.proofs.lemmas.Option.{slice_get_within}
-use Rattle.std.proofs.lemmas.Bool.{eqb-true, eqb-false, ltb-true, ltb-false, false≢true}
+use Rattle.std.proofs.lemmas.Bool.{eqb-true, eqb-false, ltb-true, ltb-false, false≢true, and_parts, cases_eq}
+use Rattle.std.proofs.Math.Bool.{or-true}
 use Rattle.history_text.specs.declared.event.Val.{Val}
 use Rattle.history_text.specs.declared.event.OpKind.TheVariants.{ReadOp, WriteOp}
 use Rattle.history_model.specs.declared.ids.EvId.{EvId}
@@ -18,9 +19,9 @@ use Rattle.history_model.specs.Operations.{next_of, has_failed, begins, is_a_cal
 use Rattle.history_model.specs.Walking.{IsFirstOf, key_at, by_value}
 use Rattle.history_model.specs.Naming.{begins_at}
 use Rattle.reg_arena.specs.EventLists.{IsEnteredBy, IsCallOf, IsAppendable, IsLastRead, IsEntry, call_at, calls_with, no_call, by_write, by_reply, by_read, later, write_called, write_kept, write_with, reply_with, read_with, with_call, with_fail, entry_alone, entry_with, entry_after, end_of}
-use Rattle.history_model.proofs.Lists.{decide_eq, slice_get-push, slice_get-push_other}
+use Rattle.history_model.proofs.Lists.{slice_get-push, slice_get-push_other}
 use Rattle.reg_arena.proofs.Append.{first-other, first-with, key-along, key-back, key-keep, key-within, read-said, read-value, reply-said, reply-value, write-call, write-value}
-use Rattle.reg_arena.proofs.AppendCalls.{AreCallsAfter, call-before, begins-failed, begins-unfailed, and-left, begins-other, call-no_reply, call_at-keep, calls-after, drop-all, event_id, fail-no_call, or-true}
+use Rattle.reg_arena.proofs.AppendCalls.{AreCallsAfter, call-before, begins-failed, begins-unfailed, begins-other, call-no_reply, call_at-keep, calls-after, event_id, fail-no_call}
 
 -- an event n is appended whose call is the event `call`
 module _ (es : List Event) (e : Event) (n : EvId) (calls : List EvId) (call : EvId) (at : n.0 ≡ length es) (column : length calls ≡ length es) (room : length es < MAX_EVENTS) (fits : IsAppendable es e call) where
@@ -62,7 +63,7 @@ module _ (es : List Event) (e : Event) (n : EvId) (calls : List EvId) (call : Ev
   call-of_new : (b d : Bool) → is_a_call e.what ≡ b → is_a_reply e.what ≡ d → IsCallOf (es ++ e ∷ []) (length es) e (call_at new_calls (length es))
   call-of_new false false c r = subst (IsCallOf (es ++ e ∷ []) (length es) e) (sym (said.none c r)) (ap (λ b. b || begins_at (es ++ e ∷ []) (length es) e) r ∙ ap (λ b. b && not (has_failed (next_of e.process (suc (length es + 2)) (drop (suc (length es)) (es ++ e ∷ []))))) c)
   call-of_new true d c r = subst (IsCallOf (es ++ e ∷ []) (length es) e) (sym (said.some (ap (λ b. b || is_a_reply e.what) c))) (
-    ap (λ b. b || begins_at (es ++ e ∷ []) (length es) e) (call-no_reply e.what c) ∙ (ap (begins e) (ap (next_of e.process (suc (length es + 2))) (drop-all es e)) ∙ ap (λ b. b && true) c),
+    ap (λ b. b || begins_at (es ++ e ∷ []) (length es) e) (call-no_reply e.what c) ∙ (ap (begins e) (ap (next_of e.process (suc (length es + 2))) (drop_all (suc (length es)) (es ++ e ∷ []) (omega (arith, length_push es e)))) ∙ ap (λ b. b && true) c),
     fits.call (λ q. false≢true (sym (ap is_a_call q) ∙ c)),
   )
   call-of_new false true c r = subst (IsCallOf (es ++ e ∷ []) (length es) e) (sym (said.some (ap (λ b. is_a_call e.what || b) r ∙ or-true (is_a_call e.what)))) (
@@ -71,7 +72,7 @@ module _ (es : List Event) (e : Event) (n : EvId) (calls : List EvId) (call : Ev
   )
 
   pub calls-push : ((i : ℕ) (f : Event) → slice_get es i ≡ Some f → IsCallOf es i f (call_at calls i)) → (i : ℕ) (f : Event) → slice_get (es ++ e ∷ []) i ≡ Some f → IsCallOf (es ++ e ∷ []) i f (call_at new_calls i)
-  calls-push old i f h = elim (decide_eq i (length es)) [
+  calls-push old i f h = elim (cases_eq i (length es)) [
     | inl q ↦
         let w = sym (slice_get-push es e) ∙ (ap (slice_get (es ++ e ∷ [])) (sym q) ∙ h) in
         let same : e ≡ f = cc (w) in
@@ -79,7 +80,7 @@ module _ (es : List Event) (e : Event) (n : EvId) (calls : List EvId) (call : Ev
     | inr ne ↦
         let was = sym (slice_get-push_other es e i ne) ∙ h in
         let l = slice_get_within es i f was in
-        by_fail i f was l (is_a_fail e.what) refl (decide_eq i call.0)
+        by_fail i f was l (is_a_fail e.what) refl (cases_eq i call.0)
   ]
     where
       kept : (i : ℕ) (f : Event) → slice_get es i ≡ Some f → i < length es → (is_a_fail e.what ≡ true → i ≡ call.0 → ⊥) → IsCallOf (es ++ e ∷ []) i f (call_at new_calls i)
@@ -168,7 +169,7 @@ module _ (es : List Event) (e : Event) (n : EvId) (calls : List EvId) (call : Ev
       go Unwritten h = record { first = other None h.first; kept = λ id x. absurd (cc (x)) }
       go (Failed w) h = record {
         first = other (Some w) h.first;
-        kept = λ id x. elim (decide_eq id.0 call.0) [
+        kept = λ id x. elim (cases_eq id.0 call.0) [
           | inl q ↦ ap (call_at new_calls) q ∙ said.failed f
           | inr ne ↦ call-same id.0 (key-within by_write es id.0 k (write-id k id (Some w) x h.first)) (λ _. ne) ∙ h.kept id x
         ];
@@ -209,7 +210,7 @@ module _ (es : List Event) (e : Event) (n : EvId) (calls : List EvId) (call : Ev
           let here : slice_get (es ++ e ∷ []) call.0 ≡ Some g = slice_get-push_other es e call.0 (λ z. omega (arith, l, z)) ∙ (ap (slice_get es) (sym q) ∙ there) in
           let same : c.0 ≡ g = cc (w, here) in
           let is = ap (λ (v : Event). is_a_call v.what) (sym same) ∙ c.2 in
-          let said = and-left (is_a_reply g.what) (not (writes (kind_in g.what))) (read-said g k x) in
+          let said = (and_parts (is_a_reply g.what) (not (writes (kind_in g.what))) (read-said g k x)).0 in
           false≢true (sym (call-no_reply g.what is) ∙ said)
 
   read-same : (k : ℕ × Val) (i : ℕ) → key_at by_read es i ≡ Some k → call_at new_calls i ≡ call_at calls i
@@ -334,7 +335,7 @@ pub numbers-push : (es : List Event) (e : Event) (numbers : List (Option ℕ)) (
     → ((k : ℕ × Val) (j : ℕ) → number k ≡ Some j → new_number k ≡ Some j)
     → m ≡ option_and_then new_number (by_value e)
     → (i : ℕ) (f : Event) → slice_get (es ++ e ∷ []) i ≡ Some f → slice_get (numbers ++ m ∷ []) i ≡ Some (option_and_then new_number (by_value f))
-numbers-push es e numbers m number new_number column old none kept new i f h = elim (decide_eq i (length es)) [
+numbers-push es e numbers m number new_number column old none kept new i f h = elim (cases_eq i (length es)) [
   | inl q ↦
       let w = sym (slice_get-push es e) ∙ (ap (slice_get (es ++ e ∷ [])) (sym q) ∙ h) in
       let same : e ≡ f = cc (w) in

@@ -2,7 +2,7 @@
 use Rattle.std.proofs.Common.{◌≡◌, ℕ, ◌<◌, nat_eq, cond, false, length, slice_get, Option, Some, None, inl, inr, refl, ap, ◌∙◌, ◌||◌, Bool, true, is_some, arith, option_and_then, option_map, unwrap_or, sym, subst, List}
 use Rattle.history_text.specs.declared.limits.TheConstants.{MAX_EVENTS}
 use Rattle.std.proofs.lemmas.Option.{slice_get_past}
-use Rattle.std.proofs.lemmas.Bool.{cases_order, eqb-true, eqb-false, eq-eqb, ne_eqb, false≢true}
+use Rattle.std.proofs.lemmas.Bool.{cases_order, eqb-true, eqb-false, eq-eqb, ne_eqb, false≢true, or_parts}
 use Rattle.history_text.specs.declared.event.Val.{Val}
 use Rattle.history_model.specs.declared.event.Event.{Event}
 use Rattle.history_model.specs.declared.event.What.{What}
@@ -15,14 +15,14 @@ use Rattle.reg_arena.specs.declared.list_ends.Write.{Write}
 use Rattle.reg_arena.specs.declared.list_ends.Write.TheVariants.{Unwritten, Written, Failed}
 use Rattle.history_model.specs.Operations.{is_a_call, is_a_reply}
 use Rattle.reg_arena.specs.declared.event_lists.EventLists.{EventLists}
-use Rattle.history_model.specs.Walking.{IsFirstOf, key_at, by_register, by_value}
+use Rattle.history_model.specs.Walking.{IsFirstOf, key_at, by_value}
 use Rattle.history_model.specs.Naming.{begins_at, belongs_at}
 use Rattle.reg_arena.specs.Step.{IsLastWith}
 use Rattle.history_model.specs.declared.ids.EvId.{EvId}
 use Rattle.history_model.specs.declared.ids.RegId.{RegId}
 use Rattle.reg_arena.specs.EventLists.{AreEventLists, IsAlike, IsCallAt, IsCallOf, IsKeptWrite, IsLastOf, by_write, call_at, event_number, value_entry, value_number, write_called, write_kept}
 use Rattle.reg_arena.proofs.Append.{key-along, write-call, write-value}
-use Rattle.reg_arena.proofs.ByValue.{key-by, key-none, key-parts}
+use Rattle.reg_arena.proofs.ByValue.{key-by, key-none, key-parts, key-register}
 use Rattle.reg_arena.proofs.Values.{number-within as within-keys, entry-is}
 use Rattle.history_model.proofs.Lists.{slice_get_inside}
 
@@ -82,17 +82,10 @@ alike-none es e q = λ k x. absurd (let z = key-none e q in cc (x, z))
 
 -- so is the last event with what a call asks for; a new register has no event
 pub alike-call : (t : EventLists) → AreEventLists t → (e : Event) (r : RegId) (number : Option ℕ) (o : Option EvId) → e.register ≡ Some r → r.0 ≡ unwrap_or number (length t.registers.items) → IsLastWith t.events.items number e.value o → IsAlike t.events.items e o
-alike-call t a e r None o reg q h = subst (IsAlike t.events.items e) (sym h) (λ k x i y. a.registers.none k.0 (slice_get_past t.registers.items k.0 (let z = number-of_key k x in omega (arith, z, q))) i (key-along-register i k y))
+alike-call t a e r None o reg q h = subst (IsAlike t.events.items e) (sym h) (λ k x i y. a.registers.none k.0 (slice_get_past t.registers.items k.0 (let z = number-of_key k x in omega (arith, z, q))) i (key-register t.events.items i k y))
   where
     number-of_key : (k : ℕ × Val) → by_value e ≡ Some k → r.0 ≡ k.0
     number-of_key k x = let p = (key-parts e k x).0 in let w = ap (option_map {U = ℕ} (λ (r : RegId). r.0)) reg in let z : Some r.0 ≡ Some k.0 = sym w ∙ p in cc (z)
-
-    key-along-register : (i : ℕ) (k : ℕ × Val) → key_at by_value t.events.items i ≡ Some k → key_at by_register t.events.items i ≡ Some k.0
-    key-along-register i k y = go (slice_get t.events.items i) y
-      where
-        go : (o : Option Event) → option_and_then by_value o ≡ Some k → option_and_then by_register o ≡ Some k.0
-        go None z = absurd (cc (z))
-        go (Some f) z = (key-parts f k z).0
 alike-call t a e r (Some n) o reg q h = alike-last t.events.items e r o reg (λ v z. some v z h) (λ z. none z h)
   where
     some : (v : Val) → e.value ≡ Some v → IsLastWith t.events.items (Some n) e.value o → IsLastOf by_value t.events.items (r.0, v) o
@@ -156,10 +149,6 @@ column-some calls i c at ne = ap (option_and_then (λ (c : EvId). cond (nat_eq c
 pub begins-column : (es : List Event) (calls : List EvId) (i : ℕ) (e : Event) (c : EvId) → i < MAX_EVENTS → slice_get es i ≡ Some e → slice_get calls i ≡ Some c → IsCallOf es i e (call_at calls i) → nat_eq c.0 i ≡ begins_at es i e
 begins-column es calls i e c l at said k = go (nat_eq c.0 NO_CALL) refl
   where
-    or-second : (a b : Bool) → (a || b) ≡ false → b ≡ false
-    or-second true b h = absurd (false≢true (sym h))
-    or-second false b h = h
-
     or-first : (a b : Bool) → (a || b) ≡ true → b ≡ false → a ≡ true
     or-first true b h q = refl
     or-first false b h q = absurd (false≢true (sym q ∙ h))
@@ -178,7 +167,7 @@ begins-column es calls i e c l at said k = go (nat_eq c.0 NO_CALL) refl
     go true q =
         let far = eqb-true c.0 NO_CALL q in
         let none = subst (IsCallOf es i e) (column-none calls i c said far) k in
-        ne_eqb c.0 i (λ s. omega (arith, s, far, l)) ∙ sym (or-second (is_a_reply e.what) (begins_at es i e) none)
+        ne_eqb c.0 i (λ s. omega (arith, s, far, l)) ∙ sym ((or_parts (is_a_reply e.what) (begins_at es i e) none).1)
     go false q =
         let h = subst (IsCallOf es i e) (column-some calls i c said (eqb-false c.0 NO_CALL q)) k in
         own h.1 h.0 (begins_at es i e) refl

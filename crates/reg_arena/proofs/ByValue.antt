@@ -1,9 +1,9 @@
 -- The key of an event by its register and its value.
-use Rattle.std.proofs.Common.{◌≡◌, ℕ, Option, Some, None, refl, ap, ◌∙◌, option_and_then, option_map}
+use Rattle.std.proofs.Common.{◌≡◌, ℕ, List, Option, Some, None, refl, ap, ◌∙◌, option_and_then, option_map, slice_get}
 use Rattle.history_text.specs.declared.event.Val.{Val}
 use Rattle.history_model.specs.declared.event.Event.{Event}
 use Rattle.history_model.specs.declared.ids.RegId.{RegId}
-use Rattle.history_model.specs.Walking.{by_register, by_value}
+use Rattle.history_model.specs.Walking.{by_register, by_value, key_at}
 
 -- the key of an event with a register and a value
 pub key-by : (e : Event) (r : RegId) (v : Val) → e.register ≡ Some r → e.value ≡ Some v → by_value e ≡ Some (r.0, v)
@@ -30,6 +30,14 @@ key-parts e k h = go e.value refl e.register refl h
     go (Some v) q (Some r) u h =
         let p : (r.0, v) ≡ k = cc (h) in
         (ap (option_map {U = ℕ} (λ (r : RegId). r.0)) u ∙ ap (λ (k : ℕ × Val). Some k.0) p, q ∙ ap (λ (k : ℕ × Val). Some k.1) p)
+
+-- an event of a register and value is one of the register
+pub key-register : (es : List Event) (i : ℕ) (k : ℕ × Val) → key_at by_value es i ≡ Some k → key_at by_register es i ≡ Some k.0
+key-register es i k h = go (slice_get es i) h
+  where
+    go : (o : Option Event) → option_and_then by_value o ≡ Some k → option_and_then by_register o ≡ Some k.0
+    go None z = absurd (cc (z))
+    go (Some e) z = (key-parts e k z).0
 
 pub key-both : (e : Event) (k : ℕ × Val) → by_register e ≡ Some k.0 → e.value ≡ Some k.1 → by_value e ≡ Some k
 key-both e k a b = go e.register refl a

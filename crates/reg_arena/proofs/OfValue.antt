@@ -1,7 +1,7 @@
 -- Operations by their names, and the members of a register's value by the arena's entry.
 use Rattle.std.proofs.Common.{◌≡◌, ℕ, ◌+◌, ◌-◌, ◌<◌, ◌≤◌, ◌&&◌, ◌||◌, not, nat_lt, cond, Bool, true, false, List, length, take, slice_get, Option, Some, None, ◌⊎◌, inl, inr, refl, sym, ap, subst, ◌∙◌, arith, option_map, option_and_then}
 use Rattle.std.specs.Option.{option_or}
-use Rattle.std.proofs.lemmas.Bool.{cases_order, ltb-true, ltb-false, false≢true}
+use Rattle.std.proofs.lemmas.Bool.{cases_order, ltb-true, ltb-false, false≢true, and_parts, or_right}
 use Rattle.history_text.specs.declared.event.Val.{Val}
 use Rattle.history_text.specs.declared.event.Val.TheVariants.{Null, Int}
 use Rattle.history_model.specs.Lists.{In}
@@ -21,7 +21,6 @@ use Rattle.history_model.specs.declared.event.Event.{Event}
 use Rattle.history_model.specs.declared.event.What.{What}
 use Rattle.history_model.specs.declared.event.What.TheVariants.{Reply}
 use Rattle.reg_arena.proofs.Append.{key-within, write-call, write-value, reply-said, reply-value, read-said, read-value}
-use Rattle.reg_arena.proofs.AppendCalls.{and-left}
 use Rattle.reg_arena.proofs.ByValue.{key-both, key-parts}
 use Rattle.history_model.proofs.Walking.{number-known}
 use Rattle.history_model.proofs.Recorded.{In-initials, initials-In}
@@ -51,10 +50,6 @@ known h o i = elim (append-In o (initial_writes (length h.names)) (calls h.event
 ]
 
 -- ---- an event and its call
-
-or-right : (a b : Bool) → b ≡ true → (a || b) ≡ true
-or-right true b h = refl
-or-right false b h = h
 
 module _ (h : History) (rec : IsRecorded h) where
   event-of : (i : ℕ) (e : Event) (o : Operation) → IsEventIn h i e o → IsEventOf i o
@@ -193,7 +188,7 @@ module _ (h : History) (rec : IsRecorded h) where
       let e = event-by by_write id.0 k f.0.1 in
       let call = write-call e.0 k e.2 in
       let value = write-value e.0 k e.2 in
-      let x = event-member id.0 k e.0 e.1 value (or-right (is_a_reply e.0.what) (begins_at h.events id.0 e.0) (f.1 e.0 e.1)) in
+      let x = event-member id.0 k e.0 e.1 value (or_right (is_a_reply e.0.what) (begins_at h.events id.0 e.0) (f.1 e.0 e.1)) in
       let y = x.1 in
       elim y.is [
         | inl q ↦
@@ -251,7 +246,7 @@ module _ (h : History) (rec : IsRecorded h) where
     read-member : (c : EvId) → IsLastRead h.events calls k (Some c) → (o : Operation) × IsMember h k.0 k.1 o × (o.call ≡ c.0 + 2)
     read-member c l =
         let e = event-by by_read l.0.0 k l.0.1 in
-        let reply = and-left (is_a_reply e.0.what) (not (writes (kind_in e.0.what))) (read-said e.0 k e.2) in
+        let reply = (and_parts (is_a_reply e.0.what) (not (writes (kind_in e.0.what))) (read-said e.0 k e.2)).0 in
         let has : belongs_at h.events l.0.0 e.0 ≡ true = ap (λ b. b || begins_at h.events l.0.0 e.0) reply in
         let x = event-member l.0.0 k e.0 e.1 (read-value e.0 k e.2) has in
         let c' = column-call l.0.0 e.0 x.0 x.1 has in

@@ -2,10 +2,11 @@
 use Rattle.std.proofs.Common.{◌≡◌, ℕ, ℤ, zero, suc, ◌<◌, ◌&&◌, cond, Bool, true, false, List, [], ◌∷◌, length, take, slice_get, Option, Some, None, inl, inr, refl, sym, ap, subst, ◌∙◌, arith, is_some, option_and_then}
 use Rattle.std.specs.Prelude.{bytes_eq}
 use Rattle.std.specs.Option.{option_or}
-use Rattle.std.proofs.lemmas.Bool.{cases_order, eq-eqb, eqb-true, false≢true}
+use Rattle.std.proofs.lemmas.Bool.{cases_order, eq-eqb, eqb-true, false≢true, and_parts}
 use Rattle.std.proofs.lemmas.Bool.Decides.{Decides-int_eq}
 use Rattle.std.proofs.lemmas.Slice.Eq.{bytes_eq-Decides}
 use Rattle.std.proofs.lemmas.Option.{slice_get_within}
+use Rattle.std.proofs.lemmas.List.{take_all}
 use Rattle.history_text.specs.Values.{value_eq}
 use Rattle.history_text.specs.declared.event.Val.{Val}
 use Rattle.history_text.specs.declared.event.Val.TheVariants.{Null, Int}
@@ -222,11 +223,7 @@ module _ (es : List LineEvent) (acc : AreAccepted es) where
   pub number-stays : (i : ℕ) (c : LineEvent) (a : Asked) → slice_get es i ≡ Some c → asked_by c.kind ≡ Some a → In a.register (register_names es) × (register_number es a.register ≡ register_number (take i es) a.register)
   number-stays i c a at asks =
       let l = slice_get_within es i c at in
-      subst (λ (xs : List LineEvent). In a.register (register_names xs) × (register_number xs a.register ≡ register_number (take i es) a.register)) (take-whole es) (number-later es i (length es) c a l at asks)
-    where
-      take-whole : {X : Type 0} (xs : List X) → take (length xs) xs ≡ xs
-      take-whole [] = refl
-      take-whole (x ∷ xs) = ap (λ ys. x ∷ ys) (take-whole xs)
+      subst (λ (xs : List LineEvent). In a.register (register_names xs) × (register_number xs a.register ≡ register_number (take i es) a.register)) (take_all (length es) es (omega arith)) (number-later es i (length es) c a l at asks)
 
   -- the name at the number of an open call's register
   pub name-at : (p : ℕ) (o : Open) (c : LineEvent) (a : Asked) → IsOpenEvent p o c a → slice_get (register_names es) o.register.0 ≡ Some a.register
@@ -240,10 +237,6 @@ module _ (es : List LineEvent) (acc : AreAccepted es) where
   written-key : (name : List ℕ) (v : Val) (i : ℕ) (c : LineEvent) → slice_get es i ≡ Some c → writes_to name v c.kind ≡ true → In name (register_names es) × (key_at by_write (history_of es).events i ≡ Some (register_number es name, v))
   written-key name v i c at w = go c.kind refl w
     where
-      both : (a b : Bool) → (a && b) ≡ true → (a ≡ true) × (b ≡ true)
-      both true b h = (refl, h)
-      both false b h = absurd (false≢true h)
-
       value-is : (n : ℤ) (v : Val) → value_eq (Int n) v ≡ true → v ≡ Int n
       value-is n Null h = absurd (false≢true h)
       value-is n (Int m) h = ap Int (sym ((Decides-int_eq n m).0 h))
@@ -254,7 +247,7 @@ module _ (es : List LineEvent) (acc : AreAccepted es) where
       go (Fail parts) q h = absurd (false≢true h)
       go Crash q h = absurd (false≢true h)
       go (CallWrite m n) q h =
-          let t = both (bytes_eq m name) (value_eq (Int n) v) h in
+          let t = and_parts (bytes_eq m name) (value_eq (Int n) v) h in
           let e : m ≡ name = (bytes_eq-Decides m name).0 t.0 in
           let x : v ≡ Int n = value-is n v t.1 in
           let a : Asked = record { register = m; kind = WriteOp; value = Some (Int n) } in

@@ -3,7 +3,7 @@ use Rattle.std.proofs.Common.{◌≡◌, ℕ, zero, suc, ◌+◌, ◌<◌, ◌�
 use Rattle.std.specs.Prelude.{Result, Ok, Err, flat_map}
 use Rattle.std.specs.Result.{result_ok, IsErrAnd, IfErr}
 use Rattle.std.proofs.lemmas.Bool.{cases_order}
-use Rattle.std.proofs.lemmas.List.{append_assoc, append-nil, length-append}
+use Rattle.std.proofs.lemmas.List.{append_assoc, append-nil, length-append, take_all}
 use Rattle.std.proofs.lemmas.List.Elements.{filter_map-append}
 use Rattle.std.proofs.lemmas.Option.{slice_get_past}
 use Rattle.history_text.specs.declared.event.LineEvent.{LineEvent}
@@ -18,13 +18,6 @@ use Rattle.history_model.specs.declared.refusal.LineRefusal.{LineRefusal}
 use Rattle.history_model.proofs.Accepted.{take-push}
 use Rattle.reg_arena.proofs.Step.{accepted-push}
 use Rattle.history_model.specs.declared.refusal.Reason.TheVariants.{Faulty}
-
--- a whole list is taken
-pub take-all : {X : Type 0} (xs : List X) (n : ℕ) → length xs ≤ n → take n xs ≡ xs
-take-all [] zero l = refl
-take-all [] (suc n) l = refl
-take-all (x ∷ xs) zero l = absurd (omega arith)
-take-all (x ∷ xs) (suc n) l = ap (λ ys. x ∷ ys) (take-all xs n (omega arith))
 
 -- what stands behind a list doesn't change what is taken of it
 take-front : {X : Type 0} (xs ys : List X) (n : ℕ) → n ≤ length xs → take n (xs ++ ys) ≡ take n xs
@@ -49,7 +42,7 @@ refusal-front lines more i l = ap (λ front. option_and_then (line_refusal front
 
 -- the refusal of the line behind some lines
 refusal-behind : (lines : List Line) (line : Line) (more : List Line) → refusal_at (lines ++ line ∷ more) (length lines) ≡ line_refusal lines line
-refusal-behind lines line more = ap (option_and_then (line_refusal (take (length lines) (lines ++ line ∷ more)))) (get-behind lines line more) ∙ ap (λ front. line_refusal front line) (take-front lines (line ∷ more) (length lines) (omega arith) ∙ take-all lines (length lines) (omega arith))
+refusal-behind lines line more = ap (option_and_then (line_refusal (take (length lines) (lines ++ line ∷ more)))) (get-behind lines line more) ∙ ap (λ front. line_refusal front line) (take-front lines (line ∷ more) (length lines) (omega arith) ∙ take_all (length lines) lines (omega arith))
 
 -- past the end there is none
 refusal-past : (lines : List Line) (i : ℕ) → length lines ≤ i → refusal_at lines i ≡ None

@@ -2,6 +2,7 @@
 use Rattle.std.proofs.Common.{◌≡◌, ℕ, ◌<◌, ◌&&◌, ◌++◌, cond, Bool, true, false, not, List, [], ◌∷◌, length, slice_get, Option, Some, None, ◌⊎◌, inl, inr, refl, sym, ap, ◌∙◌, arith, is_some, is_none, nat_le, option_map, option_and_then}
 use Rattle.std.specs.Option.{option_or}
 use Rattle.std.proofs.lemmas.Bool.{false≢true}
+use Rattle.history_model.proofs.Lists.{option_or-none}
 use Rattle.history_text.specs.declared.limits.TheConstants.{MAX_EVENTS}
 use Rattle.history_text.specs.declared.event.Val.{Val}
 use Rattle.history_text.specs.declared.event.OpKind.{OpKind}
@@ -64,10 +65,6 @@ events-length b (e ∷ es) = let r = events-length (b ++ e ∷ []) es in omega a
 pub full : (es : List LineEvent) (e : LineEvent) → too_many es e ≡ cond (nat_le MAX_EVENTS (length (history_of es).events)) (Some (refused e TooMany)) None
 full es e = ap (λ n. cond (nat_le MAX_EVENTS n) (Some (refused e TooMany)) None) (sym (events-length [] es))
 
-or-none : {A : Type 0} (o : Option A) → option_or o None ≡ o
-or-none None = refl
-or-none (Some x) = refl
-
 skip : {A : Type 0} (a b : Option A) → a ≡ None → option_or a b ≡ b
 skip a b h = ap (λ o. option_or o b) h
 
@@ -83,7 +80,7 @@ module _ (es : List LineEvent) (e : LineEvent) where
   -- ---- each reason by itself
 
   late : event_refusal es e ≡ option_or (call_while_open es e) (option_or (end_without_call es e) (option_or (reply_disagrees es e) (option_or (fail_disagrees es e) (option_or (reply_without_value es e) (option_or (value_written es e) (late_refusal es e))))))
-  late = ap (λ o. option_or (call_while_open es e) (option_or (end_without_call es e) (option_or (reply_disagrees es e) (option_or (fail_disagrees es e) (option_or (reply_without_value es e) (option_or (value_written es e) o)))))) (or-none (late_refusal es e))
+  late = ap (λ o. option_or (call_while_open es e) (option_or (end_without_call es e) (option_or (reply_disagrees es e) (option_or (fail_disagrees es e) (option_or (reply_without_value es e) (option_or (value_written es e) o)))))) (option_or-none (late_refusal es e))
 
   no-call : asked_by e.kind ≡ None → (call_while_open es e ≡ None) × (value_written es e ≡ None)
   no-call h = (
@@ -197,7 +194,7 @@ module _ (es : List LineEvent) (e : LineEvent) where
   late-full r h = ap (λ o. option_or o (after_crash es e)) (full es e ∙ h)
 
   pub late-alive : crashed_at es e.process ≡ None → late_refusal es e ≡ cond (nat_le MAX_EVENTS (length (history_of es).events)) (Some (refused e TooMany)) None
-  late-alive h = ap (option_or (too_many es e)) (ap (option_map (λ (crash : LineEvent). refused e (AfterCrash crash.line))) h) ∙ (or-none (too_many es e) ∙ full es e)
+  late-alive h = ap (option_or (too_many es e)) (ap (option_map (λ (crash : LineEvent). refused e (AfterCrash crash.line))) h) ∙ (option_or-none (too_many es e) ∙ full es e)
 
   -- ---- a crash
 

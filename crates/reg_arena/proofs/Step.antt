@@ -3,7 +3,7 @@ use Rattle.std.proofs.Common.{◌≡◌, ℕ, ◌<◌, nat_le, option_map, cond,
 use Rattle.std.proofs.lemmas.Bool.{cases_order, leb-false, false≢true}
 use Rattle.std.specs.Option.{option_or}
 use Rattle.std.proofs.lemmas.Option.{slice_get_past}
-use Rattle.std.proofs.lemmas.List.{take-append-le}
+use Rattle.std.proofs.lemmas.List.{take-append-le, take_all}
 use Rattle.history_text.specs.declared.limits.TheConstants.{MAX_EVENTS}
 use Rattle.history_text.specs.declared.event.Val.{Val}
 use Rattle.history_text.specs.declared.event.Val.TheVariants.{Int}
@@ -42,15 +42,11 @@ use Rattle.reg_arena.proofs.Refused.{events-length, crash-none}
 use Rattle.history_model.proofs.Lists.{slice_get-push, slice_get-push_other}
 use Rattle.history_model.specs.declared.refusal.Reason.TheVariants.{TooMany}
 
-take-length : {X : Type 0} (xs : List X) → take (length xs) xs ≡ xs
-take-length [] = refl
-take-length (x ∷ xs) = ap (λ ys. x ∷ ys) (take-length xs)
-
 -- an event that isn't refused is accepted
 pub accepted-push : (es : List LineEvent) (e : LineEvent) → AreAccepted es → event_refusal es e ≡ None → AreAccepted (es ++ e ∷ [])
 accepted-push es e acc free i = elim (cases_order i (length es)) [
   | inl q ↦
-      let whole : take i (es ++ e ∷ []) ≡ es = ap (λ n. take n (es ++ e ∷ [])) q ∙ (take-append-le (length es) es (e ∷ []) (omega arith) ∙ take-length es) in
+      let whole : take i (es ++ e ∷ []) ≡ es = ap (λ n. take n (es ++ e ∷ [])) q ∙ (take-append-le (length es) es (e ∷ []) (omega arith) ∙ take_all (length es) es (omega arith)) in
       let at : slice_get (es ++ e ∷ []) i ≡ Some e = ap (slice_get (es ++ e ∷ [])) q ∙ slice_get-push es e in
       ap (λ xs. option_and_then (event_refusal xs) (slice_get (es ++ e ∷ []) i)) whole ∙ (ap (option_and_then (event_refusal es)) at ∙ free)
   | inr c ↦ elim c [

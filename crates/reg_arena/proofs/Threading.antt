@@ -1,11 +1,10 @@
 -- An append keeps a family of lists threaded.
 use Rattle.std.proofs.Common.{◌≡◌, ℕ, ◌+◌, ◌<◌, ◌≤◌, Option, Some, None, inl, inr, refl, sym, ap, subst, ◌∙◌, arith}
-use Rattle.std.proofs.lemmas.Bool.{cases_order}
+use Rattle.std.proofs.lemmas.Bool.{cases_order, cases_eq}
 use Rattle.history_model.specs.declared.ids.EvId.{EvId}
 use Rattle.reg_arena.specs.declared.list_ends.Ends.{Ends}
 use Rattle.history_model.specs.Walking.{IsLeastFrom}
 use Rattle.reg_arena.specs.EventLists.{IsThreaded, IsJoined}
-use Rattle.history_model.proofs.Lists.{decide_eq}
 
 -- what an append of an event does to the keys
 pub record IsPushed {K : Type 0} (n : ℕ) (k : Option K) (key new_key : ℕ → Option K) : Type 0 where
@@ -25,19 +24,19 @@ module _ {K : Type 0} (n : EvId) (key new_key : ℕ → Option K) (link : ℕ �
 
   -- a link that was right and does not meet the new event is right
   kept : (P Q : ℕ → Type 0) (m : ℕ) (o : Option EvId) → m ≤ n.0 → ((i : ℕ) → P i → Q i) → ((i : ℕ) → (i ≡ n.0 → ⊥) → Q i → P i) → ((i : ℕ) → P i → i < n.0) → (Q n.0 → o ≡ None → ⊥) → IsLeastFrom P m o → IsLeastFrom Q m o
-  kept P Q m None le up down top clash h = λ i l q. elim (decide_eq i n.0) [ inl e ↦ clash (subst Q e q) refl | inr ne ↦ h i l (down i ne q) ]
+  kept P Q m None le up down top clash h = λ i l q. elim (cases_eq i n.0) [ inl e ↦ clash (subst Q e q) refl | inr ne ↦ h i l (down i ne q) ]
   kept P Q m (Some j) le up down top clash h = (h.0, up j.0 h.1, λ i l g q. let b = top j.0 h.1 in h.2 i l g (down i (λ e. omega arith) q))
 
   -- an event that joins no list
   pub threaded-alone : IsPushed n.0 None key new_key → IsThreaded new_key link ends
   threaded-alone p =
-      let back : (q : K) (i : ℕ) → new_key i ≡ Some q → key i ≡ Some q = λ q i h. elim (decide_eq i n.0) [
+      let back : (q : K) (i : ℕ) → new_key i ≡ Some q → key i ≡ Some q = λ q i h. elim (cases_eq i n.0) [
         | inl e ↦ absurd (let w = p.new in let x : new_key i ≡ None = ap new_key e ∙ w in cc (x, h))
         | inr ne ↦ sym (p.same i ne) ∙ h
       ] in
       record {
         next = λ k i h. let o = back k i h in let b = below None p k i o in kept (λ j. key j ≡ Some k) (λ j. new_key j ≡ Some k) (i + 1) (link i) (omega arith) (old None p k) (λ j _ q. back k j q) (below None p k) (λ q _. let w = p.new in cc (w, q)) (t.next k i o);
-        alone = λ i h. elim (decide_eq i n.0) [ inl e ↦ ap link e ∙ none | inr ne ↦ t.alone i (sym (p.same i ne) ∙ h) ];
+        alone = λ i h. elim (cases_eq i n.0) [ inl e ↦ ap link e ∙ none | inr ne ↦ t.alone i (sym (p.same i ne) ∙ h) ];
         none = λ k h i q. t.none k h i (back k i q);
         first = λ k e h. let f = t.first k e h in (f.0, old None p k e.first.0 f.1, λ i l g q. f.2 i l g (back k i q));
         last = λ k e h. let f = t.last k e h in (old None p k e.last.0 f.0, λ i q. f.1 i (back k i q));
@@ -67,7 +66,7 @@ module _ {K : Type 0} (n : EvId) (key new_key : ℕ → Option K) (link : ℕ �
     next_of (Some e) h q i x =
         let b = below (Some k) p q i x in
         let l = t.last k e h in
-        elim (decide_eq i e.last.0) [
+        elim (cases_eq i e.last.0) [
           | inl s ↦
               let same : q ≡ k = let y = l.0 in let z : key i ≡ Some k = ap key s ∙ y in cc (x, z) in
               subst (IsLeastFrom (λ j. new_key j ≡ Some q) (i + 1)) (sym (ap new_link s ∙ (j.next e h).1))
@@ -95,21 +94,21 @@ module _ {K : Type 0} (n : EvId) (key new_key : ℕ → Option K) (link : ℕ �
     is_top e h = let x = top_of (ends k) refl in let w = x.1.is in let s : x.0 ≡ e = cc (w, h) in subst IsTop s x.1
 
     at_most : (q : K) (i : ℕ) → new_key i ≡ Some q → i ≤ n.0
-    at_most q i h = elim (decide_eq i n.0) [ inl e ↦ omega arith | inr ne ↦ let b = below (Some k) p q i (back q i ne h) in omega arith ]
+    at_most q i h = elim (cases_eq i n.0) [ inl e ↦ omega arith | inr ne ↦ let b = below (Some k) p q i (back q i ne h) in omega arith ]
 
     pub threaded-joined : IsThreaded new_key new_link new_ends
     threaded-joined = record {
-      next = λ q i h. elim (decide_eq i n.0) [
+      next = λ q i h. elim (cases_eq i n.0) [
         | inl e ↦ subst (IsLeastFrom (λ j. new_key j ≡ Some q) (i + 1)) (sym (ap new_link e ∙ new_none)) (λ m le y. let b = at_most q m y in omega arith)
         | inr ne ↦ next_of (ends k) refl q i (back q i ne h)
       ];
-      alone = λ i h. elim (decide_eq i n.0) [
+      alone = λ i h. elim (cases_eq i n.0) [
         | inl e ↦ ap new_link e ∙ new_none
         | inr ne ↦ let x = sym (p.same i ne) ∙ h in unchanged (ends k) refl i (λ c. cc (x, c)) ∙ t.alone i x
       ];
       none = λ q h i x. elim (j.others q) [
         | inl s ↦ let y = top_of (ends k) refl in let w = y.1.is in let z : new_ends k ≡ None = ap new_ends (sym s) ∙ h in cc (w, z)
-        | inr o ↦ elim (decide_eq i n.0) [ inl e ↦ o.0 (key_is q (ap new_key (sym e) ∙ x)) | inr ne ↦ t.none q (sym o.1 ∙ h) i (back q i ne x) ]
+        | inr o ↦ elim (cases_eq i n.0) [ inl e ↦ o.0 (key_is q (ap new_key (sym e) ∙ x)) | inr ne ↦ t.none q (sym o.1 ∙ h) i (back q i ne x) ]
       ];
       first = λ q e h. elim (j.others q) [
         | inl s ↦ subst (λ v. IsLeastFrom (λ j. new_key j ≡ Some v) 0 (Some e.first)) (sym s) (is_top e (ap new_ends (sym s) ∙ h)).first

@@ -18,7 +18,7 @@ use Rattle.reg_arena.specs.declared.list_ends.Write.TheVariants.{Unwritten, Writ
 use Rattle.reg_arena.specs.declared.event_lists.EventLists.{EventLists}
 use Rattle.reg_arena.proofs.Append.{key-along, key-within, read-value}
 use Rattle.reg_arena.proofs.ByEvent.{kept-none, kept-write}
-use Rattle.reg_arena.proofs.ByValue.{key-by, key-parts}
+use Rattle.reg_arena.proofs.ByValue.{key-by, key-parts, key-register}
 use Rattle.history_model.proofs.Named.{event-register}
 use Rattle.reg_arena.proofs.OfValue.{last-call_is, first-reply_null, first-reply_none, first-reply_entry}
 use Rattle.history_model.proofs.Lists.{slice_get_inside}
@@ -92,11 +92,7 @@ module _ (names : List (List ℕ)) (t : EventLists) (a : AreEventLists t) (rec :
 -- the register of an event with a value has a name
 pub key-known : (h : History) → IsRecorded h → (i : ℕ) (k : ℕ × Val) → key_at by_value h.events i ≡ Some k → k.0 < length h.names
 key-known h rec i k q =
-    event-register h rec i k.0 (along (slice_get h.events i) q)
-  where
-    along : (o : Option Event) → option_and_then by_value o ≡ Some k → option_and_then by_register o ≡ Some k.0
-    along None w = absurd (cc (w))
-    along (Some e) w = (key-parts e k w).0
+    event-register h rec i k.0 (key-register h.events i k q)
 
 -- the value of the key of an event
 pub key-of : (events : List Event) (i : ℕ) (e : Event) (v : Val) (k : ℕ × Val) → slice_get events i ≡ Some e → e.value ≡ Some v → key_at by_value events i ≡ Some k → (by_register e ≡ Some k.0) × (v ≡ k.1)

@@ -1,6 +1,6 @@
 -- The entries of registers and values: what a write to one and a new one leave.
 use Rattle.std.proofs.Common.{◌≡◌, ℕ, ◌<◌, List, [], ◌∷◌, ◌++◌, ◌&&◌, nat_eq, length, set, slice_get, Bool, true, false, Option, Some, None, ◌⊎◌, inl, inr, refl, sym, ap, subst, ◌∙◌, arith, option_map, option_and_then, ℤ}
-use Rattle.std.proofs.lemmas.Bool.{false≢true, eqb-true, eq-eqb}
+use Rattle.std.proofs.lemmas.Bool.{false≢true, eqb-true, eq-eqb, and_parts}
 use Rattle.std.specs.Cmp.{int_cmp_total, tied_itself}
 use Rattle.std.proofs.lemmas.Option.{slice_get_within}
 use Rattle.std.proofs.Common.{Ordering}
@@ -28,10 +28,6 @@ whole_one Null (Int n) h = absurd (cc (h))
 whole_one (Int m) Null h = absurd (cc (h))
 whole_one (Int m) (Int n) h = let e : m ≡ n = cc (h) in ap Int e
 
-both : (b c : Bool) → (b && c) ≡ true → (b ≡ true) × (c ≡ true)
-both true c h = (refl, h)
-both false c h = absurd (false≢true h)
-
 is_eq_Equal : (r : Ordering) → is_eq r ≡ true → r ≡ Equal
 is_eq_Equal Less h = absurd (false≢true h)
 is_eq_Equal Equal h = refl
@@ -54,7 +50,7 @@ key_of k = (k.0, whole k.1)
 
 key_same : (a b : ℕ × Option ℤ) → key_eq a b ≡ true → a ≡ b
 key_same a b h =
-    let w = both (nat_eq a.0 b.0) (option_eq int_eq a.1 b.1) h in
+    let w = and_parts (nat_eq a.0 b.0) (option_eq int_eq a.1 b.1) h in
     let m : a.0 ≡ b.0 = eqb-true _ _ w.0 in
     let n : a.1 ≡ b.1 = option_same _ _ w.1 in
     let pair : (a.0, a.1) ≡ (b.0, b.1) = cc in

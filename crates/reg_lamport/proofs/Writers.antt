@@ -1,6 +1,6 @@
 -- A walk over a register's events meets the call of each of its writes.
 use Rattle.std.proofs.Common.{◌≡◌, ℕ, ◌&&◌, ◌==◌, cond, Bool, true, false, not, List, ◌∷◌, suc, ◌+◌, drop, length, slice_get, Option, Some, None, ◌⊎◌, inl, inr, refl, sym, ap, subst, ◌∙◌}
-use Rattle.std.proofs.lemmas.Bool.{eqb-true, eq-eqb, false≢true}
+use Rattle.std.proofs.lemmas.Bool.{eqb-true, eq-eqb, false≢true, and_parts}
 use Rattle.history_model.specs.Lists.{In}
 use Rattle.history_model.specs.History.{History, IsRecorded}
 use Rattle.history_model.specs.Lamport.{HasSingleWriter}
@@ -73,17 +73,13 @@ writer-begins h rec r next first =
       known = λ q n. absurd (cc (n));
     }
 
-both-true : (a b : Bool) → (a && b) ≡ true → (a ≡ true) × (b ≡ true)
-both-true true b h = (refl, h)
-both-true false b h = absurd (false≢true h)
-
 module _ (h : History) (rec : IsRecorded h) (r : ℕ) (writer : Option ℕ) (i : EvId) (e : Event) (so_far : IsWriterSoFar h r writer (Some i)) (at : slice_get h.events i.0 ≡ Some e) where
   own-event : by_register e ≡ Some r
   own-event = let x = event-at r h.events i so_far.on in let same : x.0 ≡ e = let a = x.1 in cc (a, at) in ap by_register (sym same) ∙ x.2
 
   is-met : begins_write h.events i.0 e ≡ true → In (called_at h.events i.0 e) (of_register r (calls h.events)) × IsWrite (called_at h.events i.0 e)
   is-met w =
-      let x = both-true (begins_at h.events i.0 e) (writes (kind_in e.what)) w in
+      let x = and_parts (begins_at h.events i.0 e) (writes (kind_in e.what)) w in
       (so_far.inside (called_at h.events i.0 e) (met r h.events i e at own-event x.0), ap writes (called_at-kind h.events i.0 e) ∙ x.1)
 
   -- an event that begins no write leaves the writer

@@ -4,6 +4,7 @@ use Rattle.std.specs.Prelude.{IfSome}
 use Rattle.std.proofs.lemmas.Bool.{false≢true}
 use Rattle.std.proofs.lemmas.List.Elements.{All-append}
 use Rattle.std.proofs.lemmas.Option.{get_or_from_slice_get, same_Some, slice_get_within}
+use Rattle.std.proofs.lemmas.List.{length_push}
 use Rattle.job_board.specs.Numbers.{times}
 use Rattle.job_board.specs.Seats.{BoardValue, SeatValue}
 use Rattle.job_board.specs.declared.view.View.{View}
@@ -16,7 +17,6 @@ use Rattle.reg_pieces.specs.Workers.{ClosesWhole, IsHandedBack, IsJoined, IsNewS
 use Rattle.reg_pieces.specs.declared.piece.Piece.{Piece}
 use Rattle.reg_pieces.specs.declared.tasks.Task.{Task}
 use Rattle.reg_pieces.specs.declared.worker.Worked.{Worked}
-use Rattle.reg_pieces.proofs.Pushed.{length-push}
 use Rattle.reg_pieces.proofs.Putting.{with-full}
 use Rattle.reg_pieces.proofs.Searching.{searched-seat}
 use Rattle.history_model.proofs.Lists.{slice_get-push}
@@ -80,12 +80,12 @@ front-at (x ∷ xs) ys (suc k) d l = front-at xs ys k d (omega (arith, l))
 
 pub first-ones : {X : Type 0} (P : X → Type 0) (all rest : List X) (x : X) → all ≡ rest ++ x ∷ [] → All P all → All P rest
 first-ones P all rest x e a k d l =
-    let inside : k < length all = omega (arith, l, ap length e, length-push rest x) in
+    let inside : k < length all = omega (arith, l, ap length e, length_push rest x) in
     subst P (ap (λ xs. slice_index_or xs k d) e ∙ front-at rest (x ∷ []) k d l) (a k d inside)
 
 pub last-one : {X : Type 0} (P : X → Type 0) (all rest : List X) (x : X) → all ≡ rest ++ x ∷ [] → All P all → P x
 last-one P all rest x e a =
-    let inside : length rest < length all = omega (arith, ap length e, length-push rest x) in
+    let inside : length rest < length all = omega (arith, ap length e, length_push rest x) in
     let at = get_or_from_slice_get all (length rest) x x (ap (λ xs. slice_get xs (length rest)) e ∙ slice_get-push rest x) in
     subst P at (a (length rest) x inside)
 

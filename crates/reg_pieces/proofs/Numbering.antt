@@ -1,5 +1,6 @@
 -- Tasks are added cut by cut and register by register, and each of a plan's is fit to be done.
 use Rattle.std.proofs.Common.{◌≡◌, ℕ, zero, suc, ◌+◌, ◌-◌, ◌<◌, ◌≤◌, min, ◌⊎◌, inl, inr, List, [], ◌∷◌, ◌++◌, length, slice_get, Option, Some, None, refl, sym, ap, subst, ◌∙◌, arith, append_assoc, append-nil}
+use Rattle.std.proofs.lemmas.Option.{none-some}
 use Rattle.reg_lamport.specs.Reads.{ListedReads}
 use Rattle.reg_pieces.specs.Plan.{AreCuts, AreCutsOf, AreTasks}
 use Rattle.reg_pieces.specs.declared.tasks.Task.{Task}
@@ -64,9 +65,6 @@ cut-fit cut r from len [] i t a e = absurd (cc e)
 cut-fit cut r from len (c ∷ cuts) zero t a e = let q : c ≡ t = cc e in (from, from + min (len - from) cut, sym q ∙ a.1, omega arith, omega (arith, a.0))
 cut-fit cut r from len (c ∷ cuts) (suc i) t a e = cut-fit cut r (from + min (len - from) cut) len cuts i t a.2 e
 
-none_some : {X : Type 0} {x : X} → None ≡ Some x → ⊥
-none_some e = cc e
-
 -- from the next register's to this one's
 later-fit : (r : ℕ) (l : Option ListedReads) (lists : List (Option ListedReads)) (t : Task) → IsFit (suc r) lists t → IsFit r (l ∷ lists) t
 later-fit r l lists (Judge k) f = (omega (arith, f.0), omega (arith, f.1))
@@ -74,13 +72,13 @@ later-fit r l lists (Reads k from to) f = (suc f.0, f.1, omega (arith, f.2), f.3
 later-fit r l lists (First k) f = f
 
 first-fit : (cut r : ℕ) (o : Option ListedReads) (lists : List (Option ListedReads)) (cuts : List Task) (j : ℕ) (t : Task) → AreCutsOf cut r o cuts → slice_get cuts j ≡ Some t → IsFit r (o ∷ lists) t
-first-fit cut r None lists cuts j t c s = absurd (none_some (sym (ap (λ ts. slice_get ts j) c) ∙ s))
+first-fit cut r None lists cuts j t c s = absurd (none-some _ (sym (ap (λ ts. slice_get ts j) c) ∙ s))
 first-fit cut r (Some list) lists cuts j t c s =
     let f = cut-fit cut r 0 (length list.entries) cuts j t c s in
     subst (IsFit r (Some list ∷ lists)) (sym f.2) (0, list, omega arith, refl, f.3, f.4)
 
 pub tasks-fit : (cut r : ℕ) (lists : List (Option ListedReads)) (tasks : List Task) (i : ℕ) (t : Task) → AreTasks cut r lists tasks → slice_get tasks i ≡ Some t → IsFit r lists t
-tasks-fit cut r [] tasks i t a e = absurd (none_some (sym (ap (λ ts. slice_get ts i) a) ∙ e))
+tasks-fit cut r [] tasks i t a e = absurd (none-some _ (sym (ap (λ ts. slice_get ts i) a) ∙ e))
 tasks-fit cut r (l ∷ lists) tasks i t a e = go i (sym (ap (λ ts. slice_get ts i) a.4) ∙ e) (λ j s. tasks-fit cut (suc r) lists a.1 j t a.3 s)
   where
     go : (j : ℕ) → slice_get (Judge (record { 0 = r }) ∷ a.0 ++ a.1) j ≡ Some t → ((k : ℕ) → slice_get a.1 k ≡ Some t → IsFit (suc r) lists t) → IsFit r (l ∷ lists) t

@@ -1,5 +1,6 @@
 -- From the orders and faults of the registers to what the report says of them.
 use Rattle.std.proofs.Common.{◌≡◌, ℕ, ◌+◌, List, [], ◌∷◌, ◌++◌, true, false, Option, Some, None, inl, inr, refl, sym, ap, subst, ◌∙◌, arith}
+use Rattle.std.proofs.lemmas.List.{length_push}
 use Rattle.history_model.specs.Lists.{In}
 use Rattle.history_model.specs.History.{History}
 use Rattle.history_model.specs.Operations.{Operation, operations, register_of}
@@ -15,7 +16,7 @@ use Rattle.reg_report.specs.Registers.{AreOrdersSoFar}
 use Rattle.reg_report.specs.Told.{IsTold}
 use Rattle.reg_pieces.specs.declared.judgement.Judgement.TheVariants.{Order, Faulty}
 use Rattle.reg_report.specs.declared.report.FaultLines.{FaultLines}
-use Rattle.reg_pieces.proofs.Pushed.{length-push, push-cases}
+use Rattle.reg_pieces.proofs.Pushed.{push-cases}
 use Rattle.reg_report.proofs.OrderLines.{calls-lines, points-lines, calls-there, points-there, placed-inside}
 use Rattle.reg_report.proofs.Locality.{each}
 
@@ -58,7 +59,7 @@ fault-atomicity h ops fault lines j s = (j.0, refl, refl, (lines, (fault, j.1, s
 
 pub one-order-more : (h : History) (n : ℕ) (orders : List (List Placed)) (order : List Placed) → AreFirstOrders h n orders → IsOrder (register_of h n) order → AreFirstOrders h (n + 1) (orders ++ order ∷ [])
 one-order-more h n orders order a x = record {
-  count = length-push orders order ∙ ap (λ k. k + 1) a.count;
+  count = length_push orders order ∙ ap (λ k. k + 1) a.count;
   each = λ r o q. elim (push-cases orders order o r q) [
     | inl k ↦ a.each r o k
     | inr k ↦ subst (λ p. IsOrder (register_of h r) p) k.1 (subst (λ m. IsOrder (register_of h m) order) (sym (k.0 ∙ a.count)) x)

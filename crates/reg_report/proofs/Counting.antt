@@ -1,11 +1,12 @@
 -- A count of calls over all events, and the lines of the registers one after another.
-use Rattle.std.proofs.Common.{◌≡◌, ℕ, zero, suc, ◌+◌, ◌≤◌, cond, Bool, true, false, List, [], ◌∷◌, ◌++◌, length, drop, slice_get, Some, inl, inr, refl, sym, ap, subst, ◌∙◌, arith}
+use Rattle.std.proofs.Common.{◌≡◌, ℕ, suc, ◌+◌, ◌≤◌, cond, Bool, true, false, List, [], ◌∷◌, ◌++◌, length, drop, slice_get, Some, inl, inr, sym, ap, subst, ◌∙◌, arith}
+use Rattle.std.proofs.lemmas.List.{drop_all, length_push}
 use Rattle.history_model.specs.History.{History}
 use Rattle.history_model.specs.Operations.{operation, next_of, reply_in, calls_from, calls}
 use Rattle.history_model.specs.Naming.{begins_at}
 use Rattle.history_model.specs.declared.event.Event.{Event}
 use Rattle.history_model.proofs.Walking.{drop-at}
-use Rattle.reg_pieces.proofs.Pushed.{length-push, push-cases}
+use Rattle.reg_pieces.proofs.Pushed.{push-cases}
 use Rattle.reg_report.specs.Meaning.{IsRegisterReport}
 use Rattle.reg_report.specs.Registers.{AreFirstLines}
 use Rattle.reg_report.specs.declared.report.RegReport.{RegReport}
@@ -46,19 +47,13 @@ count-other es count i e c at call =
     record { total = omega (arith, c.total, s, none); few = omega (arith, c.few) }
 
 pub count-ends : (es : List Event) (count i : ℕ) → IsCount es count i → length es ≤ i → count ≡ length (calls es)
-count-ends es count i c l = let e = ap (λ xs. length (calls_from (length es + 2) (i + 2) xs)) (past es i l) in omega (arith, c.total, e)
-  where
-    past : {X : Type 0} (xs : List X) (m : ℕ) → length xs ≤ m → drop m xs ≡ []
-    past [] zero l = refl
-    past [] (suc m) l = refl
-    past (x ∷ xs) zero l = absurd (omega arith)
-    past (x ∷ xs) (suc m) l = past xs m (omega arith)
+count-ends es count i c l = let e = ap (λ xs. length (calls_from (length es + 2) (i + 2) xs)) (drop_all i es l) in omega (arith, c.total, e)
 
 -- ---- the lines of the first registers
 
 pub one-line-more : (h : History) (regs : List RegReport) (n : ℕ) (reg : RegReport) → AreFirstLines h n regs → IsRegisterReport h n reg → AreFirstLines h (n + 1) (regs ++ reg ∷ [])
 one-line-more h regs n reg a is = record {
-  lines = length-push regs reg ∙ ap (λ k. k + 1) a.lines;
+  lines = length_push regs reg ∙ ap (λ k. k + 1) a.lines;
   each = λ r line q. elim (push-cases regs reg line r q) [
     | inl k ↦ a.each r line k
     | inr k ↦ subst (λ (x : RegReport). IsRegisterReport h r x) k.1 (subst (λ m. IsRegisterReport h m reg) (sym (k.0 ∙ a.lines)) is)

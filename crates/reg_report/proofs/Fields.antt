@@ -1,6 +1,7 @@
 -- Fields that are sent one after another make an object, and none of a report's has a float.
 use Rattle.std.proofs.Common.{◌≡◌, ℕ, ◌+◌, List, [], ◌∷◌, ◌++◌, length, map, Bool, true, false, Option, Some, None, refl, sym, ◌∙◌, ap, subst, arith, length-append, codes}
-use Rattle.std.specs.Prelude.{◌||◌, is_some, if◌then◌else◌}
+use Rattle.std.specs.Prelude.{is_some, if◌then◌else◌}
+use Rattle.std.proofs.lemmas.Bool.{or_from, or_parts}
 use Rattle.serde.specs.Event.{Log, Logs, map_begins, map_ends}
 use Rattle.serde_json.specs.Data.{Data, object, string}
 use Rattle.serde_json.specs.Events.{SendsValue, SendsMembers, members_len, items_len}
@@ -84,25 +85,13 @@ items_len-numbers (n ∷ ns) = let e = items_len-numbers ns in grind arith
 
 -- ---- no floats
 
-left_false : (a b : Bool) → (a || b) ≡ false → a ≡ false
-left_false true b h = h
-left_false false b h = refl
-
-right_false : (a b : Bool) → (a || b) ≡ false → b ≡ false
-right_false true b h = absurd cc
-right_false false b h = h
-
-both_false : (a b : Bool) → a ≡ false → b ≡ false → (a || b) ≡ false
-both_false true b h k = h
-both_false false b h k = k
-
 ArePlain : List Field → Type 0
 ArePlain fs = members_have_float (members_of fs) ≡ false
 
 plain_append : (xs ys : List Field) → ArePlain xs → ArePlain ys → ArePlain (xs ++ ys)
 unfolding ArePlain
 plain_append [] ys a b = b
-plain_append (x ∷ xs) ys a b = both_false (has_float x.1) (members_have_float (members_of (xs ++ ys))) (left_false (has_float x.1) (members_have_float (members_of xs)) a) (plain_append xs ys (right_false (has_float x.1) (members_have_float (members_of xs)) a) b)
+plain_append (x ∷ xs) ys a b = let parts = or_parts (has_float x.1) (members_have_float (members_of xs)) a in or_from (has_float x.1) (members_have_float (members_of (xs ++ ys))) parts.0 (plain_append xs ys parts.1 b)
 
 abbrev AllPlain : List (List Field) → Type 0
 AllPlain [] = Unit {0}
@@ -139,12 +128,12 @@ plain_fault (Zones w f s) = refl
 
 plain_always : (key : List ℕ) (d : Data) → has_float d ≡ false → ArePlain (always key d)
 unfolding ArePlain
-plain_always key d h = both_false (has_float d) false h refl
+plain_always key d h = or_from (has_float d) false h refl
 
 plain_shown : {A : Type 0} (key : List ℕ) (json : A → Data) (o : Option A) → ((x : A) → has_float (json x) ≡ false) → ArePlain (shown key json o)
 unfolding ArePlain
 plain_shown key json None h = refl
-plain_shown key json (Some x) h = both_false (has_float (json x)) false (h x) refl
+plain_shown key json (Some x) h = or_from (has_float (json x)) false (h x) refl
 
 pub register_has_no_float : (reg : RegReport) → has_float (register_json reg) ≡ false
 unfolding ArePlain

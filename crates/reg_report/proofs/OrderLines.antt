@@ -1,6 +1,6 @@
 -- The lines of an order by names are those of its operations, and its calls and points are events.
 use Rattle.std.proofs.Common.{◌≡◌, ℕ, zero, suc, ◌+◌, ◌-◌, ◌<◌, ◌≤◌, cond, List, [], ◌∷◌, ◌++◌, append_assoc, drop, length, map, get_or, slice_get, Option, Some, None, is_some, inl, inr, refl, sym, ap, subst, ◌∙◌, arith}
-use Rattle.std.proofs.lemmas.Option.{slice_get_within}
+use Rattle.std.proofs.lemmas.Option.{slice_get_within, slice_get-get_or}
 use Rattle.std.proofs.lemmas.List.{drop_more}
 use Rattle.history_model.specs.Lists.{In}
 use Rattle.history_model.specs.History.{History}
@@ -120,10 +120,5 @@ pub initial-more : (line : Placed → ℕ) (xs : List Placed) (i : ℕ) (d : Pla
 initial-more line xs i d r old whole l is was =
     sym (ap (λ ys. old ++ ys) (lines-step line xs i d l ∙ ap (λ o. line_if_called o (line (get_or xs i d)) (lines_by line (drop (i + 1) xs))) is)) ∙ was
 
-pub get_or-some : {X : Type 0} (xs : List X) (i : ℕ) (d : X) → i < length xs → slice_get xs i ≡ Some (get_or xs i d)
-get_or-some [] i d l = absurd (omega arith)
-get_or-some (x ∷ xs) zero d l = refl
-get_or-some (x ∷ xs) (suc i) d l = get_or-some xs i d (omega arith)
-
 pub point-at : (h : History) (xs : List Placed) (i : ℕ) (d : Placed) (id : EvId) → HavePoints h xs → i < length xs → (get_or xs i d).oper ≡ Called id → (2 ≤ (get_or xs i d).point) × ((get_or xs i d).point - 2 < length h.events)
-point-at h xs i d id has l is = subst (λ o. HasPoint h o (get_or xs i d).point) is (has i (get_or xs i d) (get_or-some xs i d l))
+point-at h xs i d id has l is = subst (λ o. HasPoint h o (get_or xs i d).point) is (has i (get_or xs i d) (slice_get-get_or xs i d l))

@@ -1,8 +1,8 @@
 -- Counts of each register's calls, in a pass over the events: what was counted, and what is left, are all calls of the register.
-use Rattle.std.proofs.Common.{◌≡◌, ℕ, zero, ◌+◌, ◌<◌, ◌≤◌, ◌^◌, cond, Bool, true, false, not, List, [], ◌∷◌, length, drop, set, replicate, is_none, slice_get, Some, None, ◌⊎◌, inl, inr, refl, sym, ap, subst, ◌∙◌, arith, suc, ◌==◌}
+use Rattle.std.proofs.Common.{◌≡◌, ℕ, zero, ◌+◌, ◌<◌, ◌≤◌, cond, Bool, true, false, not, List, ◌∷◌, length, drop, set, replicate, is_none, slice_get, Some, None, ◌⊎◌, inl, inr, refl, sym, ap, subst, ◌∙◌, arith, suc, ◌==◌}
 use Rattle.std.specs.List.{count_by}
-use Rattle.std.proofs.lemmas.Bool.{eq-eqb, ne_eqb}
-use Rattle.std.proofs.lemmas.List.{length-set, length-replicate}
+use Rattle.std.proofs.lemmas.Bool.{eq-eqb, ne_eqb, cases_eq}
+use Rattle.std.proofs.lemmas.List.{length-set, length-replicate, drop_all}
 use Rattle.std.proofs.lemmas.List.Sums.{sum_by-cons, length-filter, count_by-le-length}
 use Rattle.history_text.specs.declared.limits.TheConstants.{MAX_EVENTS}
 use Rattle.history_model.specs.History.{History}
@@ -16,7 +16,7 @@ use Rattle.history_model.specs.declared.op.Op.{Op}
 use Rattle.reg_report.specs.Meaning.{calls_of, is_pending}
 use Rattle.reg_report.specs.Tally.{AreTallies, HasRoom, IsTally, counted, no_calls}
 use Rattle.reg_report.specs.declared.tally.Tally.{Tally}
-use Rattle.history_model.proofs.Lists.{slice_get-set, slice_get-set_other, decide_eq, slice_get_inside}
+use Rattle.history_model.proofs.Lists.{slice_get-set, slice_get-set_other, slice_get_inside}
 
 -- the calls of register r from place n on
 abbrev pub calls_left : History → ℕ → ℕ → List Operation
@@ -124,7 +124,7 @@ counting-adds h n ts us e a p c at call named shown new within =
     let v = new x.0 x.1 in
     record {
       count = ap length v ∙ (length-set ts a.register (counted p x.0) ∙ c.count);
-      each = λ r t q. own r t x.0 x.1 (decide_eq r a.register) (sym (ap (λ xs. slice_get xs r) v) ∙ q);
+      each = λ r t q. own r t x.0 x.1 (cases_eq r a.register) (sym (ap (λ xs. slice_get xs r) v) ∙ q);
     }
   where
     is : a ≡ called_at h.events n e
@@ -149,14 +149,8 @@ counting-adds h n ts us e a p c at call named shown new within =
 pub counting-ends : (h : History) (n : ℕ) (ts : List Tally) → length h.events ≤ n → AreCounting h n ts → AreTallies h ts
 counting-ends h n ts l c = record { count = c.count; each = λ r t q. ends r t (c.each r t q) }
   where
-    past : {X : Type 0} (xs : List X) (m : ℕ) → length xs ≤ m → drop m xs ≡ []
-    past [] zero l = refl
-    past [] (suc m) l = refl
-    past (x ∷ xs) zero l = absurd (omega arith)
-    past (x ∷ xs) (suc m) l = past xs m (omega arith)
-
     nothing : (p : Operation → Bool) (r : ℕ) → count_by p (calls_left h r n) ≡ 0
-    nothing p r = ap (λ xs. count_by p (of_register r (calls_from (length h.events + 2) (n + 2) xs))) (past h.events n l)
+    nothing p r = ap (λ xs. count_by p (of_register r (calls_from (length h.events + 2) (n + 2) xs))) (drop_all n h.events l)
 
     ends : (r : ℕ) (t : Tally) → IsCounting h r n t → IsTally (calls_of h r) t
     ends r t c = record {

@@ -1,10 +1,10 @@
 -- The ends of a zone: bounds that some member reaches.
-use Rattle.std.proofs.Common.{◌≡◌, ℕ, ◌≤◌, Option, ◌||◌, min, max, List, [], ◌∷◌, inl, inr, refl, sym, subst, arith}
-use Rattle.std.proofs.lemmas.Bool.{cases_lt, and_parts, and_from, or_cases, or_left, or_right}
+use Rattle.std.proofs.Common.{◌≡◌, ℕ, ◌≤◌, Option, ◌||◌, min, max, List, [], ◌∷◌, ◌⊎◌, inl, inr, refl, sym, subst, ◌∙◌, arith}
+use Rattle.std.proofs.lemmas.Bool.{cases_Bool, cases_lt, and_parts, and_from, false≢true, or_cases, or_left, or_right}
 use Rattle.history_text.specs.Values.{same_value}
 use Rattle.history_text.specs.declared.event.Val.{Val}
 use Rattle.history_model.specs.Lists.{In}
-use Rattle.history_model.specs.Operations.{Operation, is_write}
+use Rattle.history_model.specs.Operations.{Operation, IsHistory, IsReadOf, is_write}
 use Rattle.history_model.proofs.Lists.{In-map, map-In, In-filter, filter-In}
 use Rattle.reg_zones.proofs.Values.{same-true, eq-same}
 use Rattle.reg_zones.specs.Clusters.{least, least_from, greatest, IsKept, IsInCluster, is_member, cluster, first_reply, last_call}
@@ -89,3 +89,10 @@ last_call-is ops v a m above =
 -- a kept write is of its own cluster
 pub kept-member : (ops : List Operation) (w : Operation) → IsKept ops w → IsInCluster ops w.value w
 kept-member ops w k = record { within = k.within; value = refl; counts = inl k.write }
+
+-- a member of w's cluster is w, or a completed read of it
+pub member-is : (ops : List Operation) (y : IsHistory ops) (w a : Operation) → IsKept ops w → IsInCluster ops w.value a → (a ≡ w) ⊎ IsReadOf w a
+member-is ops y w a k m = elim (cases_Bool (is_write a)) [
+  | inl u ↦ inl (y.values a w m.within k.within u k.write m.value)
+  | inr u ↦ inr (record { read = u; completed = elim m.counts [ inl t ↦ absurd (false≢true (sym u ∙ t)) | inr d ↦ d ]; value = m.value })
+]

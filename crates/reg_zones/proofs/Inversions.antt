@@ -1,17 +1,17 @@
 -- Where the writes come one after another, a register is atomic exactly where it is regular and has no inversion, and the fault of one that is regular names an inversion.
 use Rattle.std.proofs.Common.{◌≡◌, ◌<◌, List, Some, ◌⊎◌, ◌↔◌, inl, inr, sym, ap, subst, ◌∙◌, arith}
-use Rattle.std.proofs.lemmas.Bool.{cases_Bool, cases_lt, false≢true}
+use Rattle.std.proofs.lemmas.Bool.{cases_Bool, cases_lt}
 use Rattle.history_model.specs.Lamport.{IsOldWrite, IsOverlappedWrite}
 use Rattle.history_model.specs.Legal.{IsAtomic, IsLegal}
 use Rattle.history_model.specs.Lists.{In, Before}
-use Rattle.history_model.specs.Operations.{Operation, Precedes, IsCompletedRead, IsHistory, IsReadOf, IsWrite, is_write}
+use Rattle.history_model.specs.Operations.{Operation, Precedes, IsCompletedRead, IsHistory, IsReadOf, IsWrite}
 use Rattle.history_model.specs.Naming.{name_of}
 use Rattle.reg_zones.specs.Clusters.{IsConflict, IsInCluster, IsKept, HasFirstReply, HasLastCall, low_end}
 use Rattle.reg_zones.specs.Faults.{HasNoFault, IsFault}
 use Rattle.reg_zones.specs.Inversions.{IsRegular, IsInversion, HasInversion, inversion_named}
 use Rattle.reg_zones.specs.declared.fault.Fault.{Fault}
 use Rattle.reg_zones.specs.declared.fault.Fault.TheVariants.{Unwritten, Early, Zones}
-use Rattle.reg_zones.proofs.Ends.{first_reply-at, first_reply-le, kept-member, last_call-at}
+use Rattle.reg_zones.proofs.Ends.{first_reply-at, first_reply-le, kept-member, last_call-at, member-is}
 use Rattle.reg_zones.proofs.Exists.{decides}
 use Rattle.reg_zones.proofs.LowEnds.{same_low}
 use Rattle.history_model.proofs.Lists.{Before-first, Before-total, Before-trans}
@@ -93,15 +93,9 @@ module _ (ops : List Operation) (y : IsHistory ops) (turns : TakeTurns ops) (reg
     | inr o ↦ let e = y.values o.0 w o.1.within j o.1.write u (o.2 ∙ k.value) in inr (subst (IsOverlappedWrite ops r) e o.1)
   ]
 
-  member-is : (w a : Operation) → IsKept ops w → IsInCluster ops w.value a → (a ≡ w) ⊎ IsReadOf w a
-  member-is w a k m = elim (cases_Bool (is_write a)) [
-    | inl u ↦ inl (y.values a w m.within k.within u k.write m.value)
-    | inr u ↦ inr (record { read = u; completed = elim m.counts [ inl t ↦ absurd (false≢true (sym u ∙ t)) | inr d ↦ d ]; value = m.value })
-  ]
-
   -- no operation of a cluster precedes its write
   not_early : (w a : Operation) → IsKept ops w → IsInCluster ops w.value a → Precedes a w → ⊥
-  not_early w a k m p = elim (member-is w a k m) [
+  not_early w a k m p = elim (member-is ops y w a k m) [
     | inl e ↦ let lives = y.life w k.within in omega (arith, ap (λ (o : Operation). o.reply) e)
     | inr r ↦ elim (near a w m.within r k.within k.write) [
       | inl o ↦ let lives = y.life a m.within in let lives' = y.life w k.within in omega (arith, o.before)
@@ -133,11 +127,11 @@ module _ (ops : List Operation) (y : IsHistory ops) (turns : TakeTurns ops) (reg
       let other = f.other in
       let vw = write_first v w f lt in
       let dc : Precedes d c = omega (arith, fd.least, lc.greatest) in
-      let rc : IsReadOf v c = elim (member-is v c f.left lc.member) [
+      let rc : IsReadOf v c = elim (member-is ops y v c f.left lc.member) [
         | inr r ↦ r
         | inl e ↦ let lives = y.life v f.left.within in absurd (not_early w d f.right fd.member (omega (arith, ap (λ (o : Operation). o.call) e)))
       ] in
-      let rd : IsReadOf w d = elim (member-is w d f.right fd.member) [
+      let rd : IsReadOf w d = elim (member-is ops y w d f.right fd.member) [
         | inr r ↦ r
         | inl e ↦
             let wc : Precedes w c = omega (arith, ap (λ (o : Operation). o.reply) e) in

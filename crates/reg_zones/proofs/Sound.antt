@@ -1,13 +1,13 @@
 -- If a register has a legal order, it has no fault; so a fault excludes every order (the law `fault_means_no_order`).
-use Rattle.std.proofs.Common.{◌≡◌, ◌<◌, List, ◌⊎◌, inl, inr, sym, ap, subst, ◌∙◌, arith}
-use Rattle.std.proofs.lemmas.Bool.{cases_Bool, false≢true}
+use Rattle.std.proofs.Common.{◌<◌, List, inl, inr, sym, ap, subst, ◌∙◌, arith}
+use Rattle.std.proofs.lemmas.Bool.{false≢true}
 use Rattle.history_model.specs.Lists.{In, Before}
 use Rattle.history_model.specs.Operations.{Operation, Precedes, IsWrite, IsReadOf, IsHistory, is_write}
 use Rattle.history_model.specs.Legal.{IsLegal, IsNearestWrite}
 use Rattle.reg_zones.specs.Clusters.{IsInCluster, first_reply, last_call, IsKept, IsConflict}
 use Rattle.reg_zones.specs.Faults.{IsEarly, HasNoFault}
 use Rattle.history_model.proofs.Lists.{Before-first, Before-second, Before-total, Before-trans}
-use Rattle.reg_zones.proofs.Ends.{kept-member, first_reply-at, last_call-at}
+use Rattle.reg_zones.proofs.Ends.{kept-member, first_reply-at, last_call-at, member-is}
 
 module _ (ops order : List Operation) (y : IsHistory ops) (l : IsLegal ops order) where
   -- a completed read stands after the write of its value, with no write between
@@ -20,16 +20,9 @@ module _ (ops order : List Operation) (y : IsHistory ops) (l : IsLegal ops order
   kept-in : (w : Operation) → IsKept ops w → In w order
   kept-in w k = elim k.kept [ inl d ↦ l.completion.all w k.within d | inr r ↦ Before-first w r.0 order (nearest r.0 w r.1 r.2 k.within k.write).before ]
 
-  -- a member of w's cluster is w, or a completed read of it
-  member-is : (w a : Operation) → IsKept ops w → IsInCluster ops w.value a → (a ≡ w) ⊎ IsReadOf w a
-  member-is w a k m = elim (cases_Bool (is_write a)) [
-    | inl u ↦ inl (y.values a w m.within k.within u k.write m.value)
-    | inr u ↦ inr (record { read = u; completed = elim m.counts [ inl t ↦ absurd (false≢true (sym u ∙ t)) | inr d ↦ d ]; value = m.value })
-  ]
-
   -- all of one cluster stands before the other write
   front : (v w a : Operation) → IsKept ops v → IsKept ops w → Before v w order → IsInCluster ops v.value a → Before a w order
-  front v w a kv kw b m = elim (member-is v a kv m) [
+  front v w a kv kw b m = elim (member-is ops y v a kv m) [
     | inl e ↦ subst (λ x. Before x w order) (sym e) b
     | inr r ↦ let n = nearest a v m.within r kv.within kv.write in
         elim (Before-total a w order (Before-second v a order n.before) (kept-in w kw)) [
@@ -40,7 +33,7 @@ module _ (ops order : List Operation) (y : IsHistory ops) (l : IsLegal ops order
 
   -- so nothing of the later one precedes anything of the earlier
   apart : (v w a b : Operation) → IsKept ops v → IsKept ops w → Before v w order → IsInCluster ops v.value a → IsInCluster ops w.value b → Precedes b a → ⊥
-  apart v w a b kv kw s m n p = elim (member-is w b kw n) [
+  apart v w a b kv kw s m n p = elim (member-is ops y w b kw n) [
     | inl e ↦ l.keeps a b (subst (λ x. Before a x order) (sym e) (front v w a kv kw s m)) p
     | inr r ↦ l.keeps a b (Before-trans a w b order l.completion.once (front v w a kv kw s m) (nearest b w n.within r kw.within kw.write).before) p
   ]

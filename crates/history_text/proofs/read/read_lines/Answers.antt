@@ -1,6 +1,6 @@
 -- The parts, one behind the other, are the lines of the definition.
-use Rattle.std.proofs.Common.{◌≡◌, ◌++◌, ◌∷◌, [], List, length, ap, sym, subst, flat_map, ◌∙◌, refl, arith}
-use Rattle.std.proofs.lemmas.List.{append_assoc, append-nil}
+use Rattle.std.proofs.Common.{◌≡◌, ◌++◌, [], ap, sym, subst, flat_map, ◌∙◌}
+use Rattle.std.proofs.lemmas.List.{append_assoc, append-nil, nil_from_length}
 use Rattle.history_text.specs.Reading.{IsAscending, history_lines}
 use Rattle.history_text.proofs.Ascending.{lines-ascend}
 use Rattle.history_text.proofs.read.read_lines.Given as given
@@ -8,11 +8,6 @@ use Rattle.history_text.proofs.read.read_lines.Goals as goal
 
 pub loop-part-init : goal.loop-part-init
 loop-part-init g c = record { read = rw (c.new-lines.ensures.items, c.into_iter-part-iterator.ensures.into_iter_gives.0) c.in_ok-part-items.ensures }
-
--- a list of no length is empty
-none_left : {X : Type 0} (xs : List X) → length xs ≡ 0 → xs ≡ []
-none_left [] e = refl
-none_left (x ∷ xs) e = absurd (omega (arith, e))
 
 pub loop-part-preserved : goal.loop-part-preserved
 loop-part-preserved g c =
@@ -25,7 +20,7 @@ loop-part-preserved g c =
 joined : (g : given.Over) (c : goal.After-drop-part-iterator-2 g) → c.loop-part.lines.items ≡ history_lines c.args.bytes.now
 joined g c =
     let rest = c.loop-part.part-iterator.rest in
-    let none : rest.items ≡ [] = none_left rest.items (sym rest.ok.0 ∙ c.in-None.ensures.steps.0) in
+    let none : rest.items ≡ [] = nil_from_length rest.items (sym rest.ok.0 ∙ c.in-None.ensures.steps.0) in
     sym (append-nil c.loop-part.lines.items) ∙ ap (λ xs. c.loop-part.lines.items ++ flat_map (λ p. p.items) xs) (sym none) ∙ c.loop-part.invariant.read
 
 pub returns-clause-lines : goal.returns-clause-lines

@@ -1,10 +1,11 @@
 use Rattle.std.proofs.Common.{◌≡◌, ◌+◌, ◌∙◌, List, Option, length, slice_get, refl, ap, sym, subst, arith, inl, inr, append_assoc, ◌++◌, ◌∷◌, [], false}
+use Rattle.std.proofs.lemmas.List.{length_push}
 use Rattle.reg_lamport.specs.Reads.{ListedReads}
 use Rattle.reg_pieces.specs.Plan.{AreTasks, IsListOf}
 use Rattle.reg_pieces.specs.declared.tasks.Task.{Task}
 use Rattle.reg_pieces.specs.declared.tasks.Task.TheVariants.{Judge}
 use Rattle.reg_pieces.proofs.Fewness.{plan-few}
-use Rattle.reg_pieces.proofs.Pushed.{length-push, push-cases}
+use Rattle.reg_pieces.proofs.Pushed.{push-cases}
 use Rattle.reg_pieces.proofs.Numbering.{one-register-more}
 use Rattle.reg_pieces.proofs.planning.whole_plan.Goals as goal
 
@@ -21,7 +22,7 @@ loop-number-preserved c =
     added.2 ∙ (ap (λ (ts : List Task). ts ++ added.0) c.in_ok-push.ensures.items ∙ append_assoc l.tasks.items (Judge (record { 0 = n }) ∷ []) added.0) in
     let cuts = one-register-more cut 0 n l.lists.items list l.tasks.items added.0 (omega (arith, l.invariant.count)) l.invariant.tasks added.1 in
     record {
-      count = ap length lists ∙ (length-push l.lists.items list ∙ ap (λ k. k + 1) l.invariant.count);
+      count = ap length lists ∙ (length_push l.lists.items list ∙ ap (λ k. k + 1) l.invariant.count);
       lists = λ r o e. elim (push-cases l.lists.items list o r (sym (ap (λ xs. slice_get xs r) lists) ∙ e)) [
         | inl k ↦ l.invariant.lists r o k
         | inr k ↦ subst (λ (x : Option ListedReads). IsListOf h r x) k.1 (subst (λ m. IsListOf h m list) (sym (k.0 ∙ l.invariant.count)) c.in_ok-list.ensures)

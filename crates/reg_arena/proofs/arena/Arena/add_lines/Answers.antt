@@ -1,9 +1,9 @@
 -- The arena is the history of the lines before and of those so far, none of which is faulty.
 use Rattle.std.proofs.Common.{◌++◌, Some, refl, sym, ap, subst, ◌∙◌}
-use Rattle.std.proofs.lemmas.List.{append-nil}
+use Rattle.std.proofs.lemmas.List.{append-nil, take_all}
 use Rattle.std.proofs.lemmas.Option.{slice_get_read}
 use Rattle.reg_arena.specs.Built.{IsBuilt}
-use Rattle.reg_arena.proofs.Reading.{take-all, part-more, part-event-refused, part-line-refused, error-passed}
+use Rattle.reg_arena.proofs.Reading.{part-more, part-event-refused, part-line-refused, error-passed}
 use Rattle.reg_arena.proofs.arena.Arena.add_lines.Goals as goal
 
 pub loop-line-init : goal.loop-line-init
@@ -27,4 +27,4 @@ loop-line-preserved c =
     record { built = λ before built. let so_far = c.loop-line.invariant.built before built in part-more before c.args.lines.now c.loop-line.line-index c.loop-line.self so_far c.in-Ok.event c.step.new.self at (c.in_ok-step-in-Ok.ensures _ so_far.accepted so_far.is) }
 
 pub returns : goal.returns
-returns c = λ before built. subst (λ xs. IsBuilt (before ++ xs) c.loop-line.self) (take-all c.args.lines.now c.loop-line.line-index c.loop-line-test.false) (c.loop-line.invariant.built before built)
+returns c = λ before built. subst (λ xs. IsBuilt (before ++ xs) c.loop-line.self) (take_all c.loop-line.line-index c.args.lines.now c.loop-line-test.false) (c.loop-line.invariant.built before built)

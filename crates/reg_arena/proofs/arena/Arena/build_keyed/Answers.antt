@@ -1,5 +1,6 @@
 -- The arena is the history of the parts so far, none of whose lines is faulty.
-use Rattle.std.proofs.Common.{◌≡◌, ◌++◌, ◌∷◌, [], List, length, flat_map, refl, sym, ap, subst, ◌∙◌, arith}
+use Rattle.std.proofs.Common.{◌++◌, [], flat_map, sym, ap, subst, ◌∙◌}
+use Rattle.std.proofs.lemmas.List.{nil_from_length}
 use Rattle.reg_arena.specs.Built.{IsBuilt}
 use Rattle.history_model.specs.Refusals.{IsBuildError}
 use Rattle.reg_arena.proofs.Reading.{nothing-built, all-built, next-part, error-of-all}
@@ -25,14 +26,9 @@ loop-part-2-preserved c =
     let whole = next-part (λ part. part.items) so_far.0 c.in-Some.part rest c.loop-part-2.part-iterator.rest.items (flat_map (λ part. part.items) c.args.parts.items) c.in-Some.ensures.steps.0 so_far.2 in
     record { built = (so_far.0 ++ c.in-Some.part.items, subst (λ lines. IsBuilt (so_far.0 ++ lines) c.add_lines.new.self) c.deref.ensures.value (c.in_ok-add_lines.ensures so_far.0 so_far.1), whole) }
 
--- a list of no length is empty
-none-left : {X : Type 0} (xs : List X) → length xs ≡ 0 → xs ≡ []
-none-left [] e = refl
-none-left (x ∷ xs) e = absurd (omega (arith, e))
-
 pub returns-clause-ok : goal.returns-clause-ok
 returns-clause-ok c =
     let so_far = c.loop-part-2.invariant.built in
     let rest = c.loop-part-2.part-iterator.rest in
-    let none = none-left rest.items (sym rest.ok.0 ∙ c.in-None.ensures.steps.0) in
+    let none = nil_from_length rest.items (sym rest.ok.0 ∙ c.in-None.ensures.steps.0) in
     all-built so_far.0 (flat_map (λ part. part.items) c.args.parts.items) c.loop-part-2.arena so_far.1 (ap (λ parts. so_far.0 ++ flat_map (λ part. part.items) parts) (sym none) ∙ so_far.2)
