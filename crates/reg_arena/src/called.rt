@@ -21,13 +21,13 @@ impl Arena {
         let (reply, value) = match self.reply_to(id) {
             None => (None, event.value),
             Some(reply) => match kind {
-                OpKind::ReadOp => (Some(reply.0 + 2), self.event(reply).value),
-                OpKind::WriteOp => (Some(reply.0 + 2), event.value),
+                OpKind::ReadOp => (Some(reply.time()), self.event(reply).value),
+                OpKind::WriteOp => (Some(reply.time()), event.value),
             },
         };
         Op {
             line: event.line,
-            call: id.0 + 2,
+            call: id.time(),
             reply,
             process: Some(event.process),
             register: event.register.unwrap_or(RegId(0)),

@@ -80,7 +80,7 @@ fn last_time(value: Val, entry: Option<Entry>) -> Option<u32>
         None => None,
     };
     match (last, value) {
-        (Some(call), _) => Some(call.0 + 2),
+        (Some(call), _) => Some(call.time()),
         (None, Val::Null) => Some(0),
         (None, Val::Int(_)) => None,
     }
@@ -95,7 +95,7 @@ fn reply_time(value: Val, entry: Option<Entry>) -> Option<u32>
         (Val::Null, _) => Some(1),
         (Val::Int(_), None) => None,
         (Val::Int(_), Some(entry)) => match entry.first_reply {
-            Some(id) => Some(id.0 + 2),
+            Some(id) => Some(id.time()),
             None => None,
         },
     }

@@ -61,7 +61,7 @@ fn has_overlapped_value(arena: &Arena, register: RegId, name: Oper, read: &Op) -
     let Some(reply) = read.reply else {
         return false;
     };
-    match arena.write_of_event(EvId(reply - 2)) {
+    match arena.write_of_event(EvId::at(reply)) {
         Some(write) => overlap(arena, write, name),
         None => false,
     }

@@ -38,7 +38,7 @@ pub(crate) fn point_lines(
     let mut lines = Vec::with_capacity(alloc, order.len())?;
     for placed in order {
         if let Oper::Called(_) = placed.oper {
-            lines.push(arena.event(EvId(placed.point - 2)).line)?;
+            lines.push(arena.event(EvId::at(placed.point)).line)?;
         }
     }
     Ok(Lines::new(lines))

@@ -62,7 +62,7 @@ fn called_at(register: Register<'_>, time: u32) -> Oper
     if time < 2 {
         Oper::Initial(register.id)
     } else {
-        Oper::Called(EvId(time - 2))
+        Oper::Called(EvId::at(time))
     }
 }
 
@@ -75,6 +75,6 @@ fn replied_at(register: Register<'_>, time: u32) -> Oper
     if time < 2 {
         initial
     } else {
-        register.arena.op_of(EvId(time - 2)).unwrap_or(initial)
+        register.arena.op_of(EvId::at(time)).unwrap_or(initial)
     }
 }

@@ -13,7 +13,7 @@ pub(crate) fn valued_event(register: Register<'_>, op: Op, id: EvId) -> Option<E
     ensures { (o : Operation) → IsBelonging register.entry.arena.now register.entry.id.0 id.0 o op → IsValuedEvent register.entry.arena.now register.entry.id.0 o result }
 {
     match (op.reply, op.kind) {
-        (Some(reply), _) => Some(EvId(reply - 2)),
+        (Some(reply), _) => Some(EvId::at(reply)),
         (None, OpKind::WriteOp) => Some(id),
         (None, OpKind::ReadOp) => None,
     }

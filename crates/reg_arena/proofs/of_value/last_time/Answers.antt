@@ -5,8 +5,8 @@ use Rattle.reg_arena.proofs.Times.{later-fits}
 use Rattle.reg_arena.proofs.of_value.last_time.Goals as goal
 use Rattle.reg_arena.proofs.of_value.last_time.Goals.{in-Some, in-None}
 
-pub overflow_add-result : goal.overflow_add-result
-overflow_add-result c =
+pub time-requires : goal.time-requires
+time-requires c =
     let fits : c.in-Some-default.call.0 < MAX_EVENTS = elim c.match-entry.branch [
       | in-Some w ↦
           let t = c.requires w.in-Some.entry w.in-Some.is in

@@ -1,5 +1,5 @@
 use Rattle.std.proofs.Common.{arith}
 use Rattle.reg_arena.proofs.of_value.reply_time.Goals as goal
 
-pub overflow_add-result : goal.overflow_add-result
-overflow_add-result c = let b = (c.requires c.in-Int-Some.entry c.in-Int-Some.is-1).reply c.in-Some.id c.in-Some.is in omega (arith, b)
+pub time-requires : goal.time-requires
+time-requires c = let b = (c.requires c.in-Int-Some.entry c.in-Int-Some.is-1).reply c.in-Some.id c.in-Some.is in omega (arith, b)

@@ -7,8 +7,8 @@ use Rattle.reg_zones.proofs.Known.{facts}
 use Rattle.reg_zones.proofs.ValuedEvents.{replied, pending, late-reply, reply-key, call-key}
 use Rattle.reg_zones.proofs.valued.valued_event.Goals as goal
 
-pub overflow_sub-result : goal.overflow_sub-result
-overflow_sub-result c =
+pub at-requires : goal.at-requires
+at-requires c =
     let o = c.requires in
     let t = replied c.args.register.arena.now c.args.register.id.0 (facts c.args.register) c.args.id.0 o.0 c.args.op o.1 _ c.in-Some-default.is-0 in
     omega (arith, t.1, late-reply c.args.register.arena.now c.args.register.id.0 (facts c.args.register) c.args.id.0 o.0 c.args.op o.1)
@@ -19,7 +19,7 @@ returns-in-Some-default c o b =
     let r = c.args.register.id.0 in
     let t = replied h r (facts c.args.register) c.args.id.0 o c.args.op b _ c.in-Some-default.is-0 in
     let k = reply-key h r (facts c.args.register) c.args.id.0 o c.args.op b t.0 in
-    (k.0, k.1, subst (λ n. key_at by_value h.events (n - 2) ≡ Some (r, k.0)) t.1 k.2, inr t.0)
+    (k.0, k.1, subst (λ i. key_at by_value h.events i ≡ Some (r, k.0)) (ap (λ n. n - 2) t.1 ∙ sym c.at.ensures) k.2, inr t.0)
 
 pub returns-in-None-WriteOp : goal.returns-in-None-WriteOp
 returns-in-None-WriteOp c o b =
