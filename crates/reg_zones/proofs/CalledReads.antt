@@ -11,7 +11,7 @@ use Rattle.history_model.specs.declared.ids.Oper.{Oper}
 use Rattle.history_model.specs.Naming.{IsNamed}
 use Rattle.history_model.specs.OfValue.{IsWriteOf}
 use Rattle.reg_zones.proofs.Known.{IsKnown}
-use Rattle.reg_zones.specs.Sweep.{IsBelonging}
+use Rattle.reg_zones.specs.Sweep.{IsBelonging, IsUnwrittenAt}
 use Rattle.reg_zones.proofs.Registers.{member-cluster, cluster-member}
 use Rattle.reg_zones.proofs.ValuedEvents.{same, pending}
 use Rattle.history_model.proofs.Recorded.{of_register-In}
@@ -50,3 +50,10 @@ module _ (h : History) (r : ℕ) (y : IsKnown h r) (v : Val) where
   -- two writes of the value are one
   pub one_write : (w x : Operation) → In w (of_register r (operations h)) → IsWrite w → w.value ≡ Some v → In x (of_register r (operations h)) → IsWrite x → x.value ≡ Some v → w ≡ x
   one_write w x i u e j t f = y.history.values w x i j u t (e ∙ sym f)
+
+  -- where a completed read of the value is called, each completed read has its write
+  pub call_written : (name : Oper) (n : ℕ) (a : Operation) → In a (of_register r (operations h)) → IsCompletedRead a → a.call ≡ n → a.value ≡ Some v → IsWriteOf h r v (Some name) → IsUnwrittenAt (of_register r (operations h)) n None
+  call_written name n a i d e f m b k t q =
+      let w = the_write name m in
+      let same = y.history.calls b a k i (q ∙ sym e) in
+      (w.0, w.2, w.3, read_of w.0 b w.4 t (ap (λ (x : Operation). x.value) same ∙ f))

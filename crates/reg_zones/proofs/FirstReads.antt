@@ -1,18 +1,24 @@
 -- A walk by calls that meets a read without a write, or an early read, has met the first.
 use Rattle.std.proofs.Common.{◌≡◌, ℕ, ◌+◌, ◌-◌, ◌≤◌, Some, None, Option, inl, inr, sym, ap, ◌∙◌, arith}
 use Rattle.std.proofs.lemmas.Bool.{cases_lt, false≢true}
+use Rattle.std.specs.Option.{option_or}
 use Rattle.history_model.specs.declared.ids.EvId.{EvId}
 use Rattle.history_model.specs.declared.ids.Oper.{Oper}
 use Rattle.history_model.specs.Lists.{In}
 use Rattle.history_model.specs.History.{History}
 use Rattle.history_model.specs.Operations.{Operation, IsCompletedRead, of_register, operations, is_write}
-use Rattle.history_model.specs.Walking.{by_register, key_at}
-use Rattle.reg_zones.specs.declared.fault.Fault.TheVariants.{Unwritten, Early}
+use Rattle.history_model.specs.Walking.{IsNextOf, by_register, key_at}
+use Rattle.reg_zones.specs.declared.fault.Fault.TheVariants.{Unwritten}
 use Rattle.reg_zones.specs.Faults.{IsEarly, IsFault}
 use Rattle.reg_zones.proofs.Known.{IsKnown}
-use Rattle.reg_zones.specs.Sweep.{AreWritten, AreInTime, IsUnwrittenAt, IsEarlyAt}
+use Rattle.reg_zones.specs.Sweep.{AreWritten, IsUnwrittenAt, IsEarlyAt, IsEarlyFound}
 use Rattle.reg_zones.proofs.Registers.{cases_process, event-key}
-use Rattle.reg_zones.proofs.Walks.{IsWalk, IsPassed}
+use Rattle.reg_zones.proofs.Walks.{IsWalk, IsPassed, walk-more}
+
+-- of the early reads that are called behind a walk, the one of least call, with its write; or there is none
+abbrev pub IsEarlySoFar : History → ℕ → Option (Oper × Oper) → Option EvId → Type 0
+IsEarlySoFar h r None next = IsWalk h.events r (λ i. IsEarlyAt (of_register r (operations h)) (i + 2) None) next
+IsEarlySoFar h r (Some pair) next = IsEarlyFound (of_register r (operations h)) (Some pair)
 
 module _ (h : History) (r : ℕ) (y : IsKnown h r) where
   -- the call of a completed read is an event
@@ -53,27 +59,29 @@ module _ (h : History) (r : ℕ) (y : IsKnown h r) where
   early-read : (a w : Operation) → IsEarly (of_register r (operations h)) a w → IsCompletedRead a
   early-read a w e = record { read = e.read.read; completed = e.read.completed }
 
-  pub all_in_time : IsWalk h.events r (λ i. IsEarlyAt (of_register r (operations h)) (i + 2) None) None → AreInTime (of_register r (operations h))
-  all_in_time w a u e =
+  -- an early read that is called behind a walk which has met none
+  early-behind : (next : Option EvId) (a u : Operation) → IsWalk h.events r (λ i. IsEarlyAt (of_register r (operations h)) (i + 2) None) next → IsEarly (of_register r (operations h)) a u → IsPassed (a.call - 2) next → ⊥
+  early-behind next a u w e p =
       let d = early-read a u e in
       let l = read-call a e.within d in
-      behind (λ i. IsEarlyAt (of_register r (operations h)) (i + 2) None) None a w e.within d tt a u e (omega arith)
+      behind (λ i. IsEarlyAt (of_register r (operations h)) (i + 2) None) next a w e.within d p a u e (omega arith)
 
-  pub first_early : (id : EvId) (pair : Oper × Oper) → AreWritten (of_register r (operations h)) → IsWalk h.events r (λ i. IsEarlyAt (of_register r (operations h)) (i + 2) None) (Some id) → IsEarlyAt (of_register r (operations h)) (id.0 + 2) (Some pair) → IsFault (of_register r (operations h)) (Early pair.0 pair.1)
-  first_early id pair written w f = (
-    f.0,
-    f.1,
-    record {
-      written = λ q u. let x = written q u.within u.read in u.unwritten x.0 x.1 x.2 x.3;
-      fault = f.2;
-      first = λ b u e. elim (cases_lt b.call f.0.call) [
-        | inr l ↦ l
-        | inl l ↦
-            let d = early-read b u e in
-            let m = read-call b e.within d in
-            absurd (behind (λ i. IsEarlyAt (of_register r (operations h)) (i + 2) None) (Some id) b w e.within d (omega (arith, f.3)) b u e (omega arith))
-      ];
-    },
-    f.4,
-    f.5,
+  -- what the walk has shown once it has met one more event
+  pub early-more : (early here : Option (Oper × Oper)) (id : EvId) (next : Option EvId) → IsEarlySoFar h r early (Some id) → IsEarlyAt (of_register r (operations h)) (id.0 + 2) here → IsNextOf by_register h.events id.0 next → IsEarlySoFar h r (option_or early here) next
+  early-more (Some pair) here id next w q n = w
+  early-more None None id next w q n = walk-more h.events r (λ i. IsEarlyAt (of_register r (operations h)) (i + 2) None) id next w q n
+  early-more None (Some pair) id next w q n = (
+    q.0,
+    q.1,
+    q.2,
+    λ b u e. elim (cases_lt b.call q.0.call) [
+      | inr l ↦ l
+      | inl l ↦ let m = read-call b e.within (early-read b u e) in absurd (early-behind (Some id) b u w e (omega (arith, q.3)))
+    ],
+    q.4,
+    q.5,
   )
+
+  pub early-over : (early : Option (Oper × Oper)) → IsEarlySoFar h r early None → IsEarlyFound (of_register r (operations h)) early
+  early-over None w = λ a u e. early-behind None a u w e tt
+  early-over (Some pair) w = w

@@ -5,9 +5,11 @@ use Rattle.history_model.specs.History.{History}
 use Rattle.history_model.specs.Operations.{Operation, of_register, operations, initial_write}
 use Rattle.history_model.specs.Walking.{IsFirstOf, IsNextOf, IsLeastFrom, by_register, key_at}
 use Rattle.reg_zones.specs.declared.pass.Cluster.{Cluster}
-use Rattle.reg_zones.specs.Clusters.{IsKept, IsConflict, IsForward, low_end}
+use Rattle.reg_zones.specs.declared.pass.Compared.{Compared}
+use Rattle.reg_zones.specs.declared.pass.Compared.TheVariants.{Clear, Conflict}
+use Rattle.reg_zones.specs.Clusters.{IsKept, IsForward, low_end}
 use Rattle.reg_zones.proofs.Known.{IsKnown}
-use Rattle.reg_zones.specs.Sweep.{IsClusterOf, IsLastMet, IsMet}
+use Rattle.reg_zones.specs.Sweep.{AreAllCompared, AreCompared, IsClusterOf, IsConflictFound, IsLastMet, IsMet}
 use Rattle.reg_zones.proofs.Ends.{first_reply-le}
 use Rattle.reg_zones.proofs.Registers.{no_low_end, initial_low}
 use Rattle.reg_zones.proofs.OnePass.{forward-from, forward-to, gap, ended}
@@ -24,6 +26,11 @@ pub record IsPassing (ops : List Operation) (last : Option Cluster) (next : Opti
   pub reach : (id : EvId) → next ≡ Some id → time ≤ id.0 + 2
   pub clear : (w : Operation) → IsKept ops w → time ≤ low_end ops w.value → IsBefore (low_end ops w.value) next → ⊥
 
+-- as far as the next event, the pass has met each low end, or a conflict
+abbrev pub IsComparing : List Operation → Compared → Option EvId → Type 0
+IsComparing ops (Clear last) next = IsPassing ops last next
+IsComparing ops (Conflict first second) next = IsConflictFound ops first second
+
 module _ (h : History) (r : ℕ) (y : IsKnown h r) where
   -- where the event at place i isn't of the register, no low end has its time
   none_at : (w : Operation) → IsKept (of_register r (operations h)) w → 2 ≤ low_end (of_register r (operations h)) w.value → (key_at by_register h.events (low_end (of_register r (operations h)) w.value - 2) ≡ Some r → ⊥) → ⊥
@@ -39,8 +46,8 @@ module _ (h : History) (r : ℕ) (y : IsKnown h r) where
   }
 
   -- before all events the initial cluster alone has been met
-  met_initial : (c : Cluster) (last : Option Cluster) → IsClusterOf (of_register r (operations h)) (initial_write r) c → IsLastMet (of_register r (operations h)) 2 last → IsMet (of_register r (operations h)) 2 last
-  met_initial c last k l = record {
+  met_initial : (last : Option Cluster) → IsLastMet (of_register r (operations h)) 2 last → IsMet (of_register r (operations h)) 2 last
+  met_initial last l = record {
     clear = λ v w q lt b. q.differ (let a = initial_low h r y v q.left (omega arith) in let e = initial_low h r y w q.right b in ap (λ (o : Operation). o.value) (a ∙ sym e));
     last = l;
   }
@@ -51,10 +58,10 @@ module _ (h : History) (r : ℕ) (y : IsKnown h r) where
       let l = first_reply-le ops (initial_write r).value (initial_write r) (record { within = y.initial; value = refl; counts = inl refl }) in
       omega (arith, l)
 
-  pub started_forward : (c : Cluster) (next : Option EvId) → IsClusterOf (of_register r (operations h)) (initial_write r) c → c.zone.f < c.zone.s → IsFirstOf by_register h.events r next → IsPassing (of_register r (operations h)) (Some c) next
-  started_forward c next k f q =
+  pub met_forward : (c : Cluster) → IsClusterOf (of_register r (operations h)) (initial_write r) c → c.zone.f < c.zone.s → IsMet (of_register r (operations h)) 2 (Some c)
+  met_forward c k f =
       let ops = of_register r (operations h) in
-      from_least 0 (Some c) next (met_initial c (Some c) k (
+      met_initial (Some c) (
         initial_write r,
         k,
         record {
@@ -63,21 +70,29 @@ module _ (h : History) (r : ℕ) (y : IsKnown h r) where
           below = initial_low_end;
           last = λ u ku fu b. let e = initial_low h r y u ku b in let s = ap (λ (o : Operation). low_end ops o.value) e in omega (arith, s);
         },
-      )) q
+      )
 
-  pub started_backward : (c : Cluster) (next : Option EvId) → IsClusterOf (of_register r (operations h)) (initial_write r) c → (c.zone.f < c.zone.s → ⊥) → IsFirstOf by_register h.events r next → IsPassing (of_register r (operations h)) None next
-  started_backward c next k f q =
+  pub met_backward : (c : Cluster) → IsClusterOf (of_register r (operations h)) (initial_write r) c → (c.zone.f < c.zone.s → ⊥) → IsMet (of_register r (operations h)) 2 None
+  met_backward c k f =
       let ops = of_register r (operations h) in
-      from_least 0 None next (met_initial c None k (λ u ku fu b. f (forward-to ops (initial_write r) c k (subst (λ (o : Operation). IsForward ops o.value) (initial_low h r y u ku b) fu)))) q
+      met_initial None (λ u ku fu b. f (forward-to ops (initial_write r) c k (subst (λ (o : Operation). IsForward ops o.value) (initial_low h r y u ku b) fu)))
+
+  -- ---- a loop over the events
+
+  pub comparing-start : (last : Option Cluster) (next : Option EvId) → IsMet (of_register r (operations h)) 2 last → IsFirstOf by_register h.events r next → IsComparing (of_register r (operations h)) (Clear last) next
+  comparing-start last next m f = from_least 0 last next m f
 
   -- what the pass knows at the event where it stands
-  pub met_here : (last : Option Cluster) (id : EvId) → IsPassing (of_register r (operations h)) last (Some id) → IsMet (of_register r (operations h)) (id.0 + 2) last
-  met_here last id p = gap (of_register r (operations h)) p.time (id.0 + 2) last (p.reach id refl) p.clear p.met
+  pub comparing-here : (clusters : Compared) (id : EvId) → IsComparing (of_register r (operations h)) clusters (Some id) → AreCompared (of_register r (operations h)) (id.0 + 2) clusters
+  comparing-here (Clear last) id p = gap (of_register r (operations h)) p.time (id.0 + 2) last (p.reach id refl) p.clear p.met
+  comparing-here (Conflict first second) id p = p
 
-  pub passed : (last : Option Cluster) (id : EvId) (next : Option EvId) → key_at by_register h.events id.0 ≡ Some r → IsMet (of_register r (operations h)) (id.0 + 3) last → IsNextOf by_register h.events id.0 next → IsPassing (of_register r (operations h)) last next
-  passed last id next k m n =
+  pub comparing-more : (clusters : Compared) (id : EvId) (next : Option EvId) → key_at by_register h.events id.0 ≡ Some r → AreCompared (of_register r (operations h)) (id.0 + 3) clusters → IsNextOf by_register h.events id.0 next → IsComparing (of_register r (operations h)) clusters next
+  comparing-more (Clear last) id next k m n =
       let e : id.0 + 3 ≡ id.0 + 1 + 2 = omega arith in
       from_least (id.0 + 1) last next (subst (λ t. IsMet (of_register r (operations h)) t last) e m) (n r k)
+  comparing-more (Conflict first second) id next k m n = m
 
-  pub at_end : (last : Option Cluster) → IsPassing (of_register r (operations h)) last None → (v w : Operation) → IsConflict (of_register r (operations h)) v w → ⊥
-  at_end last p = ended (of_register r (operations h)) y.history p.time last (λ w k l. p.clear w k l tt) p.met
+  pub comparing-over : (clusters : Compared) → IsComparing (of_register r (operations h)) clusters None → AreAllCompared (of_register r (operations h)) clusters
+  comparing-over (Clear last) p = ended (of_register r (operations h)) y.history p.time last (λ w k l. p.clear w k l tt) p.met
+  comparing-over (Conflict first second) p = p

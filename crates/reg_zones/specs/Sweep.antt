@@ -1,5 +1,5 @@
 -- Zones as the code has them, and what is found at each event of a register.
-use Rattle.std.specs.Prelude.{◌≡◌, ℕ, ◌+◌, ◌<◌, ◌⊎◌, List, Option, Some, None}
+use Rattle.std.specs.Prelude.{◌≡◌, ℕ, ◌+◌, ◌<◌, ◌≤◌, ◌⊎◌, List, Option, Some, None}
 use Rattle.history_text.specs.declared.event.Val.{Val}
 use Rattle.history_model.specs.declared.ids.EvId.{EvId}
 use Rattle.history_model.specs.declared.ids.Oper.{Oper}
@@ -10,10 +10,13 @@ use Rattle.history_model.specs.Operations.{Operation, IsWrite, IsCompleted, IsCo
 use Rattle.history_model.specs.Walking.{by_value, key_at}
 use Rattle.history_model.specs.Naming.{IsNamed, IsEventOf, name_of, op_shown}
 use Rattle.history_model.specs.OfValue.{IsMember, IsFirstReply, IsLastCall}
-use Rattle.reg_zones.specs.Clusters.{IsKept, IsClearBelow, IsForward, IsLastForward, first_reply, last_call, low_end}
+use Rattle.reg_zones.specs.Clusters.{IsKept, IsConflict, IsFirstConflict, IsClearBelow, IsForward, IsLastForward, first_reply, last_call, low_end}
 use Rattle.reg_zones.specs.Faults.{IsUnwritten, IsEarly}
 use Rattle.reg_zones.specs.declared.zone.Zone.{Zone}
 use Rattle.reg_zones.specs.declared.pass.Cluster.{Cluster}
+use Rattle.reg_zones.specs.declared.pass.Compared.{Compared}
+use Rattle.reg_zones.specs.declared.pass.Compared.TheVariants.{Clear, Conflict}
+use Rattle.reg_zones.specs.declared.pass.Found.{Found}
 use Rattle.reg_zones.specs.declared.reads.Read.{Read}
 
 -- the event at place i belongs to the operation o of register r
@@ -113,3 +116,30 @@ ZonesConflict y z = (y.f < z.s) × (z.f < y.s)
 abbrev pub IsConflictWith : Option Cluster → Cluster → Option Cluster → Type 0
 IsConflictWith last cluster None = (c : Cluster) → last ≡ Some c → ZonesConflict c.zone cluster.zone → ⊥
 IsConflictWith last cluster (Some c) = (last ≡ Some c) × ZonesConflict c.zone cluster.zone
+
+-- the first two clusters that conflict
+abbrev pub IsConflictFound : List Operation → Cluster → Cluster → Type 0
+IsConflictFound ops first second = (v : Operation) × (w : Operation) × IsFirstConflict ops v w × IsClusterOf ops v first × IsClusterOf ops w second
+
+-- what a pass that has met each low end before time n knows of the zones: no conflict and the last forward cluster, or the first conflict
+abbrev pub AreCompared : List Operation → ℕ → Compared → Type 0
+AreCompared ops n (Clear last) = IsMet ops n last
+AreCompared ops n (Conflict first second) = IsConflictFound ops first second
+
+-- ---- what the whole pass finds
+
+-- of the early reads, the one of least call, with its write; or there is none
+abbrev pub IsEarlyFound : List Operation → Option (Oper × Oper) → Type 0
+IsEarlyFound ops None = AreInTime ops
+IsEarlyFound ops (Some pair) = (r : Operation) × (w : Operation) × IsEarly ops r w × ((q u : Operation) → IsEarly ops q u → r.call ≤ q.call) × (name_of r ≡ pair.0) × (name_of w ≡ pair.1)
+
+-- the first two clusters that conflict; or no two do
+abbrev pub AreAllCompared : List Operation → Compared → Type 0
+AreAllCompared ops (Clear last) = (v w : Operation) → IsConflict ops v w → ⊥
+AreAllCompared ops (Conflict first second) = IsConflictFound ops first second
+
+-- what is found of a register in which each completed read has its write
+pub record IsFound (ops : List Operation) (found : Found) : Type 0 where
+  pub written : AreWritten ops
+  pub early : IsEarlyFound ops found.early
+  pub clusters : AreAllCompared ops found.clusters

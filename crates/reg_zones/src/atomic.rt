@@ -1,12 +1,13 @@
 //! Whether a register is atomic.
-ghost use Rattle.std.specs.Prelude.{◌<◌, ◌↔◌, length, IsOk, MatchResult};
+ghost use Rattle.std.specs.Prelude.{◌<◌, ◌↔◌, length, IsOk, IfOk, IfErr, MatchResult};
 ghost use Rattle.history_model.specs.Operations.{of_register, operations};
 ghost use Rattle.history_model.specs.Legal.{IsAtomic};
 ghost use Rattle.reg_zones.specs.Faults.{HasNoFault, IsFault};
+ghost use Rattle.reg_zones.specs.Register.{operations_of};
+ghost use Rattle.reg_zones.specs.Sweep.{IsFound};
 
-use crate::fault::Fault;
-use crate::pass::compatible;
-use crate::reads::{in_time, written};
+use crate::fault::{Fault, conflict_of};
+use crate::pass::{Compared, Found, pass};
 use crate::register::Register;
 use history_model::RegId;
 use reg_arena::Arena;
@@ -22,7 +23,19 @@ pub fn sweep(arena: &Arena, register: RegId) -> Result<(), Fault>
     ensures atomic { IsOk result ↔ IsAtomic (of_register register.0 (operations arena.now)) }
 {
     let register = Register::new(arena, register);
-    written(register)?;
-    in_time(register)?;
-    compatible(register)
+    let found = pass(register)?;
+    verdict(register, found)
+}
+
+/// The fault that was found, an early read before a conflict, or that there is none.
+fn verdict(register: Register<'_>, found: Found) -> Result<(), Fault>
+    requires { IsFound (operations_of register) found }
+    ensures ok { IfOk result (λ _. HasNoFault (operations_of register.entry)) }
+    ensures err { IfErr result (λ fault. IsFault (operations_of register.entry) fault) }
+{
+    match (found.early, found.clusters) {
+        (Some((read, write)), _) => Err(Fault::Early { read, write }),
+        (None, Compared::Conflict(first, second)) => Err(conflict_of(register, first, second)),
+        (None, Compared::Clear(_)) => Ok(()),
+    }
 }

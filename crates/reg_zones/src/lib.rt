@@ -6,8 +6,9 @@
 //! [`zone_of`], which nothing above calls today, tell a kept write and a zone. [`laws`] says why zones decide.
 //!
 //! The method is that of Gibbons and Korach (Testing Shared Memories, 1997) for distinct written values. To read: `zone`,
-//! then `reads` (the two faults of single reads) and `pass` (one pass over low ends), which `atomic` puts together; then
-//! `entry` and `canonical` for the order, and `inversion`. `register` is a register with what is known of it, and `valued` asks for an operation's value.
+//! then `reads` (the two faults of single reads) and `pass` (one pass over the events, which also compares zones by their
+//! low ends), from which `atomic` answers; then `entry` and `canonical` for the order, and `inversion`. `register` is a
+//! register with what is known of it, and `valued` asks for an operation's value.
 #![tactic(auto)]
 
 mod atomic;

@@ -1,11 +1,12 @@
-//! One pass over the low ends of a register's zones, in order of time.
-ghost use Rattle.std.specs.Prelude.{◌≡◌, ◌<◌, ◌+◌, length, Some, IfOk, IfErr};
+//! One pass over a register's events, in order of time: its completed reads by call, and its zones by low ends.
+ghost use Rattle.std.specs.Prelude.{◌+◌, IfOk, IfErr};
 ghost use Rattle.history_model.specs.Operations.{initial_write};
-ghost use Rattle.reg_zones.specs.Faults.{IsFault, HasNoFault};
+ghost use Rattle.reg_zones.specs.Faults.{IsFault};
 ghost use Rattle.reg_zones.specs.Register.{HasEvent, operations_of};
-ghost use Rattle.reg_zones.specs.Sweep.{AreInTime, AreWritten, IsConflictWith, IsClusterOf, IsLowEndAt, IsMet};
+ghost use Rattle.reg_zones.specs.Sweep.{AreCompared, IsConflictWith, IsClusterOf, IsFound, IsLowEndAt, IsMet};
 
-use crate::fault::{Fault, conflict_of};
+use crate::fault::Fault;
+use crate::reads::early_at;
 use crate::register::Register;
 use crate::valued::valued_event;
 use crate::zone::{Zone, zone_at, zone_of};
@@ -19,28 +20,53 @@ pub(crate) struct Cluster {
     pub(crate) zone: Zone,
 }
 
-/// No two zones of the register conflict, or the first pair by the second's low end.
+/// What the pass knows of the zones that it has compared.
+#[derive(Clone, Copy, Debug, PartialEq, Eq)]
+pub(crate) enum Compared {
+    /// No two of them conflict; the last forward cluster met.
+    Clear(Option<Cluster>),
+    /// The first two clusters found to conflict, by the second's low end. Nothing more is compared.
+    Conflict(Cluster, Cluster),
+}
+
+/// What the pass found, if each completed read has its write.
+#[derive(Clone, Copy, Debug, PartialEq, Eq)]
+pub(crate) struct Found {
+    /// Of the reads that precede their write, the one called first, with that write.
+    pub(crate) early: Option<(Oper, Oper)>,
+    pub(crate) clusters: Compared,
+}
+
+/// The first completed read without a write, or else what was found of early reads and of zones.
 ///
 /// Each event that is a low end of its cluster is compared with the last forward zone met, and with no other: if two
 /// zones conflict, the first of the two by low ends is forward, and no forward one comes between them.
-pub(crate) fn compatible(register: Register<'_>) -> Result<(), Fault>
-    requires written { AreWritten (operations_of register) }
-    requires in_time { AreInTime (operations_of register) }
-    ensures ok { IfOk result (λ _. HasNoFault (operations_of register.entry)) }
+pub(crate) fn pass(register: Register<'_>) -> Result<Found, Fault>
+    ensures ok { IfOk result (λ found. IsFound (operations_of register.entry) found) }
     ensures err { IfErr result (λ fault. IsFault (operations_of register.entry) fault) }
 {
+    let mut early = None;
+    let mut clusters = Compared::Clear(initial_forward(register));
+    let mut next = register.arena.first_of_register(register.id);
+    while let Some(id) = next {
+        let here = early_at(register, id)?;
+        early = early.or(here);
+        clusters = compare_at(register, clusters, id);
+        next = register.arena.next_in_register(id);
+    }
+    Ok(Found { early, clusters })
+}
+
+/// The cluster of the initial write, if its zone is forward: the last forward cluster before all events.
+fn initial_forward(register: Register<'_>) -> Option<Cluster>
+    ensures { IsMet (operations_of register.entry) 2 result }
+{
     let initial = initial_cluster(register);
-    let mut last = if initial.zone.is_forward() {
+    if initial.zone.is_forward() {
         Some(initial)
     } else {
         None
-    };
-    let mut next = register.arena.first_of_register(register.id);
-    while let Some(id) = next {
-        last = met(register, last, id)?;
-        next = register.arena.next_in_register(id);
     }
-    Ok(())
 }
 
 /// The cluster of the initial write, whose low end is 0 or 1.
@@ -52,22 +78,22 @@ fn initial_cluster(register: Register<'_>) -> Cluster
     Cluster { write, zone }
 }
 
-/// The last forward cluster once the pass has met the event `id`, or the first conflict, if the event's cluster is in it.
-fn met(register: Register<'_>, last: Option<Cluster>, id: EvId) -> Result<Option<Cluster>, Fault>
+/// What is known of the zones once the event `id` is met.
+fn compare_at(register: Register<'_>, clusters: Compared, id: EvId) -> Compared
     requires here { HasEvent register id }
-    requires written { AreWritten (operations_of register) }
-    requires in_time { AreInTime (operations_of register) }
-    requires so_far { IsMet (operations_of register) (id.0 + 2) last }
-    ensures ok { IfOk result (λ last. IsMet (operations_of register.entry) (id.0 + 3) last) }
-    ensures err { IfErr result (λ fault. IsFault (operations_of register.entry) fault) }
+    requires so_far { AreCompared (operations_of register) (id.0 + 2) clusters }
+    ensures { AreCompared (operations_of register.entry) (id.0 + 3) result }
 {
+    let Compared::Clear(last) = clusters else {
+        return clusters;
+    };
     let Some(cluster) = low_end_at(register, id) else {
-        return Ok(last);
+        return clusters;
     };
     if let Some(first) = conflict_with(last, cluster) {
-        return Err(conflict_of(register, first, cluster));
+        return Compared::Conflict(first, cluster);
     }
-    Ok(if cluster.zone.is_forward() {
+    Compared::Clear(if cluster.zone.is_forward() {
         Some(cluster)
     } else {
         last

@@ -1,9 +1,10 @@
-//! The completed reads of a register, by call: those without a write, and those before their write.
-ghost use Rattle.std.specs.Prelude.{◌≡◌, ◌<◌, ◌+◌, length, Some, IfOk, IfErr};
+//! The completed read that an event calls: whether it has its write, and whether it precedes it.
+ghost use Rattle.std.specs.Prelude.{◌≡◌, ◌+◌, None, Some, IfOk, IfErr};
+ghost use Rattle.history_model.specs.declared.ids.Oper.{Oper};
 ghost use Rattle.history_model.specs.OfValue.{IsWriteOf};
-ghost use Rattle.reg_zones.specs.Faults.{IsFault};
+ghost use Rattle.reg_zones.specs.declared.fault.Fault.TheVariants.{Unwritten};
 ghost use Rattle.reg_zones.specs.Register.{HasEvent, operations_of};
-ghost use Rattle.reg_zones.specs.Sweep.{AreInTime, AreWritten, IsEarlyAt, IsReadCalledAt, IsReadOfRegister, IsUnwrittenAt};
+ghost use Rattle.reg_zones.specs.Sweep.{IsEarlyAt, IsReadCalledAt, IsReadOfRegister, IsUnwrittenAt};
 
 use crate::fault::Fault;
 use crate::register::Register;
@@ -19,61 +20,25 @@ pub(crate) struct Read {
     pub(crate) reply: u32,
 }
 
-/// Each completed read has its write, or the first that has none.
-pub(crate) fn written(register: Register<'_>) -> Result<(), Fault>
-    ensures ok { IfOk result (λ _. AreWritten (operations_of register.entry)) }
-    ensures err { IfErr result (λ fault. IsFault (operations_of register.entry) fault) }
-{
-    let mut next = register.arena.first_of_register(register.id);
-    while let Some(id) = next {
-        if let Some(read) = unwritten_at(register, id) {
-            return Err(Fault::Unwritten { read });
-        }
-        next = register.arena.next_in_register(id);
-    }
-    Ok(())
-}
-
-/// No read precedes its write, or the first that does.
-pub(crate) fn in_time(register: Register<'_>) -> Result<(), Fault>
-    requires { AreWritten (operations_of register) }
-    ensures ok { IfOk result (λ _. AreInTime (operations_of register.entry)) }
-    ensures err { IfErr result (λ fault. IsFault (operations_of register.entry) fault) }
-{
-    let mut next = register.arena.first_of_register(register.id);
-    while let Some(id) = next {
-        if let Some((read, write)) = early_at(register, id) {
-            return Err(Fault::Early { read, write });
-        }
-        next = register.arena.next_in_register(id);
-    }
-    Ok(())
-}
-
-/// The completed read that the event calls, if it has no write.
-fn unwritten_at(register: Register<'_>, id: EvId) -> Option<Oper>
+/// The completed read that the event calls and its write, if the read precedes the write, or that the read has no write.
+pub(crate) fn early_at(register: Register<'_>, id: EvId) -> Result<Option<(Oper, Oper)>, Fault>
     requires { HasEvent register id }
-    ensures { IsUnwrittenAt (operations_of register.entry) (id.0 + 2) result }
+    ensures written { IfOk result (λ _. IsUnwrittenAt (operations_of register.entry) (id.0 + 2) None) }
+    ensures early { IfOk result (λ early. IsEarlyAt (operations_of register.entry) (id.0 + 2) early) }
+    ensures unwritten { IfErr result (λ fault. (read : Oper) × (fault ≡ Unwritten read)
+        × IsUnwrittenAt (operations_of register.entry) (id.0 + 2) (Some read)) }
 {
-    let read = read_called_at(register, id)?;
-    match write_of_read(register, read) {
-        Some(_) => None,
-        None => Some(read.oper),
-    }
-}
-
-/// The completed read that the event calls and its write, if the read precedes the write.
-fn early_at(register: Register<'_>, id: EvId) -> Option<(Oper, Oper)>
-    requires { HasEvent register id }
-    ensures { IsEarlyAt (operations_of register.entry) (id.0 + 2) result }
-{
-    let read = read_called_at(register, id)?;
-    let write = write_of_read(register, read)?;
-    if read.reply < register.arena.op(write).call {
+    let Some(read) = read_called_at(register, id) else {
+        return Ok(None);
+    };
+    let Some(write) = write_of_read(register, read) else {
+        return Err(Fault::Unwritten { read: read.oper });
+    };
+    Ok(if read.reply < register.arena.op(write).call {
         Some((read.oper, write))
     } else {
         None
-    }
+    })
 }
 
 /// The write of the value of a completed read, by the event of its reply.

@@ -9,7 +9,7 @@ use std::process::Abort;
 use std::test::Fail;
 
 // A name, a history and its verdict: the fault with the lines of its operations, or the order with the points, as lines.
-const ROWS: [(&str, &str, &str); 22] = [
+const ROWS: [(&str, &str, &str); 24] = [
     (
         "a write and its read",
         "1 W 5; 1 ok; 2 R; 2 = 5",
@@ -107,6 +107,16 @@ const ROWS: [(&str, &str, &str); 22] = [
         "unwritten before early and before zones",
         "2 R; 2 = 5; 1 W 5; 1 ok; 2 R; 2 = null; 2 R; 2 = 9",
         "unwritten 7",
+    ),
+    (
+        "early before zones, though the conflict is met first",
+        "1 W 5; 1 ok; 2 R; 2 = null; 2 R; 2 = 7; 1 W 7; 1 ok",
+        "early 5 7",
+    ),
+    (
+        "two early reads, the second with a write of its own",
+        "1 R; 1 = 5; 1 R; 1 = 6; 2 W 6; 2 ok; 2 W 5; 2 ok",
+        "early 1 7",
     ),
 ];
 
