@@ -1,4 +1,5 @@
 pub mod Limits
+pub mod Names
 pub mod Lines
 pub mod Values
 pub mod Members

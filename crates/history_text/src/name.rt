@@ -1,27 +1,60 @@
 //! The name of a register.
 ghost use Rattle.std.proofs.Common.{rules};
 ghost use Rattle.std.specs.Cmp.Rules.{comparing};
-ghost use Rattle.std.specs.Prelude.{◌≡◌, ℕ, List, IfOk, string_bytes};
+ghost use Rattle.std.specs.Prelude.{◌≡◌, ℕ, List, IfOk};
 ghost use Rattle.std.specs.Str.{bytes_eq};
 ghost use Rattle.history_text.specs.Limits.{IsName};
+ghost use Rattle.history_text.specs.Names.{bytes_of};
 
+use arrayvec::ArrayString;
 use std::alloc::{AllocError, Global};
+use std::fmt;
 use std::marker::Model;
+
+/// A text, which takes memory of its own only if it is long.
+#[derive(Drop)]
+enum Text {
+    /// A text of at most 15 bytes, which lie in the value itself.
+    Short(ArrayString<15>),
+    /// Any other text.
+    Long(String),
+}
+
+impl Text {
+    fn as_str(&self) -> &str
+        ensures { result.now ≡ bytes_of self.now }
+    {
+        match self {
+            Text::Short(text) => text.as_str(),
+            Text::Long(text) => text.as_str(),
+        }
+    }
+}
+
+impl fmt::Debug for Text {
+    fn fmt<W: fmt::Write>(&self, f: &mut fmt::Formatter<W>) -> fmt::Result {
+        fmt::Debug::fmt(self.as_str(), f)
+    }
+}
 
 /// The name of a register: a text of 1 to [`MAX_NAME`](crate::MAX_NAME) bytes.
 ///
 /// Contracts see it as its UTF-8 bytes. Two names are the same register's if their bytes are equal.
 #[derive(Debug, Drop)]
 pub struct Name {
-    text: String,
+    text: Text,
 }
 
 impl Model for Name {
+    ghost use Rattle.std.specs.Prelude.{ℕ, List};
+    ghost use Rattle.history_text.specs.Limits.{IsName};
+    ghost use Rattle.history_text.specs.Names.{bytes_of};
+
     ghost Value = { List ℕ };
 
-    ghost view = { λ n. string_bytes n.text };
+    ghost view = { λ n. bytes_of n.text };
 
-    ghost invariant = { λ n. IsName (string_bytes n.text) };
+    ghost invariant = { λ n. IsName (bytes_of n.text) };
 }
 
 impl PartialEq for Name {
@@ -42,7 +75,10 @@ impl Name {
         requires { IsName text.now }
         ensures { IfOk result (λ n. n ≡ text.now) }
     {
-        let text = String::from_str(alloc, text)?;
+        let text = match ArrayString::from(text) {
+            Ok(short) => Text::Short(short),
+            Err(_) => Text::Long(String::from_str(alloc, text)?),
+        };
         Ok(Name { text })
     }
 
@@ -52,14 +88,5 @@ impl Name {
         ensures bound { IsName result.now }
     {
         self.text.as_str()
-    }
-
-    /// The text of the name, handed over.
-    pub fn into_string(self) -> String
-        ensures text { string_bytes result ≡ self }
-        ensures bound { IsName (string_bytes result) }
-    {
-        let Name { text } = self;
-        text
     }
 }

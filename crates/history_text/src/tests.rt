@@ -600,10 +600,16 @@ fn many_lines_stay_in_order(rt: HostRuntime) -> Result<(), Fail> {
 #[test]
 fn names_give_their_text(rt: HostRuntime) -> Result<(), Fail> {
     let alloc = rt.alloc();
-    let name = Name::new(alloc, "x")?;
-    assert_eq!(rt; name.as_str(), "x");
-    assert!(rt; name == Name::new(alloc, "x")?);
-    assert!(rt; name != Name::new(alloc, "X")?);
-    assert_eq!(rt; name.into_string().as_str(), "x");
+    for (text, same_length) in [
+        ("x", "X"),
+        ("fifteen_letters", "fifteen_letterS"),
+        ("sixteen__letters", "sixteen__letterS"),
+    ] {
+        let name = Name::new(alloc, text)?;
+        assert_eq!(rt; name.as_str(), text);
+        assert!(rt; name == Name::new(alloc, text)?, "{text}");
+        assert!(rt; name != Name::new(alloc, same_length)?, "{text}");
+    }
+    assert!(rt; Name::new(alloc, "fifteen_letters")? != Name::new(alloc, "fifteen_letters_")?);
     Ok(())
 }
