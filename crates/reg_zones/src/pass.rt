@@ -108,7 +108,7 @@ fn low_end_at(register: Register<'_>, id: EvId) -> Option<Cluster>
     let (_, op) = register.operation_of(id)?;
     let valued = valued_event(register, op, id)?;
     let zone = zone_at(register.arena, valued)?;
-    if zone.low() != id.0 + 2 {
+    if zone.low() != id.time() {
         return None;
     }
     let write = register.arena.write_of_event(valued)?;

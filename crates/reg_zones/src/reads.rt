@@ -46,7 +46,7 @@ fn write_of_read(register: Register<'_>, read: Read) -> Option<Oper>
     requires { IsReadOfRegister (operations_of register) read }
     ensures { IsWriteOf register.entry.arena.now register.entry.id.0 read.value result }
 {
-    register.arena.write_of_event(EvId(read.reply - 2))
+    register.arena.write_of_event(EvId::at(read.reply))
 }
 
 /// The completed read that the event calls, if it calls one.

@@ -35,11 +35,11 @@ returns-in_err-zone c =
     subst (IsLowEndAt (operations_of c.args.register) (c.args.id.0 + 2)) (sym c.from_residual-in_err-zone.ensures)
     (no_zone c.args.register.arena.now c.args.register.id.0 (facts c.args.register) c.args.id.0 b.0 _ b.1 v.0 v.1 (none _ v.2))
 
-pub returns-then-low-id : goal.returns-then-low-id
-returns-then-low-id c =
+pub returns-then-low-time : goal.returns-then-low-time
+returns-then-low-time c =
     let b = c.in_ok-op.ensures in
     let v = c.in_ok-valued.ensures b.0 b.1 in
-    not_low c.args.register.arena.now c.args.register.id.0 (facts c.args.register) c.args.id.0 b.0 _ b.1 v.0 v.1 c.in_ok-zone.zone _ (c.in_ok-zone.ensures _ v.2) c.low.ensures c.if-low-id.true
+    not_low c.args.register.arena.now c.args.register.id.0 (facts c.args.register) c.args.id.0 b.0 _ b.1 v.0 v.1 c.in_ok-zone.zone _ (c.in_ok-zone.ensures _ v.2) c.low.ensures (λ e. c.if-low-time.true (e ∙ sym c.time.ensures))
 
 pub returns-in_err-write : goal.returns-in_err-write
 returns-in_err-write c =
@@ -53,4 +53,4 @@ pub returns : goal.returns
 returns c =
     let b = c.in_ok-op.ensures in
     let v = c.in_ok-valued.ensures b.0 b.1 in
-    low_here c.args.register.arena.now c.args.register.id.0 (facts c.args.register) c.args.id.0 b.0 _ b.1 v.0 v.1 c.in_ok-zone.zone _ _ _ (c.in_ok-zone.ensures _ v.2) c.low.ensures c.if-low-id.false (ap (λ (x : Op). x.value) b.1.shown ∙ v.1) (c.in_ok-write.ensures.write _ v.2)
+    low_here c.args.register.arena.now c.args.register.id.0 (facts c.args.register) c.args.id.0 b.0 _ b.1 v.0 v.1 c.in_ok-zone.zone _ _ _ (c.in_ok-zone.ensures _ v.2) c.low.ensures (c.if-low-time.false ∙ c.time.ensures) (ap (λ (x : Op). x.value) b.1.shown ∙ v.1) (c.in_ok-write.ensures.write _ v.2)
