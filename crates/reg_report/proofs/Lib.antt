@@ -5,6 +5,7 @@ mod Naming
 mod MergedOrder
 mod Restrict
 mod Locality
+mod Turns
 mod Gathered
 mod OrderLines
 mod Atomic
