@@ -2,15 +2,15 @@
 ghost use Rattle.std.specs.Prelude.{◌+◌, IfOk, IfErr};
 ghost use Rattle.history_model.specs.Operations.{initial_write};
 ghost use Rattle.reg_zones.specs.Faults.{IsFault};
-ghost use Rattle.reg_zones.specs.Register.{HasEvent, operations_of};
-ghost use Rattle.reg_zones.specs.Sweep.{AreCompared, IsConflictWith, IsClusterOf, IsFound, IsLowEndAt, IsMet};
+ghost use Rattle.reg_zones.specs.Register.{operations_of};
+ghost use Rattle.reg_zones.specs.Sweep.{AreCompared, IsConflictWith, IsClusterOf, IsFound, IsLowEndAt, IsMet, IsOperationOf};
 
 use crate::fault::Fault;
 use crate::reads::early_at;
 use crate::register::Register;
 use crate::valued::valued_event;
 use crate::zone::{Zone, zone_at, zone_of};
-use history_model::{EvId, Oper};
+use history_model::{EvId, Op, Oper};
 
 /// A cluster that the pass has met.
 #[derive(Clone, Copy, Debug, PartialEq, Eq)]
@@ -49,9 +49,10 @@ pub(crate) fn pass(register: Register<'_>) -> Result<Found, Fault>
     let mut clusters = Compared::Clear(initial_forward(register));
     let mut next = register.arena.first_of_register(register.id);
     while let Some(id) = next {
-        let here = early_at(register, id)?;
+        let operation = register.operation_of(id);
+        let here = early_at(register, operation, id)?;
         early = early.or(here);
-        clusters = compare_at(register, clusters, id);
+        clusters = compare_at(register, clusters, operation, id);
         next = register.arena.next_in_register(id);
     }
     Ok(Found { early, clusters })
@@ -78,16 +79,21 @@ fn initial_cluster(register: Register<'_>) -> Cluster
     Cluster { write, zone }
 }
 
-/// What is known of the zones once the event `id` is met.
-fn compare_at(register: Register<'_>, clusters: Compared, id: EvId) -> Compared
-    requires here { HasEvent register id }
+/// What is known of the zones once the event `id`, which belongs to `operation`, is met.
+fn compare_at(
+    register: Register<'_>,
+    clusters: Compared,
+    operation: Option<(Oper, Op)>,
+    id: EvId,
+) -> Compared
+    requires here { IsOperationOf register.arena.now register.id.0 id.0 operation }
     requires so_far { AreCompared (operations_of register) (id.0 + 2) clusters }
     ensures { AreCompared (operations_of register.entry) (id.0 + 3) result }
 {
     let Compared::Clear(last) = clusters else {
         return clusters;
     };
-    let Some(cluster) = low_end_at(register, id) else {
+    let Some(cluster) = low_end_at(register, operation, id) else {
         return clusters;
     };
     if let Some(first) = conflict_with(last, cluster) {
@@ -101,11 +107,11 @@ fn compare_at(register: Register<'_>, clusters: Compared, id: EvId) -> Compared
 }
 
 /// The cluster whose low end is the event, if there is one.
-fn low_end_at(register: Register<'_>, id: EvId) -> Option<Cluster>
-    requires { HasEvent register id }
+fn low_end_at(register: Register<'_>, operation: Option<(Oper, Op)>, id: EvId) -> Option<Cluster>
+    requires { IsOperationOf register.arena.now register.id.0 id.0 operation }
     ensures { IsLowEndAt (operations_of register.entry) (id.0 + 2) result }
 {
-    let (_, op) = register.operation_of(id)?;
+    let (_, op) = operation?;
     let valued = valued_event(register, op, id)?;
     let zone = zone_at(register.arena, valued)?;
     if zone.low() != id.time() {

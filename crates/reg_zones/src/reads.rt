@@ -3,12 +3,12 @@ ghost use Rattle.std.specs.Prelude.{◌≡◌, ◌+◌, None, Some, IfOk, IfErr}
 ghost use Rattle.history_model.specs.declared.ids.Oper.{Oper};
 ghost use Rattle.history_model.specs.OfValue.{IsWriteOf};
 ghost use Rattle.reg_zones.specs.declared.fault.Fault.TheVariants.{Unwritten};
-ghost use Rattle.reg_zones.specs.Register.{HasEvent, operations_of};
-ghost use Rattle.reg_zones.specs.Sweep.{IsEarlyAt, IsReadCalledAt, IsReadOfRegister, IsUnwrittenAt};
+ghost use Rattle.reg_zones.specs.Register.{operations_of};
+ghost use Rattle.reg_zones.specs.Sweep.{IsEarlyAt, IsOperationOf, IsReadCalledAt, IsReadOfRegister, IsUnwrittenAt};
 
 use crate::fault::Fault;
 use crate::register::Register;
-use history_model::{EvId, Oper};
+use history_model::{EvId, Op, Oper};
 use history_text::{OpKind, Val};
 
 /// A completed read, with what it returned and when.
@@ -21,14 +21,20 @@ pub(crate) struct Read {
 }
 
 /// The completed read that the event calls and its write, if the read precedes the write, or that the read has no write.
-pub(crate) fn early_at(register: Register<'_>, id: EvId) -> Result<Option<(Oper, Oper)>, Fault>
-    requires { HasEvent register id }
+///
+/// `operation` is that to which the event belongs.
+pub(crate) fn early_at(
+    register: Register<'_>,
+    operation: Option<(Oper, Op)>,
+    id: EvId,
+) -> Result<Option<(Oper, Oper)>, Fault>
+    requires { IsOperationOf register.arena.now register.id.0 id.0 operation }
     ensures written { IfOk result (λ _. IsUnwrittenAt (operations_of register.entry) (id.0 + 2) None) }
     ensures early { IfOk result (λ early. IsEarlyAt (operations_of register.entry) (id.0 + 2) early) }
     ensures unwritten { IfErr result (λ fault. (read : Oper) × (fault ≡ Unwritten read)
         × IsUnwrittenAt (operations_of register.entry) (id.0 + 2) (Some read)) }
 {
-    let Some(read) = read_called_at(register, id) else {
+    let Some(read) = read_called_at(register, operation, id) else {
         return Ok(None);
     };
     let Some(write) = write_of_read(register, read) else {
@@ -50,11 +56,14 @@ fn write_of_read(register: Register<'_>, read: Read) -> Option<Oper>
 }
 
 /// The completed read that the event calls, if it calls one.
-fn read_called_at(register: Register<'_>, id: EvId) -> Option<Read>
-    requires { HasEvent register id }
+fn read_called_at(register: Register<'_>, operation: Option<(Oper, Op)>, id: EvId) -> Option<Read>
+    requires { IsOperationOf register.arena.now register.id.0 id.0 operation }
     ensures { IsReadCalledAt (operations_of register.entry) (id.0 + 2) result }
 {
-    let (oper, op) = register.operation_called(id)?;
+    let (oper, op) = operation?;
+    if op.call != id.time() {
+        return None;
+    }
     match (op.kind, op.reply, op.value) {
         (OpKind::ReadOp, Some(reply), Some(value)) => Some(Read { oper, value, reply }),
         _ => None,

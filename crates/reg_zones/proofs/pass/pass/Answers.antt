@@ -23,8 +23,8 @@ loop-next-init c =
       comparing = comparing-start h r (facts c.args.register) _ next c.initial_forward.ensures first;
     }
 
-pub early_at-requires : goal.early_at-requires
-early_at-requires c = c.loop-next.invariant.walk.here c.in-Some.id c.in-Some.is
+pub operation_of-operation-requires : goal.operation_of-operation-requires
+operation_of-operation-requires c = c.loop-next.invariant.walk.here c.in-Some.id c.in-Some.is
 
 passed_up : (ops : List Operation) (fault : Fault) (result : Result Found Fault) → IsErrAnd result (λ e. e ≡ fault) → IsFault ops fault → IfErr result (λ e. IsFault ops e)
 passed_up ops fault (Ok found) e f = tt
@@ -38,9 +38,6 @@ returns-in_err-here-clause-err c =
     let f = c.in_err-here.ensures.unwritten in
     passed_up ops _ c.from_residual.result c.from_residual.ensures.1
     (subst (IsFault ops) (sym f.1) (first_unwritten h r (facts c.args.register) c.in-Some.id f.0 (met-here c.loop-next.invariant.walk c.in-Some.is) f.2))
-
-pub compare_at-clusters-requires-clause-here : goal.compare_at-clusters-requires-clause-here
-compare_at-clusters-requires-clause-here c = c.loop-next.invariant.walk.here c.in-Some.id c.in-Some.is
 
 pub compare_at-clusters-requires-clause-so_far : goal.compare_at-clusters-requires-clause-so_far
 compare_at-clusters-requires-clause-so_far c =
