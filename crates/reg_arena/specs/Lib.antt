@@ -1,3 +1,4 @@
+pub mod Links
 pub mod EventLists
 pub mod Step
 pub mod Built

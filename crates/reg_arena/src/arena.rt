@@ -141,7 +141,7 @@ impl Arena {
         ensures next { IsNextOf by_register self.now.events id.0 result }
         ensures none { key_at by_register self.now.events id.0 ≡ None → result ≡ None }
     {
-        self.lists.in_register[id.0 as usize]
+        self.lists.in_register[id.0 as usize].next()
     }
 
     /// The first event of a process.
@@ -159,7 +159,7 @@ impl Arena {
         requires { id.0 < length self.now.events }
         ensures { IsNextOf by_process self.now.events id.0 result }
     {
-        self.lists.in_process[id.0 as usize]
+        self.lists.in_process[id.0 as usize].next()
     }
 
     /// The first event of a register with a value. A read's call, a failed read's fail and a crash have none.
@@ -178,7 +178,7 @@ impl Arena {
         ensures next { IsNextOf by_value self.now.events id.0 result }
         ensures none { key_at by_value self.now.events id.0 ≡ None → result ≡ None }
     {
-        self.lists.in_value[id.0 as usize]
+        self.lists.in_value[id.0 as usize].next()
     }
 
     /// The write of a value to a register, which didn't fail: of `Null` the initial write.

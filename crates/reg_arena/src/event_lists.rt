@@ -5,6 +5,7 @@ ghost use Rattle.reg_arena.specs.EventLists.{AreEventLists, IsAlike, IsAppendabl
 ghost use Rattle.history_model.specs.Operations.{is_a_fail, number_in};
 
 use crate::joins::{join_process, join_register, join_value};
+use crate::link::Link;
 use crate::list_ends::{Ends, Entry, NO_CALL};
 use crate::processes::Processes;
 use crate::seeded::Seeded;
@@ -19,9 +20,9 @@ pub(crate) struct EventLists {
     /// The call of the operation that each event belongs to, or `NO_CALL`.
     pub(crate) calls: Vec<EvId>,
     /// The next event of the same register, of the same process, and of the same register and value.
-    pub(crate) in_register: Vec<Option<EvId>>,
-    pub(crate) in_process: Vec<Option<EvId>>,
-    pub(crate) in_value: Vec<Option<EvId>>,
+    pub(crate) in_register: Vec<Link>,
+    pub(crate) in_process: Vec<Link>,
+    pub(crate) in_value: Vec<Link>,
     /// The number of the entry of the event's register and value.
     pub(crate) numbers: Vec<Option<u32>>,
     pub(crate) registers: Vec<Ends>,

@@ -12,8 +12,8 @@ use Rattle.reg_arena.proofs.event_lists.EventLists.append.Goals as goal
 pub join_register-requires-clause-within : goal.join_register-requires-clause-within
 join_register-requires-clause-within c = λ e h. let w = ends-within by_register _ _ _ c.requires.lists.registers _ e h in omega (arith, c.requires.lists.register_column)
 
-pub join_process-requires : goal.join_process-requires
-join_process-requires c = λ e h. let w = ends-within by_process _ _ _ c.requires.lists.processes _ e h in omega (arith, c.requires.lists.process_column)
+pub join_process-requires-clause-within : goal.join_process-requires-clause-within
+join_process-requires-clause-within c = λ e h. let w = ends-within by_process _ _ _ c.requires.lists.processes _ e h in omega (arith, c.requires.lists.process_column)
 
 pub join_value-requires-clause-within : goal.join_value-requires-clause-within
 join_value-requires-clause-within c = λ k e h. let w = ends-within by_value _ _ _ c.requires.lists.values k e h in omega (arith, c.requires.lists.value_column)
