@@ -25,7 +25,7 @@ pub mod OnePass
 pub mod Passing
 pub mod Verdict
 pub mod ListedAt
-pub mod Ranked
+mod Ranked
 pub mod Listing
 pub mod Ordered
 pub mod Rows
