@@ -1,4 +1,5 @@
 pub mod Links
+pub mod EntryNumbers
 pub mod EventLists
 pub mod Step
 pub mod Built

@@ -32,7 +32,7 @@ impl EventLists {
         ensures { (e : AnEvent) → IsAlike self.now.events.items e alike → result ≡ event_number self.now.values.keys e }
     {
         match alike {
-            Some(id) => self.numbers[id.0 as usize],
+            Some(id) => self.numbers[id.0 as usize].get(),
             None => None,
         }
     }
@@ -43,7 +43,7 @@ impl EventLists {
         requires within { id.0 < length self.now.events.items }
         ensures { result ≡ option_and_then (value_entry self.now.values.keys self.now.entries.items) (key_at by_value self.now.events.items id.0) }
     {
-        match self.numbers[id.0 as usize] {
+        match self.numbers[id.0 as usize].get() {
             Some(number) => Some(self.entries[number as usize]),
             None => None,
         }

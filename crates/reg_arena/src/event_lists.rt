@@ -4,6 +4,7 @@ ghost use Rattle.history_text.specs.declared.limits.TheConstants.{MAX_EVENTS};
 ghost use Rattle.reg_arena.specs.EventLists.{AreEventLists, IsAlike, IsAppendable, calls_with, end_of};
 ghost use Rattle.history_model.specs.Operations.{is_a_fail, number_in};
 
+use crate::entry_number::EntryNumber;
 use crate::joins::{join_process, join_register, join_value};
 use crate::link::Link;
 use crate::list_ends::{Ends, Entry, NO_CALL};
@@ -24,7 +25,7 @@ pub(crate) struct EventLists {
     pub(crate) in_process: Vec<Link>,
     pub(crate) in_value: Vec<Link>,
     /// The number of the entry of the event's register and value.
-    pub(crate) numbers: Vec<Option<u32>>,
+    pub(crate) numbers: Vec<EntryNumber>,
     pub(crate) registers: Vec<Ends>,
     pub(crate) processes: Processes,
     /// The registers and values that events have; the place of each is the number of its entry.
@@ -109,7 +110,7 @@ impl EventLists {
         )?;
         self.events.push(event)?;
         join_call(&mut self.calls, event.what, call)?;
-        self.numbers.push(number)?;
+        self.numbers.push(EntryNumber::new(number))?;
         Ok(())
     }
 }

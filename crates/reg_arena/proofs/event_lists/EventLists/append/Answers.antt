@@ -1,11 +1,12 @@
 -- An append keeps each part of the invariant.
-use Rattle.std.proofs.Common.{◌≡◌, ℕ, ◌∷◌, [], length, length-append, slice_get, arith, option_map, option_and_then, ap, Some, None}
+use Rattle.std.proofs.Common.{◌≡◌, ℕ, ◌∷◌, [], length, length-append, slice_get, arith, option_map, option_and_then, ap, sym, ◌∙◌, Some, None}
 use Rattle.history_text.specs.declared.event.Val.{Val}
 use Rattle.history_model.specs.declared.ids.EvId.{EvId}
 use Rattle.reg_arena.specs.declared.list_ends.Entry.{Entry}
 use Rattle.history_model.specs.Walking.{key_at, by_register, by_process, by_value}
 use Rattle.reg_arena.specs.EventLists.{value_entry, value_number}
 use Rattle.reg_arena.proofs.Append.{ends-within, family}
+use Rattle.reg_arena.proofs.Values.{known-key, number-within}
 use Rattle.reg_arena.proofs.AppendEntries.{end-known, calls-push, calls-length, fail-within, entries-push, numbers-push}
 use Rattle.reg_arena.proofs.event_lists.EventLists.append.Goals as goal
 
@@ -17,6 +18,13 @@ join_process-requires-clause-within c = λ e h. let w = ends-within by_process _
 
 pub join_value-requires-clause-within : goal.join_value-requires-clause-within
 join_value-requires-clause-within c = λ k e h. let w = ends-within by_value _ _ _ c.requires.lists.values k e h in omega (arith, c.requires.lists.value_column)
+
+pub new-requires : goal.new-requires
+new-requires c = λ n h.
+    let keys = c.join_value.new.values.keys in
+    let k = known-key keys c.args.event n (sym h ∙ c.in_ok-number.ensures.number) in
+    let l = number-within keys k.0 n k.2 in
+    omega (arith, l, c.in_ok-number.ensures.numbered, c.in_ok-number.ensures.few, c.requires.lists.few, c.requires.room)
 
 pub returns-clause-lists : goal.returns-clause-lists
 returns-clause-lists c =
@@ -37,12 +45,12 @@ returns-clause-lists c =
       calls = rw (items, c.in_ok-join_call.ensures) (calls-push es e n c.args.self.now.calls.items c.args.call at t.call_column c.requires.room c.requires.call t.calls);
       entries = rw (items, c.in_ok-join_call.ensures) (entries-push es e n c.args.self.now.calls.items c.args.call at t.call_column c.requires.room c.requires.call _ _ none t.entries c.in_ok-number.ensures.entered);
       numbered = c.in_ok-number.ensures.numbered;
-      numbers = rw (items, c.in_ok-push-2.ensures.items) (numbers-push es e c.args.self.now.numbers.items c.in_ok-number.number (value_number c.args.self.now.values.keys) (value_number c.join_value.new.values.keys) t.number_column t.numbers no_number c.in_ok-number.ensures.kept c.in_ok-number.ensures.number);
+      numbers = rw (items, c.in_ok-push-2.ensures.items, c.new.ensures) (numbers-push es e c.args.self.now.numbers.items c.in_ok-number.number (value_number c.args.self.now.values.keys) (value_number c.join_value.new.values.keys) t.number_column t.numbers no_number c.in_ok-number.ensures.kept c.in_ok-number.ensures.number);
       register_column = rw items (omega (arith, length-append es (e ∷ []), c.in_ok-join_register.ensures.count, t.register_column));
       process_column = rw items (omega (arith, length-append es (e ∷ []), c.in_ok-join_process.ensures.count, t.process_column));
       value_column = rw items (omega (arith, length-append es (e ∷ []), c.in_ok-number.ensures.count, t.value_column));
       call_column = rw (items, c.in_ok-join_call.ensures) (omega (arith, length-append es (e ∷ []), calls-length c.args.self.now.calls.items e.what c.args.call, t.call_column));
-      number_column = rw (items, c.in_ok-push-2.ensures.items) (omega (arith, length-append es (e ∷ []), length-append c.args.self.now.numbers.items (c.in_ok-number.number ∷ []), t.number_column));
+      number_column = rw (items, c.in_ok-push-2.ensures.items, c.new.ensures) (omega (arith, length-append es (e ∷ []), length-append c.args.self.now.numbers.items (c.in_ok-number.number ∷ []), t.number_column));
       known = rw items (omega (arith, length-append es (e ∷ []), c.in_ok-join_register.ensures.registers, end-known e.register, c.requires.register, t.known));
       few = rw items (omega (arith, length-append es (e ∷ []), c.in_ok-number.ensures.few, t.few));
       room = rw items (omega (arith, length-append es (e ∷ []), c.requires.room));

@@ -7,13 +7,13 @@ pub index-requires-in-Some : goal.index-requires-in-Some
 index-requires-in-Some c =
     let l : c.args.id.0 < length c.args.self.now.numbers.items = omega (arith, c.requires.within, c.requires.lists.number_column) in
     let at = slice_get_read c.args.self.now.numbers.items _ c.args.id.0 c.index.result.now refl l c.index.ensures in
-    let w = number-within c.args.self.now c.requires.lists c.args.id.0 c.in-Some.number c.requires.within (at ∙ ap Some c.in-Some.is) in
+    let w = number-within c.args.self.now c.requires.lists c.args.id.0 c.in-Some.number c.requires.within (at ∙ ap Some (sym c.get.ensures ∙ c.in-Some.is)) in
     omega arith
 
 pub returns-in-Some : goal.returns-in-Some
 returns-in-Some c =
     let l : c.args.id.0 < length c.args.self.now.numbers.items = omega (arith, c.requires.within, c.requires.lists.number_column) in
-    let at = slice_get_read c.args.self.now.numbers.items _ c.args.id.0 c.index.result.now refl l c.index.ensures ∙ ap Some c.in-Some.is in
+    let at = slice_get_read c.args.self.now.numbers.items _ c.args.id.0 c.index.result.now refl l c.index.ensures ∙ ap Some (sym c.get.ensures ∙ c.in-Some.is) in
     let w = number-within c.args.self.now c.requires.lists c.args.id.0 c.in-Some.number c.requires.within at in
     sym (entry-of c.args.self.now c.requires.lists c.args.id.0 (Some c.in-Some.number) c.requires.within at
     ∙ slice_get_read c.args.self.now.entries.items _ c.in-Some.number c.index-in-Some.result.now refl w c.index-in-Some.ensures)
@@ -21,5 +21,5 @@ returns-in-Some c =
 pub returns-in-None : goal.returns-in-None
 returns-in-None c =
     let l : c.args.id.0 < length c.args.self.now.numbers.items = omega (arith, c.requires.within, c.requires.lists.number_column) in
-    let at = slice_get_read c.args.self.now.numbers.items _ c.args.id.0 c.index.result.now refl l c.index.ensures ∙ ap Some c.in-None.is in
+    let at = slice_get_read c.args.self.now.numbers.items _ c.args.id.0 c.index.result.now refl l c.index.ensures ∙ ap Some (sym c.get.ensures ∙ c.in-None.is) in
     sym (entry-of c.args.self.now c.requires.lists c.args.id.0 None c.requires.within at)
