@@ -1,5 +1,5 @@
 -- Whether a read keeps a level, by its old write and the one write of its value.
-use Rattle.std.proofs.Common.{◌≡◌, ℕ, ◌-◌, ◌<◌, ◌≤◌, Bool, true, false, cond, Option, Some, None, option_map, option_and_then, length, inl, inr, refl, sym, ap, subst, ◌∙◌, arith, ◌↔◌, IsTrue}
+use Rattle.std.proofs.Common.{◌≡◌, ℕ, ◌-◌, ◌<◌, ◌≤◌, Bool, true, false, cond, Option, Some, None, option_and_then, length, inl, inr, refl, sym, ap, subst, ◌∙◌, arith, ◌↔◌, IsTrue}
 use Rattle.std.proofs.lemmas.Bool.{false≢true}
 use Rattle.std.proofs.lemmas.Option.{slice_get_within}
 use Rattle.history_text.specs.declared.event.Val.{Val}
@@ -7,15 +7,13 @@ use Rattle.history_model.specs.Lists.{In}
 use Rattle.history_model.specs.History.{History, IsRecorded}
 use Rattle.history_model.specs.Lamport.{HasSingleWriter, HasOldValue, HasOverlappedValue, IsOldWrite}
 use Rattle.history_model.specs.Operations.{Operation, IsCompletedRead, Overlaps, is_write, of_register, operations}
-use Rattle.history_model.specs.Walking.{by_register, by_value, key_at}
-use Rattle.history_model.specs.Naming.{IsNamed, IsOper, op_shown}
+use Rattle.history_model.specs.Walking.{by_value, key_at}
+use Rattle.history_model.specs.Naming.{IsNamed, op_shown}
 use Rattle.history_model.specs.OfValue.{IsWriteOf}
-use Rattle.history_model.specs.declared.event.Event.{Event}
-use Rattle.history_model.specs.declared.ids.RegId.{RegId}
 use Rattle.history_model.specs.declared.ids.Oper.{Oper}
 use Rattle.history_model.specs.declared.op.Op.{Op}
 use Rattle.history_model.proofs.Recorded.{of_register-In, In-of_register, accepted-history}
-use Rattle.history_model.proofs.Named.{has-oper, one-named, operation-has-reply, operation-has-value}
+use Rattle.history_model.proofs.Named.{one-named, operation-has-reply, operation-has-value}
 use Rattle.reg_lamport.specs.declared.level.Level.{Level}
 use Rattle.reg_lamport.specs.declared.level.Level.TheVariants.{Safe, Regular}
 use Rattle.reg_lamport.specs.Levels.{Keeps}

@@ -1,6 +1,5 @@
 -- The calls of a register: they stand among its operations, and ascend by operation-call.
 use Rattle.std.proofs.Common.{◌≡◌, ℕ, zero, suc, ◌+◌, ◌<◌, ◌≤◌, ◌==◌, cond, Bool, true, false, List, [], ◌∷◌, ◌++◌, length, drop, Option, Some, None, inl, inr, refl, sym, ap, ◌∙◌, arith}
-use Rattle.std.specs.List.{filter}
 use Rattle.std.proofs.lemmas.List.Elements.{filter-append}
 use Rattle.history_model.specs.Lists.{In, Before}
 use Rattle.history_model.specs.History.{History}
@@ -10,7 +9,7 @@ use Rattle.history_model.specs.Walking.{called_at}
 use Rattle.history_model.specs.declared.event.Event.{Event}
 use Rattle.history_model.proofs.Recorded.{of_register-In, In-of_register, initials-In}
 use Rattle.history_model.proofs.Walking.{is-called, operation-call}
-use Rattle.history_model.proofs.Lists.{filter-In, append-In, In-right, filter-Before}
+use Rattle.history_model.proofs.Lists.{append-In, In-right, filter-Before}
 
 -- ---- among the operations
 

@@ -2,7 +2,7 @@
 use Rattle.std.proofs.Common.{◌≡◌, ◌∙◌, ap₂, rules}
 use Rattle.std.proofs.lemmas.Result.{IfOk-weaker}
 use Rattle.clap.specs.Words.{app_of, rule_of, with_rule}
-use Rattle.regcheck.specs.Words.{cut_rule, file_rule, first_rule, program, workers_rule}
+use Rattle.regcheck.specs.Words.{cut_rule, file_rule, program, workers_rule}
 use Rattle.regcheck.proofs.words.command.Goals as goal
 
 pub returns : goal.returns
