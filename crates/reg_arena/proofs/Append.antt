@@ -9,7 +9,7 @@ use Rattle.history_model.specs.declared.event.Event.{Event}
 use Rattle.reg_arena.specs.declared.list_ends.Ends.{Ends}
 use Rattle.history_model.specs.Operations.{is_a_call, is_a_reply, kind_in, writes}
 use Rattle.history_model.specs.Walking.{IsLeastFrom, IsFirstOf, key_at, by_value}
-use Rattle.reg_arena.specs.EventLists.{IsThreaded, IsJoinedBy, link_at, by_write, by_reply, by_read}
+use Rattle.reg_arena.specs.EventLists.{IsThreaded, IsJoinedBy, item_at, by_write, by_reply, by_read}
 use Rattle.reg_arena.proofs.Threading.{IsPushed, threaded-alone, threaded-joined}
 use Rattle.history_model.proofs.Lists.{slice_get-push, slice_get-push_other}
 
@@ -39,11 +39,11 @@ pushed key es e n q = record {
 -- one family through an append
 pub family : {K : Type 0} (key : Event → Option K) (es : List Event) (e : Event) (n : EvId) (links new_links : List (Option EvId)) (ends new_ends : K → Option Ends)
     → n.0 ≡ length es → length links ≡ length es
-    → IsThreaded (key_at key es) (link_at links) ends
-    → IsJoinedBy (key e) n (link_at links) (link_at new_links) ends new_ends
-    → IsThreaded (key_at key (es ++ e ∷ [])) (link_at new_links) new_ends
+    → IsThreaded (key_at key es) (item_at links) ends
+    → IsJoinedBy (key e) n (item_at links) (item_at new_links) ends new_ends
+    → IsThreaded (key_at key (es ++ e ∷ [])) (item_at new_links) new_ends
 family key es e n links new_links ends new_ends at column t j =
-    threaded-by n (key e) (key_at key es) (key_at key (es ++ e ∷ [])) (link_at links) (link_at new_links) ends new_ends t
+    threaded-by n (key e) (key_at key es) (key_at key (es ++ e ∷ [])) (item_at links) (item_at new_links) ends new_ends t
     (ap (option_and_then (λ (o : Option EvId). o)) (slice_get_past links n.0 (omega arith))) (pushed key es e n.0 at) j
 
 pub key-within : {K : Type 0} (key : Event → Option K) (es : List Event) (i : ℕ) (k : K) → key_at key es i ≡ Some k → i < length es

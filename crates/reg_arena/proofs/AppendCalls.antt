@@ -1,6 +1,5 @@
 -- The calls, and which of them began an operation, after an append.
-use Rattle.std.proofs.Common.{◌≡◌, ℕ, zero, suc, ◌+◌, ◌-◌, ◌<◌, ◌≤◌, ◌==◌, ◌&&◌, ◌||◌, not, nat_eq, cond, Bool, true, false, List, [], ◌∷◌, ◌++◌, length, set, drop, slice_get, Option, Some, None, ◌⊎◌, inl, inr, refl, sym, ap, ◌∙◌, arith, option_and_then}
-use Rattle.history_text.specs.declared.limits.TheConstants.{MAX_EVENTS}
+use Rattle.std.proofs.Common.{◌≡◌, ℕ, zero, suc, ◌+◌, ◌-◌, ◌<◌, ◌≤◌, ◌==◌, ◌&&◌, ◌||◌, not, cond, Bool, true, false, List, [], ◌∷◌, ◌++◌, length, set, drop, slice_get, Option, Some, None, ◌⊎◌, inl, inr, refl, sym, ap, ◌∙◌, arith, option_and_then}
 use Rattle.std.specs.Option.{option_or}
 use Rattle.std.proofs.lemmas.List.{length-set}
 use Rattle.std.proofs.lemmas.Option.{slice_get_within}
@@ -10,14 +9,14 @@ use Rattle.history_model.specs.declared.ids.EvId.{EvId}
 use Rattle.history_model.specs.declared.event.Event.{Event}
 use Rattle.history_model.specs.declared.event.What.{What}
 use Rattle.history_model.specs.declared.event.What.TheVariants.{Call, Reply, Fail, Crash}
-use Rattle.reg_arena.specs.declared.list_ends.TheConstants.{NO_CALL}
 use Rattle.history_model.specs.Operations.{next_of, has_failed, begins, is_a_call, is_a_reply, is_a_fail}
 use Rattle.history_model.specs.Walking.{key_at, by_process}
 use Rattle.history_model.specs.Naming.{begins_at}
-use Rattle.reg_arena.specs.EventLists.{IsCall, IsCallAt, call_at, calls_with, no_call}
+use Rattle.reg_arena.specs.EventLists.{IsCall, IsCallAt, calls_with, item_at}
 use Rattle.history_model.proofs.Belonging.{drop-get, next-some, next-none}
-use Rattle.history_model.proofs.Lists.{slice_get-push, slice_get-push_other, slice_get-set, slice_get-set_other, option_or-none}
+use Rattle.history_model.proofs.Lists.{slice_get-push, slice_get-push_other, option_or-none}
 use Rattle.reg_arena.proofs.Append.{key-within}
+use Rattle.reg_arena.proofs.Columns.{item-push, item-push_none, item-push_other, item-set, item-set_other}
 
 next-push : (p s : ℕ) (xs : List Event) (e : Event) → next_of p s (xs ++ e ∷ []) ≡ option_or (next_of p s xs) (cond (e.process == p) (Some (s + length xs, e)) None)
 next-push p s [] e = let t : s ≡ s + 0 = omega arith in ap (λ m. cond (e.process == p) (Some (m, e)) None) t
@@ -162,53 +161,38 @@ module _ (es : List Event) (e : Event) where
 
 -- ---- the column of calls
 
-call-set : (calls : List EvId) (k : ℕ) → k < length calls → call_at (set calls k no_call) k ≡ None
-call-set calls k l = ap (option_and_then (λ (c : EvId). cond (nat_eq c.0 NO_CALL) None (Some c))) (slice_get-set calls k no_call l)
-
-call-set_other : (calls : List EvId) (k i : ℕ) → (i ≡ k → ⊥) → call_at (set calls k no_call) i ≡ call_at calls i
-call-set_other calls k i ne = ap (option_and_then (λ (c : EvId). cond (nat_eq c.0 NO_CALL) None (Some c))) (slice_get-set_other calls k i no_call ne)
-
-call-push : (calls : List EvId) (c : EvId) (i : ℕ) → (i ≡ length calls → ⊥) → call_at (calls ++ c ∷ []) i ≡ call_at calls i
-call-push calls c i ne = ap (option_and_then (λ (c : EvId). cond (nat_eq c.0 NO_CALL) None (Some c))) (slice_get-push_other calls c i ne)
-
-call-pushed : (calls : List EvId) (c : EvId) → call_at (calls ++ c ∷ []) (length calls) ≡ cond (nat_eq c.0 NO_CALL) None (Some c)
-call-pushed calls c = ap (option_and_then (λ (c : EvId). cond (nat_eq c.0 NO_CALL) None (Some c))) (slice_get-push calls c)
-
-call-some : (c : EvId) → c.0 < MAX_EVENTS → cond (nat_eq c.0 NO_CALL) None (Some c) ≡ Some c
-call-some c l = ap (λ b. cond b None (Some c)) (ne_eqb c.0 NO_CALL (λ q. omega (arith, l, q)))
-
 -- what the column says after an append
-pub record AreCallsAfter (calls new : List EvId) (n : ℕ) (w : What) (call : EvId) : Type 0 where
-  pub kept : (i : ℕ) → i < n → (is_a_fail w ≡ true → i ≡ call.0 → ⊥) → call_at new i ≡ call_at calls i
-  pub failed : is_a_fail w ≡ true → call_at new call.0 ≡ None
-  pub none : is_a_call w ≡ false → is_a_reply w ≡ false → call_at new n ≡ None
-  pub some : (is_a_call w || is_a_reply w) ≡ true → call_at new n ≡ Some call
+pub record AreCallsAfter (calls new : List (Option EvId)) (n : ℕ) (w : What) (call : EvId) : Type 0 where
+  pub kept : (i : ℕ) → i < n → (is_a_fail w ≡ true → i ≡ call.0 → ⊥) → item_at new i ≡ item_at calls i
+  pub failed : is_a_fail w ≡ true → item_at new call.0 ≡ None
+  pub none : is_a_call w ≡ false → is_a_reply w ≡ false → item_at new n ≡ None
+  pub some : (is_a_call w || is_a_reply w) ≡ true → item_at new n ≡ Some call
 
-pub calls-after : (calls : List EvId) (n : ℕ) (w : What) (call : EvId) → n ≡ length calls → n < MAX_EVENTS → ((w ≡ Crash → ⊥) → call.0 ≤ n) → (is_a_fail w ≡ true → call.0 < n) → AreCallsAfter calls (calls_with calls w call) n w call
-calls-after calls n (Call kind) call q room le lt = let b = le (λ x. cc (x)) in record {
-  kept = λ i l ne. call-push calls call i (λ c. omega (arith, l, c, q));
+pub calls-after : (calls : List (Option EvId)) (n : ℕ) (w : What) (call : EvId) → n ≡ length calls → (is_a_fail w ≡ true → call.0 < n) → AreCallsAfter calls (calls_with calls w call) n w call
+calls-after calls n (Call kind) call q lt = record {
+  kept = λ i l ne. item-push_other calls (Some call) i (λ c. omega (arith, l, c, q));
   failed = λ f. absurd (false≢true f);
   none = λ c r. absurd (false≢true (sym c));
-  some = λ x. ap (call_at (calls ++ call ∷ [])) q ∙ (call-pushed calls call ∙ call-some call (omega (arith, b, room)));
+  some = λ x. ap (item_at (calls ++ Some call ∷ [])) q ∙ item-push calls (Some call);
 }
-calls-after calls n (Reply kind) call q room le lt = let b = le (λ x. cc (x)) in record {
-  kept = λ i l ne. call-push calls call i (λ c. omega (arith, l, c, q));
+calls-after calls n (Reply kind) call q lt = record {
+  kept = λ i l ne. item-push_other calls (Some call) i (λ c. omega (arith, l, c, q));
   failed = λ f. absurd (false≢true f);
   none = λ c r. absurd (false≢true (sym r));
-  some = λ x. ap (call_at (calls ++ call ∷ [])) q ∙ (call-pushed calls call ∙ call-some call (omega (arith, b, room)));
+  some = λ x. ap (item_at (calls ++ Some call ∷ [])) q ∙ item-push calls (Some call);
 }
-calls-after calls n (Fail kind) call q room le lt =
+calls-after calls n (Fail kind) call q lt =
     let l = lt refl in
-    let long : length (set calls call.0 no_call) ≡ n = length-set calls call.0 no_call ∙ sym q in
+    let long : length (set calls call.0 None) ≡ n = length-set calls call.0 None ∙ sym q in
     record {
-      kept = λ i l ne. call-push (set calls call.0 no_call) no_call i (λ c. omega (arith, l, c, long)) ∙ call-set_other calls call.0 i (ne refl);
-      failed = λ f. call-push (set calls call.0 no_call) no_call call.0 (λ c. omega (arith, l, c, long)) ∙ call-set calls call.0 (omega (arith, l, q));
-      none = λ c r. ap (call_at (set calls call.0 no_call ++ no_call ∷ [])) (sym long) ∙ call-pushed (set calls call.0 no_call) no_call;
+      kept = λ i l ne. item-push_none (set calls call.0 None) i ∙ item-set_other calls call.0 i None (ne refl);
+      failed = λ f. item-push_none (set calls call.0 None) call.0 ∙ item-set calls call.0 None (omega (arith, l, q));
+      none = λ c r. ap (item_at (set calls call.0 None ++ None ∷ [])) (sym long) ∙ item-push (set calls call.0 None) None;
       some = λ x. absurd (false≢true x);
     }
-calls-after calls n Crash call q room le lt = record {
-  kept = λ i l ne. call-push calls no_call i (λ c. omega (arith, l, c, q));
+calls-after calls n Crash call q lt = record {
+  kept = λ i l ne. item-push_none calls i;
   failed = λ f. absurd (false≢true f);
-  none = λ c r. ap (call_at (calls ++ no_call ∷ [])) q ∙ call-pushed calls no_call;
+  none = λ c r. ap (item_at (calls ++ None ∷ [])) q ∙ item-push calls None;
   some = λ x. absurd (false≢true x);
 }

@@ -1,6 +1,5 @@
 -- The entries of the values after an append.
 use Rattle.std.proofs.Common.{◌≡◌, ℕ, suc, ◌+◌, ◌<◌, ◌≤◌, ◌&&◌, ◌||◌, not, nat_lt, nat_eq, cond, Bool, true, false, List, [], ◌∷◌, ◌++◌, length, set, drop, slice_get, Option, Some, None, ◌⊎◌, inl, inr, refl, sym, ap, subst, ◌∙◌, arith, option_and_then, length-append}
-use Rattle.history_text.specs.declared.limits.TheConstants.{MAX_EVENTS}
 use Rattle.std.proofs.lemmas.List.{length-set, drop_all, length_push}
 use Rattle.std.proofs.lemmas.Option.{slice_get_within}
 use Rattle.std.proofs.lemmas.Bool.{eqb-true, eqb-false, ltb-true, ltb-false, false≢true, and_parts, cases_eq}
@@ -18,14 +17,14 @@ use Rattle.reg_arena.specs.declared.list_ends.Write.TheVariants.{Unwritten, Writ
 use Rattle.history_model.specs.Operations.{next_of, has_failed, begins, is_a_call, is_a_reply, is_a_fail, kind_in, number_in, writes}
 use Rattle.history_model.specs.Walking.{IsFirstOf, key_at, by_value}
 use Rattle.history_model.specs.Naming.{begins_at}
-use Rattle.reg_arena.specs.EventLists.{IsEnteredBy, IsCallOf, IsAppendable, IsLastRead, IsEntry, call_at, calls_with, no_call, by_write, by_reply, by_read, later, write_called, write_kept, write_with, reply_with, read_with, with_call, with_fail, entry_alone, entry_with, entry_after, end_of}
+use Rattle.reg_arena.specs.EventLists.{IsEnteredBy, IsCallOf, IsAppendable, IsLastRead, IsEntry, item_at, calls_with, by_write, by_reply, by_read, later, write_called, write_kept, write_with, reply_with, read_with, with_call, with_fail, entry_alone, entry_with, entry_after, end_of}
 use Rattle.history_model.proofs.Lists.{slice_get-push, slice_get-push_other}
 use Rattle.reg_arena.proofs.Append.{first-other, first-with, key-along, key-back, key-keep, key-within, read-said, read-value, reply-said, reply-value, write-call, write-value}
 use Rattle.reg_arena.proofs.AppendCalls.{AreCallsAfter, call-before, begins-failed, begins-unfailed, begins-other, call-no_reply, call_at-keep, calls-after, event_id, fail-no_call}
 
 -- an event n is appended whose call is the event `call`
-module _ (es : List Event) (e : Event) (n : EvId) (calls : List EvId) (call : EvId) (at : n.0 ≡ length es) (column : length calls ≡ length es) (room : length es < MAX_EVENTS) (fits : IsAppendable es e call) where
-  abbrev new_calls : List EvId
+module _ (es : List Event) (e : Event) (n : EvId) (calls : List (Option EvId)) (call : EvId) (at : n.0 ≡ length es) (column : length calls ≡ length es) (fits : IsAppendable es e call) where
+  abbrev new_calls : List (Option EvId)
   new_calls = calls_with calls e.what call
 
   no-crash : is_a_fail e.what ≡ true → e.what ≡ Crash → ⊥
@@ -35,7 +34,7 @@ module _ (es : List Event) (e : Event) (n : EvId) (calls : List EvId) (call : Ev
   fail-before f = call-before es e call (fits.call (no-crash f)) f
 
   said : AreCallsAfter calls new_calls (length es) e.what call
-  said = calls-after calls (length es) e.what call (sym column) room (λ c. (fits.call c).order) fail-before
+  said = calls-after calls (length es) e.what call (sym column) fail-before
 
   -- whether an old event belongs to an operation changes for the call of a fail alone
   belongs-kept : (i : ℕ) (f : Event) → slice_get es i ≡ Some f → (is_a_fail e.what ≡ true → i ≡ call.0 → ⊥) → begins_at (es ++ e ∷ []) i f ≡ begins_at es i f
@@ -60,7 +59,7 @@ module _ (es : List Event) (e : Event) (n : EvId) (calls : List EvId) (call : Ev
       let is = ap (λ (v : Event). is_a_call v.what) (sym same) ∙ c.2 in
       ap (λ b. b || begins_at (es ++ e ∷ []) call.0 f) (call-no_reply f.what is) ∙ begins-failed es e call h q f old
 
-  call-of_new : (b d : Bool) → is_a_call e.what ≡ b → is_a_reply e.what ≡ d → IsCallOf (es ++ e ∷ []) (length es) e (call_at new_calls (length es))
+  call-of_new : (b d : Bool) → is_a_call e.what ≡ b → is_a_reply e.what ≡ d → IsCallOf (es ++ e ∷ []) (length es) e (item_at new_calls (length es))
   call-of_new false false c r = subst (IsCallOf (es ++ e ∷ []) (length es) e) (sym (said.none c r)) (ap (λ b. b || begins_at (es ++ e ∷ []) (length es) e) r ∙ ap (λ b. b && not (has_failed (next_of e.process (suc (length es + 2)) (drop (suc (length es)) (es ++ e ∷ []))))) c)
   call-of_new true d c r = subst (IsCallOf (es ++ e ∷ []) (length es) e) (sym (said.some (ap (λ b. b || is_a_reply e.what) c))) (
     ap (λ b. b || begins_at (es ++ e ∷ []) (length es) e) (call-no_reply e.what c) ∙ (ap (begins e) (ap (next_of e.process (suc (length es + 2))) (drop_all (suc (length es)) (es ++ e ∷ []) (omega (arith, length_push es e)))) ∙ ap (λ b. b && true) c),
@@ -71,36 +70,36 @@ module _ (es : List Event) (e : Event) (n : EvId) (calls : List EvId) (call : Ev
     fits.call (λ q. false≢true (sym (ap is_a_reply q) ∙ r)),
   )
 
-  pub calls-push : ((i : ℕ) (f : Event) → slice_get es i ≡ Some f → IsCallOf es i f (call_at calls i)) → (i : ℕ) (f : Event) → slice_get (es ++ e ∷ []) i ≡ Some f → IsCallOf (es ++ e ∷ []) i f (call_at new_calls i)
+  pub calls-push : ((i : ℕ) (f : Event) → slice_get es i ≡ Some f → IsCallOf es i f (item_at calls i)) → (i : ℕ) (f : Event) → slice_get (es ++ e ∷ []) i ≡ Some f → IsCallOf (es ++ e ∷ []) i f (item_at new_calls i)
   calls-push old i f h = elim (cases_eq i (length es)) [
     | inl q ↦
         let w = sym (slice_get-push es e) ∙ (ap (slice_get (es ++ e ∷ [])) (sym q) ∙ h) in
         let same : e ≡ f = cc (w) in
-        subst (λ m. IsCallOf (es ++ e ∷ []) m f (call_at new_calls m)) (sym q) (subst (λ (v : Event). IsCallOf (es ++ e ∷ []) (length es) v (call_at new_calls (length es))) same (call-of_new (is_a_call e.what) (is_a_reply e.what) refl refl))
+        subst (λ m. IsCallOf (es ++ e ∷ []) m f (item_at new_calls m)) (sym q) (subst (λ (v : Event). IsCallOf (es ++ e ∷ []) (length es) v (item_at new_calls (length es))) same (call-of_new (is_a_call e.what) (is_a_reply e.what) refl refl))
     | inr ne ↦
         let was = sym (slice_get-push_other es e i ne) ∙ h in
         let l = slice_get_within es i f was in
         by_fail i f was l (is_a_fail e.what) refl (cases_eq i call.0)
   ]
     where
-      kept : (i : ℕ) (f : Event) → slice_get es i ≡ Some f → i < length es → (is_a_fail e.what ≡ true → i ≡ call.0 → ⊥) → IsCallOf (es ++ e ∷ []) i f (call_at new_calls i)
-      kept i f was l ne = subst (IsCallOf (es ++ e ∷ []) i f) (sym (said.kept i l ne)) (call-kept i f (call_at calls i) was (belongs-kept i f was ne) (old i f was))
+      kept : (i : ℕ) (f : Event) → slice_get es i ≡ Some f → i < length es → (is_a_fail e.what ≡ true → i ≡ call.0 → ⊥) → IsCallOf (es ++ e ∷ []) i f (item_at new_calls i)
+      kept i f was l ne = subst (IsCallOf (es ++ e ∷ []) i f) (sym (said.kept i l ne)) (call-kept i f (item_at calls i) was (belongs-kept i f was ne) (old i f was))
 
-      by_fail : (i : ℕ) (f : Event) → slice_get es i ≡ Some f → i < length es → (b : Bool) → is_a_fail e.what ≡ b → (i ≡ call.0) ⊎ (i ≡ call.0 → ⊥) → IsCallOf (es ++ e ∷ []) i f (call_at new_calls i)
+      by_fail : (i : ℕ) (f : Event) → slice_get es i ≡ Some f → i < length es → (b : Bool) → is_a_fail e.what ≡ b → (i ≡ call.0) ⊎ (i ≡ call.0 → ⊥) → IsCallOf (es ++ e ∷ []) i f (item_at new_calls i)
       by_fail i f was l false q d = kept i f was l (λ x. absurd (false≢true (sym q ∙ x)))
       by_fail i f was l true q (inr ne) = kept i f was l (λ _. ne)
-      by_fail i f was l true q (inl s) = subst (λ m. IsCallOf (es ++ e ∷ []) m f (call_at new_calls m)) (sym s) (subst (IsCallOf (es ++ e ∷ []) call.0 f) (sym (said.failed q)) (call-failed q f (ap (slice_get es) (sym s) ∙ was)))
+      by_fail i f was l true q (inl s) = subst (λ m. IsCallOf (es ++ e ∷ []) m f (item_at new_calls m)) (sym s) (subst (IsCallOf (es ++ e ∷ []) call.0 f) (sym (said.failed q)) (call-failed q f (ap (slice_get es) (sym s) ∙ was)))
 
   -- ---- the parts of an entry
 
   -- a call that isn't of the appended fail stays as it is
-  call-same : (i : ℕ) → i < length es → (is_a_fail e.what ≡ true → i ≡ call.0 → ⊥) → call_at new_calls i ≡ call_at calls i
+  call-same : (i : ℕ) → i < length es → (is_a_fail e.what ≡ true → i ≡ call.0 → ⊥) → item_at new_calls i ≡ item_at calls i
   call-same i l ne = said.kept i l ne
 
   -- the write's calls: `w` is the write so far
-  record IsWriteSoFar (events : List Event) (said_calls : List EvId) (k : ℕ × Val) (w : Write) : Type 0 where
+  record IsWriteSoFar (events : List Event) (said_calls : List (Option EvId)) (k : ℕ × Val) (w : Write) : Type 0 where
     first : IsFirstOf by_write events k (write_called w)
-    kept : (id : EvId) → write_called w ≡ Some id → call_at said_calls id.0 ≡ write_kept w
+    kept : (id : EvId) → write_called w ≡ Some id → item_at said_calls id.0 ≡ write_kept w
 
   write-id : (k : ℕ × Val) (id : EvId) (o : Option EvId) → o ≡ Some id → IsFirstOf by_write es k o → key_at by_write es id.0 ≡ Some k
   write-id k id None q h = absurd (cc (q))
@@ -145,11 +144,11 @@ module _ (es : List Event) (e : Event) (n : EvId) (calls : List EvId) (call : Ev
       no-fail : is_a_fail e.what ≡ true → ⊥
       no-fail f = fail-no_call e.what f c
 
-      here : call_at new_calls n.0 ≡ Some n
-      here = ap (call_at new_calls) at ∙ (said.some (ap (λ b. b || is_a_reply e.what) c) ∙ ap Some (call-own c))
+      here : item_at new_calls n.0 ≡ Some n
+      here = ap (item_at new_calls) at ∙ (said.some (ap (λ b. b || is_a_reply e.what) c) ∙ ap Some (call-own c))
 
       go : (w : Write) → IsWriteSoFar es calls k w → IsWriteSoFar (es ++ e ∷ []) new_calls k (with_call w n)
-      go Unwritten h = record { first = first-with by_write es e n k None at by h.first; kept = λ id x. let s : n ≡ id = cc (x) in subst (λ (v : EvId). call_at new_calls v.0 ≡ Some n) s here }
+      go Unwritten h = record { first = first-with by_write es e n k None at by h.first; kept = λ id x. let s : n ≡ id = cc (x) in subst (λ (v : EvId). item_at new_calls v.0 ≡ Some n) s here }
       go (Written w) h = record {
         first = first-with by_write es e n k (Some w) at by h.first;
         kept = λ id x. call-same id.0 (key-within by_write es id.0 k (write-id k id (Some w) x h.first)) (λ f. absurd (no-fail f)) ∙ h.kept id x;
@@ -170,14 +169,14 @@ module _ (es : List Event) (e : Event) (n : EvId) (calls : List EvId) (call : Ev
       go (Failed w) h = record {
         first = other (Some w) h.first;
         kept = λ id x. elim (cases_eq id.0 call.0) [
-          | inl q ↦ ap (call_at new_calls) q ∙ said.failed f
+          | inl q ↦ ap (item_at new_calls) q ∙ said.failed f
           | inr ne ↦ call-same id.0 (key-within by_write es id.0 k (write-id k id (Some w) x h.first)) (λ _. ne) ∙ h.kept id x
         ];
       }
       go (Written w) h = by_test (nat_eq w.0 call.0) refl
         where
           by_test : (b : Bool) → nat_eq w.0 call.0 ≡ b → IsWriteSoFar (es ++ e ∷ []) new_calls k (cond b (Failed w) (Written w))
-          by_test true t = record { first = other (Some w) h.first; kept = λ id x. let s : w ≡ id = cc (x) in ap (call_at new_calls) (ap (λ (v : EvId). v.0) (sym s) ∙ eqb-true w.0 call.0 t) ∙ said.failed f }
+          by_test true t = record { first = other (Some w) h.first; kept = λ id x. let s : w ≡ id = cc (x) in ap (item_at new_calls) (ap (λ (v : EvId). v.0) (sym s) ∙ eqb-true w.0 call.0 t) ∙ said.failed f }
           by_test false t = record {
             first = other (Some w) h.first;
             kept = λ id x.
@@ -213,7 +212,7 @@ module _ (es : List Event) (e : Event) (n : EvId) (calls : List EvId) (call : Ev
           let said = (and_parts (is_a_reply g.what) (not (writes (kind_in g.what))) (read-said g k x)).0 in
           false≢true (sym (call-no_reply g.what is) ∙ said)
 
-  read-same : (k : ℕ × Val) (i : ℕ) → key_at by_read es i ≡ Some k → call_at new_calls i ≡ call_at calls i
+  read-same : (k : ℕ × Val) (i : ℕ) → key_at by_read es i ≡ Some k → item_at new_calls i ≡ item_at calls i
   read-same k i key = call-same i (key-within by_read es i k key) (read-not_failed k i key)
 
   read-kept : (k : ℕ × Val) (l : Option EvId) → (by_read e ≡ Some k → ⊥) → IsLastRead es calls k l → IsLastRead (es ++ e ∷ []) new_calls k l
@@ -229,11 +228,11 @@ module _ (es : List Event) (e : Event) (n : EvId) (calls : List EvId) (call : Ev
       key : key_at by_read (es ++ e ∷ []) n.0 ≡ Some k
       key = ap (key_at by_read (es ++ e ∷ [])) at ∙ (ap (option_and_then by_read) (slice_get-push es e) ∙ by)
 
-      here : call_at new_calls n.0 ≡ Some call
-      here = ap (call_at new_calls) at ∙ said.some (ap (λ b. is_a_call e.what || b) r ∙ or-true (is_a_call e.what))
+      here : item_at new_calls n.0 ≡ Some call
+      here = ap (item_at new_calls) at ∙ said.some (ap (λ b. is_a_call e.what || b) r ∙ or-true (is_a_call e.what))
 
-      own : (i : ℕ) (d : EvId) → i ≡ length es → call_at new_calls i ≡ Some d → call ≡ d
-      own i d q g = let s : i ≡ n.0 = omega (arith, q, at) in let w = sym here ∙ (ap (call_at new_calls) (sym s) ∙ g) in cc (w)
+      own : (i : ℕ) (d : EvId) → i ≡ length es → item_at new_calls i ≡ Some d → call ≡ d
+      own i d q g = let s : i ≡ n.0 = omega (arith, q, at) in let w = sym here ∙ (ap (item_at new_calls) (sym s) ∙ g) in cc (w)
 
       go : (l : Option EvId) → IsLastRead es calls k l → IsLastRead (es ++ e ∷ []) new_calls k (later l (Some call))
       go None h = ((n.0, key, here), λ i d q g. elim (key-back by_read es e i k q) [ inl x ↦ let s = own i d x.0 g in omega (arith, ap (λ (v : EvId). v.0) s) | inr x ↦ absurd (h i x) ])
@@ -316,11 +315,11 @@ module _ (es : List Event) (e : Event) (n : EvId) (calls : List EvId) (call : Ev
 pub fail-within : (es : List Event) (e : Event) (call : EvId) → IsAppendable es e call → is_a_fail e.what ≡ true → call.0 < length es
 fail-within es e call fits f = call-before es e call (fits.call (λ q. false≢true (sym (ap is_a_fail q) ∙ f))) f
 
-pub calls-length : (calls : List EvId) (w : What) (call : EvId) → length (calls_with calls w call) ≡ length calls + 1
-calls-length calls (Call kind) call = length-append calls (call ∷ [])
-calls-length calls (Reply kind) call = length-append calls (call ∷ [])
-calls-length calls (Fail kind) call = length-append (set calls call.0 no_call) (no_call ∷ []) ∙ ap (λ m. m + 1) (length-set calls call.0 no_call)
-calls-length calls Crash call = length-append calls (no_call ∷ [])
+pub calls-length : (calls : List (Option EvId)) (w : What) (call : EvId) → length (calls_with calls w call) ≡ length calls + 1
+calls-length calls (Call kind) call = length-append calls (Some call ∷ [])
+calls-length calls (Reply kind) call = length-append calls (Some call ∷ [])
+calls-length calls (Fail kind) call = length-append (set calls call.0 None) (None ∷ []) ∙ ap (λ m. m + 1) (length-set calls call.0 None)
+calls-length calls Crash call = length-append calls (None ∷ [])
 
 -- no register is past the next one
 pub end-known : (o : Option RegId) → end_of o ≤ number_in o + 1

@@ -1,14 +1,12 @@
 -- The entry of an event's register and value, by the number beside the event or beside another of the same.
-use Rattle.std.proofs.Common.{◌≡◌, ℕ, ◌<◌, nat_eq, cond, false, length, slice_get, Option, Some, None, inl, inr, refl, ap, ◌∙◌, ◌||◌, Bool, true, is_some, arith, option_and_then, option_map, unwrap_or, sym, subst, List}
-use Rattle.history_text.specs.declared.limits.TheConstants.{MAX_EVENTS}
+use Rattle.std.proofs.Common.{◌≡◌, ℕ, ◌<◌, nat_eq, false, length, slice_get, Option, Some, None, inl, inr, refl, ap, ◌∙◌, ◌||◌, Bool, true, is_some, arith, option_and_then, option_map, unwrap_or, sym, subst, List}
 use Rattle.std.proofs.lemmas.Option.{slice_get_past}
-use Rattle.std.proofs.lemmas.Bool.{cases_order, eqb-true, eqb-false, eq-eqb, ne_eqb, false≢true, or_parts}
+use Rattle.std.proofs.lemmas.Bool.{cases_order, eq-eqb, ne_eqb, false≢true, or_parts}
 use Rattle.history_text.specs.declared.event.Val.{Val}
 use Rattle.history_model.specs.declared.event.Event.{Event}
 use Rattle.history_model.specs.declared.event.What.{What}
 use Rattle.history_model.specs.declared.event.What.TheVariants.{Call, Reply, Fail, Crash}
 use Rattle.reg_arena.specs.declared.list_ends.Entry.{Entry}
-use Rattle.reg_arena.specs.declared.list_ends.TheConstants.{NO_CALL}
 use Rattle.history_model.proofs.Recorded.{reply-no_call}
 use Rattle.history_model.proofs.Walking.{begins-call}
 use Rattle.reg_arena.specs.declared.list_ends.Write.{Write}
@@ -20,7 +18,7 @@ use Rattle.history_model.specs.Naming.{begins_at, belongs_at}
 use Rattle.reg_arena.specs.Step.{IsLastWith}
 use Rattle.history_model.specs.declared.ids.EvId.{EvId}
 use Rattle.history_model.specs.declared.ids.RegId.{RegId}
-use Rattle.reg_arena.specs.EventLists.{AreEventLists, IsAlike, IsCallAt, IsCallOf, IsKeptWrite, IsLastOf, by_write, call_at, event_number, value_entry, value_number, write_called, write_kept}
+use Rattle.reg_arena.specs.EventLists.{AreEventLists, IsAlike, IsCallAt, IsCallOf, IsKeptWrite, IsLastOf, by_write, item_at, event_number, value_entry, value_number, write_called, write_kept}
 use Rattle.reg_arena.proofs.Append.{key-along, write-call, write-value}
 use Rattle.reg_arena.proofs.ByValue.{key-by, key-none, key-parts, key-register}
 use Rattle.reg_arena.proofs.Values.{number-within as within-keys, entry-is}
@@ -113,7 +111,7 @@ kept-write t a k y h = go y.write (a.entries k y h).write (a.entries k y h).kept
     es = t.events.items
 
     -- what the column of calls says of a write's call
-    begun : (id : EvId) (e : Event) (o : Option EvId) → key_at by_write es id.0 ≡ Some k → slice_get es id.0 ≡ Some e → call_at t.calls.items id.0 ≡ o → begins_at es id.0 e ≡ is_some o
+    begun : (id : EvId) (e : Event) (o : Option EvId) → key_at by_write es id.0 ≡ Some k → slice_get es id.0 ≡ Some e → item_at t.calls.items id.0 ≡ o → begins_at es id.0 e ≡ is_some o
     begun id e o key at call =
         let is = write-call e k (sym (ap (option_and_then by_write) at) ∙ key) in
         let c = subst (IsCallOf es id.0 e) call (a.calls id.0 e at) in
@@ -123,7 +121,7 @@ kept-write t a k y h = go y.write (a.entries k y h).write (a.entries k y h).kept
         by_option None c = c
         by_option (Some x) c = c.0
 
-    go : (w : Write) → IsFirstOf by_write es k (write_called w) → ((id : EvId) → write_called w ≡ Some id → call_at t.calls.items id.0 ≡ write_kept w) → IsKeptWrite es k (write_kept w)
+    go : (w : Write) → IsFirstOf by_write es k (write_called w) → ((id : EvId) → write_called w ≡ Some id → item_at t.calls.items id.0 ≡ write_kept w) → IsKeptWrite es k (write_kept w)
     go Unwritten first kept = λ id e f at. absurd (first id.0 (omega arith) f.1)
     go (Written w) first kept = (first, λ e at. begun w e (Some w) first.1 at (kept w refl))
     go (Failed w) first kept = λ id e f at.
@@ -131,7 +129,7 @@ kept-write t a k y h = go y.write (a.entries k y h).write (a.entries k y h).kept
           | inl q ↦ q
           | inr c ↦ elim c [ inl l ↦ absurd (f.2 w.0 (omega arith) l first.1) | inr g ↦ absurd (first.2 id.0 (omega arith) g f.1) ]
         ] in
-        begun id e None f.1 at (ap (call_at t.calls.items) (sym same) ∙ kept w refl)
+        begun id e None f.1 at (ap (item_at t.calls.items) (sym same) ∙ kept w refl)
 
 -- a register and value without an entry have no write
 pub kept-none : (t : EventLists) → AreEventLists t → (k : ℕ × Val) → value_entry t.values.keys t.entries.items k ≡ None → IsKeptWrite t.events.items k None
@@ -139,35 +137,31 @@ kept-none t a k h = λ w e f at. absurd (a.values.none k (ap (option_map (λ (y 
 
 -- ---- the column of calls
 
-pub column-none : (calls : List EvId) (i : ℕ) (c : EvId) → slice_get calls i ≡ Some c → c.0 ≡ NO_CALL → call_at calls i ≡ None
-column-none calls i c at q = ap (option_and_then (λ (c : EvId). cond (nat_eq c.0 NO_CALL) None (Some c))) at ∙ ap (λ b. cond b None (Some c)) (eq-eqb c.0 NO_CALL q)
+-- what stands in the column beside an event is the call of its operation
+pub call-beside : (t : EventLists) → AreEventLists t → (i : ℕ) (e : Event) (o : Option EvId) → slice_get t.events.items i ≡ Some e → slice_get t.calls.items i ≡ Some o → IsCallOf t.events.items i e o
+call-beside t a i e o at said = subst (IsCallOf t.events.items i e) (ap (option_and_then (λ (o : Option EvId). o)) said) (a.calls i e at)
 
-pub column-some : (calls : List EvId) (i : ℕ) (c : EvId) → slice_get calls i ≡ Some c → (c.0 ≡ NO_CALL → ⊥) → call_at calls i ≡ Some c
-column-some calls i c at ne = ap (option_and_then (λ (c : EvId). cond (nat_eq c.0 NO_CALL) None (Some c))) at ∙ ap (λ b. cond b None (Some c)) (ne_eqb c.0 NO_CALL ne)
+-- an event without a call begins no operation
+pub begins-none : (es : List Event) (i : ℕ) (e : Event) → IsCallOf es i e None → false ≡ begins_at es i e
+begins-none es i e none = sym ((or_parts (is_a_reply e.what) (begins_at es i e) none).1)
 
 -- an event begins an operation where it is its own call
-pub begins-column : (es : List Event) (calls : List EvId) (i : ℕ) (e : Event) (c : EvId) → i < MAX_EVENTS → slice_get es i ≡ Some e → slice_get calls i ≡ Some c → IsCallOf es i e (call_at calls i) → nat_eq c.0 i ≡ begins_at es i e
-begins-column es calls i e c l at said k = go (nat_eq c.0 NO_CALL) refl
+pub begins-some : (es : List Event) (i : ℕ) (e : Event) (c : EvId) → slice_get es i ≡ Some e → IsCallOf es i e (Some c) → nat_eq c.0 i ≡ begins_at es i e
+begins-some es i e c at said = own (begins_at es i e) refl
   where
+    h : IsCallAt es i c.0
+    h = said.1
+
     or-first : (a b : Bool) → (a || b) ≡ true → b ≡ false → a ≡ true
     or-first true b h q = refl
     or-first false b h q = absurd (false≢true (sym q ∙ h))
 
-    own : IsCallAt es i c.0 → belongs_at es i e ≡ true → (b : Bool) → begins_at es i e ≡ b → nat_eq c.0 i ≡ b
-    own h has true q = eq-eqb c.0 i (h.own (e, at, begins-call e _ q))
-    own h has false q =
-        let reply = or-first (is_a_reply e.what) (begins_at es i e) has q in
+    own : (b : Bool) → begins_at es i e ≡ b → nat_eq c.0 i ≡ b
+    own true q = eq-eqb c.0 i (h.own (e, at, begins-call e _ q))
+    own false q =
+        let reply = or-first (is_a_reply e.what) (begins_at es i e) said.0 q in
         ne_eqb c.0 i (λ s.
         let w = h.call.1 in
         let u = ap (slice_get es) s in
         let same : h.call.0 ≡ e = cc (w, u, at) in
         reply-no_call e.what reply (ap (λ (v : Event). is_a_call v.what) (sym same) ∙ h.call.2))
-
-    go : (b : Bool) → nat_eq c.0 NO_CALL ≡ b → nat_eq c.0 i ≡ begins_at es i e
-    go true q =
-        let far = eqb-true c.0 NO_CALL q in
-        let none = subst (IsCallOf es i e) (column-none calls i c said far) k in
-        ne_eqb c.0 i (λ s. omega (arith, s, far, l)) ∙ sym ((or_parts (is_a_reply e.what) (begins_at es i e) none).1)
-    go false q =
-        let h = subst (IsCallOf es i e) (column-some calls i c said (eqb-false c.0 NO_CALL q)) k in
-        own h.1 h.0 (begins_at es i e) refl

@@ -1,4 +1,4 @@
-pub mod Links
+pub mod Columns
 pub mod Threading
 pub mod Joining
 pub mod Keys

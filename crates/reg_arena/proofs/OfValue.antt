@@ -13,7 +13,7 @@ use Rattle.history_model.specs.Operations.{Operation, calls, operations, is_a_ca
 use Rattle.history_model.specs.Walking.{IsFirstOf, key_at, by_process, by_register, by_value}
 use Rattle.history_model.specs.Naming.{IsNamed, IsEventOf, IsEventIn, IsOperOf, begins_at, belongs_at, name_by}
 use Rattle.history_model.specs.OfValue.{IsMember, IsWriteOf, IsLastCall, IsFirstReply}
-use Rattle.reg_arena.specs.EventLists.{IsCallAt, IsCallOf as IsColumnCall, IsKeptWrite, IsLastRead, call_at, by_write, by_reply, by_read, initial_call, later}
+use Rattle.reg_arena.specs.EventLists.{IsCallAt, IsCallOf as IsColumnCall, IsKeptWrite, IsLastRead, item_at, by_write, by_reply, by_read, initial_call, later}
 use Rattle.history_model.specs.declared.ids.EvId.{EvId}
 use Rattle.history_model.specs.declared.ids.RegId.{RegId}
 use Rattle.history_model.specs.declared.ids.Oper.TheVariants.{Initial, Called}
@@ -233,12 +233,12 @@ module _ (h : History) (rec : IsRecorded h) where
 
   -- ---- the greatest call and the first reply, by the entry
 
-  module _ (k : ℕ × Val) (calls : List EvId) (at : (i : ℕ) (e : Event) → slice_get h.events i ≡ Some e → IsColumnCall h.events i e (call_at calls i)) where
+  module _ (k : ℕ × Val) (calls : List (Option EvId)) (at : (i : ℕ) (e : Event) → slice_get h.events i ≡ Some e → IsColumnCall h.events i e (item_at calls i)) where
     -- the call of an event that belongs to an operation
-    column-call : (i : ℕ) (e : Event) (o : Operation) → IsEventIn h i e o → belongs_at h.events i e ≡ true → (c : EvId) × (call_at calls i ≡ Some c) × (o.call ≡ c.0 + 2)
-    column-call i e o x has = go (call_at calls i) refl (at i e x.at)
+    column-call : (i : ℕ) (e : Event) (o : Operation) → IsEventIn h i e o → belongs_at h.events i e ≡ true → (c : EvId) × (item_at calls i ≡ Some c) × (o.call ≡ c.0 + 2)
+    column-call i e o x has = go (item_at calls i) refl (at i e x.at)
       where
-        go : (c : Option EvId) → call_at calls i ≡ c → IsColumnCall h.events i e c → (c : EvId) × (call_at calls i ≡ Some c) × (o.call ≡ c.0 + 2)
+        go : (c : Option EvId) → item_at calls i ≡ c → IsColumnCall h.events i e c → (c : EvId) × (item_at calls i ≡ Some c) × (o.call ≡ c.0 + 2)
         go None q y = absurd (false≢true (sym y ∙ has))
         go (Some c) q y = (c, q, call-of_event i c.0 e o x y.1)
 
@@ -266,7 +266,7 @@ module _ (h : History) (rec : IsRecorded h) where
         let c = column-call y.0 y.1 o y.2 (ap (λ b. b || begins_at h.events y.0 y.1) reply) in
         go l r y.0 key c.0 c.1 c.2
       where
-        go : (l : Option EvId) → IsLastRead h.events calls k l → (i : ℕ) → key_at by_read h.events i ≡ Some k → (c : EvId) → call_at calls i ≡ Some c → o.call ≡ c.0 + 2 → (d : EvId) × (l ≡ Some d) × (o.call ≤ d.0 + 2)
+        go : (l : Option EvId) → IsLastRead h.events calls k l → (i : ℕ) → key_at by_read h.events i ≡ Some k → (c : EvId) → item_at calls i ≡ Some c → o.call ≡ c.0 + 2 → (d : EvId) × (l ≡ Some d) × (o.call ≤ d.0 + 2)
         go None r i key c at call = absurd (r i key)
         go (Some d) r i key c at call = let b = r.1 i c key at in (d, refl, omega (arith, call, b))
 

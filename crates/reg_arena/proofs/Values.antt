@@ -17,9 +17,9 @@ use Rattle.history_model.specs.declared.event.Event.{Event}
 use Rattle.reg_arena.specs.declared.list_ends.Ends.{Ends}
 use Rattle.reg_arena.specs.declared.list_ends.Entry.{Entry}
 use Rattle.history_model.specs.Walking.{by_value}
-use Rattle.reg_arena.specs.EventLists.{IsJoined, IsEntered, whole, key_eq, event_number, link_at, value_number, value_entry, value_ends, entry_alone, entry_with, entry_after}
+use Rattle.reg_arena.specs.EventLists.{IsJoined, IsEntered, whole, key_eq, event_number, item_at, value_number, value_entry, value_ends, entry_alone, entry_with, entry_after}
 use Rattle.reg_arena.proofs.Keys.{added-last, place-none, place-some, position-at, position-new, position-kept, position-absent}
-use Rattle.reg_arena.proofs.Links.{link-push, link-at, link-other}
+use Rattle.reg_arena.proofs.Columns.{item-push_none, item-written, item-written_other}
 use Rattle.history_model.proofs.Lists.{slice_get-push, slice_get-push_other, slice_get-set, slice_get-set_other}
 
 whole_one : (v w : Val) → whole v ≡ whole w → v ≡ w
@@ -178,24 +178,24 @@ module _ (keys : List (ℕ × Option ℤ)) (entries : List Entry) (k : ℕ × Va
   -- the links with the event in the list
   module _ (links new_links : List (Option EvId)) where
     pub joined-known : (j : ℕ) (y : Entry) → value_number keys k ≡ Some j → slice_get entries j ≡ Some y → y.ends.last.0 < length links → new_links ≡ set links y.ends.last.0 (Some n) ++ None ∷ []
-        → IsJoined k n (link_at links) (link_at new_links) (value_ends keys entries) (value_ends keys (set entries j (entry_with y e n call)))
+        → IsJoined k n (item_at links) (item_at new_links) (value_ends keys entries) (value_ends keys (set entries j (entry_with y e n call)))
     joined-known j y h at l items =
         let was = entry-is keys entries k j y h at in
-        joined-entered k e n call (value_entry keys entries) (value_entry keys (set entries j (entry_with y e n call))) (link_at links) (link_at new_links) (entered-known j y h at)
+        joined-entered k e n call (value_entry keys entries) (value_entry keys (set entries j (entry_with y e n call))) (item_at links) (item_at new_links) (entered-known j y h at)
         (λ none. absurd (cc (was, none)))
         (λ z some.
         let same : y ≡ z = cc (was, some) in
-        subst (λ (z : Entry). (link_at new_links z.ends.last.0 ≡ Some n) × ((i : ℕ) → (i ≡ z.ends.last.0 → ⊥) → link_at new_links i ≡ link_at links i)) same (
-          ap (λ (xs : List (Option EvId)). link_at xs y.ends.last.0) items ∙ link-at links y.ends.last.0 n l,
-          λ i ne. ap (λ (xs : List (Option EvId)). link_at xs i) items ∙ link-other links y.ends.last.0 n i ne,
+        subst (λ (z : Entry). (item_at new_links z.ends.last.0 ≡ Some n) × ((i : ℕ) → (i ≡ z.ends.last.0 → ⊥) → item_at new_links i ≡ item_at links i)) same (
+          ap (λ (xs : List (Option EvId)). item_at xs y.ends.last.0) items ∙ item-written links y.ends.last.0 n l,
+          λ i ne. ap (λ (xs : List (Option EvId)). item_at xs i) items ∙ item-written_other links y.ends.last.0 n i ne,
         ))
 
     pub joined-new : length keys ≡ length entries → value_number keys k ≡ None → new_links ≡ links ++ None ∷ []
-        → IsJoined k n (link_at links) (link_at new_links) (value_ends keys entries) (value_ends (keys ++ (k.0, whole k.1) ∷ []) (entries ++ entry_alone e n call ∷ []))
+        → IsJoined k n (item_at links) (item_at new_links) (value_ends keys entries) (value_ends (keys ++ (k.0, whole k.1) ∷ []) (entries ++ entry_alone e n call ∷ []))
     joined-new column none items =
         let was : value_entry keys entries k ≡ None = ap (option_and_then (slice_get entries)) none in
-        joined-entered k e n call (value_entry keys entries) (value_entry (keys ++ (k.0, whole k.1) ∷ []) (entries ++ entry_alone e n call ∷ [])) (link_at links) (link_at new_links) (entered-new column none)
-        (λ none i. ap (λ (xs : List (Option EvId)). link_at xs i) items ∙ link-push links i)
+        joined-entered k e n call (value_entry keys entries) (value_entry (keys ++ (k.0, whole k.1) ∷ []) (entries ++ entry_alone e n call ∷ [])) (item_at links) (item_at new_links) (entered-new column none)
+        (λ none i. ap (λ (xs : List (Option EvId)). item_at xs i) items ∙ item-push_none links i)
         (λ z some. absurd (cc (was, some)))
 
 -- what an insert of a new key leaves

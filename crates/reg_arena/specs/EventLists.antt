@@ -17,7 +17,6 @@ use Rattle.reg_arena.specs.declared.list_ends.Ends.{Ends}
 use Rattle.reg_arena.specs.declared.list_ends.Entry.{Entry}
 use Rattle.reg_arena.specs.declared.list_ends.Write.{Write}
 use Rattle.reg_arena.specs.declared.list_ends.Write.TheVariants.{Unwritten, Written, Failed}
-use Rattle.reg_arena.specs.declared.list_ends.TheConstants.{NO_CALL}
 use Rattle.history_model.specs.Operations.{is_a_call, is_a_fail, is_a_reply, kind_in, writes}
 use Rattle.reg_arena.specs.declared.processes.Processes.{Processes}
 use Rattle.reg_arena.specs.declared.event_lists.EventLists.{EventLists}
@@ -26,9 +25,9 @@ use Rattle.history_model.specs.Naming.{begins_at, belongs_at}
 
 -- ---- one family of lists
 
--- the link at a place of a column
-abbrev pub link_at : List (Option EvId) → ℕ → Option EvId
-link_at links i = option_and_then (λ o. o) (slice_get links i)
+-- what stands at a place of a column, if something does
+abbrev pub item_at : {A : Type 0} → List (Option A) → ℕ → Option A
+item_at column i = option_and_then (λ o. o) (slice_get column i)
 
 -- One family. `key`: the key of the event at a place; `link`: the link there; `ends`: the ends of the list of a key.
 pub record IsThreaded {K : Type 0} (key : ℕ → Option K) (link : ℕ → Option EvId) (ends : K → Option Ends) : Type 0 where
@@ -59,13 +58,9 @@ end_of (Some register) = register.0 + 1
 
 -- ---- processes and the ends of their lists
 
--- what stands at a place of a table, which may be shorter
-abbrev pub table_at : List (Option Ends) → ℕ → Option Ends
-table_at table p = option_and_then (λ o. o) (slice_get table p)
-
 -- those of small numbers stand in the table, and the others in the map
 abbrev pub process_ends : Processes → ℕ → Option Ends
-process_ends t p = cond (nat_lt p t.table_limit) (table_at t.table.items p) (get nat_eq t.others p)
+process_ends t p = cond (nat_lt p t.table_limit) (item_at t.table.items p) (get nat_eq t.others p)
 
 -- one key has new ends, and the others those that they had
 pub record IsSetAt (k : ℕ) (e : Ends) (ends new_ends : ℕ → Option Ends) : Type 0 where
@@ -197,20 +192,12 @@ pub record IsCallAt (events : List Event) (i c : ℕ) : Type 0 where
   pub between : (j : ℕ) → c < j → j < i → key_at by_process events j ≡ key_at by_process events i → ⊥
   pub own : IsCall events i → c ≡ i
 
--- the call in the column of calls, where there is one
-abbrev pub call_at : List EvId → ℕ → Option EvId
-call_at calls i = option_and_then (λ c. cond (nat_eq c.0 NO_CALL) None (Some c)) (slice_get calls i)
-
--- no call, in the column of calls
-abbrev pub no_call : EvId
-no_call = record { 0 = NO_CALL }
-
 -- the column of calls with one more event, which has this call
-abbrev pub calls_with : List EvId → What → EvId → List EvId
-calls_with calls (Call kind) call = calls ++ call ∷ []
-calls_with calls (Reply kind) call = calls ++ call ∷ []
-calls_with calls (Fail kind) call = set calls call.0 no_call ++ no_call ∷ []
-calls_with calls Crash call = calls ++ no_call ∷ []
+abbrev pub calls_with : List (Option EvId) → What → EvId → List (Option EvId)
+calls_with calls (Call kind) call = calls ++ Some call ∷ []
+calls_with calls (Reply kind) call = calls ++ Some call ∷ []
+calls_with calls (Fail kind) call = set calls call.0 None ++ None ∷ []
+calls_with calls Crash call = calls ++ None ∷ []
 
 -- c is the call of the operation that the event e at place i belongs to; without a call there is no such operation
 abbrev pub IsCallOf : List Event → ℕ → Event → Option EvId → Type 0
@@ -223,14 +210,14 @@ pub record IsAppendable (events : List Event) (e : Event) (c : EvId) : Type 0 wh
   pub same : is_a_fail e.what ≡ true → key_at by_value events c.0 ≡ by_value e
 
 -- the greatest call of the completed reads of a register and value
-abbrev pub IsLastRead : List Event → List EvId → ℕ × Val → Option EvId → Type 0
+abbrev pub IsLastRead : List Event → List (Option EvId) → ℕ × Val → Option EvId → Type 0
 IsLastRead events calls k None = (i : ℕ) → key_at by_read events i ≡ Some k → ⊥
-IsLastRead events calls k (Some c) = ((i : ℕ) × (key_at by_read events i ≡ Some k) × (call_at calls i ≡ Some c)) × ((i : ℕ) (d : EvId) → key_at by_read events i ≡ Some k → call_at calls i ≡ Some d → d.0 ≤ c.0)
+IsLastRead events calls k (Some c) = ((i : ℕ) × (key_at by_read events i ≡ Some k) × (item_at calls i ≡ Some c)) × ((i : ℕ) (d : EvId) → key_at by_read events i ≡ Some k → item_at calls i ≡ Some d → d.0 ≤ c.0)
 
 -- what an entry tells of its register and value
-pub record IsEntry (events : List Event) (calls : List EvId) (k : ℕ × Val) (y : Entry) : Type 0 where
+pub record IsEntry (events : List Event) (calls : List (Option EvId)) (k : ℕ × Val) (y : Entry) : Type 0 where
   pub write : IsFirstOf by_write events k (write_called y.write)
-  pub kept : (w : EvId) → write_called y.write ≡ Some w → call_at calls w.0 ≡ write_kept y.write
+  pub kept : (w : EvId) → write_called y.write ≡ Some w → item_at calls w.0 ≡ write_kept y.write
   pub reply : IsFirstOf by_reply events k y.first_reply
   pub read : IsLastRead events calls k y.last_read
 
@@ -263,11 +250,11 @@ pub record HasTimes (y : Entry) : Type 0 where
 
 -- each of the three families is the filter of the one list of events, ascending
 pub record AreEventLists (t : EventLists) : Type 0 where
-  pub registers : IsThreaded (key_at by_register t.events.items) (link_at t.in_register.items) (slice_get t.registers.items)
-  pub processes : IsThreaded (key_at by_process t.events.items) (link_at t.in_process.items) (process_ends t.processes)
-  pub values : IsThreaded (key_at by_value t.events.items) (link_at t.in_value.items) (value_ends t.values.keys t.entries.items)
+  pub registers : IsThreaded (key_at by_register t.events.items) (item_at t.in_register.items) (slice_get t.registers.items)
+  pub processes : IsThreaded (key_at by_process t.events.items) (item_at t.in_process.items) (process_ends t.processes)
+  pub values : IsThreaded (key_at by_value t.events.items) (item_at t.in_value.items) (value_ends t.values.keys t.entries.items)
   -- each event's call
-  pub calls : (i : ℕ) (e : Event) → slice_get t.events.items i ≡ Some e → IsCallOf t.events.items i e (call_at t.calls.items i)
+  pub calls : (i : ℕ) (e : Event) → slice_get t.events.items i ≡ Some e → IsCallOf t.events.items i e (item_at t.calls.items i)
   -- each value's entry, and the number of each event's
   pub entries : (k : ℕ × Val) (y : Entry) → value_entry t.values.keys t.entries.items k ≡ Some y → IsEntry t.events.items t.calls.items k y
   pub numbered : length t.values.keys ≡ length t.entries.items

@@ -1,5 +1,4 @@
-pub mod Links
-pub mod EntryNumbers
+pub mod Optional
 pub mod EventLists
 pub mod Step
 pub mod Built

@@ -10,7 +10,6 @@ ghost use Rattle.history_model.specs.OfValue.{IsWriteOf};
 ghost use Rattle.history_model.specs.declared.event.Event.{Event as AnEvent};
 
 use crate::event_lists::EventLists;
-use crate::list_ends::NO_CALL;
 use crate::names::Names;
 use history_model::{EvId, Event, Op, Oper, RegId};
 use history_text::{OpKind, Val};
@@ -95,11 +94,9 @@ impl Arena {
         requires { id.0 < length self.now.events }
         ensures { IsOperOf self.now id.0 result }
     {
-        let call = self.lists.calls[id.0 as usize];
-        if call.0 == NO_CALL {
-            None
-        } else {
-            Some(Oper::Called(call))
+        match self.lists.calls[id.0 as usize].get() {
+            Some(call) => Some(Oper::Called(call)),
+            None => None,
         }
     }
 
@@ -108,7 +105,10 @@ impl Arena {
         requires { id.0 < length self.now.events }
         ensures { (e : AnEvent) → slice_get self.now.events id.0 ≡ Some e → result ≡ begins_at self.now.events id.0 e }
     {
-        self.lists.calls[id.0 as usize].0 == id.0
+        match self.lists.calls[id.0 as usize].get() {
+            Some(call) => call.0 == id.0,
+            None => false,
+        }
     }
 
     /// Whether the reply of the one comes before the call of the other.
@@ -141,7 +141,7 @@ impl Arena {
         ensures next { IsNextOf by_register self.now.events id.0 result }
         ensures none { key_at by_register self.now.events id.0 ≡ None → result ≡ None }
     {
-        self.lists.in_register[id.0 as usize].next()
+        self.lists.in_register[id.0 as usize].get()
     }
 
     /// The first event of a process.
@@ -159,7 +159,7 @@ impl Arena {
         requires { id.0 < length self.now.events }
         ensures { IsNextOf by_process self.now.events id.0 result }
     {
-        self.lists.in_process[id.0 as usize].next()
+        self.lists.in_process[id.0 as usize].get()
     }
 
     /// The first event of a register with a value. A read's call, a failed read's fail and a crash have none.
@@ -178,7 +178,7 @@ impl Arena {
         ensures next { IsNextOf by_value self.now.events id.0 result }
         ensures none { key_at by_value self.now.events id.0 ≡ None → result ≡ None }
     {
-        self.lists.in_value[id.0 as usize].next()
+        self.lists.in_value[id.0 as usize].get()
     }
 
     /// The write of a value to a register, which didn't fail: of `Null` the initial write.

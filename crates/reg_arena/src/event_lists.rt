@@ -1,13 +1,14 @@
 //! Events in one list, and beside it the links of three families of lists: of each register, of each process, and of each register and value.
-ghost use Rattle.std.specs.Prelude.{◌≡◌, ◌<◌, ◌≤◌, ◌+◌, ◌++◌, ◌∷◌, [], true, length, max, OnOk, IfOk};
+ghost use Rattle.std.specs.Prelude.{◌≡◌, ◌≢◌, ◌<◌, ◌≤◌, ◌+◌, ◌++◌, ◌∷◌, [], true, length, max, OnOk, IfOk};
 ghost use Rattle.history_text.specs.declared.limits.TheConstants.{MAX_EVENTS};
 ghost use Rattle.reg_arena.specs.EventLists.{AreEventLists, IsAlike, IsAppendable, calls_with, end_of};
 ghost use Rattle.history_model.specs.Operations.{is_a_fail, number_in};
+ghost use Rattle.history_model.specs.declared.event.What.TheVariants.{Crash};
+ghost use Rattle.reg_arena.specs.declared.optional.TheConstants.{NO_NUMBER};
 
-use crate::entry_number::EntryNumber;
 use crate::joins::{join_process, join_register, join_value};
-use crate::link::Link;
-use crate::list_ends::{Ends, Entry, NO_CALL};
+use crate::list_ends::{Ends, Entry};
+use crate::optional::{OptionalEvent, OptionalNumber};
 use crate::processes::Processes;
 use crate::seeded::Seeded;
 use history_model::{EvId, Event, What};
@@ -18,14 +19,14 @@ use std::alloc::{AllocError, Global};
 #[derive(Drop)]
 pub(crate) struct EventLists {
     pub(crate) events: Vec<Event>,
-    /// The call of the operation that each event belongs to, or `NO_CALL`.
-    pub(crate) calls: Vec<EvId>,
+    /// The call of the operation that each event belongs to.
+    pub(crate) calls: Vec<OptionalEvent>,
     /// The next event of the same register, of the same process, and of the same register and value.
-    pub(crate) in_register: Vec<Link>,
-    pub(crate) in_process: Vec<Link>,
-    pub(crate) in_value: Vec<Link>,
+    pub(crate) in_register: Vec<OptionalEvent>,
+    pub(crate) in_process: Vec<OptionalEvent>,
+    pub(crate) in_value: Vec<OptionalEvent>,
     /// The number of the entry of the event's register and value.
-    pub(crate) numbers: Vec<EntryNumber>,
+    pub(crate) numbers: Vec<OptionalNumber>,
     pub(crate) registers: Vec<Ends>,
     pub(crate) processes: Processes,
     /// The registers and values that events have; the place of each is the number of its entry.
@@ -110,23 +111,24 @@ impl EventLists {
         )?;
         self.events.push(event)?;
         join_call(&mut self.calls, event.what, call)?;
-        self.numbers.push(EntryNumber::new(number))?;
+        self.numbers.push(OptionalNumber::new(number))?;
         Ok(())
     }
 }
 
 /// Adds the call of an event to the column of calls.
-fn join_call(calls: &mut Vec<EvId>, what: What, call: EvId) -> Result<(), AllocError>
-    requires { is_a_fail what ≡ true → call.0 < length calls.old.items }
+fn join_call(calls: &mut Vec<OptionalEvent>, what: What, call: EvId) -> Result<(), AllocError>
+    requires fail { is_a_fail what ≡ true → call.0 < length calls.old.items }
+    requires bound { what ≢ Crash → call.0 < NO_NUMBER }
     ensures { OnOk result (calls.new.items ≡ calls_with calls.old.items what call) }
 {
     match what {
-        What::Call(_) | What::Reply(_) => calls.push(call)?,
+        What::Call(_) | What::Reply(_) => calls.push(OptionalEvent::new(Some(call)))?,
         What::Fail(_) => {
-            calls[call.0 as usize] = EvId(NO_CALL);
-            calls.push(EvId(NO_CALL))?;
+            calls[call.0 as usize] = OptionalEvent::new(None);
+            calls.push(OptionalEvent::new(None))?;
         }
-        What::Crash => calls.push(EvId(NO_CALL))?,
+        What::Crash => calls.push(OptionalEvent::new(None))?,
     }
     Ok(())
 }

@@ -1,14 +1,14 @@
 //! How an event joins one list of each family: the last event of the list gets its link, and the new one has none.
 ghost use Rattle.std.specs.Prelude.{◌≡◌, ◌<◌, ◌≤◌, ◌^◌, ◌+◌, ℕ, length, slice_get, max, Some, option_map, OnOk, IfOk};
 ghost use Rattle.history_text.specs.declared.event.Val.{Val as AVal};
-ghost use Rattle.reg_arena.specs.EventLists.{IsJoined, IsJoinedBy, IsEnteredBy, end_of, event_number, link_at, process_ends, value_ends, value_entry, value_number, whole};
+ghost use Rattle.reg_arena.specs.EventLists.{IsJoined, IsJoinedBy, IsEnteredBy, end_of, event_number, item_at, process_ends, value_ends, value_entry, value_number, whole};
 ghost use Rattle.history_model.specs.Operations.{number_in};
 ghost use Rattle.history_model.specs.Walking.{by_value};
-ghost use Rattle.reg_arena.specs.declared.link.TheConstants.{NO_EVENT};
+ghost use Rattle.reg_arena.specs.declared.optional.TheConstants.{NO_NUMBER};
 ghost use Rattle.reg_arena.specs.declared.list_ends.Ends.{Ends};
 
-use crate::link::Link;
 use crate::list_ends::{Ends, Entry};
+use crate::optional::OptionalEvent;
 use crate::processes::Processes;
 use crate::seeded::Seeded;
 use history_model::{EvId, Event, RegId};
@@ -18,39 +18,39 @@ use std::alloc::AllocError;
 
 /// Joins event `id` to the list of its process.
 pub(crate) fn join_process(
-    links: &mut Vec<Link>,
+    links: &mut Vec<OptionalEvent>,
     processes: &mut Processes,
     process: u32,
     id: EvId,
 ) -> Result<(), AllocError>
     requires within { (e : Ends) → process_ends processes.old process ≡ Some e → e.last.0 < length links.old.items }
-    requires bound { id.0 < NO_EVENT }
-    ensures joined { OnOk result (IsJoined process id (link_at links.old.items) (link_at links.new.items) (process_ends processes.old) (process_ends processes.new)) }
+    requires bound { id.0 < NO_NUMBER }
+    ensures joined { OnOk result (IsJoined process id (item_at links.old.items) (item_at links.new.items) (process_ends processes.old) (process_ends processes.new)) }
     ensures count { OnOk result (length links.new.items ≡ length links.old.items + 1) }
 {
     let first = match processes.get(process) {
         Some(ends) => {
-            links[ends.last.0 as usize] = Link::to(id);
+            links[ends.last.0 as usize] = OptionalEvent::new(Some(id));
             ends.first
         }
         None => id,
     };
     processes.set(process, Ends { first, last: id })?;
-    links.push(Link::end())?;
+    links.push(OptionalEvent::new(None))?;
     Ok(())
 }
 
 /// Joins event `id` to the list of its register, which is known or the next, if it has a register.
 pub(crate) fn join_register(
-    links: &mut Vec<Link>,
+    links: &mut Vec<OptionalEvent>,
     registers: &mut Vec<Ends>,
     register: Option<RegId>,
     id: EvId,
 ) -> Result<(), AllocError>
     requires within { (e : Ends) → slice_get registers.old.items (number_in register) ≡ Some e → e.last.0 < length links.old.items }
     requires next { number_in register ≤ length registers.old.items }
-    requires bound { id.0 < NO_EVENT }
-    ensures joined { OnOk result (IsJoinedBy (option_map (λ r. r.0) register) id (link_at links.old.items) (link_at links.new.items) (slice_get registers.old.items) (slice_get registers.new.items)) }
+    requires bound { id.0 < NO_NUMBER }
+    ensures joined { OnOk result (IsJoinedBy (option_map (λ r. r.0) register) id (item_at links.old.items) (item_at links.new.items) (slice_get registers.old.items) (slice_get registers.new.items)) }
     ensures registers { OnOk result (length registers.new.items ≡ max (length registers.old.items) (end_of register)) }
     ensures count { OnOk result (length links.new.items ≡ length links.old.items + 1) }
 {
@@ -58,28 +58,28 @@ pub(crate) fn join_register(
         Some(register) => link_register(links, registers, register, id)?,
         None => {}
     }
-    links.push(Link::end())?;
+    links.push(OptionalEvent::new(None))?;
     Ok(())
 }
 
 /// Links event `id` behind the last event of its register, which is known or the next.
 fn link_register(
-    links: &mut Vec<Link>,
+    links: &mut Vec<OptionalEvent>,
     registers: &mut Vec<Ends>,
     register: RegId,
     id: EvId,
 ) -> Result<(), AllocError>
     requires within { (e : Ends) → slice_get registers.old.items register.0 ≡ Some e → e.last.0 < length links.old.items }
     requires next { register.0 ≤ length registers.old.items }
-    requires bound { id.0 < NO_EVENT }
-    ensures joined { OnOk result (IsJoined register.0 id (link_at links.old.items) (link_at links.new.items) (slice_get registers.old.items) (slice_get registers.new.items)) }
+    requires bound { id.0 < NO_NUMBER }
+    ensures joined { OnOk result (IsJoined register.0 id (item_at links.old.items) (item_at links.new.items) (slice_get registers.old.items) (slice_get registers.new.items)) }
     ensures registers { OnOk result (length registers.new.items ≡ max (length registers.old.items) (register.0 + 1)) }
     ensures count { OnOk result (length links.new.items ≡ length links.old.items) }
 {
     let number = register.0 as usize;
     if number < registers.len() {
         let ends = registers[number];
-        links[ends.last.0 as usize] = Link::to(id);
+        links[ends.last.0 as usize] = OptionalEvent::new(Some(id));
         registers[number] = Ends {
             first: ends.first,
             last: id,
@@ -107,7 +107,7 @@ pub(crate) fn whole(value: Val) -> Option<i64>
 ///
 /// `number` is the number of that list's entry, if there is one already. Gives back the number of its entry.
 pub(crate) fn join_value(
-    links: &mut Vec<Link>,
+    links: &mut Vec<OptionalEvent>,
     values: &mut IndexSet<(u32, Option<i64>), Seeded>,
     entries: &mut Vec<Entry>,
     event: Event,
@@ -119,8 +119,8 @@ pub(crate) fn join_value(
     requires within { (k : ℕ × AVal) (e : Ends) → value_ends values.old.keys entries.old.items k ≡ Some e → e.last.0 < length links.old.items }
     requires numbered { length values.old.keys ≡ length entries.old.items }
     requires room { length entries.old.items < 2 ^ 32 }
-    requires bound { id.0 < NO_EVENT }
-    ensures joined { OnOk result (IsJoinedBy (by_value event) id (link_at links.old.items) (link_at links.new.items) (value_ends values.old.keys entries.old.items) (value_ends values.new.keys entries.new.items)) }
+    requires bound { id.0 < NO_NUMBER }
+    ensures joined { OnOk result (IsJoinedBy (by_value event) id (item_at links.old.items) (item_at links.new.items) (value_ends values.old.keys entries.old.items) (value_ends values.new.keys entries.new.items)) }
     ensures entered { OnOk result (IsEnteredBy (by_value event) event id call (value_entry values.old.keys entries.old.items) (value_entry values.new.keys entries.new.items)) }
     ensures numbered { OnOk result (length values.new.keys ≡ length entries.new.items) }
     ensures few { length entries.new.items ≤ length entries.old.items + 1 }
@@ -131,7 +131,7 @@ pub(crate) fn join_value(
     let number = match (number, event.value, event.register) {
         (Some(number), _, _) => {
             let entry = entries[number as usize];
-            links[entry.ends.last.0 as usize] = Link::to(id);
+            links[entry.ends.last.0 as usize] = OptionalEvent::new(Some(id));
             entries[number as usize] = entry.with(event, id, call);
             Some(number)
         }
@@ -143,6 +143,6 @@ pub(crate) fn join_value(
         }
         (None, Some(_), None) | (None, None, _) => None,
     };
-    links.push(Link::end())?;
+    links.push(OptionalEvent::new(None))?;
     Ok(number)
 }

@@ -5,7 +5,7 @@
 //! and by register and value. Operations, their times and their order are those of the definitions in `history_model`, whose laws say what holds of
 //! them. All calls but `build_keyed` and `build` take no memory and always answer.
 //!
-//! Read it in this order: `hash_key` and `seeded`, which make the hashes; `link`, `entry_number`, `list_ends`, `processes`, `joins`, `event_lists` and `entries`, the lists that run
+//! Read it in this order: `hash_key` and `seeded`, which make the hashes; `optional`, `list_ends`, `processes`, `joins`, `event_lists` and `entries`, the lists that run
 //! through the events; `names`; `arena`, `called` and `of_value`, which answer; `agrees`, `standing` and `build`.
 #![tactic(auto)]
 
@@ -14,14 +14,13 @@ mod arena;
 mod build;
 mod called;
 mod entries;
-mod entry_number;
 mod event_lists;
 mod hash_key;
 mod joins;
-mod link;
 mod list_ends;
 mod names;
 mod of_value;
+mod optional;
 mod processes;
 mod seeded;
 mod standing;

@@ -5,9 +5,6 @@ ghost use Rattle.reg_arena.specs.EventLists.{entry_alone, entry_with, later, rea
 use history_model::{EvId, Event, What};
 use history_text::OpKind;
 
-/// What stands in the column of calls for an event that belongs to no operation.
-pub(crate) const NO_CALL: u32 = 4_294_967_295;
-
 /// The first and the last event of a list.
 #[derive(Clone, Copy, Debug)]
 pub(crate) struct Ends {

@@ -1,6 +1,6 @@
 //! The ends of the processes' lists: those of small numbers stand in a table, and the others in a map.
 ghost use Rattle.std.specs.Prelude.{◌≡◌, ◌<◌, ◌^◌, ℕ, None, OnOk};
-ghost use Rattle.reg_arena.specs.EventLists.{IsSetAt, process_ends, table_at};
+ghost use Rattle.reg_arena.specs.EventLists.{IsSetAt, process_ends, item_at};
 
 use crate::list_ends::Ends;
 use crate::seeded::Seeded;
@@ -69,7 +69,7 @@ impl Processes {
 /// Sets the ends at one place of a table, which grows as far as that place if it is shorter.
 fn set_in_table(table: &mut Vec<Option<Ends>>, place: usize, ends: Ends) -> Result<(), AllocError>
     requires { place < 2 ^ 32 }
-    ensures { OnOk result (IsSetAt place ends (table_at table.old.items) (table_at table.new.items)) }
+    ensures { OnOk result (IsSetAt place ends (item_at table.old.items) (item_at table.new.items)) }
 {
     if table.len() <= place {
         table.resize(place + 1, None)?;

@@ -8,8 +8,8 @@ pub returns-clause-joined : goal.returns-clause-joined
 returns-clause-joined c = elim c.match-get.branch [
   | in-Some w ↦
       let was = sym c.get.ensures ∙ w.in-Some.is in
-      joined-known c.args.links.now.items c.push.new.self.items _ _ c.args.process c.args.id w.in-Some.ends was (rw w.first-is at c.in_ok-set.ensures) (c.requires.within w.in-Some.ends was) (rw (w.links-is, w.to.ensures, c.end.ensures) at c.in_ok-push.ensures.items)
+      joined-known c.args.links.now.items c.push.new.self.items _ _ c.args.process c.args.id w.in-Some.ends was (rw w.first-is at c.in_ok-set.ensures) (c.requires.within w.in-Some.ends was) (rw (w.links-is, w.new.ensures, c.new-2.ensures) at c.in_ok-push.ensures.items)
   | in-None w ↦
       let was = sym c.get.ensures ∙ w.in-None.is in
-      joined-new c.args.links.now.items c.push.new.self.items _ _ c.args.process c.args.id was (rw w.first-is at c.in_ok-set.ensures) (rw (w.links-is, c.end.ensures) at c.in_ok-push.ensures.items)
+      joined-new c.args.links.now.items c.push.new.self.items _ _ c.args.process c.args.id was (rw w.first-is at c.in_ok-set.ensures) (rw (w.links-is, c.new-2.ensures) at c.in_ok-push.ensures.items)
 ]
