@@ -1,6 +1,7 @@
 //! What a history means: which ones are accepted, what their operations are, and when a register is atomic, safe or regular.
 //!
-//! Nothing runs here. This crate has the types that an answer speaks of, the definitions behind each answer, and laws that hold of every accepted history.
+//! No history is checked here. This crate has the types that an answer speaks of and the small calls that read them, the definitions behind each answer,
+//! and laws that hold of every accepted history.
 //! Whoever reads `specs/` knows what each verdict and each refusal says; the crates above prove that they give just that.
 //!
 //! Read the definitions in this order: `Lists`; `Events`, what a line says; `Refusals`, which histories are refused and why; `History`, the events of an accepted one;

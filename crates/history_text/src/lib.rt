@@ -3,7 +3,7 @@
 //!
 //! What the floor above may rely on: [`read_lines_in_parts`] gives exactly the lines that are not blank,
 //! in order and with their numbers, each as its one event or as the lowest-numbered fault that applies
-//! to it. Several threads read them, and each fills a part. [`read_lines`] joins the parts, and
+//! to it. Several threads read them, and each fills parts of its own. [`read_lines`] joins the parts, and
 //! [`read_lines_alone`] reads the same by one thread. Nothing here knows how events follow one another;
 //! that is the floor above.
 //!

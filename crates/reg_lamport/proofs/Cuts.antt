@@ -10,7 +10,7 @@ use Rattle.history_model.specs.Operations.{Operation, IsCompletedRead, of_regist
 use Rattle.history_model.specs.Naming.{IsNamed}
 use Rattle.history_model.specs.declared.ids.EvId.{EvId}
 use Rattle.history_model.specs.declared.ids.Oper.TheVariants.{Called}
-use Rattle.reg_lamport.specs.Levels.{Keeps, AllKeep, IsAtLevel, IsFirstBadRead, IsFirstBadWithin, IsFirstBadAmong, IsFirstBadNamed}
+use Rattle.reg_lamport.specs.Levels.{Keeps, AllKeep, IsAtLevel, IsFirstBadRead, IsFirstBadWithin, IsFirstBadFound, IsFirstBadNamed}
 use Rattle.reg_lamport.specs.Reads.{ListedReads, IsReadList, IsEntryOf}
 use Rattle.reg_lamport.specs.declared.level.Level.{Level}
 use Rattle.reg_lamport.proofs.Calls.{calls-ascend, reads-called}
@@ -33,7 +33,7 @@ module _ (level : Level) (ops : List Operation) where
   bad-earlier : (from mid to : ℕ) (r : Operation) → mid ≤ to → IsFirstBadWithin level ops from mid r → IsFirstBadWithin level ops from to r
   bad-earlier from mid to r l a = record { place = a.place; from_on = a.from_on; below = omega (arith, a.below); there = a.there; breaks = a.breaks; first = a.first }
 
-  pub cuts-join : (from mid to : ℕ) (a b : Option Operation) → from ≤ mid → mid ≤ to → IsFirstBadAmong level ops from mid a → IsFirstBadAmong level ops mid to b → IsFirstBadAmong level ops from to (option_or a b)
+  pub cuts-join : (from mid to : ℕ) (a b : Option Operation) → from ≤ mid → mid ≤ to → IsFirstBadFound level ops from mid a → IsFirstBadFound level ops mid to b → IsFirstBadFound level ops from to (option_or a b)
   cuts-join from mid to None None l m x y = keep-joined from mid to x y
   cuts-join from mid to None (Some r) l m x y = bad-later from mid to r l x y
   cuts-join from mid to (Some r) b l m x y = bad-earlier from mid to r m x
@@ -47,7 +47,7 @@ module _ (level : Level) (ops : List Operation) where
     ]
   ]
 
-  pub one-first-bad : (from to : ℕ) (a b : Option Operation) → IsFirstBadAmong level ops from to a → IsFirstBadAmong level ops from to b → a ≡ b
+  pub one-first-bad : (from to : ℕ) (a b : Option Operation) → IsFirstBadFound level ops from to a → IsFirstBadFound level ops from to b → a ≡ b
   one-first-bad from to None None x y = refl
   one-first-bad from to None (Some r) x y = absurd (y.breaks (x y.place r y.from_on y.below y.there))
   one-first-bad from to (Some r) None x y = absurd (x.breaks (y x.place r x.from_on x.below x.there))

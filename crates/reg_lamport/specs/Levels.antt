@@ -42,9 +42,9 @@ pub record IsFirstBadWithin (level : Level) (ops : List Operation) (from to : �
   pub first : AllKeep level ops from place
 
 -- the first bad read of that part, where there is one
-abbrev pub IsFirstBadAmong : Level → List Operation → ℕ → ℕ → Option Operation → Type 0
-IsFirstBadAmong level ops from to None = AllKeep level ops from to
-IsFirstBadAmong level ops from to (Some r) = IsFirstBadWithin level ops from to r
+abbrev pub IsFirstBadFound : Level → List Operation → ℕ → ℕ → Option Operation → Type 0
+IsFirstBadFound level ops from to None = AllKeep level ops from to
+IsFirstBadFound level ops from to (Some r) = IsFirstBadWithin level ops from to r
 
 -- the same of a register of a history, the read named by the event of its call
 abbrev pub IsFirstBadNamed : History → ℕ → Level → ℕ → ℕ → Option EvId → Type 0

@@ -6,15 +6,15 @@ ghost use Rattle.history_model.specs.Operations.{Operation, of_register, operati
 ghost use Rattle.history_model.specs.Naming.{IsNamed};
 ghost use Rattle.history_model.specs.declared.ids.EvId.{EvId};
 ghost use Rattle.history_model.specs.declared.ids.Oper.TheVariants.{Called};
-ghost use Rattle.reg_lamport.specs.Levels.{IsAtLevel, IsFirstBadAmong, IsFirstBadNamed, IsFirstBadRead};
+ghost use Rattle.reg_lamport.specs.Levels.{IsAtLevel, IsFirstBadFound, IsFirstBadNamed, IsFirstBadRead};
 ghost use Rattle.reg_lamport.specs.Reads.{IsReadList, ListedReads};
 ghost use Rattle.reg_lamport.specs.declared.level.Level.{Level};
 
 /// The first bad read of a part is that of its first cut if there is one, else that of its second.
 pub fn cuts_give_the_first_bad()
-    ensures cuts { (level : Level) (ops : List Operation) (from mid to : ℕ) (a b : Option Operation) → from ≤ mid → mid ≤ to → IsFirstBadAmong level ops from mid a → IsFirstBadAmong level ops mid to b → IsFirstBadAmong level ops from to (option_or a b) }
+    ensures cuts { (level : Level) (ops : List Operation) (from mid to : ℕ) (a b : Option Operation) → from ≤ mid → mid ≤ to → IsFirstBadFound level ops from mid a → IsFirstBadFound level ops mid to b → IsFirstBadFound level ops from to (option_or a b) }
     ensures named { (h : History) (register : ℕ) (level : Level) (from mid to : ℕ) (a b : Option EvId) → from ≤ mid → mid ≤ to → IsFirstBadNamed h register level from mid a → IsFirstBadNamed h register level mid to b → IsFirstBadNamed h register level from to (option_or a b) }
-    ensures one { (level : Level) (ops : List Operation) (from to : ℕ) (a b : Option Operation) → IsFirstBadAmong level ops from to a → IsFirstBadAmong level ops from to b → a ≡ b }
+    ensures one { (level : Level) (ops : List Operation) (from to : ℕ) (a b : Option Operation) → IsFirstBadFound level ops from to a → IsFirstBadFound level ops from to b → a ≡ b }
 {}
 
 /// Of a whole list, the first bad read is the breaking read that was called first, and the register is at the level if there is none.

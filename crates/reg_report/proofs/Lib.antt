@@ -5,7 +5,7 @@ mod Naming
 mod MergedOrder
 mod Restrict
 mod Locality
-mod Turns
+mod Stable
 mod Gathered
 mod OrderLines
 mod Atomic

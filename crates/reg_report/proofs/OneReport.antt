@@ -26,7 +26,7 @@ use Rattle.reg_report.specs.declared.report.FaultLines.{FaultLines}
 use Rattle.reg_report.specs.declared.report.FaultLines.TheVariants.{Unwritten, Early, Zones}
 use Rattle.reg_report.specs.declared.report.RegReport.{RegReport}
 use Rattle.reg_report.specs.declared.report.Report.{Report}
-use Rattle.reg_report.proofs.Gathered.{some_same}
+use Rattle.std.proofs.lemmas.Option.{same_Some}
 
 -- two lists of one length whose elements are the same place by place
 same_list : {X : Type 0} (xs ys : List X) → length xs ≡ length ys → ((i : ℕ) (x y : X) → slice_get xs i ≡ Some x → slice_get ys i ≡ Some y → x ≡ y) → xs ≡ ys
@@ -106,7 +106,7 @@ module _ (h : History) (named : (name : Oper) (o p : Operation) → IsNamed h na
   one_inversion : (ops : List Operation) → IsHistory ops → (l m : ℕ × ℕ) → IsInversionShown h ops l → IsInversionShown h ops m → l ≡ m
   one_inversion ops y l m a b =
       let same = one_fault ops y a.fault b.fault a.is_fault b.is_fault in
-      let names = some_same (sym a.named ∙ (ap inversion_named same ∙ b.named)) in
+      let names = same_Some _ _ (sym a.named ∙ (ap inversion_named same ∙ b.named)) in
       one_pair (name_of b.first, name_of b.second) l m (subst (λ (n : Oper × Oper). HaveLines h n l) names a.shown) b.shown
 
   one_inversion_answer : (ops : List Operation) → IsHistory ops → (atomic : Bool) (regular : Verdict) (o p : Option (ℕ × ℕ)) → IsInversionAnswer h ops atomic regular o → IsInversionAnswer h ops atomic regular p → o ≡ p
@@ -173,7 +173,7 @@ module _ (h : History) (named : (name : Oper) (o p : Operation) → IsNamed h na
   one_register : (r : ℕ) → IsHistory (register_of h r) → (a b : RegReport) → IsRegisterReport h r a → IsRegisterReport h r b → a ≡ b
   one_register r y a b p q =
       let ops = register_of h r in
-      let name = some_same (sym p.name ∙ q.name) in
+      let name = same_Some _ _ (sym p.name ∙ q.name) in
       let writes = p.writes ∙ sym q.writes in
       let reads = p.reads ∙ sym q.reads in
       let pending = p.pending ∙ sym q.pending in

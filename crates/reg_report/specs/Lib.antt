@@ -2,7 +2,6 @@ pub mod Refusals
 pub mod Text
 pub mod Sends
 pub mod Merged
-pub mod Merging
 pub mod Meaning
 pub mod First
 pub mod Told

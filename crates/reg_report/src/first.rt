@@ -1,5 +1,5 @@
 //! The report of the first register that isn't atomic.
-ghost use Rattle.std.specs.Prelude.{◌≡◌, ◌<◌, length, slice_get, is_none, Some, IfOk};
+ghost use Rattle.std.specs.Prelude.{◌<◌, length, is_none, Some, IfOk};
 ghost use Rattle.history_model.specs.Operations.{register_of};
 ghost use Rattle.reg_pieces.specs.Workers.{IsFirstFound};
 ghost use Rattle.reg_report.specs.First.{AreFoundLines, IsFirstReport};

@@ -1,9 +1,9 @@
 //! The merged order of a history whose registers are atomic.
 ghost use Rattle.std.specs.Prelude.{◌≡◌, IfOk, OnOk, IsPermutation};
 ghost use Rattle.std.specs.List.{flat_map};
-ghost use Rattle.std.specs.List.Sorted.{IsNonDecreasingBy};
+ghost use Rattle.std.specs.List.Sorted.{IsNonDecreasingBy, IsStableByKey};
+ghost use Rattle.std.specs.Ordering.{nat_cmp};
 ghost use Rattle.reg_report.specs.Merged.{AreOrders, IsMergedAnswer};
-ghost use Rattle.reg_report.specs.Merging.{KeepTurns};
 
 use crate::told::told;
 use reg_arena::Arena;
@@ -40,7 +40,7 @@ fn gathered(alloc: Global, orders: &[Order]) -> Result<Vec<Placed>, AllocError>
 fn rank(merged: &mut Vec<Placed>) -> Result<(), AllocError>
     ensures permutation { IsPermutation merged.old.items merged.new.items }
     ensures ascending { OnOk result (IsNonDecreasingBy (λ x. x.point) merged.new.items) }
-    ensures turns { KeepTurns merged.old.items merged.new.items }
+    ensures stable { IsStableByKey (λ x. x.point) nat_cmp merged.old.items merged.new.items }
 {
     merged.sort_by_key(|placed| placed.point)
 }

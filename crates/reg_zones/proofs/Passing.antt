@@ -9,7 +9,7 @@ use Rattle.reg_zones.specs.declared.pass.Compared.{Compared}
 use Rattle.reg_zones.specs.declared.pass.Compared.TheVariants.{Clear, Conflict}
 use Rattle.reg_zones.specs.Clusters.{IsKept, IsForward, low_end}
 use Rattle.reg_zones.proofs.Known.{IsKnown}
-use Rattle.reg_zones.specs.Sweep.{AreAllCompared, AreCompared, IsClusterOf, IsConflictFound, IsLastMet, IsMet}
+use Rattle.reg_zones.specs.Sweep.{AreCompared, AreFirstConflict, IsClusterOf, IsConflictFound, IsLastMet, IsMet, conflict_in}
 use Rattle.reg_zones.proofs.Ends.{first_reply-le}
 use Rattle.reg_zones.proofs.Registers.{no_low_end, initial_low}
 use Rattle.reg_zones.proofs.OnePass.{forward-from, forward-to, gap, ended}
@@ -29,7 +29,7 @@ pub record IsPassing (ops : List Operation) (last : Option Cluster) (next : Opti
 -- as far as the next event, the pass has met each low end, or a conflict
 abbrev pub IsComparing : List Operation → Compared → Option EvId → Type 0
 IsComparing ops (Clear last) next = IsPassing ops last next
-IsComparing ops (Conflict first second) next = IsConflictFound ops first second
+IsComparing ops (Conflict first second) next = AreFirstConflict ops first second
 
 module _ (h : History) (r : ℕ) (y : IsKnown h r) where
   -- where the event at place i isn't of the register, no low end has its time
@@ -93,6 +93,6 @@ module _ (h : History) (r : ℕ) (y : IsKnown h r) where
       from_least (id.0 + 1) last next (subst (λ t. IsMet (of_register r (operations h)) t last) e m) (n r k)
   comparing-more (Conflict first second) id next k m n = m
 
-  pub comparing-over : (clusters : Compared) → IsComparing (of_register r (operations h)) clusters None → AreAllCompared (of_register r (operations h)) clusters
+  pub comparing-over : (clusters : Compared) → IsComparing (of_register r (operations h)) clusters None → IsConflictFound (of_register r (operations h)) (conflict_in clusters)
   comparing-over (Clear last) p = ended (of_register r (operations h)) y.history p.time last (λ w k l. p.clear w k l tt) p.met
   comparing-over (Conflict first second) p = p

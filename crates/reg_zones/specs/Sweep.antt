@@ -118,13 +118,18 @@ IsConflictWith last cluster None = (c : Cluster) → last ≡ Some c → ZonesCo
 IsConflictWith last cluster (Some c) = (last ≡ Some c) × ZonesConflict c.zone cluster.zone
 
 -- the first two clusters that conflict
-abbrev pub IsConflictFound : List Operation → Cluster → Cluster → Type 0
-IsConflictFound ops first second = (v : Operation) × (w : Operation) × IsFirstConflict ops v w × IsClusterOf ops v first × IsClusterOf ops w second
+abbrev pub AreFirstConflict : List Operation → Cluster → Cluster → Type 0
+AreFirstConflict ops first second = (v : Operation) × (w : Operation) × IsFirstConflict ops v w × IsClusterOf ops v first × IsClusterOf ops w second
 
 -- what a pass that has met each low end before time n knows of the zones: no conflict and the last forward cluster, or the first conflict
 abbrev pub AreCompared : List Operation → ℕ → Compared → Type 0
 AreCompared ops n (Clear last) = IsMet ops n last
-AreCompared ops n (Conflict first second) = IsConflictFound ops first second
+AreCompared ops n (Conflict first second) = AreFirstConflict ops first second
+
+-- the conflict that it knows of
+abbrev pub conflict_in : Compared → Option (Cluster × Cluster)
+conflict_in (Clear last) = None
+conflict_in (Conflict first second) = Some (first, second)
 
 -- ---- what the whole pass finds
 
@@ -134,12 +139,12 @@ IsEarlyFound ops None = AreInTime ops
 IsEarlyFound ops (Some pair) = (r : Operation) × (w : Operation) × IsEarly ops r w × ((q u : Operation) → IsEarly ops q u → r.call ≤ q.call) × (name_of r ≡ pair.0) × (name_of w ≡ pair.1)
 
 -- the first two clusters that conflict; or no two do
-abbrev pub AreAllCompared : List Operation → Compared → Type 0
-AreAllCompared ops (Clear last) = (v w : Operation) → IsConflict ops v w → ⊥
-AreAllCompared ops (Conflict first second) = IsConflictFound ops first second
+abbrev pub IsConflictFound : List Operation → Option (Cluster × Cluster) → Type 0
+IsConflictFound ops None = (v w : Operation) → IsConflict ops v w → ⊥
+IsConflictFound ops (Some pair) = AreFirstConflict ops pair.0 pair.1
 
 -- what is found of a register in which each completed read has its write
 pub record IsFound (ops : List Operation) (found : Found) : Type 0 where
   pub written : AreWritten ops
   pub early : IsEarlyFound ops found.early
-  pub clusters : AreAllCompared ops found.clusters
+  pub conflict : IsConflictFound ops found.conflict

@@ -7,7 +7,7 @@ ghost use Rattle.reg_zones.specs.Register.{operations_of};
 ghost use Rattle.reg_zones.specs.Sweep.{IsFound};
 
 use crate::fault::{Fault, conflict_of};
-use crate::pass::{Compared, Found, pass};
+use crate::pass::{Found, pass};
 use crate::register::Register;
 use history_model::RegId;
 use reg_arena::Arena;
@@ -33,9 +33,9 @@ fn verdict(register: Register<'_>, found: Found) -> Result<(), Fault>
     ensures ok { IfOk result (λ _. HasNoFault (operations_of register.entry)) }
     ensures err { IfErr result (λ fault. IsFault (operations_of register.entry) fault) }
 {
-    match (found.early, found.clusters) {
+    match (found.early, found.conflict) {
         (Some((read, write)), _) => Err(Fault::Early { read, write }),
-        (None, Compared::Conflict(first, second)) => Err(conflict_of(register, first, second)),
-        (None, Compared::Clear(_)) => Ok(()),
+        (None, Some((first, second))) => Err(conflict_of(register, first, second)),
+        (None, None) => Ok(()),
     }
 }

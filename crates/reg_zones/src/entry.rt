@@ -1,5 +1,5 @@
 //! The operations that the canonical order lists, with what places them.
-ghost use Rattle.std.specs.Prelude.{◌≡◌, ◌<◌, ◌+◌, length, Some, IfOk};
+ghost use Rattle.std.specs.Prelude.{◌≡◌, ◌<◌, ◌+◌, Some, IfOk};
 ghost use Rattle.history_model.specs.Operations.{initial_write};
 ghost use Rattle.reg_zones.specs.Entries.{IsListedAt, IsListing, entry_of};
 ghost use Rattle.reg_zones.specs.Register.{HasEvent, operations_of};

@@ -1,5 +1,5 @@
 //! Why a register isn't atomic.
-ghost use Rattle.std.specs.Prelude.{◌≡◌, ◌<◌, length};
+ghost use Rattle.std.specs.Prelude.{◌≡◌};
 ghost use Rattle.history_model.specs.Lists.{In};
 ghost use Rattle.history_model.specs.Operations.{Operation, IsCompleted};
 ghost use Rattle.history_model.specs.Naming.{name_of};

@@ -1,9 +1,9 @@
 //! One pass over a register's events, in order of time: its completed reads by call, and its zones by low ends.
-ghost use Rattle.std.specs.Prelude.{◌+◌, IfOk, IfErr};
+ghost use Rattle.std.specs.Prelude.{◌≡◌, ◌+◌, IfOk, IfErr};
 ghost use Rattle.history_model.specs.Operations.{initial_write};
 ghost use Rattle.reg_zones.specs.Faults.{IsFault};
 ghost use Rattle.reg_zones.specs.Register.{operations_of};
-ghost use Rattle.reg_zones.specs.Sweep.{AreCompared, IsConflictWith, IsClusterOf, IsFound, IsLowEndAt, IsMet, IsOperationOf};
+ghost use Rattle.reg_zones.specs.Sweep.{AreCompared, IsConflictWith, IsClusterOf, IsFound, IsLowEndAt, IsMet, IsOperationOf, conflict_in};
 
 use crate::fault::Fault;
 use crate::reads::early_at;
@@ -29,18 +29,32 @@ pub(crate) enum Compared {
     Conflict(Cluster, Cluster),
 }
 
+impl Compared {
+    /// The two clusters found to conflict, if there are any.
+    fn conflict(self) -> Option<(Cluster, Cluster)>
+        ensures { result ≡ conflict_in self }
+    {
+        match self {
+            Compared::Clear(_) => None,
+            Compared::Conflict(first, second) => Some((first, second)),
+        }
+    }
+}
+
 /// What the pass found, if each completed read has its write.
 #[derive(Clone, Copy, Debug, PartialEq, Eq)]
 pub(crate) struct Found {
     /// Of the reads that precede their write, the one called first, with that write.
     pub(crate) early: Option<(Oper, Oper)>,
-    pub(crate) clusters: Compared,
+    /// The first two clusters that conflict, by the second's low end.
+    pub(crate) conflict: Option<(Cluster, Cluster)>,
 }
 
 /// The first completed read without a write, or else what was found of early reads and of zones.
 ///
-/// Each event that is a low end of its cluster is compared with the last forward zone met, and with no other: if two
-/// zones conflict, the first of the two by low ends is forward, and no forward one comes between them.
+/// At each event that is the low end of a cluster, that cluster's zone is compared with the last forward zone met, and
+/// with no other, until two conflict. Of the first two that conflict, the one with the earlier low end is forward, and
+/// no forward zone comes between them.
 pub(crate) fn pass(register: Register<'_>) -> Result<Found, Fault>
     ensures ok { IfOk result (λ found. IsFound (operations_of register.entry) found) }
     ensures err { IfErr result (λ fault. IsFault (operations_of register.entry) fault) }
@@ -55,7 +69,8 @@ pub(crate) fn pass(register: Register<'_>) -> Result<Found, Fault>
         clusters = compare_at(register, clusters, operation, id);
         next = register.arena.next_in_register(id);
     }
-    Ok(Found { early, clusters })
+    let conflict = clusters.conflict();
+    Ok(Found { early, conflict })
 }
 
 /// The cluster of the initial write, if its zone is forward: the last forward cluster before all events.

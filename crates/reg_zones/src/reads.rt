@@ -1,4 +1,4 @@
-//! The completed read that an event calls: whether it has its write, and whether it precedes it.
+//! The completed read that an event calls: whether it has a write, and whether the read precedes that write.
 ghost use Rattle.std.specs.Prelude.{◌≡◌, ◌+◌, None, Some, IfOk, IfErr};
 ghost use Rattle.history_model.specs.declared.ids.Oper.{Oper};
 ghost use Rattle.history_model.specs.OfValue.{IsWriteOf};
@@ -20,7 +20,8 @@ pub(crate) struct Read {
     pub(crate) reply: u32,
 }
 
-/// The completed read that the event calls and its write, if the read precedes the write, or that the read has no write.
+/// The completed read that the event calls, with its write, if the read precedes the write. The error says that the read
+/// has no write.
 ///
 /// `operation` is that to which the event belongs.
 pub(crate) fn early_at(

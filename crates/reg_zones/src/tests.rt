@@ -114,7 +114,7 @@ const ROWS: [(&str, &str, &str); 24] = [
         "early 5 7",
     ),
     (
-        "two early reads, the second with a write of its own",
+        "two early reads, the second read's write called first",
         "1 R; 1 = 5; 1 R; 1 = 6; 2 W 6; 2 ok; 2 W 5; 2 ok",
         "early 1 7",
     ),

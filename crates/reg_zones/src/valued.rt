@@ -1,5 +1,4 @@
 //! Which event has the value of an operation.
-ghost use Rattle.std.specs.Prelude.{◌<◌, length};
 ghost use Rattle.history_model.specs.Operations.{Operation};
 ghost use Rattle.reg_zones.specs.Sweep.{IsBelonging, IsValuedEvent};
 

@@ -1,6 +1,5 @@
 //! Where a report goes.
 ghost use Rattle.std.specs.Prelude.{◌≡◌, ◌⊎◌};
-ghost use Rattle.reg_report.specs.Text.{report_text};
 ghost use Rattle.regcheck_c.specs.Called.{IsPut, IsRefusal, with_text};
 
 use crate::answer::{Answer, refused, reported};

@@ -1,6 +1,7 @@
-use Rattle.std.proofs.Common.{◌∙◌, subst}
+use Rattle.std.proofs.Common.{◌∙◌, subst, nat_cmp}
 use Rattle.std.specs.Prelude.{IsPermutation}
-use Rattle.reg_report.specs.Merging.{KeepTurns}
+use Rattle.std.specs.List.Sorted.{IsStableByKey}
+use Rattle.reg_zones.specs.declared.placed.Placed.{Placed}
 use Rattle.reg_report.proofs.Gathered.{names, merged_answer}
 use Rattle.reg_report.proofs.merged.merge.Goals as goal
 
@@ -13,4 +14,4 @@ returns c =
     merged_answer h c.told.ensures os c.requires merged
     (subst (λ ms. IsPermutation ms merged) given c.rank.ensures.permutation)
     c.in_ok-rank.ensures.ascending
-    (subst (λ ms. KeepTurns ms merged) given c.rank.ensures.turns)
+    (subst (λ ms. IsStableByKey (λ (x : Placed). x.point) nat_cmp ms merged) given c.rank.ensures.stable)

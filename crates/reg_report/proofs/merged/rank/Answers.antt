@@ -1,7 +1,7 @@
 use Rattle.std.proofs.Common.{rules}
 use Rattle.std.proofs.lemmas.List.Sorted.{IsNonDecreasingBy-from_sort_by_key}
 use Rattle.std.proofs.lemmas.Result.{on_ok_weaker}
-use Rattle.reg_report.proofs.Turns.{turns_from_sort}
+use Rattle.reg_report.proofs.Stable.{stable_from_sort}
 use Rattle.reg_report.proofs.merged.rank.Goals as goal
 
 pub returns-clause-ascending : goal.returns-clause-ascending
@@ -10,5 +10,5 @@ returns-clause-ascending c =
     (λ sorted. IsNonDecreasingBy-from_sort_by_key (λ x. x.point) c.sort_by_key.new.self.items sorted (λ a r q k. search rules))
     c.sort_by_key.ensures.sorted
 
-pub returns-clause-turns : goal.returns-clause-turns
-returns-clause-turns c = turns_from_sort c.args.merged.now.items c.sort_by_key.new.self.items c.sort_by_key.ensures.stable (λ a r q k. search rules)
+pub returns-clause-stable : goal.returns-clause-stable
+returns-clause-stable c = stable_from_sort c.args.merged.now.items c.sort_by_key.new.self.items c.sort_by_key.ensures.stable (λ a r q k. search rules)

@@ -4,7 +4,7 @@ use Rattle.history_model.specs.Operations.{Operation, of_register, operations}
 use Rattle.reg_zones.specs.declared.fault.Fault.{Fault}
 use Rattle.reg_zones.specs.declared.pass.Found.{Found}
 use Rattle.reg_zones.specs.Faults.{IsFault}
-use Rattle.reg_zones.specs.Sweep.{IsEarlyAt, IsUnwrittenAt}
+use Rattle.reg_zones.specs.Sweep.{IsConflictFound, IsEarlyAt, IsUnwrittenAt}
 use Rattle.reg_zones.proofs.Known.{facts}
 use Rattle.reg_zones.proofs.Walks.{walk-start, walk-over, met-here, met-within, met-more, met-smaller}
 use Rattle.reg_zones.proofs.FirstReads.{IsEarlySoFar, all_written, first_unwritten, early-more, early-over}
@@ -74,5 +74,5 @@ returns-clause-ok c =
     record {
       written = all_written h r y (walk-over c.loop-next.invariant.walk c.in_default.is);
       early = early-over h r y c.loop-next.early (subst (IsEarlySoFar h r c.loop-next.early) c.in_default.is c.loop-next.invariant.early);
-      clusters = comparing-over h r y c.loop-next.clusters (subst (IsComparing (of_register r (operations h)) c.loop-next.clusters) c.in_default.is c.loop-next.invariant.comparing);
+      conflict = subst (IsConflictFound (of_register r (operations h))) (sym c.conflict-conflict.ensures) (comparing-over h r y c.loop-next.clusters (subst (IsComparing (of_register r (operations h)) c.loop-next.clusters) c.in_default.is c.loop-next.invariant.comparing));
     }
