@@ -7,8 +7,9 @@ use rayon::prelude::*;
 use std::alloc::{AllocError, Global};
 use std::mem;
 
-/// How many lines a part has at most: few, so that what takes the lines in can soon give memory back.
-const MAX_PART: usize = 1_024;
+/// How many lines a part has at most: few, so that what takes the lines in can soon give memory back, and yet so many
+/// that the C library maps a part by itself, and gives its memory back to the system when it is dropped.
+const MAX_PART: usize = 4_096;
 
 /// The lines of several threads side by side: `full` parts, and behind them the one that is being filled.
 #[derive(Drop)]
