@@ -6,7 +6,7 @@ ghost use Rattle.reg_pieces.specs.Judged.{IsJudged};
 use crate::order::Order;
 use history_model::RegId;
 use reg_arena::Arena;
-use reg_zones::{Fault, order, sweep};
+use reg_zones::{Fault, order_or_fault};
 use std::alloc::{AllocError, Global};
 
 /// Whether a register is atomic.
@@ -26,8 +26,8 @@ pub fn judge(alloc: Global, arena: &Arena, register: RegId) -> Result<Judgement,
     requires { register.0 < length arena.now.names }
     ensures { IfOk result (IsJudged (register_of arena.now register.0)) }
 {
-    match sweep(arena, register) {
-        Ok(()) => Ok(Judgement::Order(Order::new(order(alloc, arena, register)?))),
+    match order_or_fault(alloc, arena, register)? {
+        Ok(order) => Ok(Judgement::Order(Order::new(order))),
         Err(fault) => Ok(Judgement::Faulty(fault)),
     }
 }

@@ -1,5 +1,5 @@
 -- Which completed read an event calls, and its write, by what the arena answers.
-use Rattle.std.proofs.Common.{◌≡◌, ℕ, ◌+◌, Some, None, inl, inr, sym, ap, ◌∙◌}
+use Rattle.std.proofs.Common.{◌≡◌, ℕ, ◌+◌, Option, Some, None, inl, inr, refl, sym, ap, ◌∙◌, arith}
 use Rattle.std.proofs.lemmas.Bool.{false≢true}
 use Rattle.history_text.specs.declared.event.Val.{Val}
 use Rattle.history_text.specs.declared.event.OpKind.TheVariants.{WriteOp}
@@ -8,10 +8,10 @@ use Rattle.history_model.specs.Lists.{In}
 use Rattle.history_model.specs.History.{History}
 use Rattle.history_model.specs.Operations.{Operation, IsWrite, IsCompletedRead, IsReadOf, of_register, operations, writes, is_write}
 use Rattle.history_model.specs.declared.ids.Oper.{Oper}
-use Rattle.history_model.specs.Naming.{IsNamed}
+use Rattle.history_model.specs.Naming.{IsNamed, name_by}
 use Rattle.history_model.specs.OfValue.{IsWriteOf}
 use Rattle.reg_zones.proofs.Known.{IsKnown}
-use Rattle.reg_zones.specs.Sweep.{IsBelonging, IsUnwrittenAt}
+use Rattle.reg_zones.specs.Sweep.{IsBelonging, IsUnwrittenAt, call_named}
 use Rattle.reg_zones.proofs.Registers.{member-cluster, cluster-member}
 use Rattle.reg_zones.proofs.ValuedEvents.{same, pending}
 use Rattle.history_model.proofs.Recorded.{of_register-In}
@@ -60,3 +60,14 @@ module _ (h : History) (r : ℕ) (y : IsKnown h r) (v : Val) where
       let w = the_write name m in
       let same = y.history.calls b a k i (q ∙ sym e) in
       (w.0, w.2, w.3, read_of w.0 b w.4 t (ap (λ (x : Operation). x.value) same ∙ f))
+
+-- the name of an operation tells when it was called
+pub named-call : (h : History) (r : ℕ) → IsKnown h r → (name : Oper) (w : Operation) → In w (of_register r (operations h)) → IsNamed h name w → w.call ≡ call_named name
+named-call h r y name w k n = go w.process refl
+  where
+    go : (s : Option ℕ) → w.process ≡ s → w.call ≡ call_named name
+    go None q = ap (λ (o : Operation). o.call) (y.history.initial w k q) ∙ ap call_named (sym (ap (λ s. name_by s w) q) ∙ n.named)
+    go (Some p) q =
+        let l = y.history.called w p k q in
+        let e : w.call ≡ call_named (name_by (Some p) w) = omega arith in
+        e ∙ ap call_named (sym (ap (λ s. name_by s w) q) ∙ n.named)

@@ -3,6 +3,7 @@ use Rattle.std.specs.Prelude.{◌≡◌, ℕ, ◌+◌, ◌<◌, ◌≤◌, ◌�
 use Rattle.history_text.specs.declared.event.Val.{Val}
 use Rattle.history_model.specs.declared.ids.EvId.{EvId}
 use Rattle.history_model.specs.declared.ids.Oper.{Oper}
+use Rattle.history_model.specs.declared.ids.Oper.TheVariants.{Initial, Called}
 use Rattle.history_model.specs.declared.op.Op.{Op}
 use Rattle.history_model.specs.Lists.{In}
 use Rattle.history_model.specs.History.{History}
@@ -30,10 +31,10 @@ abbrev pub IsOperationOf : History → ℕ → ℕ → Option (Oper × Op) → T
 IsOperationOf h r i None = (o : Operation) → In o (of_register r (operations h)) → IsEventOf i o → ⊥
 IsOperationOf h r i (Some x) = (o : Operation) × IsBelonging h r i o x.1 × (x.0 ≡ name_of o)
 
--- the operation of register r that is called by the event at place i, with its name, if there is one
-abbrev pub IsCalledBy : History → ℕ → ℕ → Option (Oper × Op) → Type 0
-IsCalledBy h r i None = (o : Operation) → In o (of_register r (operations h)) → o.call ≡ i + 2 → ⊥
-IsCalledBy h r i (Some x) = (o : Operation) × IsBelonging h r i o x.1 × (x.0 ≡ name_of o) × (o.call ≡ i + 2)
+-- when the operation of this name was called; the event at place i has time i + 2
+abbrev pub call_named : Oper → ℕ
+call_named (Initial r) = 0
+call_named (Called i) = i.0 + 2
 
 -- ---- zones
 

@@ -28,7 +28,7 @@ pub fn sweep(arena: &Arena, register: RegId) -> Result<(), Fault>
 }
 
 /// The fault that was found, an early read before a conflict, or that there is none.
-fn verdict(register: Register<'_>, found: Found) -> Result<(), Fault>
+pub(crate) fn verdict(register: Register<'_>, found: Found) -> Result<(), Fault>
     requires { IsFound (operations_of register) found }
     ensures ok { IfOk result (λ _. HasNoFault (operations_of register.entry)) }
     ensures err { IfErr result (λ fault. IsFault (operations_of register.entry) fault) }

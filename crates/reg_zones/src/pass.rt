@@ -31,7 +31,7 @@ pub(crate) enum Compared {
 
 impl Compared {
     /// The two clusters found to conflict, if there are any.
-    fn conflict(self) -> Option<(Cluster, Cluster)>
+    pub(crate) fn conflict(self) -> Option<(Cluster, Cluster)>
         ensures { result ≡ conflict_in self }
     {
         match self {
@@ -74,7 +74,7 @@ pub(crate) fn pass(register: Register<'_>) -> Result<Found, Fault>
 }
 
 /// The cluster of the initial write, if its zone is forward: the last forward cluster before all events.
-fn initial_forward(register: Register<'_>) -> Option<Cluster>
+pub(crate) fn initial_forward(register: Register<'_>) -> Option<Cluster>
     ensures { IsMet (operations_of register.entry) 2 result }
 {
     let initial = initial_cluster(register);
@@ -95,7 +95,7 @@ fn initial_cluster(register: Register<'_>) -> Cluster
 }
 
 /// What is known of the zones once the event `id`, which belongs to `operation`, is met.
-fn compare_at(
+pub(crate) fn compare_at(
     register: Register<'_>,
     clusters: Compared,
     operation: Option<(Oper, Op)>,

@@ -1,15 +1,17 @@
 //! The completed read that an event calls: whether it has a write, and whether the read precedes that write.
 ghost use Rattle.std.specs.Prelude.{◌≡◌, ◌+◌, None, Some, IfOk, IfErr};
 ghost use Rattle.history_model.specs.declared.ids.Oper.{Oper};
+ghost use Rattle.history_model.specs.Naming.{IsOper};
 ghost use Rattle.history_model.specs.OfValue.{IsWriteOf};
 ghost use Rattle.reg_zones.specs.declared.fault.Fault.TheVariants.{Unwritten};
 ghost use Rattle.reg_zones.specs.Register.{operations_of};
-ghost use Rattle.reg_zones.specs.Sweep.{IsEarlyAt, IsOperationOf, IsReadCalledAt, IsReadOfRegister, IsUnwrittenAt};
+ghost use Rattle.reg_zones.specs.Sweep.{IsEarlyAt, IsOperationOf, IsReadCalledAt, IsReadOfRegister, IsUnwrittenAt, call_named};
 
 use crate::fault::Fault;
 use crate::register::Register;
 use history_model::{EvId, Op, Oper};
 use history_text::{OpKind, Val};
+use reg_arena::Arena;
 
 /// A completed read, with what it returned and when.
 #[derive(Clone, Copy, Debug, PartialEq, Eq)]
@@ -41,11 +43,24 @@ pub(crate) fn early_at(
     let Some(write) = write_of_read(register, read) else {
         return Err(Fault::Unwritten { read: read.oper });
     };
-    Ok(if read.reply < register.arena.op(write).call {
+    Ok(if read.reply < call_of(register.arena, write) {
         Some((read.oper, write))
     } else {
         None
     })
+}
+
+/// When an operation was called, by its name alone: no event is read.
+fn call_of(arena: &Arena, oper: Oper) -> u32
+    requires { IsOper arena.now oper }
+    ensures { result ≡ call_named oper }
+{
+    // It bounds the number of events, and so the time.
+    let _count = arena.event_count();
+    match oper {
+        Oper::Initial(_) => 0,
+        Oper::Called(id) => id.time(),
+    }
 }
 
 /// The write of the value of a completed read, by the event of its reply.

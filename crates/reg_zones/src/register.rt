@@ -4,7 +4,7 @@ ghost use Rattle.history_model.specs.History.{IsRecorded};
 ghost use Rattle.history_model.specs.Naming.{IsNamed, IsOper, op_shown};
 ghost use Rattle.history_model.specs.Operations.{Operation};
 ghost use Rattle.history_model.specs.Walking.{by_register, key_at};
-ghost use Rattle.reg_zones.specs.Sweep.{IsCalledBy, IsOperationOf};
+ghost use Rattle.reg_zones.specs.Sweep.{IsOperationOf};
 
 use history_model::{EvId, Op, Oper, RegId};
 use reg_arena::Arena;
@@ -50,18 +50,5 @@ impl<'a> Register<'a> {
     {
         let oper = self.arena.op_of(id)?;
         Some((oper, self.arena.op(oper)))
-    }
-
-    /// The operation of the register that an event calls, with its name, if it calls one.
-    pub(crate) fn operation_called(self, id: EvId) -> Option<(Oper, Op)>
-        requires { key_at by_register self.arena.now.events id.0 ≡ Some self.id.0 }
-        ensures { IsCalledBy self.entry.arena.now self.entry.id.0 id.0 result }
-    {
-        if self.arena.begins(id) {
-            let oper = Oper::Called(id);
-            Some((oper, self.arena.op(oper)))
-        } else {
-            None
-        }
     }
 }

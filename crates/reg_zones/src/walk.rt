@@ -1,0 +1,47 @@
+//! One walk over a register's events that looks for a fault, as `pass` does, and lists the operations as it goes.
+//!
+//! Each event's operation is looked up once for both. `pass` remains for those who ask for the fault alone: it takes no
+//! memory.
+ghost use Rattle.std.specs.Prelude.{IfOk, MatchResult};
+ghost use Rattle.reg_zones.specs.Entries.{IsListing};
+ghost use Rattle.reg_zones.specs.Faults.{IsFault};
+ghost use Rattle.reg_zones.specs.Register.{operations_of};
+ghost use Rattle.reg_zones.specs.Sweep.{IsFound};
+
+use crate::entry::{Entry, initial_entry, listed_at};
+use crate::fault::Fault;
+use crate::pass::{Compared, Found, compare_at, initial_forward};
+use crate::reads::early_at;
+use crate::register::Register;
+use std::alloc::{AllocError, Global};
+
+/// What a walk found of early reads and of zones, with the kept writes and the completed reads, each once, by call; or the
+/// first completed read without a write.
+pub(crate) fn found_and_listed(
+    alloc: Global,
+    register: Register<'_>,
+) -> Result<Result<(Found, Vec<Entry>), Fault>, AllocError>
+    ensures { IfOk result (λ walked. MatchResult walked
+        (λ both. IsFound (operations_of register.entry) both.0 × IsListing (operations_of register.entry) both.1.items)
+        (λ fault. IsFault (operations_of register.entry) fault)) }
+{
+    let mut entries = Vec::new(alloc);
+    entries.push(initial_entry(register))?;
+    let mut early = None;
+    let mut clusters = Compared::Clear(initial_forward(register));
+    let mut next = register.arena.first_of_register(register.id);
+    while let Some(id) = next {
+        let operation = register.operation_of(id);
+        match early_at(register, operation, id) {
+            Err(fault) => return Ok(Err(fault)),
+            Ok(here) => early = early.or(here),
+        }
+        clusters = compare_at(register, clusters, operation, id);
+        if let Some(entry) = listed_at(register, operation, id) {
+            entries.push(entry)?;
+        }
+        next = register.arena.next_in_register(id);
+    }
+    let conflict = clusters.conflict();
+    Ok(Ok((Found { early, conflict }, entries)))
+}
