@@ -19,6 +19,7 @@ pub mod Walks
 pub mod ValuedEvents
 pub mod Kept
 pub mod CalledReads
+pub mod MetEvents
 pub mod LowEndAt
 pub mod FirstReads
 pub mod OnePass

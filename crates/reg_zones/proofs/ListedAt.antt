@@ -26,9 +26,6 @@ module _ (h : History) (r : ℕ) (y : IsKnown h r) (i : ℕ) (o : Operation) (op
   is : (a : Operation) → IsListed (of_register r (operations h)) a → a.call ≡ i + 2 → o ≡ a
   is a l e = same h r y i o op b a (listed-in (of_register r (operations h)) a l) (inl e)
 
-  pub not_called : (op.call ≡ i + 2 → ⊥) → IsListedAt (of_register r (operations h)) (i + 2) None
-  not_called n a l e = n (ap (λ (x : Op). x.call) b.shown ∙ (ap (λ (x : Operation). x.call) (is a l e) ∙ e))
-
   pub not_counted : (IsWrite o ⊎ IsCompleted o → ⊥) → IsListedAt (of_register r (operations h)) (i + 2) None
   not_counted n a l e = n (subst (λ (x : Operation). IsWrite x ⊎ IsCompleted x) (sym (is a l e)) (listed-member (of_register r (operations h)) a l).counts)
 

@@ -150,15 +150,15 @@ module _ (h : History) (r : ℕ) (y : IsKnown h r) where
       let same = y.one i a.0 o (of_register-In r (operations h) a.0 a.1.within).0 j at t in
       subst (IsInCluster (of_register r (operations h)) w.value) same a.1
 
-  -- at an event of no operation no low end is
-  pub unmet_low_end : (i : ℕ) (w : Operation) → ((a : Operation) → In a (of_register r (operations h)) → IsEventOf i a → ⊥) → IsKept (of_register r (operations h)) w → low_end (of_register r (operations h)) w.value ≡ i + 2 → ⊥
+  -- at an event of no operation that counts no low end is
+  pub unmet_low_end : (i : ℕ) (w : Operation) → ((a : Operation) → In a (of_register r (operations h)) → IsEventOf i a → IsWrite a ⊎ IsCompleted a → ⊥) → IsKept (of_register r (operations h)) w → low_end (of_register r (operations h)) w.value ≡ i + 2 → ⊥
   unmet_low_end i w none k e =
       let a = low_end-at w k in
-      none a.0 a.1.within (elim a.2 [ inl c ↦ inl (c ∙ e) | inr c ↦ inr (c.0, c.1 ∙ e) ])
+      none a.0 a.1.within (elim a.2 [ inl c ↦ inl (c ∙ e) | inr c ↦ inr (c.0, c.1 ∙ e) ]) a.1.counts
 
   -- where no event of the register is, no low end is
   pub no_low_end : (i : ℕ) (w : Operation) → (key_at by_register h.events i ≡ Some r → ⊥) → IsKept (of_register r (operations h)) w → low_end (of_register r (operations h)) w.value ≡ i + 2 → ⊥
-  no_low_end i w none k e = unmet_low_end i w (λ a j t. none (event-key i a j t)) k e
+  no_low_end i w none k e = unmet_low_end i w (λ a j t counts. none (event-key i a j t)) k e
 
   -- before all events there is the initial cluster's low end alone
   pub initial_low : (w : Operation) → IsKept (of_register r (operations h)) w → low_end (of_register r (operations h)) w.value < 2 → w ≡ initial_write r

@@ -19,6 +19,8 @@ use Rattle.reg_zones.specs.declared.pass.Compared.{Compared}
 use Rattle.reg_zones.specs.declared.pass.Compared.TheVariants.{Clear, Conflict}
 use Rattle.reg_zones.specs.declared.pass.Found.{Found}
 use Rattle.reg_zones.specs.declared.reads.Read.{Read}
+use Rattle.reg_zones.specs.declared.register.Met.{Met}
+use Rattle.reg_zones.specs.declared.register.Met.TheVariants.{Call, Reply, Nothing}
 
 -- the event at place i belongs to the operation o of register r
 pub record IsBelonging (h : History) (r i : ℕ) (o : Operation) (op : Op) : Type 0 where
@@ -26,10 +28,11 @@ pub record IsBelonging (h : History) (r i : ℕ) (o : Operation) (op : Op) : Typ
   pub event : IsEventOf i o
   pub shown : op ≡ op_shown o
 
--- the operation of register r to which the event at place i belongs, with its name, if there is one
-abbrev pub IsOperationOf : History → ℕ → ℕ → Option (Oper × Op) → Type 0
-IsOperationOf h r i None = (o : Operation) → In o (of_register r (operations h)) → IsEventOf i o → ⊥
-IsOperationOf h r i (Some x) = (o : Operation) × IsBelonging h r i o x.1 × (x.0 ≡ name_of o)
+-- what the event at place i is to register r: the call of an operation, which has this name; the reply to one; or no event of any
+abbrev pub IsMetAt : History → ℕ → ℕ → Met → Type 0
+IsMetAt h r i (Call oper op) = (o : Operation) × IsBelonging h r i o op × (oper ≡ name_of o) × (o.call ≡ i + 2)
+IsMetAt h r i Reply = (o : Operation) × In o (of_register r (operations h)) × IsCompleted o × (o.reply ≡ i + 2)
+IsMetAt h r i Nothing = (o : Operation) → In o (of_register r (operations h)) → IsEventOf i o → ⊥
 
 -- when the operation of this name was called; the event at place i has time i + 2
 abbrev pub call_named : Oper → ℕ
@@ -52,10 +55,10 @@ IsZoneFound h r v (Some zone) = IsFirstReply h r v (Some zone.f) × IsLastCall h
 abbrev pub IsKeptWrite : History → Oper → Type 0
 IsKeptWrite h name = (w : Operation) × IsNamed h name w × IsKept (of_register w.register (operations h)) w
 
--- an event of register r that has the value of the operation o, unless o is a pending read, which has none
-abbrev pub IsValuedEvent : History → ℕ → Operation → Option EvId → Type 0
-IsValuedEvent h r o None = IsWrite o ⊎ IsCompleted o → ⊥
-IsValuedEvent h r o (Some id) = (v : Val) × (o.value ≡ Some v) × (key_at by_value h.events id.0 ≡ Some (r, v)) × (IsWrite o ⊎ IsCompleted o)
+-- an event of register r that has the value of the operation to which the event at place i belongs, if it belongs to one that has a value; a pending read has none
+abbrev pub IsValueOf : History → ℕ → ℕ → Option EvId → Type 0
+IsValueOf h r i None = (o : Operation) → In o (of_register r (operations h)) → IsEventOf i o → IsWrite o ⊎ IsCompleted o → ⊥
+IsValueOf h r i (Some id) = (o : Operation) × In o (of_register r (operations h)) × IsEventOf i o × ((v : Val) × (o.value ≡ Some v) × (key_at by_value h.events id.0 ≡ Some (r, v)) × (IsWrite o ⊎ IsCompleted o))
 
 -- ---- reads without a write, and early reads
 

@@ -3,12 +3,12 @@ ghost use Rattle.std.specs.Prelude.{◌≡◌, ◌+◌};
 ghost use Rattle.history_model.specs.Operations.{initial_write};
 ghost use Rattle.reg_zones.specs.Entries.{IsListedAt, entry_of};
 ghost use Rattle.reg_zones.specs.Register.{operations_of};
-ghost use Rattle.reg_zones.specs.Sweep.{IsOperationOf};
+ghost use Rattle.reg_zones.specs.Sweep.{IsMetAt};
 
-use crate::register::Register;
+use crate::register::{Met, Register};
 use crate::valued::valued_event;
 use crate::zone::{zone_at, zone_of};
-use history_model::{EvId, Op, Oper};
+use history_model::{EvId, Oper};
 use history_text::OpKind;
 
 /// A kept write or a completed read.
@@ -37,20 +37,15 @@ pub(crate) fn initial_entry(register: Register<'_>) -> Entry
     }
 }
 
-/// The listed operation that the event calls, if it calls one. `operation` is that to which the event belongs.
-pub(crate) fn listed_at(
-    register: Register<'_>,
-    operation: Option<(Oper, Op)>,
-    id: EvId,
-) -> Option<Entry>
-    requires { IsOperationOf register.arena.now register.id.0 id.0 operation }
+/// The listed operation that the event calls, if it calls one.
+pub(crate) fn listed_at(register: Register<'_>, met: Met, id: EvId) -> Option<Entry>
+    requires { IsMetAt register.arena.now register.id.0 id.0 met }
     ensures { IsListedAt (operations_of register.entry) (id.0 + 2) result }
 {
-    let (oper, op) = operation?;
-    if op.call != id.time() {
+    let Met::Call(oper, op) = met else {
         return None;
-    }
-    let valued = valued_event(register, op, id)?;
+    };
+    let valued = valued_event(register, met, id)?;
     let zone = zone_at(register.arena, valued)?;
     let turn = match op.kind {
         OpKind::WriteOp => 0,

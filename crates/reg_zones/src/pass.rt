@@ -3,14 +3,14 @@ ghost use Rattle.std.specs.Prelude.{◌≡◌, ◌+◌, IfOk, IfErr};
 ghost use Rattle.history_model.specs.Operations.{initial_write};
 ghost use Rattle.reg_zones.specs.Faults.{IsFault};
 ghost use Rattle.reg_zones.specs.Register.{operations_of};
-ghost use Rattle.reg_zones.specs.Sweep.{AreCompared, IsConflictWith, IsClusterOf, IsFound, IsLowEndAt, IsMet, IsOperationOf, conflict_in};
+ghost use Rattle.reg_zones.specs.Sweep.{AreCompared, IsConflictWith, IsClusterOf, IsFound, IsLowEndAt, IsMet, IsMetAt, conflict_in};
 
 use crate::fault::Fault;
 use crate::reads::early_at;
-use crate::register::Register;
+use crate::register::{Met, Register};
 use crate::valued::valued_event;
 use crate::zone::{Zone, zone_at, zone_of};
-use history_model::{EvId, Op, Oper};
+use history_model::{EvId, Oper};
 
 /// A cluster that the pass has met.
 #[derive(Clone, Copy, Debug, PartialEq, Eq)]
@@ -63,10 +63,10 @@ pub(crate) fn pass(register: Register<'_>) -> Result<Found, Fault>
     let mut clusters = Compared::Clear(initial_forward(register));
     let mut next = register.arena.first_of_register(register.id);
     while let Some(id) = next {
-        let operation = register.operation_of(id);
-        let here = early_at(register, operation, id)?;
+        let met = register.meet(id);
+        let here = early_at(register, met, id)?;
         early = early.or(here);
-        clusters = compare_at(register, clusters, operation, id);
+        clusters = compare_at(register, clusters, met, id);
         next = register.arena.next_in_register(id);
     }
     let conflict = clusters.conflict();
@@ -94,21 +94,16 @@ fn initial_cluster(register: Register<'_>) -> Cluster
     Cluster { write, zone }
 }
 
-/// What is known of the zones once the event `id`, which belongs to `operation`, is met.
-pub(crate) fn compare_at(
-    register: Register<'_>,
-    clusters: Compared,
-    operation: Option<(Oper, Op)>,
-    id: EvId,
-) -> Compared
-    requires here { IsOperationOf register.arena.now register.id.0 id.0 operation }
+/// What is known of the zones once the event `id` is met.
+pub(crate) fn compare_at(register: Register<'_>, clusters: Compared, met: Met, id: EvId) -> Compared
+    requires here { IsMetAt register.arena.now register.id.0 id.0 met }
     requires so_far { AreCompared (operations_of register) (id.0 + 2) clusters }
     ensures { AreCompared (operations_of register.entry) (id.0 + 3) result }
 {
     let Compared::Clear(last) = clusters else {
         return clusters;
     };
-    let Some(cluster) = low_end_at(register, operation, id) else {
+    let Some(cluster) = low_end_at(register, met, id) else {
         return clusters;
     };
     if let Some(first) = conflict_with(last, cluster) {
@@ -122,13 +117,14 @@ pub(crate) fn compare_at(
 }
 
 /// The cluster whose low end is the event, if there is one.
-fn low_end_at(register: Register<'_>, operation: Option<(Oper, Op)>, id: EvId) -> Option<Cluster>
-    requires { IsOperationOf register.arena.now register.id.0 id.0 operation }
+fn low_end_at(register: Register<'_>, met: Met, id: EvId) -> Option<Cluster>
+    requires { IsMetAt register.arena.now register.id.0 id.0 met }
     ensures { IsLowEndAt (operations_of register.entry) (id.0 + 2) result }
 {
-    let (_, op) = operation?;
-    let valued = valued_event(register, op, id)?;
+    let valued = valued_event(register, met, id)?;
     let zone = zone_at(register.arena, valued)?;
+    // It bounds the number of events, and so the time.
+    let _count = register.arena.event_count();
     if zone.low() != id.time() {
         return None;
     }

@@ -5,11 +5,11 @@ ghost use Rattle.history_model.specs.Naming.{IsOper};
 ghost use Rattle.history_model.specs.OfValue.{IsWriteOf};
 ghost use Rattle.reg_zones.specs.declared.fault.Fault.TheVariants.{Unwritten};
 ghost use Rattle.reg_zones.specs.Register.{operations_of};
-ghost use Rattle.reg_zones.specs.Sweep.{IsEarlyAt, IsOperationOf, IsReadCalledAt, IsReadOfRegister, IsUnwrittenAt, call_named};
+ghost use Rattle.reg_zones.specs.Sweep.{IsEarlyAt, IsMetAt, IsReadCalledAt, IsReadOfRegister, IsUnwrittenAt, call_named};
 
 use crate::fault::Fault;
-use crate::register::Register;
-use history_model::{EvId, Op, Oper};
+use crate::register::{Met, Register};
+use history_model::{EvId, Oper};
 use history_text::{OpKind, Val};
 use reg_arena::Arena;
 
@@ -24,20 +24,18 @@ pub(crate) struct Read {
 
 /// The completed read that the event calls, with its write, if the read precedes the write. The error says that the read
 /// has no write.
-///
-/// `operation` is that to which the event belongs.
 pub(crate) fn early_at(
     register: Register<'_>,
-    operation: Option<(Oper, Op)>,
+    met: Met,
     id: EvId,
 ) -> Result<Option<(Oper, Oper)>, Fault>
-    requires { IsOperationOf register.arena.now register.id.0 id.0 operation }
+    requires { IsMetAt register.arena.now register.id.0 id.0 met }
     ensures written { IfOk result (λ _. IsUnwrittenAt (operations_of register.entry) (id.0 + 2) None) }
     ensures early { IfOk result (λ early. IsEarlyAt (operations_of register.entry) (id.0 + 2) early) }
     ensures unwritten { IfErr result (λ fault. (read : Oper) × (fault ≡ Unwritten read)
         × IsUnwrittenAt (operations_of register.entry) (id.0 + 2) (Some read)) }
 {
-    let Some(read) = read_called_at(register, operation, id) else {
+    let Some(read) = read_called_at(register, met, id) else {
         return Ok(None);
     };
     let Some(write) = write_of_read(register, read) else {
@@ -72,14 +70,13 @@ fn write_of_read(register: Register<'_>, read: Read) -> Option<Oper>
 }
 
 /// The completed read that the event calls, if it calls one.
-fn read_called_at(register: Register<'_>, operation: Option<(Oper, Op)>, id: EvId) -> Option<Read>
-    requires { IsOperationOf register.arena.now register.id.0 id.0 operation }
+fn read_called_at(register: Register<'_>, met: Met, id: EvId) -> Option<Read>
+    requires { IsMetAt register.arena.now register.id.0 id.0 met }
     ensures { IsReadCalledAt (operations_of register.entry) (id.0 + 2) result }
 {
-    let (oper, op) = operation?;
-    if op.call != id.time() {
+    let Met::Call(oper, op) = met else {
         return None;
-    }
+    };
     match (op.kind, op.reply, op.value) {
         (OpKind::ReadOp, Some(reply), Some(value)) => Some(Read { oper, value, reply }),
         _ => None,

@@ -4,10 +4,21 @@ ghost use Rattle.history_model.specs.History.{IsRecorded};
 ghost use Rattle.history_model.specs.Naming.{IsNamed, IsOper, op_shown};
 ghost use Rattle.history_model.specs.Operations.{Operation};
 ghost use Rattle.history_model.specs.Walking.{by_register, key_at};
-ghost use Rattle.reg_zones.specs.Sweep.{IsOperationOf};
+ghost use Rattle.reg_zones.specs.Sweep.{IsMetAt};
 
 use history_model::{EvId, Op, Oper, RegId};
 use reg_arena::Arena;
+
+/// What an event of a register is.
+#[derive(Clone, Copy, Debug, PartialEq, Eq)]
+pub(crate) enum Met {
+    /// The call of this operation, which has this name.
+    Call(Oper, Op),
+    /// The reply to a call. Which one isn't looked up: a reply has the value of its operation.
+    Reply,
+    /// A fail, or the call that failed.
+    Nothing,
+}
 
 /// A register of an arena, whose history is an accepted one.
 #[derive(Clone, Copy)]
@@ -42,13 +53,18 @@ impl<'a> Register<'a> {
         (Register::new(arena, op.register), op)
     }
 
-    /// The operation of the register to which an event belongs, with its name. A fail belongs to none, nor does the call
-    /// that failed.
-    pub(crate) fn operation_of(self, id: EvId) -> Option<(Oper, Op)>
+    /// What an event of the register is there.
+    pub(crate) fn meet(self, id: EvId) -> Met
         requires { key_at by_register self.arena.now.events id.0 ≡ Some self.id.0 }
-        ensures { IsOperationOf self.entry.arena.now self.entry.id.0 id.0 result }
+        ensures { IsMetAt self.entry.arena.now self.entry.id.0 id.0 result }
     {
-        let oper = self.arena.op_of(id)?;
-        Some((oper, self.arena.op(oper)))
+        if self.arena.begins(id) {
+            let oper = Oper::Called(id);
+            Met::Call(oper, self.arena.op(oper))
+        } else if self.arena.op_of(id).is_some() {
+            Met::Reply
+        } else {
+            Met::Nothing
+        }
     }
 }

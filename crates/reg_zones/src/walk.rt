@@ -31,13 +31,13 @@ pub(crate) fn found_and_listed(
     let mut clusters = Compared::Clear(initial_forward(register));
     let mut next = register.arena.first_of_register(register.id);
     while let Some(id) = next {
-        let operation = register.operation_of(id);
-        match early_at(register, operation, id) {
+        let met = register.meet(id);
+        match early_at(register, met, id) {
             Err(fault) => return Ok(Err(fault)),
             Ok(here) => early = early.or(here),
         }
-        clusters = compare_at(register, clusters, operation, id);
-        if let Some(entry) = listed_at(register, operation, id) {
+        clusters = compare_at(register, clusters, met, id);
+        if let Some(entry) = listed_at(register, met, id) {
             entries.push(entry)?;
         }
         next = register.arena.next_in_register(id);

@@ -1,8 +1,8 @@
-use Rattle.std.proofs.Common.{MatchResult, List, sym, subst, ◌∙◌}
+use Rattle.std.proofs.Common.{MatchResult, List, subst}
 use Rattle.history_model.specs.Legal.{IsAtomic}
 use Rattle.history_model.specs.Operations.{Operation}
 use Rattle.reg_zones.specs.Entries.{IsListing}
-use Rattle.reg_zones.specs.Faults.{HasNoFault, IsFault}
+use Rattle.reg_zones.specs.Faults.{IsFault}
 use Rattle.reg_zones.specs.Order.{IsOrder}
 use Rattle.reg_zones.specs.Register.{operations_of}
 use Rattle.reg_zones.specs.Sweep.{IsFound}

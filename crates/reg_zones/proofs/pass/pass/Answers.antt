@@ -23,8 +23,8 @@ loop-next-init c =
       comparing = comparing-start h r (facts c.args.register) _ next c.initial_forward.ensures first;
     }
 
-pub operation_of-operation-requires : goal.operation_of-operation-requires
-operation_of-operation-requires c = c.loop-next.invariant.walk.here c.in-Some.id c.in-Some.is
+pub meet-met-requires : goal.meet-met-requires
+meet-met-requires c = c.loop-next.invariant.walk.here c.in-Some.id c.in-Some.is
 
 passed_up : (ops : List Operation) (fault : Fault) (result : Result Found Fault) → IsErrAnd result (λ e. e ≡ fault) → IsFault ops fault → IfErr result (λ e. IsFault ops e)
 passed_up ops fault (Ok found) e f = tt

@@ -1,4 +1,4 @@
-use Rattle.std.proofs.Common.{◌≡◌, ◌+◌, ◌++◌, ◌∷◌, [], ◌∙◌, ap, List, Vec, Global, None, Option, sym, subst}
+use Rattle.std.proofs.Common.{◌+◌, ◌++◌, ◌∷◌, [], ◌∙◌, ap, List, Vec, Global, None, Option, sym, subst}
 use Rattle.history_model.specs.declared.ids.Oper.{Oper}
 use Rattle.history_model.specs.Operations.{of_register, operations}
 use Rattle.reg_zones.specs.Faults.{IsFault}
@@ -27,8 +27,8 @@ loop-next-init c =
       listing = subst (λ (xs : List Entry). IsListingSoFar h.events r (of_register r (operations h)) xs next) (sym items) (listing-start h r (facts c.args.register) next first);
     }
 
-pub operation_of-operation-requires : goal.operation_of-operation-requires
-operation_of-operation-requires c = c.loop-next.invariant.walk.here c.in-Some.id c.in-Some.is
+pub meet-met-requires : goal.meet-met-requires
+meet-met-requires c = c.loop-next.invariant.walk.here c.in-Some.id c.in-Some.is
 
 pub returns-in-Err : goal.returns-in-Err
 returns-in-Err c =
