@@ -1,6 +1,6 @@
 -- The lines built so far, and one line more or all that are left.
 use Rattle.std.proofs.Common.{◌≡◌, ℕ, zero, suc, ◌+◌, ◌<◌, ◌≤◌, List, [], ◌∷◌, ◌++◌, length, take, slice_get, drop, Some, None, inl, inr, refl, sym, ap, subst, ◌∙◌, arith, option_and_then}
-use Rattle.std.specs.Prelude.{Result, Ok, Err, IfOk, flat_map}
+use Rattle.std.specs.Prelude.{Result, Ok, Err, flat_map}
 use Rattle.std.specs.Result.{result_ok, IsErrAnd, IfErr}
 use Rattle.std.proofs.lemmas.Bool.{cases_order}
 use Rattle.std.proofs.lemmas.List.{append_assoc, append-nil, length-append, take_all}
@@ -111,10 +111,6 @@ nothing-built h e = record {
   well_formed = λ i. refusal-past [] i (omega arith);
 }
 
-pub nothing-built-result : {E : Type 0} (r : Result History E) → IfOk r (λ h. h ≡ history_of []) → IfOk r (IsBuilt [])
-nothing-built-result (Ok h) e = nothing-built h e
-nothing-built-result (Err x) e = tt
-
 -- what is built of all lines, before which and behind which nothing is left
 pub all-built : (before all : List Line) (h : History) → IsBuilt before h → before ++ [] ≡ all → IsWellFormed all × (h ≡ history_of (events_of all))
 all-built before all h built e = let same : before ≡ all = sym (append-nil before) ∙ e in (subst IsWellFormed same built.well_formed, built.is ∙ ap (λ lines. history_of (events_of lines)) same)
@@ -125,11 +121,13 @@ next-part items before part rest parts all e whole = append_assoc before (items 
 
 -- an error at a part refuses all lines that begin so, whatever stands behind them
 pub parts-refused : (before taken part rest all : List Line) → taken ++ part ++ rest ≡ all → (r : Result History BuildError) (x : BuildError) → IsErrAnd r (λ y. y ≡ x) → ((after : List Line) → IsBuildError ((before ++ taken) ++ part ++ after) x) → IsBuiltWith before all r
-parts-refused before taken part rest all whole (Ok h) x p refused = absurd p
-parts-refused before taken part rest all whole (Err y) x p refused = λ after. subst (IsBuildError (before ++ all ++ after)) (sym p) (subst (λ lines. IsBuildError lines x) (same after) (refused (rest ++ after)))
+parts-refused before taken part rest all e (Ok h) x p refused = absurd p
+parts-refused before taken part rest all e (Err y) x p refused = λ after. subst (IsBuildError (before ++ all ++ after)) (sym p) (subst (λ lines. IsBuildError lines x) (same after) (refused (rest ++ after)))
   where
-    same : (after : List Line) → (before ++ taken) ++ part ++ rest ++ after ≡ before ++ all ++ after
-    same after = append_assoc before taken (part ++ rest ++ after) ∙ ap (λ lines. before ++ lines) (ap (λ lines. taken ++ lines) (sym (append_assoc part rest after)) ∙ sym (append_assoc taken (part ++ rest) after) ∙ ap (λ lines. lines ++ after) whole)
+    front : (before ++ taken) ++ part ++ rest ≡ before ++ all
+    front = ap (λ lines. lines ++ rest) (append_assoc before taken part) ∙ append_assoc before (taken ++ part) rest ∙ ap (λ lines. before ++ lines) e
+    same : (after : List Line) → (before ++ taken) ++ part ++ (rest ++ after) ≡ before ++ all ++ after
+    same after = sym (append_assoc ((before ++ taken) ++ part) rest after) ∙ ap (λ lines. lines ++ after) front
 
 -- an error that is passed on refuses all lines
 pub error-of-all : (all : List Line) (r : Result History BuildError) (x : BuildError) → IsErrAnd r (λ y. y ≡ x) → IsBuildError all x → IfErr r (IsBuildError all)

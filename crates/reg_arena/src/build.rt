@@ -58,8 +58,8 @@ impl Arena {
     pub fn empty(alloc: Global, key: HashKey, count: usize) -> Result<Self, AllocError>
         ensures { IfOk result (IsBuilt []) }
     {
-        let room = MAX_EVENTS.min(count);
-        Arena::new(alloc, room, Seeded::new(key))
+        let arena = Arena::new(alloc, MAX_EVENTS.min(count), Seeded::new(key))?;
+        Ok(arena)
     }
 
     /// The arena with the events of more lines behind the others, or the refusal of the first faulty one of these, with the lowest number that applies

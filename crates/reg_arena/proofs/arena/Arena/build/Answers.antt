@@ -1,5 +1,5 @@
 -- All lines are taken in behind none.
-use Rattle.std.proofs.Common.{[], ◌++◌, refl, subst}
+use Rattle.std.proofs.Common.{[], ◌++◌, subst}
 use Rattle.std.proofs.lemmas.List.{append-nil}
 use Rattle.reg_arena.specs.Built.{IsBuilt}
 use Rattle.history_model.specs.Refusals.{IsBuildError}

@@ -1,5 +1,5 @@
-use Rattle.reg_arena.proofs.Reading.{nothing-built-result}
+use Rattle.reg_arena.proofs.Reading.{nothing-built}
 use Rattle.reg_arena.proofs.arena.Arena.empty.Goals as goal
 
 pub returns : goal.returns
-returns c = nothing-built-result c.new.result c.new.ensures
+returns c = nothing-built c.in_ok-arena.arena c.in_ok-arena.ensures

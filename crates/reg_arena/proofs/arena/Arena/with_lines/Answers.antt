@@ -15,7 +15,7 @@ returns-in_err-add_lines c = λ before built.
     let rest = c.next.new.self.rest.items in
     let all = flat_map (λ part. part.items) c.args.parts.items in
     let whole = next-part (λ part. part.items) so_far.0 c.in-Some.part rest c.loop-part.part-iterator.rest.items all c.in-Some.ensures.steps.0 so_far.2 in
-    parts-refused before so_far.0 c.in-Some.part.items (flat_map (λ part. part.items) rest) all whole c.from_residual-in_err-add_lines.result c.in_err-add_lines.field-0.0 c.from_residual-in_err-add_lines.ensures.1
+    parts-refused before so_far.0 c.in-Some.part.items (flat_map (λ part. part.items) rest) all whole c.from_residual.result c.in_err-add_lines.field-0.0 c.from_residual.ensures.1
     (λ after. subst (λ lines. IsBuildError ((before ++ so_far.0) ++ lines ++ after) c.in_err-add_lines.field-0.0) c.deref.ensures.value (c.in_err-add_lines.ensures (before ++ so_far.0) so_far.1 after))
 
 pub loop-part-preserved : goal.loop-part-preserved
@@ -27,7 +27,7 @@ loop-part-preserved c = record {
     let all = flat_map (λ part. part.items) c.args.parts.items in
     let whole = next-part (λ part. part.items) so_far.0 c.in-Some.part rest c.loop-part.part-iterator.rest.items all c.in-Some.ensures.steps.0 so_far.2 in
     let more = subst (λ lines. IsBuilt ((before ++ so_far.0) ++ lines) c.add_lines.new.self) c.deref.ensures.value (c.in_ok-add_lines.ensures (before ++ so_far.0) so_far.1) in
-    (so_far.0 ++ part, subst (λ lines. IsBuilt lines c.add_lines.new.self) (append_assoc before so_far.0 part) more, append_assoc so_far.0 part (flat_map (λ part. part.items) rest) ∙ whole);
+    (so_far.0 ++ part, subst (λ lines. IsBuilt lines c.add_lines.new.self) (append_assoc before so_far.0 part) more, whole);
 }
 
 pub returns : goal.returns
