@@ -126,6 +126,7 @@ parts-refused before taken part rest all e (Err y) x p refused = λ after. subst
   where
     front : (before ++ taken) ++ part ++ rest ≡ before ++ all
     front = ap (λ lines. lines ++ rest) (append_assoc before taken part) ∙ append_assoc before (taken ++ part) rest ∙ ap (λ lines. before ++ lines) e
+
     same : (after : List Line) → (before ++ taken) ++ part ++ (rest ++ after) ≡ before ++ all ++ after
     same after = sym (append_assoc ((before ++ taken) ++ part) rest after) ∙ ap (λ lines. lines ++ after) front
 

@@ -23,9 +23,9 @@ begun input n spans state built ahead all = record {
   before = [];
   built = built;
   whole = ap (λ lines. lines ++ map (reading_of input) (drop n spans)) ahead
-    ∙ sym (map-append (reading_of input) (take n spans) (drop n spans))
-    ∙ ap (map (reading_of input)) (take-append-drop n spans)
-    ∙ all;
+      ∙ sym (map-append (reading_of input) (take n spans) (drop n spans))
+      ∙ ap (map (reading_of input)) (take-append-drop n spans)
+      ∙ all;
 }
 
 module _ (input : List ℕ) (next later : List Span) (state : Underway) (underway : IsUnderway input (next ++ later) state) where
@@ -35,9 +35,9 @@ module _ (input : List ℕ) (next later : List Span) (state : Underway) (underwa
     before = taken;
     built = built;
     whole = ap (λ lines. taken ++ lines ++ map (reading_of input) later) ahead
-      ∙ append_assoc taken (map (reading_of input) next) (map (reading_of input) later)
-      ∙ ap (λ lines. taken ++ lines) (sym (map-append (reading_of input) next later))
-      ∙ underway.whole;
+        ∙ append_assoc taken (map (reading_of input) next) (map (reading_of input) later)
+        ∙ ap (λ lines. taken ++ lines) (sym (map-append (reading_of input) next later))
+        ∙ underway.whole;
   }
 
   -- a faulty line among those read ahead refuses the input

@@ -21,13 +21,13 @@ returns-in_err-add_lines c = λ before built.
 pub loop-part-preserved : goal.loop-part-preserved
 loop-part-preserved c = record {
   built = λ before built.
-    let so_far = c.loop-part.invariant.built before built in
-    let rest = c.next.new.self.rest.items in
-    let part = c.in-Some.part.items in
-    let all = flat_map (λ part. part.items) c.args.parts.items in
-    let whole = next-part (λ part. part.items) so_far.0 c.in-Some.part rest c.loop-part.part-iterator.rest.items all c.in-Some.ensures.steps.0 so_far.2 in
-    let more = subst (λ lines. IsBuilt ((before ++ so_far.0) ++ lines) c.add_lines.new.self) c.deref.ensures.value (c.in_ok-add_lines.ensures (before ++ so_far.0) so_far.1) in
-    (so_far.0 ++ part, subst (λ lines. IsBuilt lines c.add_lines.new.self) (append_assoc before so_far.0 part) more, whole);
+      let so_far = c.loop-part.invariant.built before built in
+      let rest = c.next.new.self.rest.items in
+      let part = c.in-Some.part.items in
+      let all = flat_map (λ part. part.items) c.args.parts.items in
+      let whole = next-part (λ part. part.items) so_far.0 c.in-Some.part rest c.loop-part.part-iterator.rest.items all c.in-Some.ensures.steps.0 so_far.2 in
+      let more = subst (λ lines. IsBuilt ((before ++ so_far.0) ++ lines) c.add_lines.new.self) c.deref.ensures.value (c.in_ok-add_lines.ensures (before ++ so_far.0) so_far.1) in
+      (so_far.0 ++ part, subst (λ lines. IsBuilt lines c.add_lines.new.self) (append_assoc before so_far.0 part) more, whole);
 }
 
 pub returns : goal.returns
