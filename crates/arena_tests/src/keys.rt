@@ -82,13 +82,19 @@ fn parts(
 
 #[test]
 fn a_key_is_drawn_or_a_digest(rt: HostRuntime) -> Result<(), Fail> {
-    let parts = parts(&rt, rt.alloc(), "p1 W x 5; p1 ok")?;
-    let drawn = HashKey::drawn(&Alike { byte: 0x5A }, &parts);
+    let input = b"p1 W x 5".as_slice();
+    let drawn = HashKey::drawn(&Alike { byte: 0x5A }, input);
     assert_eq!(rt; drawn.first, 0x5A5A_5A5A_5A5A_5A5A);
     assert_eq!(rt; drawn.second, 0x5A5A_5A5A_5A5A_5A5A);
-    let digest = HashKey::drawn(&Refusing, &parts);
+    let digest = HashKey::drawn(&Refusing, input);
     assert_ne!(rt; digest, drawn);
-    assert_eq!(rt; digest, HashKey::drawn(&Refusing, &parts));
+    assert_ne!(rt; digest.first, digest.second);
+    assert_eq!(rt; digest, HashKey::drawn(&Refusing, input));
+    for other in [b"p1 W x 6".as_slice(), b"p2 W x 5", b"p1 W x 5 ", b""] {
+        let changed = HashKey::drawn(&Refusing, other);
+        assert_ne!(rt; digest.first, changed.first);
+        assert_ne!(rt; digest.second, changed.second);
+    }
     Ok(())
 }
 
@@ -114,10 +120,10 @@ const DIFFERENT: [&str; 14] = [
 fn a_digest_reads_every_part(rt: HostRuntime) -> Result<(), Fail> {
     let alloc = rt.alloc();
     for one in 0..DIFFERENT.len() {
-        let digest = HashKey::drawn(&Refusing, &parts(&rt, alloc, DIFFERENT[one])?);
+        let digest = HashKey::digest(&lines(&rt, alloc, DIFFERENT[one])?);
         assert_ne!(rt; digest.first, digest.second, "{}", DIFFERENT[one]);
         for other in 0..one {
-            let before = HashKey::drawn(&Refusing, &parts(&rt, alloc, DIFFERENT[other])?);
+            let before = HashKey::digest(&lines(&rt, alloc, DIFFERENT[other])?);
             assert_ne!(rt; digest.first, before.first, "{one} and {other}");
             assert_ne!(rt; digest.second, before.second, "{one} and {other}");
         }
@@ -144,7 +150,8 @@ fn no_key_changes_an_answer(rt: HostRuntime) -> Result<(), Fail> {
         (0x5A5A, 0xA5A5),
     ] {
         let key = HashKey { first, second };
-        match Arena::build_keyed(alloc, key, parts(&rt, alloc, KEYED)?) {
+        let empty = Arena::empty(alloc, key, 4)?;
+        match empty.with_lines(alloc, parts(&rt, alloc, KEYED)?) {
             Ok(arena) => {
                 let mut text = walks(alloc, &arena)?;
                 add_process(&mut text, alloc, &arena, 70_000)?;

@@ -8,7 +8,7 @@ use Rattle.std.proofs.lemmas.List.Sums.{sum_by-append}
 use Rattle.std.proofs.lemmas.List.Splits.{join_with_byte-slice_split}
 use Rattle.history_text.specs.declared.lines.Span.{Span}
 use Rattle.history_text.specs.Lines.{lines, is_blank, width, line_start, span_of, line_spans}
-use Rattle.history_text.specs.Reading.{line_reading, history_lines}
+use Rattle.history_text.specs.Reading.{line_reading, reading_of, history_lines}
 
 -- the spans of the lines that are not blank, where the first line is `n` and begins at byte `from`
 abbrev pub numbered : ℕ → ℕ → List (List ℕ) → List Span
@@ -84,7 +84,7 @@ module _ {Y : Type 0} (f : ℕ → List ℕ → Y) (input : List ℕ) where
       one_more-same read_at (λ l. f l.0 l.1) (is_blank l) (n, l) _ (kept (n + 1) (k ∷ ls)) _ (ap (f n) (slice-line from l _ e)) later
 
 -- what is read at each span is the meaning of the input
-pub read-spans : (input : List ℕ) → map (λ s. line_reading s.line (slice_range input s.from s.to)) (line_spans input) ≡ history_lines input
+pub read-spans : (input : List ℕ) → map (reading_of input) (line_spans input) ≡ history_lines input
 read-spans input =
-    ap (map (λ s. line_reading s.line (slice_range input s.from s.to))) (sym (numbered-spans input))
+    ap (map (reading_of input)) (sym (numbered-spans input))
     ∙ reads-from line_reading input 1 0 (lines input) (sym (join_with_byte-slice_split 10 input))

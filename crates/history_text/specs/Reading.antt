@@ -1,5 +1,5 @@
 -- The one event of a line, or the least fault that applies to it; this project's profile.
-use Rattle.std.specs.Prelude.{ℕ, ◌<◌, ◌≤◌, List, length, map, codes, nat_lt, if◌then◌else◌, Option, Some, None, is_some, Result, Ok, Err}
+use Rattle.std.specs.Prelude.{ℕ, ◌<◌, ◌≤◌, List, length, map, codes, nat_lt, slice_range, if◌then◌else◌, Option, Some, None, is_some, Result, Ok, Err}
 use Rattle.std.specs.List.{All, AllPairs}
 use Rattle.std.specs.Str.{is_utf8}
 use Rattle.serde_json.specs.Data.{Data}
@@ -8,6 +8,7 @@ use Rattle.serde_json.specs.Find.{get, as_object}
 use Rattle.history_text.specs.Limits.{MAX_LINE}
 use Rattle.history_text.specs.Lines.{numbered_lines}
 use Rattle.history_text.specs.Members.{process_form, event_form, op_form, name_form, written_form, value_form, has_no_value, optional}
+use Rattle.history_text.specs.declared.lines.Span.{Span}
 use Rattle.history_text.specs.declared.event.OpKind.{OpKind}
 use Rattle.history_text.specs.declared.event.OpKind.TheVariants.{ReadOp, WriteOp}
 use Rattle.history_text.specs.declared.event.Kind.{Kind}
@@ -83,6 +84,10 @@ at_line n (Err fault) = Err (record { line = n; kind = fault })
 -- what line `n` means: its one event, or its least fault
 abbrev pub line_reading : ℕ → List ℕ → Result LineEvent LineFault
 line_reading n bytes = at_line n (line_form n bytes)
+
+-- what the line at a span of the input means
+abbrev pub reading_of : List ℕ → Span → Result LineEvent LineFault
+reading_of input span = line_reading span.line (slice_range input span.from span.to)
 
 -- what an input means: each line that is not blank, in order, as its event or its least fault
 abbrev pub history_lines : List ℕ → List (Result LineEvent LineFault)

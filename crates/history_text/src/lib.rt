@@ -1,11 +1,11 @@
 //! Lines of a recorded history: bytes go in, and for each line that is not blank its event, or its
 //! lowest-numbered fault, comes out.
 //!
-//! What the floor above may rely on: [`read_lines_in_parts`] gives exactly the lines that are not blank,
-//! in order and with their numbers, each as its one event or as the lowest-numbered fault that applies
-//! to it. Several threads read them, and each fills parts of its own. [`read_lines`] joins the parts, and
-//! [`read_lines_alone`] reads the same by one thread. Nothing here knows how events follow one another;
-//! that is the floor above.
+//! What the floor above may rely on: [`lines_of`] says where exactly the lines that are not blank stand, in
+//! order and with their numbers, and [`read_spans`] gives each of any of them as its one event or as the
+//! lowest-numbered fault that applies to it. Several threads read them, and each fills parts of its own.
+//! [`read_lines`] reads all lines and joins the parts, and [`read_lines_alone`] reads the same by one thread.
+//! Nothing here knows how events follow one another; that is the floor above.
 //!
 //! Read it in this order: `limits`; `name`, `event` and `fault`, which say what a line can mean;
 //! `members`, `refused` and `line`, which read one line; `scan`, `flat_members` and `flat_line`, which read
@@ -34,4 +34,4 @@ pub use limits::{MAX_EVENTS, MAX_INPUT, MAX_LINE, MAX_NAME};
 pub use line::{LineError, read_line};
 pub use lines::{Span, lines_of};
 pub use name::Name;
-pub use read::{read_lines, read_lines_alone, read_lines_in_parts};
+pub use read::{read_lines, read_lines_alone, read_spans};

@@ -1,6 +1,7 @@
 //! Where the lines of an input stand.
-ghost use Rattle.std.specs.Prelude.{All, ◌≡◌, ◌≤◌, ◌++◌, ◌∷◌, [], length, IfOk, OnOk, if◌then◌else◌, slice_range};
+ghost use Rattle.std.specs.Prelude.{All, ◌≡◌, ◌≤◌, ◌++◌, ◌∷◌, [], length, map, IfOk, OnOk, if◌then◌else◌, slice_range};
 ghost use Rattle.history_text.specs.Lines.{line_spans, IsWithin, is_blank as is_blank_line};
+ghost use Rattle.history_text.specs.Reading.{history_lines, reading_of};
 
 use crate::limits::MAX_INPUT;
 use memchr::memchr;
@@ -25,6 +26,7 @@ pub fn lines_of(alloc: Global, bytes: &[u8]) -> Result<Vec<Span>, AllocError>
     requires { length bytes.now ≤ MAX_INPUT }
     ensures lines { IfOk result (λ v. v.items ≡ line_spans bytes.now) }
     ensures within { IfOk result (λ v. All (IsWithin bytes.now) v.items) }
+    ensures readings { IfOk result (λ v. map (reading_of bytes.now) v.items ≡ history_lines bytes.now) }
 {
     let mut spans = Vec::new(alloc);
     let mut line = 1;

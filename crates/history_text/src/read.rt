@@ -1,7 +1,7 @@
 //! All lines of an input, each read by itself, by several threads or by one.
-ghost use Rattle.std.specs.Prelude.{◌≡◌, ◌≤◌, flat_map, length, IfOk, slice_range};
+ghost use Rattle.std.specs.Prelude.{All, ◌≡◌, ◌≤◌, flat_map, length, map, IfOk};
 ghost use Rattle.history_text.specs.Lines.{IsWithin};
-ghost use Rattle.history_text.specs.Reading.{line_reading, history_lines, IsAscending};
+ghost use Rattle.history_text.specs.Reading.{reading_of, history_lines, IsAscending};
 
 use crate::event::LineEvent;
 use crate::fault::LineFault;
@@ -27,32 +27,36 @@ pub fn read_lines(
     ensures lines { IfOk result (λ v. v.items ≡ history_lines bytes.now) }
     ensures ascending { IfOk result (λ v. IsAscending v.items) }
 {
-    let mut lines = Vec::new(alloc);
-    for part in read_lines_in_parts(rt, alloc, bytes)? {
+    let spans = lines_of(alloc, bytes)?;
+    let mut lines = Vec::with_capacity(alloc, spans.len())?;
+    for part in read_spans(rt, alloc, bytes, &spans)? {
         let mut part = part;
         lines.append(&mut part)?;
     }
     Ok(lines)
 }
 
-/// The same in parts, one behind the other: each thread fills its own, and none is copied.
-pub fn read_lines_in_parts(
+/// What the lines at some spans of the bytes say, in order: of each its event, or its lowest-numbered fault. They come in
+/// parts, one behind the other: each thread fills its own, and none is copied.
+///
+/// Many spans are read by several threads, as many as serve the processors. The error is the want of memory; nothing is
+/// kept then.
+pub fn read_spans(
     rt: &(impl Threads + Sync),
     alloc: Global,
     bytes: &[u8],
+    spans: &[Span],
 ) -> Result<Vec<Vec<Result<LineEvent, LineFault>>>, AllocError>
-    requires { length bytes.now ≤ MAX_INPUT }
-    ensures { IfOk result (λ v. flat_map (λ part. part.items) v.items ≡ history_lines bytes.now) }
+    requires { All (IsWithin bytes.now) spans.now }
+    ensures { IfOk result (λ v. flat_map (λ part. part.items) v.items ≡ map (reading_of bytes.now) spans.now) }
 {
-    let spans = lines_of(alloc, bytes)?;
     let refused = AtomicBool::new(false);
     let parts = spans
         .par_iter()
         .map(
             |span: &Span| -> Result<Result<LineEvent, LineFault>, AllocError>
                 requires { IsWithin bytes.now span.now }
-                ensures { IfOk result (λ r. r
-                    ≡ line_reading span.now.line (slice_range bytes.entry.now span.now.from span.now.to)) }
+                ensures { IfOk result (λ r. r ≡ reading_of bytes.entry.now span.now) }
             { read_span(alloc, bytes, *span, &refused) },
         )
         .collect::<Result<Parts, AllocError>>(rt, alloc)??;
@@ -85,7 +89,7 @@ fn read_span(
     refused: &AtomicBool,
 ) -> Result<Result<LineEvent, LineFault>, AllocError>
     requires { IsWithin bytes.now span }
-    ensures { IfOk result (λ r. r ≡ line_reading span.line (slice_range bytes.now span.from span.to)) }
+    ensures { IfOk result (λ r. r ≡ reading_of bytes.now span) }
 {
     if refused.load(Ordering::SeqCst) {
         return Err(AllocError);

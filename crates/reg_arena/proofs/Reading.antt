@@ -119,6 +119,17 @@ all-built before all h built e = let same : before ≡ all = sym (append-nil bef
 pub next-part : {V : Type 0} (items : V → List Line) (before : List Line) (part : V) (rest parts : List V) (all : List Line) → parts ≡ part ∷ rest → before ++ flat_map items parts ≡ all → before ++ items part ++ flat_map items rest ≡ all
 next-part items before part rest parts all e whole = append_assoc before (items part) (flat_map items rest) ∙ ap (λ parts. before ++ flat_map items parts) (sym e) ∙ whole
 
+-- an error at a part refuses all lines that begin so, whatever stands behind them
+pub parts-refused : (before taken part rest all : List Line) → taken ++ part ++ rest ≡ all → (r : Result History BuildError) (x : BuildError) → IsErrAnd r (λ y. y ≡ x) → ((after : List Line) → IsBuildError ((before ++ taken) ++ part ++ after) x) → IsBuiltWith before all r
+parts-refused before taken part rest all e (Ok h) x p refused = absurd p
+parts-refused before taken part rest all e (Err y) x p refused = λ after. subst (IsBuildError (before ++ all ++ after)) (sym p) (subst (λ lines. IsBuildError lines x) (same after) (refused (rest ++ after)))
+  where
+    front : (before ++ taken) ++ part ++ rest ≡ before ++ all
+    front = ap (λ lines. lines ++ rest) (append_assoc before taken part) ∙ append_assoc before (taken ++ part) rest ∙ ap (λ lines. before ++ lines) e
+
+    same : (after : List Line) → (before ++ taken) ++ part ++ (rest ++ after) ≡ before ++ all ++ after
+    same after = sym (append_assoc ((before ++ taken) ++ part) rest after) ∙ ap (λ lines. lines ++ after) front
+
 -- an error that is passed on refuses all lines
 pub error-of-all : (all : List Line) (r : Result History BuildError) (x : BuildError) → IsErrAnd r (λ y. y ≡ x) → IsBuildError all x → IfErr r (IsBuildError all)
 error-of-all all (Ok h) x p refused = absurd p

@@ -32,23 +32,12 @@ fn refused(line: u32, reason: Reason) -> LineRefusal
     LineRefusal { line, reason }
 }
 
-/// Lines as the only part.
-fn one_part(
-    alloc: Global,
-    lines: Vec<Result<LineEvent, LineFault>>,
-) -> Result<Vec<Vec<Result<LineEvent, LineFault>>>, AllocError>
-    ensures { IfOk result (λ parts. flat_map (λ part. part.items) parts.items ≡ lines.items) }
-{
-    let mut parts = Vec::with_capacity(alloc, 1)?;
-    parts.push(lines)?;
-    Ok(parts)
-}
-
 impl Arena {
-    /// `build_keyed` of lines in one part, with a digest of them as the key, for callers that have no random bytes.
+    /// The arena of all events of the lines, or the refusal of the first faulty line, with the lowest number that applies there. The key of its hashes is
+    /// a digest of the lines, for callers that have no random bytes.
     ///
     /// # Errors
-    /// As of [`Arena::build_keyed`].
+    /// `Refused` if the history isn't well formed, and `Memory` if memory was refused; what was built and the lines are then dropped.
     pub fn build(
         alloc: Global,
         events: Vec<Result<LineEvent, LineFault>>,
@@ -56,33 +45,40 @@ impl Arena {
         ensures ok { IfOk result (λ a. IsWellFormed events.items × (a ≡ history_of (events_of events.items))) }
         ensures err { IfErr result (λ e. IsBuildError events.items e) }
     {
-        let parts = one_part(alloc, events)?;
-        let key = HashKey::digest(&parts);
-        Arena::build_keyed(alloc, key, parts)
+        let key = HashKey::digest(&events);
+        let mut arena = Arena::empty(alloc, key, events.len())?;
+        arena.add_lines(alloc, &events)?;
+        Ok(arena)
     }
 
-    /// The arena of all events of the lines, which come in parts, one behind the other; or the refusal of the first faulty line, with the lowest number
-    /// that applies there. The key of its hashes changes neither. Each part is dropped when its events are taken in.
+    /// The arena of no lines, with room for as many events as `count`, or for [`MAX_EVENTS`] if that is less. The key is that of its hashes.
     ///
     /// # Errors
-    /// `Refused` if the history isn't well formed, and `Memory` if memory was refused; what was built and the lines are then dropped.
-    pub fn build_keyed(
+    /// The want of memory.
+    pub fn empty(alloc: Global, key: HashKey, count: usize) -> Result<Self, AllocError>
+        ensures { IfOk result (IsBuilt []) }
+    {
+        let arena = Arena::new(alloc, MAX_EVENTS.min(count), Seeded::new(key))?;
+        Ok(arena)
+    }
+
+    /// The arena with the events of more lines behind the others, or the refusal of the first faulty one of these, with the lowest number that applies
+    /// there. The lines come in parts, one behind the other, and each part is dropped when its events are taken in.
+    ///
+    /// # Errors
+    /// `Refused` if the history isn't well formed, whatever stands behind these lines, and `Memory` if memory was refused; what was built and the lines are
+    /// then dropped.
+    pub fn with_lines(
+        mut self,
         alloc: Global,
-        key: HashKey,
         parts: Vec<Vec<Result<LineEvent, LineFault>>>,
     ) -> Result<Self, BuildError>
-        ensures ok { IfOk result (λ a. IsWellFormed (flat_map (λ part. part.items) parts.items) × (a ≡ history_of (events_of (flat_map (λ part. part.items) parts.items)))) }
-        ensures err { IfErr result (λ e. IsBuildError (flat_map (λ part. part.items) parts.items) e) }
+        ensures { (before : List Line) → IsBuilt before self → IsBuiltWith before (flat_map (λ part. part.items) parts.items) result }
     {
-        let mut count = 0;
-        for part in &parts {
-            count = MAX_EVENTS.min(count + MAX_EVENTS.min(part.len()));
-        }
-        let mut arena = Arena::new(alloc, count, Seeded::new(key))?;
         for part in parts {
-            arena.add_lines(alloc, &part)?;
+            self.add_lines(alloc, &part)?;
         }
-        Ok(arena)
+        Ok(self)
     }
 
     /// The arena with the events of more lines behind the others, or the refusal of the first faulty one of these.

@@ -1,5 +1,5 @@
 //! The key of an arena's hashes: two random words if the system gives them, which nobody can know beforehand; else a digest
-//! of the events, which can be computed.
+//! of the input or of the events, which can be computed.
 use history_text::{Kind, LineEvent, LineFault, Val};
 use std::hash::{DefaultHasher, Hash, Hasher};
 use std::io;
@@ -15,27 +15,35 @@ pub struct HashKey {
 }
 
 impl HashKey {
-    /// Two words of the system's random bytes; if the system gives none, the digest of the lines, which come in parts.
-    pub fn drawn(rt: &impl RandomSource, parts: &[Vec<Result<LineEvent, LineFault>>]) -> Self {
+    /// Two words of the system's random bytes; if the system gives none, a digest of the input's bytes. A change to any of them almost surely changes the
+    /// digest.
+    pub fn drawn(rt: &impl RandomSource, input: &[u8]) -> Self {
         match (random_word(rt), random_word(rt)) {
             (Ok(first), Ok(second)) => HashKey { first, second },
-            _ => HashKey::digest(parts),
+            _ => {
+                let mut state = DefaultHasher::new();
+                input.hash(&mut state);
+                HashKey::ended(state)
+            }
         }
     }
 
     /// A digest of all events. It reads the process, kind, name and value of each, so a change to any of them almost surely changes the key.
-    ///
-    /// It is SipHash's and no fold: the last value of a history is free, and could be chosen so that a fold ends in a key that was picked beforehand.
-    pub(crate) fn digest(parts: &[Vec<Result<LineEvent, LineFault>>]) -> Self {
+    pub fn digest(lines: &[Result<LineEvent, LineFault>]) -> Self {
         let mut state = DefaultHasher::new();
-        for part in parts {
-            for line in part {
-                if let Ok(event) = line {
-                    event.process.hash(&mut state);
-                    read(&event.kind, &mut state);
-                }
+        for line in lines {
+            if let Ok(event) = line {
+                event.process.hash(&mut state);
+                read(&event.kind, &mut state);
             }
         }
+        HashKey::ended(state)
+    }
+
+    /// The two words of a digest that has read all.
+    ///
+    /// It is SipHash's and no fold: the last value of a history is free, and could be chosen so that a fold ends in a key that was picked beforehand.
+    fn ended(mut state: DefaultHasher) -> Self {
         let first = state.finish();
         first.hash(&mut state);
         HashKey {

@@ -18,3 +18,4 @@ mod FoundLines
 pub mod Pulling
 mod Pushing
 mod Answering
+mod Chunks

@@ -15,3 +15,4 @@ pub mod Answer
 pub mod Ends
 pub mod Run
 pub mod Cuts
+pub mod Underway

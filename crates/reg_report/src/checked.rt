@@ -5,10 +5,11 @@ ghost use Rattle.reg_report.specs.First.{IsReportBy};
 
 use crate::first::first_report;
 use crate::history::history_report;
+use crate::reading::read_arena;
 use crate::refusal::Refusal;
 use crate::report::Report;
-use history_text::{MAX_INPUT, read_lines_in_parts};
-use reg_arena::{Arena, HashKey};
+use history_text::MAX_INPUT;
+use reg_arena::Arena;
 use reg_pieces::{Gate, Settings, do_pieces, first_faulty, plan};
 use std::alloc::{AllocError, Global};
 use std::random::RandomSource;
@@ -54,8 +55,6 @@ pub fn check<R: Threads + RandomSource + Sync, G: Gate + Sync>(
     if input.len() > MAX_INPUT {
         return Err(Refusal::TooLong);
     }
-    let parts = read_lines_in_parts(rt, alloc, input)?;
-    let key = HashKey::drawn(rt, &parts);
-    let arena = Arena::build_keyed(alloc, key, parts)?;
+    let arena = read_arena(rt, alloc, input)?;
     Ok(report_by(rt, alloc, &arena, settings, gate)?)
 }

@@ -1,8 +1,9 @@
 -- Each line feed that is found ends a line, and behind the last one stands the last line.
-use Rattle.std.proofs.Common.{◌+◌, ◌++◌, arith, ap, sym, ◌∙◌, append_assoc, drop, subst}
+use Rattle.std.proofs.Common.{◌+◌, ◌++◌, arith, ap, sym, ◌∙◌, append_assoc, drop, map, subst}
 use Rattle.std.specs.List.{All}
 use Rattle.history_text.specs.Lines.{lines, IsWithin}
-use Rattle.history_text.proofs.Numbered.{numbered, numbered-spans}
+use Rattle.history_text.specs.Reading.{reading_of}
+use Rattle.history_text.proofs.Numbered.{numbered, numbered-spans, read-spans}
 use Rattle.history_text.proofs.Cut.{first-within, numbered-step, numbered-end, All-maybe}
 use Rattle.history_text.proofs.lines.lines_of.Goals as goal
 
@@ -27,7 +28,9 @@ returns c =
     let ending = numbered-end c.args.bytes.now c.loop-count.from c.loop-count.line inv.within c.in_default.ensures in
     let bytes = c.args.bytes.now in
     let added = c.in_ok-add-2.ensures in
+    let all = added ∙ ap (λ l. c.loop-count.spans.items ++ l) (sym ending) ∙ sym inv.rest ∙ numbered-spans bytes in
     record {
-      lines = added ∙ ap (λ l. c.loop-count.spans.items ++ l) (sym ending) ∙ sym inv.rest ∙ numbered-spans bytes;
+      lines = all;
       within = subst (All (IsWithin bytes)) (sym added) (All-maybe (IsWithin bytes) _ _ _ inv.inside (omega (arith, inv.within), omega arith));
+      readings = ap (map (reading_of bytes)) all ∙ read-spans bytes;
     }
