@@ -1,5 +1,5 @@
 //! From a report to its bytes.
-ghost use Rattle.std.specs.Prelude.{◌≡◌, ◌≤◌, [], ◌∷◌, ◌++◌, flat_map, IfOk, OnOk};
+ghost use Rattle.std.specs.Prelude.{◌≡◌, [], ◌∷◌, ◌++◌, flat_map, IfOk, OnOk};
 ghost use Rattle.std.specs.Thread.{IsSync};
 ghost use Rattle.serde_json.specs.Written.{compact_text};
 ghost use Rattle.reg_report.specs.Text.{register_json, registers_text, summary_json, report_text};
