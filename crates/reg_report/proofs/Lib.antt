@@ -1,5 +1,6 @@
 mod Fields
 mod Joined
+mod InParts
 mod Tallying
 mod Naming
 mod MergedOrder

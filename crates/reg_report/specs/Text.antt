@@ -98,6 +98,10 @@ summary_json report = object (members_of (fields_of (summary_parts report)))
 abbrev pub line_text : Data → List ℕ
 line_text d = compact_text d ++ 10 ∷ []
 
+-- the lines of some registers
+abbrev pub registers_text : List RegReport → List ℕ
+registers_text regs = concat (map (λ reg. line_text (register_json reg)) regs)
+
 -- the bytes of a report
 abbrev pub report_text : Report → List ℕ
-report_text report = concat (map (λ reg. line_text (register_json reg)) report.regs) ++ line_text (summary_json report)
+report_text report = registers_text report.regs ++ line_text (summary_json report)

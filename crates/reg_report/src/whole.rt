@@ -8,7 +8,7 @@ use crate::outcome::Outcome;
 use crate::pulled::pull_all;
 use crate::pushed::deliver;
 use crate::refusal::Refusal;
-use crate::written::text;
+use crate::written::text_in_parts;
 use byte_ends::{Sink, Source};
 use reg_pieces::{Gate, Settings};
 use std::alloc::Global;
@@ -56,7 +56,7 @@ pub fn run<T: Threads + RandomSource + Sync, R: Source, W: Sink, G: Gate + Sync>
 {
     let input = pull_all(alloc, source)?;
     let report = check(rt, alloc, input.as_slice(), settings, gate)?;
-    let bytes = text(alloc, &report)?;
+    let bytes = text_in_parts(rt, alloc, &report)?;
     match deliver(sink, bytes.as_slice()) {
         Ok(()) => Ok(Outcome::of(&report)),
         Err(_) => Err(Refusal::OutputFailed),

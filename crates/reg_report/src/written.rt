@@ -1,11 +1,18 @@
 //! From a report to its bytes.
-ghost use Rattle.std.specs.Prelude.{◌≡◌, [], ◌∷◌, ◌++◌, IfOk, OnOk};
+ghost use Rattle.std.specs.Prelude.{◌≡◌, [], ◌∷◌, ◌++◌, flat_map, IfOk, OnOk};
+ghost use Rattle.std.specs.Thread.{IsSync};
 ghost use Rattle.serde_json.specs.Written.{compact_text};
-ghost use Rattle.reg_report.specs.Text.{register_json, summary_json, report_text};
+ghost use Rattle.reg_report.specs.Text.{register_json, registers_text, summary_json, report_text};
 
 use crate::report::{RegReport, Report};
 use crate::send::Summary;
+use rayon::prelude::*;
 use std::alloc::{AllocError, Global};
+use std::thread::{Threads, join};
+
+/// How many parts the registers' lines are made in: enough for each thread to have some, and so few that they cost little
+/// beside the lines.
+const PARTS: usize = 64;
 
 fn register_line(alloc: Global, reg: &RegReport) -> Result<Vec<u8>, AllocError>
     ensures { IfOk result (λ line. line.items ≡ compact_text (register_json reg.now)) }
@@ -33,14 +40,84 @@ fn put_line(out: &mut Vec<u8>, line: &[u8]) -> Result<(), AllocError>
     Ok(())
 }
 
+/// The lines of some registers, one after another.
+fn register_lines(alloc: Global, regs: &[RegReport]) -> Result<Vec<u8>, AllocError>
+    ensures { IfOk result (λ bytes. bytes.items ≡ registers_text regs.now) }
+{
+    let mut out = Vec::new(alloc);
+    for reg in regs {
+        put_line(&mut out, register_line(alloc, reg)?.as_slice())?;
+    }
+    Ok(out)
+}
+
 /// The bytes of a report: a line of compact JSON for each register, then the summary, or want of memory.
 pub fn text(alloc: Global, report: &Report) -> Result<Vec<u8>, AllocError>
     ensures { IfOk result (λ bytes. bytes.items ≡ report_text report.now) }
 {
-    let mut out = Vec::new(alloc);
-    for reg in report.regs.as_slice() {
-        put_line(&mut out, register_line(alloc, reg)?.as_slice())?;
-    }
+    let mut out = register_lines(alloc, report.regs.as_slice())?;
     put_line(&mut out, summary_line(alloc, report)?.as_slice())?;
     Ok(out)
+}
+
+/// The lines of some registers in parts, one behind the other, each made by one thread.
+fn lines_in_parts(
+    rt: &(impl Threads + Sync),
+    alloc: Global,
+    regs: &[RegReport],
+) -> Result<Vec<Vec<u8>>, AllocError>
+    ensures { IfOk result (λ parts. flat_map (λ part. part.items) parts.items ≡ registers_text regs.now) }
+{
+    regs.par_chunks(regs.len() / PARTS + 1)
+        .with_min_len(1)
+        .map(
+            |part: &[RegReport]| -> Result<Vec<u8>, AllocError>
+                ensures { IfOk result (λ bytes. bytes.items ≡ registers_text part.now) }
+            { register_lines(alloc, part) },
+        )
+        .collect::<Result<Vec<Vec<u8>>, AllocError>>(rt, alloc)?
+}
+
+/// Room for parts, one behind the other.
+fn room_for(alloc: Global, parts: &[Vec<u8>], more: usize) -> Result<Vec<u8>, AllocError>
+    ensures { IfOk result (λ room. room.items ≡ []) }
+{
+    let mut len = more;
+    for part in parts {
+        len = len.saturating_add(part.len());
+    }
+    Vec::with_capacity(alloc, len)
+}
+
+/// Parts one behind the other, and then a line.
+fn joined(alloc: Global, parts: &[Vec<u8>], line: &[u8]) -> Result<Vec<u8>, AllocError>
+    ensures { IfOk result (λ bytes. bytes.items ≡ flat_map (λ part. part.items) parts.now ++ (line.now ++ 10 ∷ [])) }
+{
+    let mut out = room_for(alloc, parts, line.len().saturating_add(1))?;
+    for part in parts {
+        out.extend_from_slice(part.as_slice())?;
+    }
+    put_line(&mut out, line)?;
+    Ok(out)
+}
+
+/// The same bytes as of [`text`], made by several threads.
+pub(crate) fn text_in_parts<R: Threads + Sync>(
+    rt: &R,
+    alloc: Global,
+    report: &Report,
+) -> Result<Vec<u8>, AllocError>
+    ensures { IfOk result (λ bytes. bytes.items ≡ report_text report.now) }
+{
+    let (parts, summary) = join(
+        rt,
+        || -> Result<Vec<Vec<u8>>, AllocError>
+            requires { IsSync R.row }
+            ensures { IfOk result (λ parts. flat_map (λ part. part.items) parts.items ≡ registers_text report.entry.now.regs) }
+        { lines_in_parts(rt, alloc, report.regs.as_slice()) },
+        || -> Result<Vec<u8>, AllocError>
+            ensures { IfOk result (λ line. line.items ≡ compact_text (summary_json report.entry.now)) }
+        { summary_line(alloc, report) },
+    );
+    joined(alloc, parts?.as_slice(), summary?.as_slice())
 }
