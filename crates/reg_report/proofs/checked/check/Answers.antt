@@ -14,4 +14,4 @@ returns-clause-ok g c =
     (arena.0, subst (λ (h : History). IsReportBy first h report) arena.1 c.in_ok-report_by.ensures)
 
 pub returns-in_err-arena-clause-err : goal.returns-in_err-arena-clause-err
-returns-in_err-arena-clause-err g c = refused-by-build c.args.settings.first c.args.input.now (history_lines c.args.input.now) c.in_err-arena.field-0.0 c.from_residual-in_err-arena.result (omega (arith, c.if-input-gt-MAX_INPUT.false)) refl c.in_err-arena.ensures.err c.from_residual-in_err-arena.ensures.1
+returns-in_err-arena-clause-err g c = refused-by-build c.args.settings.first c.args.input.now (history_lines c.args.input.now) c.in_err-arena.field-0.0 c.from_residual.result (omega (arith, c.if-input-gt-MAX_INPUT.false)) refl c.in_err-arena.ensures.err c.from_residual.ensures.1

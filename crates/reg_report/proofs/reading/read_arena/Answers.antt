@@ -1,5 +1,5 @@
 -- The lines of all spans are read and taken in, chunk by chunk.
-use Rattle.std.proofs.Common.{All, ◌≡◌, [], length, map, eqb-true, arith, sym, ap, subst, ◌∙◌}
+use Rattle.std.proofs.Common.{All, [], length, map, eqb-true, arith, sym, ap, subst, ◌∙◌}
 use Rattle.std.proofs.lemmas.List.Elements.{All-take, All-drop}
 use Rattle.std.proofs.lemmas.Bool.{eqb-false}
 use Rattle.std.proofs.lemmas.List.{nil_from_length}
