@@ -18,7 +18,7 @@ pub enum Judgement {
     Faulty(Fault),
 }
 
-/// The canonical order of a register that is atomic, and else its fault.
+/// The canonical order of a register that is atomic, or else its fault.
 ///
 /// # Errors
 /// If memory was refused; the arena is as before.

@@ -1,5 +1,5 @@
 -- The lines of an input, chunk by chunk: what is known when the first is read, when one is taken in while the next is read, and when none is left.
-use Rattle.std.proofs.Common.{◌≡◌, ℕ, List, [], ◌++◌, map, take, drop, Ok, Err, refl, sym, ap, subst, ◌∙◌, flat_map}
+use Rattle.std.proofs.Common.{◌≡◌, ℕ, List, [], ◌++◌, map, take, drop, Ok, Err, sym, ap, subst, ◌∙◌, flat_map}
 use Rattle.std.specs.Prelude.{Result}
 use Rattle.std.specs.Result.{IsErrAnd, IfErr, IfOk}
 use Rattle.std.proofs.lemmas.List.{append-nil, append_assoc, map-append, take-append-drop}

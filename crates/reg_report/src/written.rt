@@ -10,7 +10,7 @@ use rayon::prelude::*;
 use std::alloc::{AllocError, Global};
 use std::thread::{Threads, join};
 
-/// How many parts the registers' lines are made in: enough for each thread to have some, and so few that they cost little
+/// At most how many parts the registers' lines are made in: enough for each thread to have some, and so few that they cost little
 /// beside the lines.
 const PARTS: usize = 64;
 
@@ -68,6 +68,7 @@ fn lines_in_parts(
 ) -> Result<Vec<Vec<u8>>, AllocError>
     ensures { IfOk result (λ parts. flat_map (λ part. part.items) parts.items ≡ registers_text regs.now) }
 {
+    // A register's line may be long, so even one part is worth a thread.
     regs.par_chunks(regs.len() / PARTS + 1)
         .with_min_len(1)
         .map(
@@ -78,7 +79,7 @@ fn lines_in_parts(
         .collect::<Result<Vec<Vec<u8>>, AllocError>>(rt, alloc)?
 }
 
-/// Room for parts, one behind the other.
+/// Room for parts, one behind the other, and for `more` bytes.
 fn room_for(alloc: Global, parts: &[Vec<u8>], more: usize) -> Result<Vec<u8>, AllocError>
     ensures { IfOk result (λ room. room.items ≡ []) }
 {
@@ -101,7 +102,7 @@ fn joined(alloc: Global, parts: &[Vec<u8>], line: &[u8]) -> Result<Vec<u8>, Allo
     Ok(out)
 }
 
-/// The same bytes as of [`text`], made by several threads.
+/// The same bytes as [`text`] gives, made by several threads.
 pub(crate) fn text_in_parts<R: Threads + Sync>(
     rt: &R,
     alloc: Global,

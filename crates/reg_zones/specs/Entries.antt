@@ -40,6 +40,6 @@ abbrev pub entries_placed : ℕ → List Entry → List Placed
 entries_placed n [] = []
 entries_placed n (x ∷ entries) = record { oper = x.oper; point = max n x.call } ∷ entries_placed (max n x.call) entries
 
--- the operations of the entries, in the order of their places
+-- the operations of the entries in the order of their places, each with its point
 abbrev pub IsRanking : List Entry → List Placed → Type 0
 IsRanking entries answer = (sorted : List Entry) × IsPermutation entries sorted × AllPairs ComesFirst sorted × (answer ≡ entries_placed 0 sorted)

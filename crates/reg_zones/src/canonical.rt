@@ -16,8 +16,8 @@ use history_model::RegId;
 use reg_arena::Arena;
 use std::alloc::{AllocError, Global};
 
-/// The canonical order of a register that is atomic, with the point of each operation, and else its fault, as `sweep` says
-/// it.
+/// The canonical order of a register that is atomic, with the point of each operation; of any other register the fault
+/// that [`sweep`](crate::sweep) names.
 ///
 /// The order is a legal one of the completion that it lists. Each point lies at or after its operation's call and before
 /// its reply, and no point falls.

@@ -2,9 +2,9 @@
 //!
 //! What the floor above may rely on: [`order_or_fault`] gives the canonical order of a register that is atomic (Herlihy
 //! and Wing, 1990), which is a legal one, with a point for each operation between its call and its reply; and of any other
-//! register the fault that the definitions name. [`sweep`] gives that fault alone, and takes no memory. [`order`], and
-//! [`is_kept`] and [`zone_of`], which tell a kept write and a zone, aren't called above today. [`laws`] says why zones
-//! decide.
+//! register the fault that the definitions name. [`sweep`] gives that fault alone, and takes no memory. No floor above
+//! calls [`order`], the order of a register without fault, or [`is_kept`] and [`zone_of`], which tell a kept write and a
+//! zone. [`laws`] says why zones decide.
 //!
 //! The method is that of Gibbons and Korach (Testing Shared Memories, 1997) for distinct written values. To read: `zone`,
 //! then `reads` (the two faults of single reads) and `pass` (one pass over the events, which also compares zones by their

@@ -123,7 +123,7 @@ fn low_end_at(register: Register<'_>, met: Met, id: EvId) -> Option<Cluster>
 {
     let valued = valued_event(register, met, id)?;
     let zone = zone_at(register.arena, valued)?;
-    // It bounds the number of events, and so the time.
+    // The contract of `event_count` bounds the number of events, and so the time.
     let _count = register.arena.event_count();
     if zone.low() != id.time() {
         return None;

@@ -53,7 +53,7 @@ fn call_of(arena: &Arena, oper: Oper) -> u32
     requires { IsOper arena.now oper }
     ensures { result ≡ call_named oper }
 {
-    // It bounds the number of events, and so the time.
+    // The contract of `event_count` bounds the number of events, and so the time.
     let _count = arena.event_count();
     match oper {
         Oper::Initial(_) => 0,

@@ -53,7 +53,7 @@ impl<'a> Register<'a> {
         (Register::new(arena, op.register), op)
     }
 
-    /// What an event of the register is there.
+    /// What an event of the register is: a call, a reply or neither.
     pub(crate) fn meet(self, id: EvId) -> Met
         requires { key_at by_register self.arena.now.events id.0 ≡ Some self.id.0 }
         ensures { IsMetAt self.entry.arena.now self.entry.id.0 id.0 result }

@@ -1,7 +1,6 @@
 //! One walk over a register's events that looks for a fault, as `pass` does, and lists the operations as it goes.
 //!
-//! Each event's operation is looked up once for both. `pass` remains for those who ask for the fault alone: it takes no
-//! memory.
+//! Each event is met once for both. Callers that want the fault alone use `pass`, which takes no memory.
 ghost use Rattle.std.specs.Prelude.{IfOk, MatchResult};
 ghost use Rattle.reg_zones.specs.Entries.{IsListing};
 ghost use Rattle.reg_zones.specs.Faults.{IsFault};

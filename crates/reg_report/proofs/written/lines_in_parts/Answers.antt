@@ -1,5 +1,5 @@
 -- The parts, by whatever thread each was made, are the lines of the chunks in order, and so those of all registers.
-use Rattle.std.proofs.Common.{◌≡◌, ◌<◌, ◌∙◌, max, ap, arith}
+use Rattle.std.proofs.Common.{◌≡◌, ◌∙◌, max, ap, arith}
 use Rattle.std.specs.Prelude.{IfOk}
 use Rattle.rayon.proofs.ToStd.{slice-AllZip}
 use Rattle.rayon.specs.Lists.{chunks_of, chunks_size}
