@@ -2,7 +2,7 @@
 //! lowest-numbered fault, comes out.
 //!
 //! What the floor above may rely on: [`lines_of`] says where exactly the lines that are not blank stand, in
-//! order and with their numbers. [`read_spans`] reads any of these lines: it gives of each its one event, or the
+//! order and with their numbers. [`read_spans`] reads any of these lines: for each it gives its one event, or the
 //! lowest-numbered fault that applies to it. Several threads read them, and each fills parts of its own.
 //! [`read_lines`] reads all lines and joins the parts, and [`read_lines_alone`] reads the same by one thread.
 //! Nothing here knows how events follow one another; that is the floor above.

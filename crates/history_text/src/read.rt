@@ -36,7 +36,7 @@ pub fn read_lines(
     Ok(lines)
 }
 
-/// What the lines at some spans of the bytes say, in order: of each its event, or its lowest-numbered fault. They come in
+/// What the lines at some spans of the bytes say, in order: for each its event, or its lowest-numbered fault. They come in
 /// parts, one behind the other: each thread fills its own, and none is copied.
 ///
 /// Many spans are read by several threads, as many as serve the processors. The error is the want of memory; nothing is

@@ -34,7 +34,7 @@ fn refused(line: u32, reason: Reason) -> LineRefusal
 
 impl Arena {
     /// The arena of all events of the lines, or the refusal of the first faulty line, with the lowest number that applies there. The key of its hashes is
-    /// a digest of the lines, for callers that have no random bytes.
+    /// a digest of all events, for callers that have no random bytes.
     ///
     /// # Errors
     /// `Refused` if the history isn't well formed, and `Memory` if memory was refused; what was built and the lines are then dropped.

@@ -1,10 +1,10 @@
 //! Well-formed histories: the lines of a history go in, and one arena of all its events comes out, or the refusal of the first faulty line.
 //!
 //! What the floor above may rely on: [`Arena::build`] accepts and refuses exactly as the definitions say, and the arena's model is the history of the
-//! accepted events. So does an arena that begins as [`Arena::empty`] and takes in more lines by [`Arena::with_lines`], whatever the key of its hashes. Each
-//! walk of the arena is the filter of the one list of events, ascending: by register, by process, and by register and value. Operations, their times and
-//! their order are those of the definitions in `history_model`, whose laws say what holds of them. All calls but these three take no memory and always
-//! answer.
+//! accepted events. An arena that begins as [`Arena::empty`] and takes in more lines by [`Arena::with_lines`] promises the same, whatever the key of its
+//! hashes. Each walk of the arena is the filter of the one list of events, ascending: by register, by process, and by register and value. Operations,
+//! their times and their order are those of the definitions in `history_model`, whose laws say what holds of them. All calls but these three take no
+//! memory and always answer.
 //!
 //! Read it in this order: `hash_key` and `seeded`, which make the hashes; `optional`, `list_ends`, `processes`, `joins`, `event_lists` and `entries`, the lists that run
 //! through the events; `names`; `arena`, `called` and `of_value`, which answer; `agrees`, `standing` and `build`.

@@ -1,4 +1,4 @@
--- The lines of the chunks of a list of registers, one behind the other, are the lines of all of them.
+-- The lines of the parts of a list of registers, one behind the other, are the lines of all of them.
 use Rattle.std.proofs.Common.{◌≡◌, ℕ, ◌<◌, List, [], ◌∷◌, ◌++◌, map, Result, Ok, Err, Vec, Global, refl, ap, sym, subst, ◌∙◌, append_assoc}
 use Rattle.std.specs.Prelude.{IfOk, MatchResult, Contains, flat_map}
 use Rattle.std.specs.List.{AllZip}

@@ -1,7 +1,7 @@
 -- The lines of one register more.
 use Rattle.std.proofs.Common.{◌≡◌, ℕ, zero, suc, ◌+◌, ◌<◌, List, [], ◌∷◌, ◌++◌, length, map, take, get_or, sym, ◌∙◌, ap, arith, append_assoc, append-nil, add-one}
 use Rattle.serde_json.specs.Written.{compact_text}
-use Rattle.reg_report.specs.Text.{line_text, register_json}
+use Rattle.reg_report.specs.Text.{line_text, register_json, registers_text}
 use Rattle.reg_report.specs.declared.report.RegReport.{RegReport}
 use Rattle.std.specs.List.{concat}
 
@@ -10,9 +10,9 @@ concat_more f [] i d h = absurd (omega arith)
 concat_more f (x ∷ xs) zero d h = append-nil (f x)
 concat_more f (x ∷ xs) (suc i) d h = ap (λ ys. f x ++ ys) (concat_more f xs i d (omega arith)) ∙ sym (append_assoc (f x) (concat (map f (take i xs))) (f (get_or xs i d)))
 
-pub one_line_more : (xs : List RegReport) (i : ℕ) (d : RegReport) (out new bytes line : List ℕ) → i < length xs → d ≡ get_or xs i d → out ≡ concat (map (λ reg. line_text (register_json reg)) (take i xs)) → bytes ≡ line → line ≡ compact_text (register_json d) → new ≡ out ++ (bytes ++ 10 ∷ []) → new ≡ concat (map (λ reg. line_text (register_json reg)) (take (i + 1) xs))
+pub one_line_more : (xs : List RegReport) (i : ℕ) (d : RegReport) (out new bytes line : List ℕ) → i < length xs → d ≡ get_or xs i d → out ≡ registers_text (take i xs) → bytes ≡ line → line ≡ compact_text (register_json d) → new ≡ out ++ (bytes ++ 10 ∷ []) → new ≡ registers_text (take (i + 1) xs)
 one_line_more xs i d out new bytes line h at before same is made =
-    let done = concat (map (λ reg. line_text (register_json reg)) (take i xs)) in
+    let done = registers_text (take i xs) in
     let more = concat_more (λ (reg : RegReport). line_text (register_json reg)) xs i d h in
     rw add-one (made
     ∙ ap (λ o. o ++ (bytes ++ 10 ∷ [])) before

@@ -4,7 +4,7 @@ use Rattle.std.proofs.lemmas.Bool.{cases_lt}
 use Rattle.history_model.specs.Operations.{Operation, IsHistory}
 use Rattle.reg_zones.specs.declared.pass.Cluster.{Cluster}
 use Rattle.reg_zones.specs.Clusters.{IsKept, IsConflict, IsForward, IsClearBelow, IsFirstConflict, low_end}
-use Rattle.reg_zones.specs.Sweep.{IsClusterOf, IsLowEndAt, IsLastMet, IsMet, IsConflictWith, ZonesConflict}
+use Rattle.reg_zones.specs.Sweep.{IsClusterOf, IsLowEndAt, IsLastMet, AreClear, IsConflictWith, ZonesConflict}
 use Rattle.reg_zones.proofs.LowEnds.{low_apart, same_low}
 use Rattle.reg_zones.proofs.Ends.{kept-member}
 use Rattle.reg_zones.proofs.ClearBelow.{clear_more, first_found, last_here, last_stays, none_stays, backward_from, last_one}
@@ -32,12 +32,12 @@ module _ (ops : List Operation) where
 
 module _ (ops : List Operation) (y : IsHistory ops) (n : ℕ) where
   -- at n there is no low end
-  pub step_none : (last : Option Cluster) → IsLowEndAt ops n None → IsMet ops n last → IsMet ops (n + 1) last
+  pub step_none : (last : Option Cluster) → IsLowEndAt ops n None → AreClear ops n last → AreClear ops (n + 1) last
   step_none None f m = record { clear = clear_more ops n m.clear (λ v w l k e q. f w k e); last = none_stays ops y n m.last (λ u k e q. f u k e) }
   step_none (Some c) f m = record { clear = clear_more ops n m.clear (λ v w l k e q. f w k e); last = (m.last.0, m.last.1, last_stays ops y m.last.0 n m.last.2 (λ u k e q. f u k e)) }
 
   -- there is one, and it doesn't conflict
-  step_clear : (last : Option Cluster) (d : Cluster) → IsLowEndAt ops n (Some d) → IsMet ops n last → IsConflictWith last d None → IsClearBelow ops (n + 1)
+  step_clear : (last : Option Cluster) (d : Cluster) → IsLowEndAt ops n (Some d) → AreClear ops n last → IsConflictWith last d None → IsClearBelow ops (n + 1)
   step_clear None d f m k = clear_more ops n m.clear (λ v u l _ e q. m.last v l.kept l.forward l.below)
   step_clear (Some c) d f m k = clear_more ops n m.clear (λ v u l ku e q.
       let ev : v ≡ m.last.0 = last_one ops y v m.last.0 n l m.last.2 in
@@ -45,10 +45,10 @@ module _ (ops : List Operation) (y : IsHistory ops) (n : ℕ) where
       let r : IsConflict ops m.last.0 f.0 = subst (λ x. IsConflict ops x f.0) ev (subst (IsConflict ops v) eu q) in
       k c refl (conflict-to ops m.last.0 f.0 c d m.last.1 f.1 r))
 
-  pub step_forward : (last : Option Cluster) (d : Cluster) → IsLowEndAt ops n (Some d) → IsMet ops n last → IsConflictWith last d None → d.zone.f < d.zone.s → IsMet ops (n + 1) (Some d)
+  pub step_forward : (last : Option Cluster) (d : Cluster) → IsLowEndAt ops n (Some d) → AreClear ops n last → IsConflictWith last d None → d.zone.f < d.zone.s → AreClear ops (n + 1) (Some d)
   step_forward last d f m k l = record { clear = step_clear last d f m k; last = (f.0, f.1, last_here ops y f.0 n f.1.kept f.2 (forward-from ops f.0 d f.1 l)) }
 
-  pub step_backward : (last : Option Cluster) (d : Cluster) → IsLowEndAt ops n (Some d) → IsMet ops n last → IsConflictWith last d None → (d.zone.f < d.zone.s → ⊥) → IsMet ops (n + 1) last
+  pub step_backward : (last : Option Cluster) (d : Cluster) → IsLowEndAt ops n (Some d) → AreClear ops n last → IsConflictWith last d None → (d.zone.f < d.zone.s → ⊥) → AreClear ops (n + 1) last
   step_backward last d f m k l = record { clear = step_clear last d f m k; last = stays last m.last }
     where
       stays : (last : Option Cluster) → IsLastMet ops n last → IsLastMet ops (n + 1) last
@@ -56,14 +56,14 @@ module _ (ops : List Operation) (y : IsHistory ops) (n : ℕ) where
       stays (Some c) q = (q.0, q.1, last_stays ops y q.0 n q.2 (backward_from ops y f.0 n f.1.kept f.2 (λ p. l (forward-to ops f.0 d f.1 p))))
 
   -- there is one, and it conflicts
-  pub step_found : (last : Option Cluster) (c d : Cluster) → IsLowEndAt ops n (Some d) → IsMet ops n last → IsConflictWith last d (Some c) → (v : Operation) × (w : Operation) × IsFirstConflict ops v w × IsClusterOf ops v c × IsClusterOf ops w d
+  pub step_found : (last : Option Cluster) (c d : Cluster) → IsLowEndAt ops n (Some d) → AreClear ops n last → IsConflictWith last d (Some c) → (v : Operation) × (w : Operation) × IsFirstConflict ops v w × IsClusterOf ops v c × IsClusterOf ops w d
   step_found last c d f m k =
       let q = subst (IsLastMet ops n) k.0 m.last in
       let lt : low_end ops q.0.value < low_end ops f.0.value = omega (arith, q.2.below, f.2) in
       (q.0, f.0, first_found ops q.0 f.0 n m.clear (conflict-from ops q.0 f.0 c d q.1 f.1 lt k.1) lt f.2, q.1, f.1)
 
 -- from n on to m there is no low end
-pub gap : (ops : List Operation) (n m : ℕ) (last : Option Cluster) → n ≤ m → ((w : Operation) → IsKept ops w → n ≤ low_end ops w.value → low_end ops w.value < m → ⊥) → IsMet ops n last → IsMet ops m last
+pub gap : (ops : List Operation) (n m : ℕ) (last : Option Cluster) → n ≤ m → ((w : Operation) → IsKept ops w → n ≤ low_end ops w.value → low_end ops w.value < m → ⊥) → AreClear ops n last → AreClear ops m last
 gap ops n m None l none q = record {
   clear = λ v w c lt b. elim (cases_lt (low_end ops w.value) n) [ inl p ↦ q.clear v w c lt p | inr p ↦ none w c.right p b ];
   last = λ w k f b. elim (cases_lt (low_end ops w.value) n) [ inl p ↦ q.last w k f p | inr p ↦ none w k p b ];
@@ -85,7 +85,7 @@ gap ops n m (Some c) l none q =
     }
 
 -- no low end is left
-pub ended : (ops : List Operation) (y : IsHistory ops) (n : ℕ) (last : Option Cluster) → ((w : Operation) → IsKept ops w → n ≤ low_end ops w.value → ⊥) → IsMet ops n last → (v w : Operation) → IsConflict ops v w → ⊥
+pub ended : (ops : List Operation) (y : IsHistory ops) (n : ℕ) (last : Option Cluster) → ((w : Operation) → IsKept ops w → n ≤ low_end ops w.value → ⊥) → AreClear ops n last → (v w : Operation) → IsConflict ops v w → ⊥
 ended ops y n last none q v w c =
     let below : (u : Operation) → IsKept ops u → low_end ops u.value < n = λ u k. elim (cases_lt (low_end ops u.value) n) [ inl p ↦ p | inr p ↦ absurd (none u k p) ] in
     elim (cases_lt (low_end ops v.value) (low_end ops w.value)) [

@@ -9,7 +9,7 @@ use Rattle.reg_zones.specs.declared.pass.Compared.{Compared}
 use Rattle.reg_zones.specs.declared.pass.Compared.TheVariants.{Clear, Conflict}
 use Rattle.reg_zones.specs.Clusters.{IsKept, IsForward, low_end}
 use Rattle.reg_zones.proofs.Known.{IsKnown}
-use Rattle.reg_zones.specs.Sweep.{AreCompared, AreFirstConflict, IsClusterOf, IsConflictFound, IsLastMet, IsMet, conflict_in}
+use Rattle.reg_zones.specs.Sweep.{AreCompared, AreFirstConflict, IsClusterOf, IsConflictFound, IsLastMet, AreClear, conflict_in}
 use Rattle.reg_zones.proofs.Ends.{first_reply-le}
 use Rattle.reg_zones.proofs.Registers.{no_low_end, initial_low}
 use Rattle.reg_zones.proofs.OnePass.{forward-from, forward-to, gap, ended}
@@ -22,7 +22,7 @@ IsBefore n (Some id) = n < id.0 + 2
 -- the pass has met each low end before a time, and from there to the next event there is none
 pub record IsPassing (ops : List Operation) (last : Option Cluster) (next : Option EvId) : Type 0 where
   pub time : ℕ
-  pub met : IsMet ops time last
+  pub met : AreClear ops time last
   pub reach : (id : EvId) → next ≡ Some id → time ≤ id.0 + 2
   pub clear : (w : Operation) → IsKept ops w → time ≤ low_end ops w.value → IsBefore (low_end ops w.value) next → ⊥
 
@@ -36,7 +36,7 @@ module _ (h : History) (r : ℕ) (y : IsKnown h r) where
   none_at : (w : Operation) → IsKept (of_register r (operations h)) w → 2 ≤ low_end (of_register r (operations h)) w.value → (key_at by_register h.events (low_end (of_register r (operations h)) w.value - 2) ≡ Some r → ⊥) → ⊥
   none_at w k l none = no_low_end h r y (low_end (of_register r (operations h)) w.value - 2) w none k (omega arith)
 
-  from_least : (n : ℕ) (last : Option Cluster) (next : Option EvId) → IsMet (of_register r (operations h)) (n + 2) last → IsLeastFrom (λ j. key_at by_register h.events j ≡ Some r) n next → IsPassing (of_register r (operations h)) last next
+  from_least : (n : ℕ) (last : Option Cluster) (next : Option EvId) → AreClear (of_register r (operations h)) (n + 2) last → IsLeastFrom (λ j. key_at by_register h.events j ≡ Some r) n next → IsPassing (of_register r (operations h)) last next
   from_least n last None m f = record { time = n + 2; met = m; reach = λ id e. absurd (cc e); clear = λ w k l b. none_at w k (omega arith) (f (low_end (of_register r (operations h)) w.value - 2) (omega arith)) }
   from_least n last (Some j) m f = record {
     time = n + 2;
@@ -46,7 +46,7 @@ module _ (h : History) (r : ℕ) (y : IsKnown h r) where
   }
 
   -- before all events the initial cluster alone has been met
-  met_initial : (last : Option Cluster) → IsLastMet (of_register r (operations h)) 2 last → IsMet (of_register r (operations h)) 2 last
+  met_initial : (last : Option Cluster) → IsLastMet (of_register r (operations h)) 2 last → AreClear (of_register r (operations h)) 2 last
   met_initial last l = record {
     clear = λ v w q lt b. q.differ (let a = initial_low h r y v q.left (omega arith) in let e = initial_low h r y w q.right b in ap (λ (o : Operation). o.value) (a ∙ sym e));
     last = l;
@@ -58,7 +58,7 @@ module _ (h : History) (r : ℕ) (y : IsKnown h r) where
       let l = first_reply-le ops (initial_write r).value (initial_write r) (record { within = y.initial; value = refl; counts = inl refl }) in
       omega (arith, l)
 
-  pub met_forward : (c : Cluster) → IsClusterOf (of_register r (operations h)) (initial_write r) c → c.zone.f < c.zone.s → IsMet (of_register r (operations h)) 2 (Some c)
+  pub met_forward : (c : Cluster) → IsClusterOf (of_register r (operations h)) (initial_write r) c → c.zone.f < c.zone.s → AreClear (of_register r (operations h)) 2 (Some c)
   met_forward c k f =
       let ops = of_register r (operations h) in
       met_initial (Some c) (
@@ -72,14 +72,14 @@ module _ (h : History) (r : ℕ) (y : IsKnown h r) where
         },
       )
 
-  pub met_backward : (c : Cluster) → IsClusterOf (of_register r (operations h)) (initial_write r) c → (c.zone.f < c.zone.s → ⊥) → IsMet (of_register r (operations h)) 2 None
+  pub met_backward : (c : Cluster) → IsClusterOf (of_register r (operations h)) (initial_write r) c → (c.zone.f < c.zone.s → ⊥) → AreClear (of_register r (operations h)) 2 None
   met_backward c k f =
       let ops = of_register r (operations h) in
       met_initial None (λ u ku fu b. f (forward-to ops (initial_write r) c k (subst (λ (o : Operation). IsForward ops o.value) (initial_low h r y u ku b) fu)))
 
   -- ---- a loop over the events
 
-  pub comparing-start : (last : Option Cluster) (next : Option EvId) → IsMet (of_register r (operations h)) 2 last → IsFirstOf by_register h.events r next → IsComparing (of_register r (operations h)) (Clear last) next
+  pub comparing-start : (last : Option Cluster) (next : Option EvId) → AreClear (of_register r (operations h)) 2 last → IsFirstOf by_register h.events r next → IsComparing (of_register r (operations h)) (Clear last) next
   comparing-start last next m f = from_least 0 last next m f
 
   -- what the pass knows at the event where it stands
@@ -90,7 +90,7 @@ module _ (h : History) (r : ℕ) (y : IsKnown h r) where
   pub comparing-more : (clusters : Compared) (id : EvId) (next : Option EvId) → key_at by_register h.events id.0 ≡ Some r → AreCompared (of_register r (operations h)) (id.0 + 3) clusters → IsNextOf by_register h.events id.0 next → IsComparing (of_register r (operations h)) clusters next
   comparing-more (Clear last) id next k m n =
       let e : id.0 + 3 ≡ id.0 + 1 + 2 = omega arith in
-      from_least (id.0 + 1) last next (subst (λ t. IsMet (of_register r (operations h)) t last) e m) (n r k)
+      from_least (id.0 + 1) last next (subst (λ t. AreClear (of_register r (operations h)) t last) e m) (n r k)
   comparing-more (Conflict first second) id next k m n = m
 
   pub comparing-over : (clusters : Compared) → IsComparing (of_register r (operations h)) clusters None → IsConflictFound (of_register r (operations h)) (conflict_in clusters)

@@ -108,7 +108,7 @@ IsLastMet ops n None = (w : Operation) → IsKept ops w → IsForward ops w.valu
 IsLastMet ops n (Some cluster) = (w : Operation) × IsClusterOf ops w cluster × IsLastForward ops w n
 
 -- what a pass that has met each low end before time n knows: no conflict, and the last forward cluster
-pub record IsMet (ops : List Operation) (n : ℕ) (cluster : Option Cluster) : Type 0 where
+pub record AreClear (ops : List Operation) (n : ℕ) (cluster : Option Cluster) : Type 0 where
   pub clear : IsClearBelow ops n
   pub last : IsLastMet ops n cluster
 
@@ -127,7 +127,7 @@ AreFirstConflict ops first second = (v : Operation) × (w : Operation) × IsFirs
 
 -- what a pass that has met each low end before time n knows of the zones: no conflict and the last forward cluster, or the first conflict
 abbrev pub AreCompared : List Operation → ℕ → Compared → Type 0
-AreCompared ops n (Clear last) = IsMet ops n last
+AreCompared ops n (Clear last) = AreClear ops n last
 AreCompared ops n (Conflict first second) = AreFirstConflict ops first second
 
 -- the conflict that it knows of

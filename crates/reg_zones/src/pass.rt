@@ -3,7 +3,7 @@ ghost use Rattle.std.specs.Prelude.{◌≡◌, ◌+◌, IfOk, IfErr};
 ghost use Rattle.history_model.specs.Operations.{initial_write};
 ghost use Rattle.reg_zones.specs.Faults.{IsFault};
 ghost use Rattle.reg_zones.specs.Register.{operations_of};
-ghost use Rattle.reg_zones.specs.Sweep.{AreCompared, IsConflictWith, IsClusterOf, IsFound, IsLowEndAt, IsMet, IsMetAt, conflict_in};
+ghost use Rattle.reg_zones.specs.Sweep.{AreCompared, IsConflictWith, IsClusterOf, IsFound, IsLowEndAt, AreClear, IsMetAt, conflict_in};
 
 use crate::fault::Fault;
 use crate::reads::early_at;
@@ -75,7 +75,7 @@ pub(crate) fn pass(register: Register<'_>) -> Result<Found, Fault>
 
 /// The cluster of the initial write, if its zone is forward: the last forward cluster before all events.
 pub(crate) fn initial_forward(register: Register<'_>) -> Option<Cluster>
-    ensures { IsMet (operations_of register.entry) 2 result }
+    ensures { AreClear (operations_of register.entry) 2 result }
 {
     let initial = initial_cluster(register);
     if initial.zone.is_forward() {

@@ -3,13 +3,13 @@ use Rattle.std.proofs.lemmas.Bool.{false≢true}
 use Rattle.history_model.specs.Operations.{Operation}
 use Rattle.reg_zones.specs.declared.pass.Cluster.{Cluster}
 use Rattle.reg_zones.specs.Register.{operations_of}
-use Rattle.reg_zones.specs.Sweep.{AreCompared, IsMet}
+use Rattle.reg_zones.specs.Sweep.{AreCompared, AreClear}
 use Rattle.reg_zones.proofs.Known.{facts}
 use Rattle.reg_zones.proofs.OnePass.{step_none, step_forward, step_backward, step_found}
 use Rattle.reg_zones.proofs.pass.compare_at.Goals as goal
 
-three : (i : ℕ) (ops : List Operation) (last : Option Cluster) → IsMet ops (i + 2 + 1) last → IsMet ops (i + 3) last
-three i ops last m = let e : i + 2 + 1 ≡ i + 3 = omega arith in subst (λ t. IsMet ops t last) e m
+three : (i : ℕ) (ops : List Operation) (last : Option Cluster) → AreClear ops (i + 2 + 1) last → AreClear ops (i + 3) last
+three i ops last m = let e : i + 2 + 1 ≡ i + 3 = omega arith in subst (λ t. AreClear ops t last) e m
 
 pub returns-in_default-low_end_at : goal.returns-in_default-low_end_at
 returns-in_default-low_end_at c =
