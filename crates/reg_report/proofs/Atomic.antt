@@ -1,6 +1,8 @@
 -- From the orders and faults of the registers to what the report says of them.
-use Rattle.std.proofs.Common.{◌≡◌, ℕ, ◌+◌, List, [], ◌∷◌, ◌++◌, true, false, Option, Some, None, inl, inr, refl, sym, ap, subst, ◌∙◌, arith}
+use Rattle.std.proofs.Common.{◌≡◌, ℕ, ◌+◌, List, [], ◌∷◌, ◌++◌, true, false, Some, None, inl, inr, refl, sym, ap, subst, ◌∙◌, append-nil}
+use Rattle.std.specs.List.{flat_map}
 use Rattle.std.proofs.lemmas.List.{length_push}
+use Rattle.std.proofs.lemmas.List.Concat.{flat_map-append}
 use Rattle.history_model.specs.Lists.{In}
 use Rattle.history_model.specs.History.{History}
 use Rattle.history_model.specs.Operations.{Operation, operations, register_of}
@@ -11,7 +13,7 @@ use Rattle.history_model.proofs.Lists.{In-map}
 use Rattle.reg_pieces.specs.Judged.{IsJudged}
 use Rattle.reg_report.specs.Lines.{HaveCalls, HavePoints, call_line, point_line, lines_by}
 use Rattle.reg_report.specs.Meaning.{IsAtomicity, IsWholeAtomicity, ShowsFault}
-use Rattle.reg_report.specs.Merged.{AreFirstOrders, IsMergedAnswer}
+use Rattle.reg_report.specs.Merged.{AreFirstOrders, AreGathered, IsMergedAnswer}
 use Rattle.reg_report.specs.Registers.{AreOrdersSoFar}
 use Rattle.reg_report.specs.Told.{IsTold}
 use Rattle.reg_pieces.specs.declared.judgement.Judgement.TheVariants.{Order, Faulty}
@@ -66,8 +68,12 @@ one-order-more h n orders order a x = record {
   ];
 }
 
-pub no-order-more : (h : History) (n : ℕ) (orders : Option (List (List Placed))) → AreOrdersSoFar h n orders → orders ≡ None → AreOrdersSoFar h (n + 1) None
-no-order-more h n orders a e = let b = subst (AreOrdersSoFar h n) e a in (b.0, omega (arith, b.1), b.2)
+pub one-gathered-more : (h : History) (n : ℕ) (gathered order : List Placed) → AreGathered h n gathered → IsOrder (register_of h n) order → AreGathered h (n + 1) (gathered ++ order)
+one-gathered-more h n gathered order a x = (
+  a.0 ++ order ∷ [],
+  one-order-more h n a.0 order a.1 x,
+  ap (λ g. g ++ order) a.2 ∙ sym (flat_map-append (λ (o : List Placed). o) a.0 (order ∷ []) ∙ ap (λ t. flat_map (λ (o : List Placed). o) a.0 ++ t) (append-nil order)),
+)
 
 module _ (h : History) (t : IsTold h) where
   pub merged-calls : (answer : List Placed) → IsMergedAnswer h answer → HaveCalls h answer

@@ -1,15 +1,10 @@
--- A count of calls over all events, and the lines of the registers one after another.
-use Rattle.std.proofs.Common.{◌≡◌, ℕ, suc, ◌+◌, ◌≤◌, cond, Bool, true, false, List, [], ◌∷◌, ◌++◌, length, drop, slice_get, Some, inl, inr, sym, ap, subst, ◌∙◌, arith}
-use Rattle.std.proofs.lemmas.List.{drop_all, length_push}
-use Rattle.history_model.specs.History.{History}
+-- A count of calls over all events.
+use Rattle.std.proofs.Common.{◌≡◌, ℕ, suc, ◌+◌, ◌≤◌, cond, Bool, true, false, List, ◌∷◌, length, drop, slice_get, Some, ap, ◌∙◌, arith}
+use Rattle.std.proofs.lemmas.List.{drop_all}
 use Rattle.history_model.specs.Operations.{operation, next_of, reply_in, calls_from, calls}
 use Rattle.history_model.specs.Naming.{begins_at}
 use Rattle.history_model.specs.declared.event.Event.{Event}
 use Rattle.history_model.proofs.Walking.{drop-at}
-use Rattle.reg_pieces.proofs.Pushed.{push-cases}
-use Rattle.reg_report.specs.Meaning.{IsRegisterReport}
-use Rattle.reg_report.specs.Registers.{AreFirstLines}
-use Rattle.reg_report.specs.declared.report.RegReport.{RegReport}
 
 -- what was counted of the first events, and what is left, are all calls
 pub record IsCount (es : List Event) (count i : ℕ) : Type 0 where
@@ -48,14 +43,3 @@ count-other es count i e c at call =
 
 pub count-ends : (es : List Event) (count i : ℕ) → IsCount es count i → length es ≤ i → count ≡ length (calls es)
 count-ends es count i c l = let e = ap (λ xs. length (calls_from (length es + 2) (i + 2) xs)) (drop_all i es l) in omega (arith, c.total, e)
-
--- ---- the lines of the first registers
-
-pub one-line-more : (h : History) (regs : List RegReport) (n : ℕ) (reg : RegReport) → AreFirstLines h n regs → IsRegisterReport h n reg → AreFirstLines h (n + 1) (regs ++ reg ∷ [])
-one-line-more h regs n reg a is = record {
-  lines = length_push regs reg ∙ ap (λ k. k + 1) a.lines;
-  each = λ r line q. elim (push-cases regs reg line r q) [
-    | inl k ↦ a.each r line k
-    | inr k ↦ subst (λ (x : RegReport). IsRegisterReport h r x) k.1 (subst (λ m. IsRegisterReport h m reg) (sym (k.0 ∙ a.lines)) is)
-  ];
-}

@@ -11,6 +11,7 @@ mod Gathered
 mod OrderLines
 mod Atomic
 mod Counting
+mod Found
 mod OneReport
 mod Cutting
 mod Assembly

@@ -1,5 +1,6 @@
 -- The merged order of a history whose registers are atomic (this project's profile; points as in Herlihy and Wing, Linearizability: A Correctness Condition for Concurrent Objects, 1990, section 2).
 use Rattle.std.specs.Prelude.{◌≡◌, ℕ, ◌<◌, ◌⊎◌, List, length, map, slice_get, Some}
+use Rattle.std.specs.List.{flat_map}
 use Rattle.history_model.specs.Lists.{In, Before}
 use Rattle.history_model.specs.History.{History}
 use Rattle.history_model.specs.Legal.{IsLegal}
@@ -35,6 +36,10 @@ pub record AreFirstOrders (h : History) (n : ℕ) (orders : List (List Placed)) 
 -- the canonical orders of all registers
 abbrev pub AreOrders : History → List (List Placed) → Type 0
 AreOrders h orders = AreFirstOrders h (length h.names) orders
+
+-- the canonical orders of the registers below n, one behind the other
+abbrev pub AreGathered : History → ℕ → List Placed → Type 0
+AreGathered h n gathered = (orders : List (List Placed)) × AreFirstOrders h n orders × (gathered ≡ flat_map (λ order. order) orders)
 
 -- the merged order, by the operations' names
 pub record IsMergedAnswer (h : History) (answer : List Placed) : Type 0 where

@@ -1,25 +1,44 @@
--- The lines of all registers, and their orders.
-use Rattle.std.specs.Prelude.{◌≡◌, ◌<◌, ℕ, List, length, slice_get, Option, Some, None}
+-- What is found of all registers, their lines and their orders.
+use Rattle.std.specs.Prelude.{◌≡◌, ◌<◌, ℕ, List, length, slice_get, Option, Some, None, Vec}
+use Rattle.std.specs.Global.{Global}
 use Rattle.history_model.specs.History.{History}
 use Rattle.history_model.specs.Legal.{IsAtomic}
+use Rattle.reg_pieces.specs.Judged.{IsJudged}
 use Rattle.reg_zones.specs.declared.placed.Placed.{Placed}
-use Rattle.reg_report.specs.Meaning.{IsRegisterReport}
-use Rattle.reg_report.specs.Merged.{AreFirstOrders}
+use Rattle.reg_report.specs.Levels.{AreLevels}
+use Rattle.reg_report.specs.Meaning.{IsRegisterReport, calls_of}
+use Rattle.reg_report.specs.Merged.{AreGathered}
+use Rattle.reg_report.specs.Tally.{IsTally}
 use Rattle.history_model.specs.Operations.{register_of}
-use Rattle.reg_report.specs.declared.history.Reported.{Reported}
+use Rattle.reg_report.specs.declared.findings.Finding.{Finding}
 use Rattle.reg_report.specs.declared.report.RegReport.{RegReport}
+
+-- what is found of a register is so
+pub record IsFinding (h : History) (finding : Finding) : Type 0 where
+  pub inside : finding.register.0 < length h.names
+  pub judged : IsJudged (register_of h finding.register.0) finding.judged
+  pub levels : AreLevels (register_of h finding.register.0) finding.levels
+  pub tally : IsTally (calls_of h finding.register.0) finding.tally
+
+-- what is found of the registers below n, by number
+pub record AreFirstFindings (h : History) (n : ℕ) (findings : List Finding) : Type 0 where
+  pub count : length findings ≡ n
+  pub each : (r : ℕ) (finding : Finding) → slice_get findings r ≡ Some finding → (finding.register.0 ≡ r) × IsFinding h finding
+
+-- what is found of all registers
+abbrev pub AreFindings : History → List Finding → Type 0
+AreFindings h findings = AreFirstFindings h (length h.names) findings
 
 -- the lines of the registers below n
 pub record AreFirstLines (h : History) (n : ℕ) (regs : List RegReport) : Type 0 where
   pub lines : length regs ≡ n
   pub each : (r : ℕ) (reg : RegReport) → slice_get regs r ≡ Some reg → IsRegisterReport h r reg
 
--- the canonical orders of the registers below n, or one of these isn't atomic
-abbrev pub AreOrdersSoFar : History → ℕ → Option (List (List Placed)) → Type 0
-AreOrdersSoFar h n (Some orders) = AreFirstOrders h n orders
-AreOrdersSoFar h n None = (r : ℕ) × (r < n) × (IsAtomic (register_of h r) → ⊥)
+-- the lines of all registers
+abbrev pub AreLines : History → List RegReport → Type 0
+AreLines h regs = AreFirstLines h (length h.names) regs
 
--- the lines and the orders of all registers
-pub record AreReported (h : History) (reported : Reported) : Type 0 where
-  pub lines : AreFirstLines h (length h.names) reported.regs
-  pub orders : AreOrdersSoFar h (length h.names) reported.orders
+-- the canonical orders of the registers below n, one behind the other, or one of these isn't atomic
+abbrev pub AreOrdersSoFar : History → ℕ → Option (Vec Placed Global) → Type 0
+AreOrdersSoFar h n (Some orders) = AreGathered h n orders.items
+AreOrdersSoFar h n None = (r : ℕ) × (r < n) × (IsAtomic (register_of h r) → ⊥)

@@ -4,9 +4,11 @@ ghost use Rattle.history_text.specs.declared.limits.TheConstants.{MAX_INPUT};
 ghost use Rattle.reg_report.specs.Answer.{IsAnswer, IsRefused};
 ghost use Rattle.reg_report.specs.Meaning.{IsReport};
 
+use crate::findings::findings;
 use crate::history::history_report;
 use crate::refusal::Refusal;
 use crate::report::Report;
+use crate::tally::count_calls;
 use history_text::{MAX_INPUT, read_lines_alone};
 use reg_arena::Arena;
 use reg_pieces::{Settings, do_pieces_alone, plan};
@@ -18,7 +20,9 @@ fn report_alone(alloc: Global, arena: &Arena) -> Result<Report, AllocError>
 {
     let plan = plan(alloc, arena, Settings::alone())?;
     let pieces = do_pieces_alone(alloc, arena, &plan)?;
-    history_report(alloc, arena, &plan, pieces)
+    let tallies = count_calls(alloc, arena)?;
+    let findings = findings(alloc, arena, &plan, pieces, &tallies)?;
+    history_report(alloc, arena, &findings)
 }
 
 /// The report of the history in the input, the same as [`check`](crate::check) gives. It takes no right to start threads

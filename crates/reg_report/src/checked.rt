@@ -1,19 +1,66 @@
 //! From the bytes of a history to its report.
-ghost use Rattle.std.specs.Prelude.{◌≡◌, ◌<◌, length, Ok, Err, IfOk, IfErr};
+ghost use Rattle.std.specs.Prelude.{◌≡◌, ◌<◌, false, true, length, Ok, Err, IfOk, IfErr};
+ghost use Rattle.std.specs.Thread.{IsSync};
+ghost use Rattle.reg_pieces.specs.Plan.{IsPlan};
+ghost use Rattle.reg_pieces.specs.Slots.{AreDone};
 ghost use Rattle.reg_report.specs.Answer.{IsAnswer, IsRefused};
-ghost use Rattle.reg_report.specs.First.{IsReportBy};
+ghost use Rattle.reg_report.specs.First.{IsFirstReport, IsReportBy};
+ghost use Rattle.reg_report.specs.Registers.{AreFindings};
+ghost use Rattle.reg_report.specs.Tally.{AreTallies};
 
+use crate::findings::{Finding, findings};
 use crate::first::first_report;
-use crate::history::history_report;
+use crate::history::history_report_in_parts;
 use crate::reading::read_arena;
 use crate::refusal::Refusal;
 use crate::report::Report;
+use crate::tally::{Tally, count_calls};
 use history_text::MAX_INPUT;
 use reg_arena::Arena;
-use reg_pieces::{Gate, Settings, do_pieces, first_faulty, plan};
+use reg_pieces::{Gate, Pieces, Settings, do_pieces, first_faulty, plan};
 use std::alloc::{AllocError, Global};
 use std::random::RandomSource;
-use std::thread::Threads;
+use std::thread::{Threads, join};
+
+/// What is found of all registers: workers do the pieces of the plan, and meanwhile another thread counts the calls.
+fn find<R: Threads + Sync, G: Gate + Sync>(
+    rt: &R,
+    alloc: Global,
+    arena: &Arena,
+    settings: Settings,
+    gate: &G,
+) -> Result<Vec<Finding>, AllocError>
+    requires { settings.first ≡ false }
+    ensures { IfOk result (λ findings. AreFindings arena.now findings.items) }
+{
+    let plan = plan(alloc, arena, settings)?;
+    let (tallies, pieces) = join(
+        rt,
+        || -> Result<Vec<Tally>, AllocError>
+            ensures { IfOk result (λ tallies. AreTallies arena.entry.now tallies.items) }
+        { count_calls(alloc, arena) },
+        || -> Result<Pieces, AllocError>
+            requires { IsSync R.row × IsPlan arena.now settings.cut plan }
+            ensures { IfOk result (AreDone arena.entry.now plan.tasks) }
+        { do_pieces(rt, alloc, arena, &plan, settings, gate) },
+    );
+    findings(alloc, arena, &plan, pieces?, &tallies?)
+}
+/// The report of the first register that isn't atomic.
+fn report_of_first<R: Threads + Sync, G: Gate + Sync>(
+    rt: &R,
+    alloc: Global,
+    arena: &Arena,
+    settings: Settings,
+    gate: &G,
+) -> Result<Report, AllocError>
+    requires { settings.first ≡ true }
+    ensures { IfOk result (IsFirstReport arena.now) }
+{
+    let plan = plan(alloc, arena, settings)?;
+    let found = first_faulty(rt, alloc, arena, &plan, settings, gate)?;
+    first_report(alloc, arena, found)
+}
 
 /// The report of an accepted history that the settings ask for.
 fn report_by<R: Threads + Sync, G: Gate + Sync>(
@@ -25,13 +72,11 @@ fn report_by<R: Threads + Sync, G: Gate + Sync>(
 ) -> Result<Report, AllocError>
     ensures { IfOk result (IsReportBy settings.first arena.now) }
 {
-    let plan = plan(alloc, arena, settings)?;
     if settings.first() {
-        let found = first_faulty(rt, alloc, arena, &plan, settings, gate)?;
-        first_report(alloc, arena, found)
+        report_of_first(rt, alloc, arena, settings, gate)
     } else {
-        let pieces = do_pieces(rt, alloc, arena, &plan, settings, gate)?;
-        history_report(alloc, arena, &plan, pieces)
+        let findings = find(rt, alloc, arena, settings, gate)?;
+        history_report_in_parts(rt, alloc, arena, &findings)
     }
 }
 

@@ -6,6 +6,7 @@ ghost use Rattle.reg_report.specs.First.{AreFoundLines, IsFirstReport};
 ghost use Rattle.reg_report.specs.Levels.{AreLevels};
 ghost use Rattle.reg_report.specs.Meaning.{IsRegisterReport};
 
+use crate::findings::Finding;
 use crate::history::count_operations;
 use crate::levels::{Levels, listed_levels, several_writers};
 use crate::lists::Registers;
@@ -40,7 +41,13 @@ fn whole_line(alloc: Global, arena: &Arena, register: RegId) -> Result<RegReport
     let tallies = count_calls(alloc, arena)?;
     let judged = judge(alloc, arena, register)?;
     let tally = tallies[register.0 as usize];
-    register_report(alloc, arena, register, &judged, levels, tally)
+    let finding = Finding {
+        register,
+        judged,
+        levels,
+        tally,
+    };
+    register_report(alloc, arena, &finding)
 }
 
 /// The line of the register found, if any.

@@ -1,9 +1,7 @@
 //! Lists that contracts see as such.
-ghost use Rattle.std.specs.Prelude.{◌≡◌, [], ◌∷◌, ◌++◌, IfOk};
+ghost use Rattle.std.specs.Prelude.{◌≡◌};
 
 use crate::report::RegReport;
-use reg_pieces::Order;
-use std::alloc::AllocError;
 use std::marker::Model;
 
 /// Operations in an order, by the lines of their calls; contracts see it as their list.
@@ -33,44 +31,6 @@ impl Lines {
         ensures { result.now ≡ self.now }
     {
         self.lines.as_slice()
-    }
-}
-
-/// The canonical orders of the registers, by number; contracts see it as their list.
-#[derive(Drop)]
-pub(crate) struct Orders {
-    orders: Vec<Order>,
-}
-
-impl Model for Orders {
-    ghost use Rattle.std.specs.Prelude.{List};
-    ghost use Rattle.reg_zones.specs.declared.placed.Placed.{Placed};
-
-    ghost Value = { List (List Placed) };
-
-    ghost view = { λ a. a.orders.items };
-}
-
-impl Orders {
-    pub(crate) fn new(orders: Vec<Order>) -> Orders
-        ensures { result ≡ orders.items }
-    {
-        Orders { orders }
-    }
-
-    /// The same with one more.
-    pub(crate) fn with(self, order: Order) -> Result<Orders, AllocError>
-        ensures { IfOk result (λ orders. orders ≡ self ++ order ∷ []) }
-    {
-        let mut orders = self.orders;
-        orders.push(order)?;
-        Ok(Orders { orders })
-    }
-
-    pub(crate) fn as_slice(&self) -> &[Order]
-        ensures { result.now ≡ self.now }
-    {
-        self.orders.as_slice()
     }
 }
 

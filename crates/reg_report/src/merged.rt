@@ -1,9 +1,9 @@
 //! The merged order of a history whose registers are atomic.
-ghost use Rattle.std.specs.Prelude.{◌≡◌, IfOk, OnOk, IsPermutation};
+ghost use Rattle.std.specs.Prelude.{◌≡◌, length, IfOk, OnOk, IsPermutation};
 ghost use Rattle.std.specs.List.{flat_map};
 ghost use Rattle.std.specs.List.Sorted.{IsNonDecreasingBy, IsStableByKey};
 ghost use Rattle.std.specs.Ordering.{nat_cmp};
-ghost use Rattle.reg_report.specs.Merged.{AreOrders, IsMergedAnswer};
+ghost use Rattle.reg_report.specs.Merged.{AreGathered, AreOrders, IsMergedAnswer};
 
 use crate::told::told;
 use reg_arena::Arena;
@@ -17,13 +17,21 @@ pub fn merge(alloc: Global, arena: &Arena, orders: &[Order]) -> Result<Vec<Place
     requires { AreOrders arena.now orders.now }
     ensures { IfOk result (λ v. IsMergedAnswer arena.now v.items) }
 {
+    ranked(arena, gathered(alloc, orders)?)
+}
+
+/// The merged order, from the orders of all registers, one behind the other.
+pub(crate) fn ranked(arena: &Arena, orders: Vec<Placed>) -> Result<Vec<Placed>, AllocError>
+    requires { AreGathered arena.now (length arena.now.names) orders.items }
+    ensures { IfOk result (λ v. IsMergedAnswer arena.now v.items) }
+{
     told(arena);
-    let mut merged = gathered(alloc, orders)?;
+    let mut merged = orders;
     rank(&mut merged)?;
     Ok(merged)
 }
 
-/// The operations of all orders, one order after another.
+/// The operations of all orders, one order behind the other.
 fn gathered(alloc: Global, orders: &[Order]) -> Result<Vec<Placed>, AllocError>
     ensures { IfOk result (λ v. v.items ≡ flat_map (λ order. order) orders.now) }
 {

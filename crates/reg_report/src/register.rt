@@ -1,23 +1,23 @@
 //! The line of one register.
-ghost use Rattle.std.specs.Prelude.{◌<◌, length, false, IfOk};
+ghost use Rattle.std.specs.Prelude.{false, IfOk};
 ghost use Rattle.reg_pieces.specs.Judged.{IsJudged};
 ghost use Rattle.reg_report.specs.Atomicity.{IsAtomicityShown};
 ghost use Rattle.history_model.specs.Lamport.{HasSingleWriter};
 ghost use Rattle.reg_lamport.specs.declared.level.Level.TheVariants.{Regular};
 ghost use Rattle.reg_zones.specs.Faults.{IsFault};
 ghost use Rattle.reg_zones.specs.Inversions.{IsRegular};
-ghost use Rattle.reg_report.specs.Levels.{AreLevels, IsLevelAnswer};
-ghost use Rattle.reg_report.specs.Meaning.{IsInversionAnswer, IsRegisterReport, calls_of};
-ghost use Rattle.reg_report.specs.Tally.{IsTally};
+ghost use Rattle.reg_report.specs.Levels.{IsLevelAnswer};
+ghost use Rattle.reg_report.specs.Meaning.{IsInversionAnswer, IsRegisterReport};
+ghost use Rattle.reg_report.specs.Registers.{IsFinding};
 ghost use Rattle.reg_report.specs.declared.report.Verdict.TheVariants.{Yes};
 ghost use Rattle.history_model.specs.Operations.{register_of};
 
 use crate::fault_lines::{fault_lines, lines};
-use crate::levels::{LevelAnswer, Levels};
+use crate::findings::Finding;
+use crate::levels::LevelAnswer;
 use crate::lists::Lines;
 use crate::order_lines::{order_lines, point_lines};
 use crate::report::{FaultLines, RegReport, Verdict};
-use crate::tally::Tally;
 use crate::told::told;
 use history_model::RegId;
 use history_text::Name;
@@ -122,23 +122,23 @@ fn atomicity_of(
     }
 }
 
-/// The line of a register that was judged, or want of memory.
+/// The line of a register, from what is found of it, or want of memory.
 pub(crate) fn register_report(
     alloc: Global,
     arena: &Arena,
-    register: RegId,
-    judged: &Judgement,
-    levels: Levels,
-    tally: Tally,
+    finding: &Finding,
 ) -> Result<RegReport, AllocError>
-    requires register { register.0 < length arena.now.names }
-    requires judged { IsJudged (register_of arena.now register.0) judged.now }
-    requires levels { AreLevels (register_of arena.now register.0) levels }
-    requires tally { IsTally (calls_of arena.now register.0) tally }
-    ensures { IfOk result (IsRegisterReport arena.now register.0) }
+    requires { IsFinding arena.now finding.now }
+    ensures { IfOk result (IsRegisterReport arena.now finding.now.register.0) }
 {
-    let name = Name::new(alloc, arena.name(register))?;
-    let said = atomicity_of(alloc, arena, register, judged, levels.regular)?;
+    let Finding {
+        register,
+        judged,
+        levels,
+        tally,
+    } = finding;
+    let name = Name::new(alloc, arena.name(*register))?;
+    let said = atomicity_of(alloc, arena, *register, judged, levels.regular)?;
     Ok(RegReport {
         register: name,
         writes: tally.writes,

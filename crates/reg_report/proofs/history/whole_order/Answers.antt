@@ -8,7 +8,7 @@ pub order_lines-requires : goal.order_lines-requires
 order_lines-requires c = subst (HaveCalls c.args.arena.now) (sym c.deref.ensures.value) (merged-calls c.args.arena.now c.told.ensures c.in_ok-merged-in-Some.merged.items c.in_ok-merged-in-Some.ensures)
 
 pub returns-in-None : goal.returns-in-None
-returns-in-None c = let h = c.args.arena.now in whole-not-atomic h c.told.ensures (length h.names) (subst (AreOrdersSoFar h (length h.names)) c.in-None.is c.requires)
+returns-in-None c = let h = c.args.arena.now in whole-not-atomic h c.told.ensures (length h.names) (subst (AreOrdersSoFar h (length h.names)) c.in-None.is c.in_ok-orders_of.ensures)
 
 pub returns-in_ok-order_lines-in-Some : goal.returns-in_ok-order_lines-in-Some
 returns-in_ok-order_lines-in-Some c =

@@ -1,7 +1,7 @@
 use Rattle.std.proofs.Common.{◌<◌, sym, subst, arith}
 use Rattle.reg_report.proofs.Assembly.{inside-tasks, judged-stands, judged-there, cuts-there, next-there}
 use Rattle.reg_report.proofs.Cutting.{done-behind}
-use Rattle.reg_report.proofs.history.register_pieces.Goals as goal
+use Rattle.reg_report.proofs.findings.register_pieces.Goals as goal
 
 pub take_judged-judged-requires : goal.take_judged-judged-requires
 take_judged-judged-requires c =

@@ -1,0 +1,77 @@
+//! What is found of each register, from which its line and the merged order are made.
+ghost use Rattle.std.specs.Prelude.{◌≡◌, ◌+◌, ◌<◌, ℕ, length, IfOk};
+ghost use Rattle.history_model.specs.Operations.{register_of};
+ghost use Rattle.reg_pieces.specs.Judged.{IsJudged};
+ghost use Rattle.reg_pieces.specs.Plan.{IsPlan};
+ghost use Rattle.reg_pieces.specs.Slots.{AreDone, AreDoneFrom};
+ghost use Rattle.reg_report.specs.Cuts.{HasTasks};
+ghost use Rattle.reg_report.specs.Levels.{AreLevels};
+ghost use Rattle.reg_report.specs.Registers.{AreFindings};
+ghost use Rattle.reg_report.specs.Tally.{AreTallies};
+
+use crate::levels::{Levels, levels_of};
+use crate::tally::Tally;
+use history_model::RegId;
+use reg_arena::Arena;
+use reg_pieces::{Judgement, Pieces, Plan};
+use std::alloc::{AllocError, Global};
+
+/// What is found of one register: all that its line says.
+#[derive(Drop)]
+pub(crate) struct Finding {
+    pub(crate) register: RegId,
+    pub(crate) judged: Judgement,
+    pub(crate) levels: Levels,
+    pub(crate) tally: Tally,
+}
+
+/// The order or the fault of one register, its levels, and the number after its pieces, which stand from `start` on.
+fn register_pieces(
+    arena: &Arena,
+    plan: &Plan,
+    register: RegId,
+    pieces: &mut Pieces,
+    start: usize,
+) -> (Judgement, Levels, usize)
+    requires register { register.0 < length arena.now.names }
+    requires plan { (cut : ℕ) × IsPlan arena.now cut plan.now }
+    requires done { AreDoneFrom start arena.now plan.now.tasks pieces.old }
+    requires tasks { HasTasks register.0 start plan.now }
+    ensures judged { IsJudged (register_of arena.now register.0) result.0 }
+    ensures levels { AreLevels (register_of arena.now register.0) result.1 }
+    ensures tasks { HasTasks (register.0 + 1) result.2 plan.now }
+    ensures done { AreDoneFrom result.2 arena.now plan.now.tasks pieces.new }
+{
+    let judged = pieces.take_judged(start);
+    let (levels, next) = levels_of(arena, plan, register, pieces, start + 1);
+    (judged, levels, next)
+}
+
+/// What is found of all registers, in the order of their first calls, from what is done for each piece of the plan.
+pub(crate) fn findings(
+    alloc: Global,
+    arena: &Arena,
+    plan: &Plan,
+    mut pieces: Pieces,
+    tallies: &[Tally],
+) -> Result<Vec<Finding>, AllocError>
+    requires plan { (cut : ℕ) × IsPlan arena.now cut plan.now }
+    requires done { AreDone arena.now plan.now.tasks pieces }
+    requires tallies { AreTallies arena.now tallies.now }
+    ensures { IfOk result (λ findings. AreFindings arena.now findings.items) }
+{
+    let mut findings = Vec::new(alloc);
+    let mut next = 0;
+    for number in 0..arena.register_count() {
+        let register = RegId(number);
+        let (judged, levels, after) = register_pieces(arena, plan, register, &mut pieces, next);
+        findings.push(Finding {
+            register,
+            judged,
+            levels,
+            tally: tallies[number as usize],
+        })?;
+        next = after;
+    }
+    Ok(findings)
+}
