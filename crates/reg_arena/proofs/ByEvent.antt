@@ -29,26 +29,26 @@ then_then f g None = refl
 then_then f g (Some a) = refl
 
 -- the number beside an event is that of its key
-pub number-of : (t : EventLists) → AreEventLists t → (i : ℕ) (o : Option ℕ) → i < length t.events.items → slice_get t.numbers.items i ≡ Some o → option_and_then (value_number t.values.keys) (key_at by_value t.events.items i) ≡ o
+pub number-of : (t : EventLists) → AreEventLists t → (i : ℕ) (o : Option ℕ) → i < length t.rows.events → slice_get t.rows.numbers i ≡ Some o → option_and_then (value_number t.values.keys) (key_at by_value t.rows.events i) ≡ o
 number-of t a i o l h =
-    let e = slice_get_inside t.events.items i l in
+    let e = slice_get_inside t.rows.events i l in
     let at = e.1 in
     let n = a.numbers i e.0 at in
     let q : option_and_then (value_number t.values.keys) (by_value e.0) ≡ o = cc (n, h) in
     ap (λ (x : Option Event). option_and_then (value_number t.values.keys) (option_and_then by_value x)) at ∙ q
 
-pub entry-of : (t : EventLists) → AreEventLists t → (i : ℕ) (o : Option ℕ) → i < length t.events.items → slice_get t.numbers.items i ≡ Some o → option_and_then (value_entry t.values.keys t.entries.items) (key_at by_value t.events.items i) ≡ option_and_then (slice_get t.entries.items) o
-entry-of t a i o l h = then_then (value_number t.values.keys) (slice_get t.entries.items) (key_at by_value t.events.items i) ∙ ap (option_and_then (slice_get t.entries.items)) (number-of t a i o l h)
+pub entry-of : (t : EventLists) → AreEventLists t → (i : ℕ) (o : Option ℕ) → i < length t.rows.events → slice_get t.rows.numbers i ≡ Some o → option_and_then (value_entry t.values.keys t.entries.items) (key_at by_value t.rows.events i) ≡ option_and_then (slice_get t.entries.items) o
+entry-of t a i o l h = then_then (value_number t.values.keys) (slice_get t.entries.items) (key_at by_value t.rows.events i) ∙ ap (option_and_then (slice_get t.entries.items)) (number-of t a i o l h)
 
-pub number-within : (t : EventLists) → AreEventLists t → (i n : ℕ) → i < length t.events.items → slice_get t.numbers.items i ≡ Some (Some n) → n < length t.entries.items
-number-within t a i n l h = go (key_at by_value t.events.items i) (number-of t a i (Some n) l h)
+pub number-within : (t : EventLists) → AreEventLists t → (i n : ℕ) → i < length t.rows.events → slice_get t.rows.numbers i ≡ Some (Some n) → n < length t.entries.items
+number-within t a i n l h = go (key_at by_value t.rows.events i) (number-of t a i (Some n) l h)
   where
     go : (k : Option (ℕ × Val)) → option_and_then (value_number t.values.keys) k ≡ Some n → n < length t.entries.items
     go None q = absurd (cc (q))
     go (Some k) q = let w = within-keys t.values.keys k n q in omega (arith, w, a.numbered)
 
 -- where no event has the register and value of an event, they have no number
-pub number-absent : (t : EventLists) → AreEventLists t → (e : Event) → IsAlike t.events.items e None → None ≡ event_number t.values.keys e
+pub number-absent : (t : EventLists) → AreEventLists t → (e : Event) → IsAlike t.rows.events e None → None ≡ event_number t.values.keys e
 number-absent t a e none = go (by_value e) refl
   where
     absent : (k : ℕ × Val) → by_value e ≡ Some k → (o : Option ℕ) → value_number t.values.keys k ≡ o → None ≡ o
@@ -79,18 +79,18 @@ pub alike-none : (es : List Event) (e : Event) → e.value ≡ None → IsAlike 
 alike-none es e q = λ k x. absurd (let z = key-none e q in cc (x, z))
 
 -- so is the last event with what a call asks for; a new register has no event
-pub alike-call : (t : EventLists) → AreEventLists t → (e : Event) (r : RegId) (number : Option ℕ) (o : Option EvId) → e.register ≡ Some r → r.0 ≡ unwrap_or number (length t.registers.items) → IsLastWith t.events.items number e.value o → IsAlike t.events.items e o
-alike-call t a e r None o reg q h = subst (IsAlike t.events.items e) (sym h) (λ k x i y. a.registers.none k.0 (slice_get_past t.registers.items k.0 (let z = number-of_key k x in omega (arith, z, q))) i (key-register t.events.items i k y))
+pub alike-call : (t : EventLists) → AreEventLists t → (e : Event) (r : RegId) (number : Option ℕ) (o : Option EvId) → e.register ≡ Some r → r.0 ≡ unwrap_or number (length t.registers.items) → IsLastWith t.rows.events number e.value o → IsAlike t.rows.events e o
+alike-call t a e r None o reg q h = subst (IsAlike t.rows.events e) (sym h) (λ k x i y. a.registers.none k.0 (slice_get_past t.registers.items k.0 (let z = number-of_key k x in omega (arith, z, q))) i (key-register t.rows.events i k y))
   where
     number-of_key : (k : ℕ × Val) → by_value e ≡ Some k → r.0 ≡ k.0
     number-of_key k x = let p = (key-parts e k x).0 in let w = ap (option_map {U = ℕ} (λ (r : RegId). r.0)) reg in let z : Some r.0 ≡ Some k.0 = sym w ∙ p in cc (z)
-alike-call t a e r (Some n) o reg q h = alike-last t.events.items e r o reg (λ v z. some v z h) (λ z. none z h)
+alike-call t a e r (Some n) o reg q h = alike-last t.rows.events e r o reg (λ v z. some v z h) (λ z. none z h)
   where
-    some : (v : Val) → e.value ≡ Some v → IsLastWith t.events.items (Some n) e.value o → IsLastOf by_value t.events.items (r.0, v) o
-    some v z h = subst (λ m. IsLastOf by_value t.events.items (m, v) o) (sym q) (subst (λ w. IsLastWith t.events.items (Some n) w o) z h)
+    some : (v : Val) → e.value ≡ Some v → IsLastWith t.rows.events (Some n) e.value o → IsLastOf by_value t.rows.events (r.0, v) o
+    some v z h = subst (λ m. IsLastOf by_value t.rows.events (m, v) o) (sym q) (subst (λ w. IsLastWith t.rows.events (Some n) w o) z h)
 
-    none : e.value ≡ None → IsLastWith t.events.items (Some n) e.value o → o ≡ None
-    none z h = subst (λ w. IsLastWith t.events.items (Some n) w o) z h
+    none : e.value ≡ None → IsLastWith t.rows.events (Some n) e.value o → o ≡ None
+    none z h = subst (λ w. IsLastWith t.rows.events (Some n) w o) z h
 
 -- an event of the same register and value
 pub alike-same : (es : List Event) (e f : Event) (j : EvId) (r : RegId) (v : Val) → slice_get es j.0 ≡ Some f → f.register ≡ Some r → f.value ≡ Some v → e.register ≡ Some r → e.value ≡ Some v → IsAlike es e (Some j)
@@ -104,14 +104,14 @@ call-begins (Reply kind) b h = absurd (false≢true h)
 call-begins (Fail kind) b h = refl
 call-begins Crash b h = refl
 
-pub kept-write : (t : EventLists) → AreEventLists t → (k : ℕ × Val) (y : Entry) → value_entry t.values.keys t.entries.items k ≡ Some y → IsKeptWrite t.events.items k (write_kept y.write)
+pub kept-write : (t : EventLists) → AreEventLists t → (k : ℕ × Val) (y : Entry) → value_entry t.values.keys t.entries.items k ≡ Some y → IsKeptWrite t.rows.events k (write_kept y.write)
 kept-write t a k y h = go y.write (a.entries k y h).write (a.entries k y h).kept
   where
     es : List Event
-    es = t.events.items
+    es = t.rows.events
 
     -- what the column of calls says of a write's call
-    begun : (id : EvId) (e : Event) (o : Option EvId) → key_at by_write es id.0 ≡ Some k → slice_get es id.0 ≡ Some e → item_at t.calls.items id.0 ≡ o → begins_at es id.0 e ≡ is_some o
+    begun : (id : EvId) (e : Event) (o : Option EvId) → key_at by_write es id.0 ≡ Some k → slice_get es id.0 ≡ Some e → item_at t.rows.calls id.0 ≡ o → begins_at es id.0 e ≡ is_some o
     begun id e o key at call =
         let is = write-call e k (sym (ap (option_and_then by_write) at) ∙ key) in
         let c = subst (IsCallOf es id.0 e) call (a.calls id.0 e at) in
@@ -121,7 +121,7 @@ kept-write t a k y h = go y.write (a.entries k y h).write (a.entries k y h).kept
         by_option None c = c
         by_option (Some x) c = c.0
 
-    go : (w : Write) → IsFirstOf by_write es k (write_called w) → ((id : EvId) → write_called w ≡ Some id → item_at t.calls.items id.0 ≡ write_kept w) → IsKeptWrite es k (write_kept w)
+    go : (w : Write) → IsFirstOf by_write es k (write_called w) → ((id : EvId) → write_called w ≡ Some id → item_at t.rows.calls id.0 ≡ write_kept w) → IsKeptWrite es k (write_kept w)
     go Unwritten first kept = λ id e f at. absurd (first id.0 (omega arith) f.1)
     go (Written w) first kept = (first, λ e at. begun w e (Some w) first.1 at (kept w refl))
     go (Failed w) first kept = λ id e f at.
@@ -129,17 +129,17 @@ kept-write t a k y h = go y.write (a.entries k y h).write (a.entries k y h).kept
           | inl q ↦ q
           | inr c ↦ elim c [ inl l ↦ absurd (f.2 w.0 (omega arith) l first.1) | inr g ↦ absurd (first.2 id.0 (omega arith) g f.1) ]
         ] in
-        begun id e None f.1 at (ap (item_at t.calls.items) (sym same) ∙ kept w refl)
+        begun id e None f.1 at (ap (item_at t.rows.calls) (sym same) ∙ kept w refl)
 
 -- a register and value without an entry have no write
-pub kept-none : (t : EventLists) → AreEventLists t → (k : ℕ × Val) → value_entry t.values.keys t.entries.items k ≡ None → IsKeptWrite t.events.items k None
-kept-none t a k h = λ w e f at. absurd (a.values.none k (ap (option_map (λ (y : Entry). y.ends)) h) w.0 (key-along by_write by_value t.events.items k (λ e. write-value e k) w.0 f.1))
+pub kept-none : (t : EventLists) → AreEventLists t → (k : ℕ × Val) → value_entry t.values.keys t.entries.items k ≡ None → IsKeptWrite t.rows.events k None
+kept-none t a k h = λ w e f at. absurd (a.values.none k (ap (option_map (λ (y : Entry). y.ends)) h) w.0 (key-along by_write by_value t.rows.events k (λ e. write-value e k) w.0 f.1))
 
 -- ---- the column of calls
 
 -- what stands in the column beside an event is the call of its operation
-pub call-beside : (t : EventLists) → AreEventLists t → (i : ℕ) (e : Event) (o : Option EvId) → slice_get t.events.items i ≡ Some e → slice_get t.calls.items i ≡ Some o → IsCallOf t.events.items i e o
-call-beside t a i e o at said = subst (IsCallOf t.events.items i e) (ap (option_and_then (λ (o : Option EvId). o)) said) (a.calls i e at)
+pub call-beside : (t : EventLists) → AreEventLists t → (i : ℕ) (e : Event) (o : Option EvId) → slice_get t.rows.events i ≡ Some e → slice_get t.rows.calls i ≡ Some o → IsCallOf t.rows.events i e o
+call-beside t a i e o at said = subst (IsCallOf t.rows.events i e) (ap (option_and_then (λ (o : Option EvId). o)) said) (a.calls i e at)
 
 -- an event without a call begins no operation
 pub begins-none : (es : List Event) (i : ℕ) (e : Event) → IsCallOf es i e None → false ≡ begins_at es i e

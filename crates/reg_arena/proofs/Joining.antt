@@ -1,9 +1,24 @@
--- How an event joins the list of its process, by the ends of the processes' lists, and how a list is left with an empty link at the end of its column.
-use Rattle.std.proofs.Common.{◌≡◌, ℕ, ◌<◌, List, [], ◌∷◌, ◌++◌, length, set, Option, Some, None, ap, subst, ◌∙◌}
+-- How an event joins the list of its process or its register, by the ends of the lists.
+use Rattle.std.proofs.Common.{◌≡◌, ℕ, ◌<◌, List, [], ◌∷◌, ◌++◌, length, set, slice_get, Option, Some, None, inl, inr, ap, sym, subst, ◌∙◌}
+use Rattle.std.proofs.lemmas.Bool.{cases_eq}
 use Rattle.reg_arena.specs.EventLists.{IsJoined, IsSetAt, item_at}
 use Rattle.reg_arena.specs.declared.list_ends.Ends.{Ends}
 use Rattle.history_model.specs.declared.ids.EvId.{EvId}
+use Rattle.history_model.proofs.Lists.{slice_get-push, slice_get-push_other, slice_get-set, slice_get-set_other}
 use Rattle.reg_arena.proofs.Columns.{item-push_none, item-written, item-written_other}
+
+-- the ends at one place of a table are written, or stand behind the others
+pub ends-set : (xs : List Ends) (k : ℕ) (e : Ends) → k < length xs → IsSetAt k e (slice_get xs) (slice_get (set xs k e))
+ends-set xs k e l = record {
+  one = slice_get-set xs k e l;
+  others = λ q. elim (cases_eq q k) [ inl h ↦ inl h | inr ne ↦ inr (ne, slice_get-set_other xs k q e ne) ];
+}
+
+pub ends-pushed : (xs : List Ends) (k : ℕ) (e : Ends) → k ≡ length xs → IsSetAt k e (slice_get xs) (slice_get (xs ++ e ∷ []))
+ends-pushed xs k e at = record {
+  one = ap (slice_get (xs ++ e ∷ [])) at ∙ slice_get-push xs e;
+  others = λ q. elim (cases_eq q k) [ inl h ↦ inl h | inr ne ↦ inr (ne, slice_get-push_other xs e q (λ h. ne (h ∙ sym at))) ];
+}
 
 module _ (links new_links : List (Option EvId)) (ends new_ends : ℕ → Option Ends) (p : ℕ) (id : EvId) where
   pub joined-known : (e : Ends) → ends p ≡ Some e → IsSetAt p (record { first = e.first; last = id }) ends new_ends → e.last.0 < length links → new_links ≡ set links e.last.0 (Some id) ++ None ∷ []
@@ -23,13 +38,3 @@ module _ (links new_links : List (Option EvId)) (ends new_ends : ℕ → Option 
     next = λ d some. absurd (cc (was, some));
     others = u.others;
   }
-
--- an empty link at the end changes no list
-pub joined-pushed : {K : Type 0} (k : K) (id : EvId) (links mid new_links : List (Option EvId)) (ends new_ends : K → Option Ends) → new_links ≡ mid ++ None ∷ [] → IsJoined k id (item_at links) (item_at mid) ends new_ends → IsJoined k id (item_at links) (item_at new_links) ends new_ends
-joined-pushed k id links mid new_links ends new_ends items j =
-    let same : (i : ℕ) → item_at new_links i ≡ item_at mid i = λ i. ap (λ (xs : List (Option EvId)). item_at xs i) items ∙ item-push_none mid i in
-    record {
-      fresh = λ none. let f = j.fresh none in (f.0, λ i. same i ∙ f.1 i);
-      next = λ d some. let f = j.next d some in (f.0, same d.last.0 ∙ f.1, λ i ne. same i ∙ f.2 i ne);
-      others = j.others;
-    }

@@ -1,4 +1,5 @@
 pub mod Columns
+pub mod RowWritten
 pub mod Threading
 pub mod Joining
 pub mod Keys

@@ -250,21 +250,21 @@ pub record HasTimes (y : Entry) : Type 0 where
 
 -- each of the three families is the filter of the one list of events, ascending
 pub record AreEventLists (t : EventLists) : Type 0 where
-  pub registers : IsThreaded (key_at by_register t.events.items) (item_at t.in_register.items) (slice_get t.registers.items)
-  pub processes : IsThreaded (key_at by_process t.events.items) (item_at t.in_process.items) (process_ends t.processes)
-  pub values : IsThreaded (key_at by_value t.events.items) (item_at t.in_value.items) (value_ends t.values.keys t.entries.items)
+  pub registers : IsThreaded (key_at by_register t.rows.events) (item_at t.rows.in_register) (slice_get t.registers.items)
+  pub processes : IsThreaded (key_at by_process t.rows.events) (item_at t.rows.in_process) (process_ends t.processes)
+  pub values : IsThreaded (key_at by_value t.rows.events) (item_at t.rows.in_value) (value_ends t.values.keys t.entries.items)
   -- each event's call
-  pub calls : (i : ℕ) (e : Event) → slice_get t.events.items i ≡ Some e → IsCallOf t.events.items i e (item_at t.calls.items i)
+  pub calls : (i : ℕ) (e : Event) → slice_get t.rows.events i ≡ Some e → IsCallOf t.rows.events i e (item_at t.rows.calls i)
   -- each value's entry, and the number of each event's
-  pub entries : (k : ℕ × Val) (y : Entry) → value_entry t.values.keys t.entries.items k ≡ Some y → IsEntry t.events.items t.calls.items k y
+  pub entries : (k : ℕ × Val) (y : Entry) → value_entry t.values.keys t.entries.items k ≡ Some y → IsEntry t.rows.events t.rows.calls k y
   pub numbered : length t.values.keys ≡ length t.entries.items
-  pub numbers : (i : ℕ) (e : Event) → slice_get t.events.items i ≡ Some e → slice_get t.numbers.items i ≡ Some (event_number t.values.keys e)
+  pub numbers : (i : ℕ) (e : Event) → slice_get t.rows.events i ≡ Some e → slice_get t.rows.numbers i ≡ Some (event_number t.values.keys e)
   -- the columns are as long as the list of events
-  pub register_column : length t.in_register.items ≡ length t.events.items
-  pub process_column : length t.in_process.items ≡ length t.events.items
-  pub value_column : length t.in_value.items ≡ length t.events.items
-  pub call_column : length t.calls.items ≡ length t.events.items
-  pub number_column : length t.numbers.items ≡ length t.events.items
-  pub known : length t.registers.items ≤ length t.events.items
-  pub few : length t.entries.items ≤ length t.events.items
-  pub room : length t.events.items ≤ MAX_EVENTS
+  pub register_column : length t.rows.in_register ≡ length t.rows.events
+  pub process_column : length t.rows.in_process ≡ length t.rows.events
+  pub value_column : length t.rows.in_value ≡ length t.rows.events
+  pub call_column : length t.rows.calls ≡ length t.rows.events
+  pub number_column : length t.rows.numbers ≡ length t.rows.events
+  pub known : length t.registers.items ≤ length t.rows.events
+  pub few : length t.entries.items ≤ length t.rows.events
+  pub room : length t.rows.events ≤ MAX_EVENTS

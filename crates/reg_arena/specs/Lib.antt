@@ -1,4 +1,5 @@
 pub mod Optional
+pub mod Rows
 pub mod EventLists
 pub mod Step
 pub mod Built

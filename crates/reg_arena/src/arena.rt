@@ -29,9 +29,9 @@ impl Model for Arena {
 
     ghost Value = { History };
 
-    ghost view = { λ a. record { names = a.names; events = a.lists.events.items } };
+    ghost view = { λ a. record { names = a.names; events = a.lists.rows.events } };
 
-    ghost invariant = { λ a. AreEventLists a.lists × (length a.names ≡ length a.lists.registers.items) × IsRecorded (record { names = a.names; events = a.lists.events.items }) };
+    ghost invariant = { λ a. AreEventLists a.lists × (length a.names ≡ length a.lists.registers.items) × IsRecorded (record { names = a.names; events = a.lists.rows.events }) };
 }
 
 impl Arena {
@@ -41,7 +41,7 @@ impl Arena {
         ensures bound { result ≤ MAX_EVENTS }
         ensures recorded { IsRecorded self.now }
     {
-        self.lists.events.len() as u32
+        self.lists.rows.len() as u32
     }
 
     /// How many registers there are: no more than events.
@@ -67,7 +67,7 @@ impl Arena {
         ensures at { slice_get self.now.events id.0 ≡ Some result }
         ensures bound { length self.now.events ≤ MAX_EVENTS }
     {
-        self.lists.events[id.0 as usize]
+        self.lists.rows.event(id)
     }
 
     /// The operation of this name, with its times.
@@ -94,7 +94,7 @@ impl Arena {
         requires { id.0 < length self.now.events }
         ensures { IsOperOf self.now id.0 result }
     {
-        match self.lists.calls[id.0 as usize].get() {
+        match self.lists.rows.call(id) {
             Some(call) => Some(Oper::Called(call)),
             None => None,
         }
@@ -105,7 +105,7 @@ impl Arena {
         requires { id.0 < length self.now.events }
         ensures { (e : AnEvent) → slice_get self.now.events id.0 ≡ Some e → result ≡ begins_at self.now.events id.0 e }
     {
-        match self.lists.calls[id.0 as usize].get() {
+        match self.lists.rows.call(id) {
             Some(call) => call.0 == id.0,
             None => false,
         }
@@ -141,7 +141,7 @@ impl Arena {
         ensures next { IsNextOf by_register self.now.events id.0 result }
         ensures none { key_at by_register self.now.events id.0 ≡ None → result ≡ None }
     {
-        self.lists.in_register[id.0 as usize].get()
+        self.lists.rows.next_in_register(id)
     }
 
     /// The first event of a process.
@@ -159,7 +159,7 @@ impl Arena {
         requires { id.0 < length self.now.events }
         ensures { IsNextOf by_process self.now.events id.0 result }
     {
-        self.lists.in_process[id.0 as usize].get()
+        self.lists.rows.next_in_process(id)
     }
 
     /// The first event of a register with a value. A read's call, a failed read's fail and a crash have none.
@@ -178,7 +178,7 @@ impl Arena {
         ensures next { IsNextOf by_value self.now.events id.0 result }
         ensures none { key_at by_value self.now.events id.0 ≡ None → result ≡ None }
     {
-        self.lists.in_value[id.0 as usize].get()
+        self.lists.rows.next_in_value(id)
     }
 
     /// The write of a value to a register, which didn't fail: of `Null` the initial write.

@@ -314,7 +314,7 @@ impl Arena {
     fn too_many(&self, event: &LineEvent) -> Option<LineRefusal>
         ensures { result ≡ cond (nat_le MAX_EVENTS (length self.now.events)) (Some (record { line = event.now.line; reason = TooMany })) None }
     {
-        if self.lists.events.len() >= MAX_EVENTS {
+        if self.lists.rows.len() >= MAX_EVENTS {
             Some(refused(event.line, Reason::TooMany))
         } else {
             None
@@ -360,7 +360,7 @@ impl Arena {
         ensures { OnOkAfter self.old event.now (step_result self.new result) }
     {
         let count = self.names.len() as u32;
-        let id = EvId(self.lists.events.len() as u32);
+        let id = EvId(self.lists.rows.len() as u32);
         let event = Event {
             line: event.line,
             process: event.process,
@@ -456,7 +456,7 @@ impl Arena {
         requires taken { IsTaken self.old event.now }
         ensures { OnOkAfter self.old event.now (step_result self.new result) }
     {
-        let id = EvId(self.lists.events.len() as u32);
+        let id = EvId(self.lists.rows.len() as u32);
         let event = Event {
             line: event.line,
             process: event.process,
@@ -478,7 +478,7 @@ impl Arena {
 fn forget(names: &mut Names, lists: &mut EventLists)
     ensures names { names.new ≡ [] }
     ensures lists { AreEventLists lists.new }
-    ensures events { lists.new.events.items ≡ [] }
+    ensures events { lists.new.rows.events ≡ [] }
     ensures registers { lists.new.registers.items ≡ [] }
 {
     names.clear();

@@ -28,11 +28,11 @@ impl EventLists {
     /// The number of the entry of an event's register and value, of which `alike` is an event.
     pub(crate) fn number_of(&self, alike: Option<EvId>) -> Option<u32>
         requires lists { AreEventLists self.now }
-        requires within { (j : AnEvId) → alike ≡ Some j → j.0 < length self.now.events.items }
-        ensures { (e : AnEvent) → IsAlike self.now.events.items e alike → result ≡ event_number self.now.values.keys e }
+        requires within { (j : AnEvId) → alike ≡ Some j → j.0 < length self.now.rows.events }
+        ensures { (e : AnEvent) → IsAlike self.now.rows.events e alike → result ≡ event_number self.now.values.keys e }
     {
         match alike {
-            Some(id) => self.numbers[id.0 as usize].get(),
+            Some(id) => self.rows.number(id),
             None => None,
         }
     }
@@ -40,10 +40,10 @@ impl EventLists {
     /// The entry of an event's register and value.
     pub(crate) fn entry_of(&self, id: EvId) -> Option<Entry>
         requires lists { AreEventLists self.now }
-        requires within { id.0 < length self.now.events.items }
-        ensures { result ≡ option_and_then (value_entry self.now.values.keys self.now.entries.items) (key_at by_value self.now.events.items id.0) }
+        requires within { id.0 < length self.now.rows.events }
+        ensures { result ≡ option_and_then (value_entry self.now.values.keys self.now.entries.items) (key_at by_value self.now.rows.events id.0) }
     {
-        match self.numbers[id.0 as usize].get() {
+        match self.rows.number(id) {
             Some(number) => Some(self.entries[number as usize]),
             None => None,
         }
@@ -52,7 +52,7 @@ impl EventLists {
     /// The call of the write of a value to a register, if it didn't fail.
     pub(crate) fn write(&self, register: RegId, value: Val) -> Option<EvId>
         requires { AreEventLists self.now }
-        ensures { IsKeptWrite self.now.events.items (register.0, value) result }
+        ensures { IsKeptWrite self.now.rows.events (register.0, value) result }
     {
         match self.entry(register, value) {
             Some(entry) => entry.write.kept(),
@@ -63,8 +63,8 @@ impl EventLists {
     /// The call of the write of an event's value to its register, if it didn't fail.
     pub(crate) fn write_of_event(&self, id: EvId) -> Option<EvId>
         requires lists { AreEventLists self.now }
-        requires within { id.0 < length self.now.events.items }
-        ensures { (k : ℕ × AVal) → key_at by_value self.now.events.items id.0 ≡ Some k → IsKeptWrite self.now.events.items k result }
+        requires within { id.0 < length self.now.rows.events }
+        ensures { (k : ℕ × AVal) → key_at by_value self.now.rows.events id.0 ≡ Some k → IsKeptWrite self.now.rows.events k result }
     {
         match self.entry_of(id) {
             Some(entry) => entry.write.kept(),
@@ -75,8 +75,8 @@ impl EventLists {
     /// The call that wrote an event's value to its register, failed or not.
     pub(crate) fn written_by(&self, id: EvId) -> Option<EvId>
         requires lists { AreEventLists self.now }
-        requires within { id.0 < length self.now.events.items }
-        ensures { (k : ℕ × AVal) → key_at by_value self.now.events.items id.0 ≡ Some k → IsFirstOf by_write self.now.events.items k result }
+        requires within { id.0 < length self.now.rows.events }
+        ensures { (k : ℕ × AVal) → key_at by_value self.now.rows.events id.0 ≡ Some k → IsFirstOf by_write self.now.rows.events k result }
     {
         match self.entry_of(id) {
             Some(entry) => entry.write.called(),
@@ -87,7 +87,7 @@ impl EventLists {
     /// The last event of a register and value.
     pub(crate) fn last_of_value(&self, register: RegId, value: Option<Val>) -> Option<EvId>
         requires { AreEventLists self.now }
-        ensures last { (v : AVal) → value ≡ Some v → IsLastOf by_value self.now.events.items (register.0, v) result }
+        ensures last { (v : AVal) → value ≡ Some v → IsLastOf by_value self.now.rows.events (register.0, v) result }
         ensures none { value ≡ None → result ≡ None }
     {
         match value {
@@ -102,7 +102,7 @@ impl EventLists {
     /// The last event of a process.
     pub(crate) fn last_of_process(&self, process: u32) -> Option<EvId>
         requires { AreEventLists self.now }
-        ensures { IsLastOf by_process self.now.events.items process result }
+        ensures { IsLastOf by_process self.now.rows.events process result }
     {
         match self.processes.get(process) {
             Some(ends) => Some(ends.last),

@@ -1,32 +1,25 @@
-//! Events in one list, and beside it the links of three families of lists: of each register, of each process, and of each register and value.
-ghost use Rattle.std.specs.Prelude.{◌≡◌, ◌≢◌, ◌<◌, ◌≤◌, ◌+◌, ◌++◌, ◌∷◌, [], true, length, max, OnOk, IfOk};
+//! Events in one list, each with its links in three families of lists: of each register, of each process, and of each register and value.
+ghost use Rattle.std.specs.Prelude.{◌≡◌, ◌≢◌, ◌<◌, ◌≤◌, ◌+◌, ◌++◌, ◌∷◌, [], true, length, max, OnOk, IfOk, IfSome};
 ghost use Rattle.history_text.specs.declared.limits.TheConstants.{MAX_EVENTS};
 ghost use Rattle.reg_arena.specs.EventLists.{AreEventLists, IsAlike, IsAppendable, calls_with, end_of};
 ghost use Rattle.history_model.specs.Operations.{is_a_fail, number_in};
 ghost use Rattle.history_model.specs.declared.event.What.TheVariants.{Crash};
+ghost use Rattle.reg_arena.specs.Rows.{with_calls};
 ghost use Rattle.reg_arena.specs.declared.optional.TheConstants.{NO_NUMBER};
 
 use crate::joins::{join_process, join_register, join_value};
 use crate::list_ends::{Ends, Entry};
-use crate::optional::{OptionalEvent, OptionalNumber};
 use crate::processes::Processes;
+use crate::rows::Rows;
 use crate::seeded::Seeded;
 use history_model::{EvId, Event, What};
 use indexmap::IndexSet;
 use std::alloc::{AllocError, Global};
 
-/// The events of a history in their order; each column beside them has one item an event.
+/// The events of a history in their order, with their links, and the ends of their lists.
 #[derive(Drop)]
 pub(crate) struct EventLists {
-    pub(crate) events: Vec<Event>,
-    /// The call of the operation that each event belongs to.
-    pub(crate) calls: Vec<OptionalEvent>,
-    /// The next event of the same register, of the same process, and of the same register and value.
-    pub(crate) in_register: Vec<OptionalEvent>,
-    pub(crate) in_process: Vec<OptionalEvent>,
-    pub(crate) in_value: Vec<OptionalEvent>,
-    /// The number of the entry of the event's register and value.
-    pub(crate) numbers: Vec<OptionalNumber>,
+    pub(crate) rows: Rows,
     pub(crate) registers: Vec<Ends>,
     pub(crate) processes: Processes,
     /// The registers and values that events have; the place of each is the number of its entry.
@@ -38,16 +31,11 @@ impl EventLists {
     /// No events, with room for as many as `count`.
     pub(crate) fn new(alloc: Global, count: usize, hasher: Seeded) -> Result<Self, AllocError>
         ensures lists { IfOk result AreEventLists }
-        ensures none { IfOk result (λ t. t.events.items ≡ []) }
+        ensures none { IfOk result (λ t. t.rows.events ≡ []) }
         ensures registers { IfOk result (λ t. t.registers.items ≡ []) }
     {
         Ok(EventLists {
-            events: Vec::with_capacity(alloc, count)?,
-            calls: Vec::with_capacity(alloc, count)?,
-            in_register: Vec::with_capacity(alloc, count)?,
-            in_process: Vec::with_capacity(alloc, count)?,
-            in_value: Vec::with_capacity(alloc, count)?,
-            numbers: Vec::with_capacity(alloc, count)?,
+            rows: Rows::with_capacity(alloc, count)?,
             registers: Vec::new(alloc),
             processes: Processes::new(alloc, count, hasher),
             values: IndexSet::with_hasher(alloc, hasher),
@@ -58,15 +46,10 @@ impl EventLists {
     /// Forgets all events.
     pub(crate) fn clear(&mut self)
         ensures lists { AreEventLists self.new }
-        ensures none { self.new.events.items ≡ [] }
+        ensures none { self.new.rows.events ≡ [] }
         ensures registers { self.new.registers.items ≡ [] }
     {
-        self.events.clear();
-        self.calls.clear();
-        self.in_register.clear();
-        self.in_process.clear();
-        self.in_value.clear();
-        self.numbers.clear();
+        self.rows.clear();
         self.registers.clear();
         self.processes.clear();
         self.values.clear();
@@ -84,24 +67,19 @@ impl EventLists {
     ) -> Result<(), AllocError>
         requires lists { AreEventLists self.old }
         requires register { number_in event.register ≤ length self.old.registers.items }
-        requires room { length self.old.events.items < MAX_EVENTS }
-        requires call { IsAppendable self.old.events.items event call }
-        requires alike { IsAlike self.old.events.items event alike }
+        requires room { length self.old.rows.events < MAX_EVENTS }
+        requires call { IsAppendable self.old.rows.events event call }
+        requires alike { IsAlike self.old.rows.events event alike }
         ensures lists { OnOk result (AreEventLists self.new) }
         ensures registers { OnOk result (length self.new.registers.items ≡ max (length self.old.registers.items) (end_of event.register)) }
-        ensures events { OnOk result (self.new.events.items ≡ self.old.events.items ++ event ∷ []) }
+        ensures events { OnOk result (self.new.rows.events ≡ self.old.rows.events ++ event ∷ []) }
     {
-        let id = EvId(self.events.len() as u32);
+        let id = EvId(self.rows.len() as u32);
         let found = self.number_of(alike);
-        join_register(
-            &mut self.in_register,
-            &mut self.registers,
-            event.register,
-            id,
-        )?;
-        join_process(&mut self.in_process, &mut self.processes, event.process, id)?;
+        join_register(&mut self.rows, &mut self.registers, event.register, id)?;
+        join_process(&mut self.rows, &mut self.processes, event.process, id)?;
         let number = join_value(
-            &mut self.in_value,
+            &mut self.rows,
             &mut self.values,
             &mut self.entries,
             event,
@@ -109,26 +87,26 @@ impl EventLists {
             id,
             call,
         )?;
-        self.events.push(event)?;
-        join_call(&mut self.calls, event.what, call)?;
-        self.numbers.push(OptionalNumber::new(number))?;
+        let call = join_call(&mut self.rows, event.what, call);
+        self.rows.push(event, call, number)?;
         Ok(())
     }
 }
 
-/// Adds the call of an event to the column of calls.
-fn join_call(calls: &mut Vec<OptionalEvent>, what: What, call: EvId) -> Result<(), AllocError>
-    requires fail { is_a_fail what ≡ true → call.0 < length calls.old.items }
+/// The call that an event has beside it. A fail takes its call from the operations, and has none.
+fn join_call(rows: &mut Rows, what: What, call: EvId) -> Option<EvId>
+    requires fail { is_a_fail what ≡ true → call.0 < length rows.old.events }
     requires bound { what ≢ Crash → call.0 < NO_NUMBER }
-    ensures { OnOk result (calls.new.items ≡ calls_with calls.old.items what call) }
+    ensures calls { rows.new.calls ++ result ∷ [] ≡ calls_with rows.old.calls what call }
+    ensures others { rows.new ≡ with_calls rows.old rows.new.calls }
+    ensures bound { IfSome result (λ id. id.0 < NO_NUMBER) }
 {
     match what {
-        What::Call(_) | What::Reply(_) => calls.push(OptionalEvent::new(Some(call)))?,
+        What::Call(_) | What::Reply(_) => Some(call),
         What::Fail(_) => {
-            calls[call.0 as usize] = OptionalEvent::new(None);
-            calls.push(OptionalEvent::new(None))?;
+            rows.forget_call(call);
+            None
         }
-        What::Crash => calls.push(OptionalEvent::new(None))?,
+        What::Crash => None,
     }
-    Ok(())
 }

@@ -1,15 +1,16 @@
-//! How an event joins one list of each family: the last event of the list gets its link, and the new one has none.
-ghost use Rattle.std.specs.Prelude.{◌≡◌, ◌<◌, ◌≤◌, ◌^◌, ◌+◌, ℕ, length, slice_get, max, Some, option_map, OnOk, IfOk};
+//! How an event joins one list of each family, before it has a row: the last event of the list gets its link.
+ghost use Rattle.std.specs.Prelude.{◌≡◌, ◌<◌, ◌≤◌, ◌^◌, ◌+◌, ◌++◌, ◌∷◌, [], ℕ, length, slice_get, max, Some, None, option_map, OnOk, IfOk};
 ghost use Rattle.history_text.specs.declared.event.Val.{Val as AVal};
 ghost use Rattle.reg_arena.specs.EventLists.{IsJoined, IsJoinedBy, IsEnteredBy, end_of, event_number, item_at, process_ends, value_ends, value_entry, value_number, whole};
 ghost use Rattle.history_model.specs.Operations.{number_in};
 ghost use Rattle.history_model.specs.Walking.{by_value};
+ghost use Rattle.reg_arena.specs.Rows.{with_in_process, with_in_register, with_in_value};
 ghost use Rattle.reg_arena.specs.declared.optional.TheConstants.{NO_NUMBER};
 ghost use Rattle.reg_arena.specs.declared.list_ends.Ends.{Ends};
 
 use crate::list_ends::{Ends, Entry};
-use crate::optional::OptionalEvent;
 use crate::processes::Processes;
+use crate::rows::Rows;
 use crate::seeded::Seeded;
 use history_model::{EvId, Event, RegId};
 use history_text::Val;
@@ -18,68 +19,71 @@ use std::alloc::AllocError;
 
 /// Joins event `id` to the list of its process.
 pub(crate) fn join_process(
-    links: &mut Vec<OptionalEvent>,
+    rows: &mut Rows,
     processes: &mut Processes,
     process: u32,
     id: EvId,
 ) -> Result<(), AllocError>
-    requires within { (e : Ends) → process_ends processes.old process ≡ Some e → e.last.0 < length links.old.items }
+    requires within { (e : Ends) → process_ends processes.old process ≡ Some e → e.last.0 < length rows.old.events }
+    requires column { length rows.old.in_process ≡ length rows.old.events }
     requires bound { id.0 < NO_NUMBER }
-    ensures joined { OnOk result (IsJoined process id (item_at links.old.items) (item_at links.new.items) (process_ends processes.old) (process_ends processes.new)) }
-    ensures count { OnOk result (length links.new.items ≡ length links.old.items + 1) }
+    ensures joined { OnOk result (IsJoined process id (item_at rows.old.in_process) (item_at (rows.new.in_process ++ None ∷ [])) (process_ends processes.old) (process_ends processes.new)) }
+    ensures others { OnOk result (rows.new ≡ with_in_process rows.old rows.new.in_process) }
+    ensures count { OnOk result (length rows.new.in_process ≡ length rows.old.in_process) }
 {
     let first = match processes.get(process) {
         Some(ends) => {
-            links[ends.last.0 as usize] = OptionalEvent::new(Some(id));
+            rows.link_in_process(ends.last, id);
             ends.first
         }
         None => id,
     };
     processes.set(process, Ends { first, last: id })?;
-    links.push(OptionalEvent::new(None))?;
     Ok(())
 }
 
 /// Joins event `id` to the list of its register, which is known or the next, if it has a register.
 pub(crate) fn join_register(
-    links: &mut Vec<OptionalEvent>,
+    rows: &mut Rows,
     registers: &mut Vec<Ends>,
     register: Option<RegId>,
     id: EvId,
 ) -> Result<(), AllocError>
-    requires within { (e : Ends) → slice_get registers.old.items (number_in register) ≡ Some e → e.last.0 < length links.old.items }
+    requires within { (e : Ends) → slice_get registers.old.items (number_in register) ≡ Some e → e.last.0 < length rows.old.events }
+    requires column { length rows.old.in_register ≡ length rows.old.events }
     requires next { number_in register ≤ length registers.old.items }
     requires bound { id.0 < NO_NUMBER }
-    ensures joined { OnOk result (IsJoinedBy (option_map (λ r. r.0) register) id (item_at links.old.items) (item_at links.new.items) (slice_get registers.old.items) (slice_get registers.new.items)) }
+    ensures joined { OnOk result (IsJoinedBy (option_map (λ r. r.0) register) id (item_at rows.old.in_register) (item_at (rows.new.in_register ++ None ∷ [])) (slice_get registers.old.items) (slice_get registers.new.items)) }
+    ensures others { OnOk result (rows.new ≡ with_in_register rows.old rows.new.in_register) }
+    ensures count { OnOk result (length rows.new.in_register ≡ length rows.old.in_register) }
     ensures registers { OnOk result (length registers.new.items ≡ max (length registers.old.items) (end_of register)) }
-    ensures count { OnOk result (length links.new.items ≡ length links.old.items + 1) }
 {
     match register {
-        Some(register) => link_register(links, registers, register, id)?,
-        None => {}
+        Some(register) => link_register(rows, registers, register, id),
+        None => Ok(()),
     }
-    links.push(OptionalEvent::new(None))?;
-    Ok(())
 }
 
 /// Links event `id` behind the last event of its register, which is known or the next.
 fn link_register(
-    links: &mut Vec<OptionalEvent>,
+    rows: &mut Rows,
     registers: &mut Vec<Ends>,
     register: RegId,
     id: EvId,
 ) -> Result<(), AllocError>
-    requires within { (e : Ends) → slice_get registers.old.items register.0 ≡ Some e → e.last.0 < length links.old.items }
+    requires within { (e : Ends) → slice_get registers.old.items register.0 ≡ Some e → e.last.0 < length rows.old.events }
+    requires column { length rows.old.in_register ≡ length rows.old.events }
     requires next { register.0 ≤ length registers.old.items }
     requires bound { id.0 < NO_NUMBER }
-    ensures joined { OnOk result (IsJoined register.0 id (item_at links.old.items) (item_at links.new.items) (slice_get registers.old.items) (slice_get registers.new.items)) }
+    ensures joined { OnOk result (IsJoined register.0 id (item_at rows.old.in_register) (item_at (rows.new.in_register ++ None ∷ [])) (slice_get registers.old.items) (slice_get registers.new.items)) }
+    ensures others { OnOk result (rows.new ≡ with_in_register rows.old rows.new.in_register) }
+    ensures count { OnOk result (length rows.new.in_register ≡ length rows.old.in_register) }
     ensures registers { OnOk result (length registers.new.items ≡ max (length registers.old.items) (register.0 + 1)) }
-    ensures count { OnOk result (length links.new.items ≡ length links.old.items) }
 {
     let number = register.0 as usize;
     if number < registers.len() {
         let ends = registers[number];
-        links[ends.last.0 as usize] = OptionalEvent::new(Some(id));
+        rows.link_in_register(ends.last, id);
         registers[number] = Ends {
             first: ends.first,
             last: id,
@@ -107,7 +111,7 @@ pub(crate) fn whole(value: Val) -> Option<i64>
 ///
 /// `number` is the number of that list's entry, if there is one already. Gives back the number of its entry.
 pub(crate) fn join_value(
-    links: &mut Vec<OptionalEvent>,
+    rows: &mut Rows,
     values: &mut IndexSet<(u32, Option<i64>), Seeded>,
     entries: &mut Vec<Entry>,
     event: Event,
@@ -116,33 +120,33 @@ pub(crate) fn join_value(
     call: EvId,
 ) -> Result<Option<u32>, AllocError>
     requires number { number ≡ event_number values.old.keys event }
-    requires within { (k : ℕ × AVal) (e : Ends) → value_ends values.old.keys entries.old.items k ≡ Some e → e.last.0 < length links.old.items }
+    requires within { (k : ℕ × AVal) (e : Ends) → value_ends values.old.keys entries.old.items k ≡ Some e → e.last.0 < length rows.old.events }
+    requires column { length rows.old.in_value ≡ length rows.old.events }
     requires numbered { length values.old.keys ≡ length entries.old.items }
     requires room { length entries.old.items < 2 ^ 32 }
     requires bound { id.0 < NO_NUMBER }
-    ensures joined { OnOk result (IsJoinedBy (by_value event) id (item_at links.old.items) (item_at links.new.items) (value_ends values.old.keys entries.old.items) (value_ends values.new.keys entries.new.items)) }
+    ensures joined { OnOk result (IsJoinedBy (by_value event) id (item_at rows.old.in_value) (item_at (rows.new.in_value ++ None ∷ [])) (value_ends values.old.keys entries.old.items) (value_ends values.new.keys entries.new.items)) }
     ensures entered { OnOk result (IsEnteredBy (by_value event) event id call (value_entry values.old.keys entries.old.items) (value_entry values.new.keys entries.new.items)) }
     ensures numbered { OnOk result (length values.new.keys ≡ length entries.new.items) }
     ensures few { length entries.new.items ≤ length entries.old.items + 1 }
     ensures number { IfOk result (λ n. n ≡ event_number values.new.keys event) }
     ensures kept { OnOk result ((q : ℕ × AVal) (n : ℕ) → value_number values.old.keys q ≡ Some n → value_number values.new.keys q ≡ Some n) }
-    ensures count { OnOk result (length links.new.items ≡ length links.old.items + 1) }
+    ensures others { OnOk result (rows.new ≡ with_in_value rows.old rows.new.in_value) }
+    ensures count { OnOk result (length rows.new.in_value ≡ length rows.old.in_value) }
 {
-    let number = match (number, event.value, event.register) {
+    match (number, event.value, event.register) {
         (Some(number), _, _) => {
             let entry = entries[number as usize];
-            links[entry.ends.last.0 as usize] = OptionalEvent::new(Some(id));
+            rows.link_in_value(entry.ends.last, id);
             entries[number as usize] = entry.with(event, id, call);
-            Some(number)
+            Ok(Some(number))
         }
         (None, Some(value), Some(register)) => {
             let number = entries.len() as u32;
             values.insert((register.0, whole(value)))?;
             entries.push(Entry::new(event, id, call))?;
-            Some(number)
+            Ok(Some(number))
         }
-        (None, Some(_), None) | (None, None, _) => None,
-    };
-    links.push(OptionalEvent::new(None))?;
-    Ok(number)
+        (None, Some(_), None) | (None, None, _) => Ok(None),
+    }
 }

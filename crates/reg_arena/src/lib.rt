@@ -6,8 +6,8 @@
 //! their times and their order are those of the definitions in `history_model`, whose laws say what holds of them. All calls but these three take no
 //! memory and always answer.
 //!
-//! Read it in this order: `hash_key` and `seeded`, which make the hashes; `optional`, `list_ends`, `processes`, `joins`, `event_lists` and `entries`, the lists that run
-//! through the events; `names`; `arena`, `called` and `of_value`, which answer; `agrees`, `standing` and `build`.
+//! Read it in this order: `hash_key` and `seeded`, which make the hashes; `optional`, `packed_event` and `rows`, which keep the events; `list_ends`, `processes`, `joins`,
+//! `event_lists` and `entries`, the lists that run through them; `names`; `arena`, `called` and `of_value`, which answer; `agrees`, `standing` and `build`.
 #![tactic(auto)]
 
 mod agrees;
@@ -22,7 +22,9 @@ mod list_ends;
 mod names;
 mod of_value;
 mod optional;
+mod packed_event;
 mod processes;
+mod rows;
 mod seeded;
 mod standing;
 

@@ -19,9 +19,9 @@ append-requires-clause-room c =
 
 pub append-requires-clause-call : goal.append-requires-clause-call
 append-requires-clause-call c =
-    let n : length c.self.inside.lists.events.items ≡ c.len.result = omega (arith, c.len.ensures) in
+    let n : length c.self.inside.lists.rows.events ≡ c.len.result = omega (arith, c.len.ensures) in
     let ev : Event = event_by c.args.event.now (Some (record { 0 = c.unwrap_or.result })) (Call c.args.kind) c.args.value in
-    own-call c.self.inside.lists.events.items ev (record { 0 = c.len.result }) c.args.kind refl n
+    own-call c.self.inside.lists.rows.events ev (record { 0 = c.len.result }) c.args.kind refl n
 
 pub append-requires-clause-alike : goal.append-requires-clause-alike
 append-requires-clause-alike c =

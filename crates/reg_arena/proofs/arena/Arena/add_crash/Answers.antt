@@ -13,10 +13,10 @@ append-requires-clause-room c =
     omega (arith, room-of t.before c.args.event.now t.free, e)
 
 pub append-requires-clause-call : goal.append-requires-clause-call
-append-requires-clause-call c = no-call c.self.inside.lists.events.items (event_by c.args.event.now None Crash None) (record { 0 = c.len.result }) refl
+append-requires-clause-call c = no-call c.self.inside.lists.rows.events (event_by c.args.event.now None Crash None) (record { 0 = c.len.result }) refl
 
 pub append-requires-clause-alike : goal.append-requires-clause-alike
-append-requires-clause-alike c = alike-none c.self.inside.lists.events.items (event_by c.args.event.now None Crash None) refl
+append-requires-clause-alike c = alike-none c.self.inside.lists.rows.events (event_by c.args.event.now None Crash None) refl
 
 pub returns-in-Ok : goal.returns-in-Ok
 returns-in-Ok c = λ before acc q.

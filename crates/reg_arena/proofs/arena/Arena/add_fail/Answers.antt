@@ -25,15 +25,15 @@ append-requires-clause-room c =
 pub append-requires-clause-call : goal.append-requires-clause-call
 append-requires-clause-call c =
     let ev : Event = event_by c.args.event.now (Some c.args.opened.register) (Fail c.args.opened.kind) c.args.opened.value in
-    fail-call c.self.inside.lists.events.items ev c.args.opened c.args.opened.kind refl refl refl (subst (λ (h : History). IsOpenCall h.events c.args.event.now.process c.args.opened) (sym c.self.view_is) c.requires.opened)
+    fail-call c.self.inside.lists.rows.events ev c.args.opened c.args.opened.kind refl refl refl (subst (λ (h : History). IsOpenCall h.events c.args.event.now.process c.args.opened) (sym c.self.view_is) c.requires.opened)
 
 pub append-requires-clause-alike : goal.append-requires-clause-alike
 append-requires-clause-alike c =
     let here = subst (λ (h : History). IsOpenCall h.events c.args.event.now.process c.args.opened) (sym c.self.view_is) c.requires.opened in
     let ev : Event = event_by c.args.event.now (Some c.args.opened.register) (Fail c.args.opened.kind) c.args.opened.value in
     elim c.match-opened.branch [
-      | in-Some w ↦ rw w.alike-is (alike-same c.self.inside.lists.events.items ev here.event c.args.opened.call c.args.opened.register w.in-Some.field-0 here.there here.register (here.value ∙ w.in-Some.is) refl w.in-Some.is)
-      | in-None w ↦ rw w.alike-is (alike-none c.self.inside.lists.events.items ev w.in-None.is)
+      | in-Some w ↦ rw w.alike-is (alike-same c.self.inside.lists.rows.events ev here.event c.args.opened.call c.args.opened.register w.in-Some.field-0 here.there here.register (here.value ∙ w.in-Some.is) refl w.in-Some.is)
+      | in-None w ↦ rw w.alike-is (alike-none c.self.inside.lists.rows.events ev w.in-None.is)
     ]
 
 pub returns-in-Ok : goal.returns-in-Ok

@@ -27,7 +27,7 @@ append-requires-clause-room c =
 pub append-requires-clause-call : goal.append-requires-clause-call
 append-requires-clause-call c =
     let ev : Event = event_by c.args.event.now (Some c.args.opened.register) (Reply c.args.opened.kind) c.match-opened.value.0 in
-    reply-call c.self.inside.lists.events.items ev c.args.opened c.args.opened.kind refl (subst (λ (h : History). IsOpenCall h.events c.args.event.now.process c.args.opened) (sym c.self.view_is) c.requires.opened)
+    reply-call c.self.inside.lists.rows.events ev c.args.opened c.args.opened.kind refl (subst (λ (h : History). IsOpenCall h.events c.args.event.now.process c.args.opened) (sym c.self.view_is) c.requires.opened)
 
 pub append-requires-clause-alike : goal.append-requires-clause-alike
 append-requires-clause-alike c =
@@ -35,11 +35,11 @@ append-requires-clause-alike c =
     let o = subst (λ (h : History). IsOpenCall h.events c.args.event.now.process c.args.opened) t.is c.requires.opened in
     let here = subst (λ (h : History). IsOpenCall h.events c.args.event.now.process c.args.opened) (sym c.self.view_is) c.requires.opened in
     elim c.match-opened.branch [
-      | in-ReadOp w ↦ rw w.value-is (alike-last c.self.inside.lists.events.items (event_by c.args.event.now (Some c.args.opened.register) (Reply c.args.opened.kind) c.args.parts.now.value) c.args.opened.register w.last_of_value.result refl w.last_of_value.ensures.last w.last_of_value.ensures.none)
+      | in-ReadOp w ↦ rw w.value-is (alike-last c.self.inside.lists.rows.events (event_by c.args.event.now (Some c.args.opened.register) (Reply c.args.opened.kind) c.args.parts.now.value) c.args.opened.register w.last_of_value.result refl w.last_of_value.ensures.last w.last_of_value.ensures.none)
       | in-WriteOp w ↦
           let v = open-write t.before t.accepted c.args.event.now c.args.opened o w.in-WriteOp.is in
           let ev : Event = event_by c.args.event.now (Some c.args.opened.register) (Reply c.args.opened.kind) c.args.opened.value in
-          rw w.value-is (alike-same c.self.inside.lists.events.items ev here.event c.args.opened.call c.args.opened.register v.0 here.there here.register (here.value ∙ v.1) refl v.1)
+          rw w.value-is (alike-same c.self.inside.lists.rows.events ev here.event c.args.opened.call c.args.opened.register v.0 here.there here.register (here.value ∙ v.1) refl v.1)
     ]
 
 pub returns-in-Ok : goal.returns-in-Ok
