@@ -7,14 +7,8 @@ use Rattle.std.proofs.lemmas.List.{length-append, drop-drop, append-nil}
 use Rattle.std.proofs.lemmas.List.Sums.{sum_by-append}
 use Rattle.std.proofs.lemmas.List.Splits.{join_with_byte-slice_split}
 use Rattle.history_text.specs.declared.lines.Span.{Span}
-use Rattle.history_text.specs.Lines.{lines, is_blank, width, line_start, span_of, line_spans}
+use Rattle.history_text.specs.Lines.{lines, is_blank, width, line_start, span_of, spans_at, line_spans}
 use Rattle.history_text.specs.Reading.{line_reading, reading_of, history_lines}
-
--- the spans of the lines that are not blank, where the first line is `n` and begins at byte `from`
-abbrev pub numbered : ℕ → ℕ → List (List ℕ) → List Span
-numbered n from [] = []
-numbered n from (l ∷ ls) =
-    (if is_blank l then [] else record { line = n; from = from; to = from + length l } ∷ []) ++ numbered (n + 1) (from + length l + 1) ls
 
 -- the lines that are not blank, numbered from `n`
 abbrev pub kept : ℕ → List (List ℕ) → List (ℕ × List ℕ)
@@ -46,7 +40,7 @@ module _ (input : List ℕ) where
   span-at n from l e = rw e refl
 
   spans-from : (before after : List (List ℕ)) (n from : ℕ) → lines input ≡ before ++ after → n ≡ length before + 1 → from ≡ sum_by width before
-      → numbered n from after ≡ map (span_of input) (kept n after)
+      → spans_at n from after ≡ map (span_of input) (kept n after)
   spans-from before [] n from cut e f = refl
   spans-from before (l ∷ ls) n from cut e f =
       let here = span-at n from l (start before l ls n cut e ∙ sym f) in
@@ -56,7 +50,7 @@ module _ (input : List ℕ) where
       let later = spans-from (before ++ l ∷ []) ls (n + 1) (from + length l + 1) (cut ∙ sym (append_assoc before (l ∷ []) ls)) (omega arith) (omega arith) in
       one_more (span_of input) (is_blank l) (n, l) _ (kept (n + 1) ls) _ here later
 
-  pub numbered-spans : numbered 1 0 (lines input) ≡ line_spans input
+  pub numbered-spans : spans_at 1 0 (lines input) ≡ line_spans input
   numbered-spans = spans-from [] (lines input) 1 0 refl refl refl
 
 module _ {Y : Type 0} (f : ℕ → List ℕ → Y) (input : List ℕ) where
@@ -75,7 +69,7 @@ module _ {Y : Type 0} (f : ℕ → List ℕ → Y) (input : List ℕ) where
       ap (λ k. drop k input) place ∙ sym (drop-drop (length l + 1) from input) ∙ ap (drop (length l + 1)) e ∙ drop-append-add l (10 ∷ more) 1
 
   reads-from : (n from : ℕ) (ls : List (List ℕ)) → drop from input ≡ join_with_byte 10 ls
-      → map read_at (numbered n from ls) ≡ map (λ l. f l.0 l.1) (kept n ls)
+      → map read_at (spans_at n from ls) ≡ map (λ l. f l.0 l.1) (kept n ls)
   reads-from n from [] e = refl
   reads-from n from (l ∷ []) e =
       one_more-same read_at (λ l. f l.0 l.1) (is_blank l) (n, l) _ [] [] (ap (f n) (slice-line from l [] (e ∙ sym (append-nil l)))) refl

@@ -1,7 +1,8 @@
 -- The lines of an input, and where they stand. The form of lines is this project's profile.
-use Rattle.std.specs.Prelude.{ℕ, ◌+◌, ◌-◌, ◌==◌, ◌||◌, ◌≤◌, List, length, map, take, filter, sum_by, Bool, not}
+use Rattle.std.specs.Prelude.{ℕ, ◌+◌, ◌-◌, ◌==◌, ◌||◌, ◌≤◌, ◌++◌, ◌∷◌, [], List, length, map, take, drop, filter, sum_by, Bool, not, if◌then◌else◌}
 use Rattle.std.specs.List.{slice_split, list_all, enumerate_from}
 use Rattle.history_text.specs.declared.lines.Span.{Span}
+use Rattle.history_text.specs.declared.lines.Place.{Place}
 
 -- the byte that ends a line
 abbrev pub is_line_feed : ℕ → Bool
@@ -42,3 +43,17 @@ line_spans input = map (span_of input) (numbered_lines input)
 -- a span is a range of the input's bytes
 abbrev pub IsWithin : List ℕ → Span → Type 0
 IsWithin input span = (span.from ≤ span.to) × (span.to ≤ length input)
+
+-- where lines that follow one another stand, the blank ones left out, if the first of them is line `n` and begins at byte `from`
+abbrev pub spans_at : ℕ → ℕ → List (List ℕ) → List Span
+spans_at n from [] = []
+spans_at n from (l ∷ ls) =
+    (if is_blank l then [] else record { line = n; from = from; to = from + length l } ∷ []) ++ spans_at (n + 1) (from + length l + 1) ls
+
+-- where the lines that are not blank stand, from a place on
+abbrev pub spans_from : List ℕ → Place → List Span
+spans_from input place = spans_at place.line place.from (lines (drop place.from input))
+
+-- a place is within the input or at its end, and no more lines than bytes are before it
+abbrev pub IsPlace : List ℕ → Place → Type 0
+IsPlace input place = (place.from ≤ length input) × (place.line ≤ place.from + 1)

@@ -1,13 +1,30 @@
 -- The reading of an input chunk by chunk: what is built, what was read ahead, and what is left.
-use Rattle.std.specs.Prelude.{◌≡◌, ◌++◌, ℕ, List, flat_map, map}
-use Rattle.history_text.specs.declared.lines.Span.{Span}
+use Rattle.std.specs.Prelude.{◌≡◌, ◌<◌, ◌++◌, ℕ, List, flat_map, length, map}
+use Rattle.history_text.specs.declared.lines.Place.{Place}
+use Rattle.history_text.specs.Lines.{IsPlace, spans_from}
 use Rattle.history_text.specs.Reading.{reading_of, history_lines}
 use Rattle.history_model.specs.Refusals.{Line}
 use Rattle.reg_arena.specs.Built.{IsBuilt}
+use Rattle.reg_report.specs.declared.reading.Chunk.{Chunk}
 use Rattle.reg_report.specs.declared.reading.Underway.{Underway}
 
--- the input's lines are those of which the arena is built, behind them those that were read ahead, and then those of the spans that are left
-pub record IsUnderway (input : List ℕ) (rest : List Span) (state : Underway) : Type 0 where
+-- the lines from a place on, read
+abbrev pub lines_from : List ℕ → Place → List Line
+lines_from input place = map (reading_of input) (spans_from input place)
+
+-- the lines of a chunk
+abbrev pub chunk_lines : Chunk → List Line
+chunk_lines chunk = flat_map (λ part. part.items) chunk.lines.items
+
+-- the chunk's lines are the first of those from a place on, and behind them stand the others; there is a line less to read, if one was left
+pub record IsChunk (input : List ℕ) (place : Place) (chunk : Chunk) : Type 0 where
+  pub at : IsPlace input chunk.behind
+  pub whole : chunk_lines chunk ++ lines_from input chunk.behind ≡ lines_from input place
+  pub further : place.from < length input → place.from < chunk.behind.from
+
+-- the input's lines are those of which the arena is built, behind them those of the chunk that was read ahead, and then those that are left
+pub record IsUnderway (input : List ℕ) (state : Underway) : Type 0 where
   pub before : List Line
   pub built : IsBuilt before state.arena
-  pub whole : before ++ flat_map (λ part. part.items) state.ahead.items ++ map (reading_of input) rest ≡ history_lines input
+  pub at : IsPlace input state.ahead.behind
+  pub whole : before ++ chunk_lines state.ahead ++ lines_from input state.ahead.behind ≡ history_lines input

@@ -1,34 +1,62 @@
-//! From the bytes of a history to its arena: while the lines of one chunk are taken in, those of the next are read.
-ghost use Rattle.std.specs.Prelude.{All, ◌≡◌, ◌≤◌, ◌++◌, List, flat_map, length, map, IfOk, IfErr};
+//! From the bytes of a history to its arena: while the lines of one chunk are taken in, those of the next are found and read.
+ghost use Rattle.std.specs.Prelude.{◌≡◌, ◌≤◌, ◌<◌, List, flat_map, length, IfOk, IfErr};
 ghost use Rattle.std.specs.Thread.{IsSync};
-ghost use Rattle.history_text.specs.Lines.{IsWithin};
-ghost use Rattle.history_text.specs.Reading.{history_lines, reading_of};
-ghost use Rattle.history_text.specs.declared.lines.Span.{Span as ASpan};
+ghost use Rattle.history_text.specs.Lines.{IsPlace};
+ghost use Rattle.history_text.specs.Reading.{history_lines};
 ghost use Rattle.history_model.specs.History.{history_of};
 ghost use Rattle.history_model.specs.Refusals.{IsBuildError, IsWellFormed, Line, events_of};
 ghost use Rattle.reg_arena.specs.Built.{IsBuilt, IsBuiltWith};
-ghost use Rattle.reg_report.specs.Underway.{IsUnderway};
+ghost use Rattle.reg_report.specs.Underway.{IsChunk, IsUnderway};
 
 use history_model::BuildError;
-use history_text::{LineEvent, LineFault, MAX_INPUT, Span, lines_of, read_spans};
+use history_text::{LineEvent, LineFault, MAX_INPUT, Place, next_lines, read_spans};
 use reg_arena::{Arena, HashKey};
 use std::alloc::{AllocError, Global};
 use std::random::RandomSource;
 use std::thread::{self, Threads};
 
-/// How many lines are read while as many are taken in: so many that threads started for them cost little, and so few that
-/// the lines which wait take little memory.
+/// How many lines are found and read while as many are taken in: so many that threads started for them cost little, and so
+/// few that the lines which wait take little memory.
 const CHUNK: usize = 32_768;
 
-/// An arena of the lines so far, and the lines behind them, which were read and aren't taken in yet.
+/// The bytes of the shortest event, as `{"process":1,"event":"crash"}` with its line feed. The arena gets room for as many
+/// events as the input could have, since to count its lines would cost more: room that no event fills is never touched.
+const SHORTEST_EVENT: usize = 30;
+
+/// The lines of one chunk, which were read, and where the next chunk begins.
+#[derive(Drop)]
+struct Chunk {
+    lines: Vec<Vec<Result<LineEvent, LineFault>>>,
+    behind: Place,
+}
+
+impl Chunk {
+    /// Finds the lines of the chunk at a place, and has threads read them.
+    fn read<R: Threads + Sync>(
+        rt: &R,
+        alloc: Global,
+        input: &[u8],
+        place: Place,
+    ) -> Result<Self, AllocError>
+        requires limit { length input.now ≤ MAX_INPUT }
+        requires place { IsPlace input.now place }
+        ensures { IfOk result (IsChunk input.now place) }
+    {
+        let (spans, behind) = next_lines(alloc, input, place, CHUNK)?;
+        let lines = read_spans(rt, alloc, input, &spans)?;
+        Ok(Chunk { lines, behind })
+    }
+}
+
+/// An arena of the lines so far, and the chunk behind them, which was read and isn't taken in yet.
 #[derive(Drop)]
 struct Underway {
     arena: Arena,
-    ahead: Vec<Vec<Result<LineEvent, LineFault>>>,
+    ahead: Chunk,
 }
 
 impl Underway {
-    /// Takes in the lines that were read, and meanwhile has other threads read those of the next spans.
+    /// Takes in the chunk that was read, and meanwhile has other threads read the next one.
     ///
     /// If both fail, the error is that of taking in, since its line stands before those that are read.
     fn turn<R: Threads + Sync>(
@@ -36,22 +64,24 @@ impl Underway {
         rt: &R,
         alloc: Global,
         input: &[u8],
-        next: &[Span],
     ) -> Result<Self, BuildError>
-        requires { All (IsWithin input.now) next.now }
-        ensures ok { IfOk result (λ state. (later : List ASpan) → IsUnderway input.now (next.now ++ later) self → IsUnderway input.now later state) }
-        ensures err { IfErr result (λ e. (later : List ASpan) → IsUnderway input.now (next.now ++ later) self → IsBuildError (history_lines input.now) e) }
+        requires limit { length input.now ≤ MAX_INPUT }
+        requires underway { IsUnderway input.now self }
+        ensures ok { IfOk result (IsUnderway input.now) }
+        ensures err { IfErr result (IsBuildError (history_lines input.now)) }
+        ensures further { IfOk result (λ state. self.ahead.behind.from < length input.now → self.ahead.behind.from < state.ahead.behind.from) }
     {
         let Underway { arena, ahead } = self;
+        let Chunk { lines, behind } = ahead;
         let (read, taken) = thread::join(
             rt,
-            || -> Result<Vec<Vec<Result<LineEvent, LineFault>>>, AllocError>
-                requires { IsSync R.row × All (IsWithin input.now) next.now }
-                ensures { IfOk result (λ v. flat_map (λ part. part.items) v.items ≡ map (reading_of input.entry.now) next.entry.now) }
-            { read_spans(rt, alloc, input, next) },
+            || -> Result<Chunk, AllocError>
+                requires { IsSync R.row × (length input.now ≤ MAX_INPUT) × IsPlace input.now behind }
+                ensures { IfOk result (IsChunk input.entry.now behind) }
+            { Chunk::read(rt, alloc, input, behind) },
             move || -> Result<Arena, BuildError>
-                ensures { (before : List Line) → IsBuilt before arena → IsBuiltWith before (flat_map (λ part. part.items) ahead.items) result }
-            { arena.with_lines(alloc, ahead) },
+                ensures { (before : List Line) → IsBuilt before arena → IsBuiltWith before (flat_map (λ part. part.items) lines.items) result }
+            { arena.with_lines(alloc, lines) },
         );
         let arena = taken?;
         let ahead = read?;
@@ -72,16 +102,13 @@ pub(crate) fn read_arena<R: Threads + RandomSource + Sync>(
     ensures ok { IfOk result (λ a. IsWellFormed (history_lines input.now) × (a ≡ history_of (events_of (history_lines input.now)))) }
     ensures err { IfErr result (λ e. IsBuildError (history_lines input.now) e) }
 {
-    let spans = lines_of(alloc, input)?;
-    let arena = Arena::empty(alloc, HashKey::drawn(rt, input), spans.len())?;
-    let (first, mut rest) = spans.split_at(CHUNK.min(spans.len()));
-    let ahead = read_spans(rt, alloc, input, first)?;
+    let room = input.len() / SHORTEST_EVENT + 1;
+    let arena = Arena::empty(alloc, HashKey::drawn(rt, input), room)?;
+    let ahead = Chunk::read(rt, alloc, input, Place::first())?;
     let mut underway = Underway { arena, ahead };
-    while !rest.is_empty() {
-        let (next, later) = rest.split_at(CHUNK.min(rest.len()));
-        underway = underway.turn(rt, alloc, input, next)?;
-        rest = later;
+    while !underway.ahead.behind.is_end(input) {
+        underway = underway.turn(rt, alloc, input)?;
     }
     let Underway { arena, ahead } = underway;
-    arena.with_lines(alloc, ahead)
+    arena.with_lines(alloc, ahead.lines)
 }

@@ -67,6 +67,26 @@ fn lines_of_inputs(rt: HostRuntime) -> Result<(), Fail> {
     Ok(())
 }
 
+// The first two lines, the next two, and whether the input ends behind each.
+fn twice_two_lines(rt: &(impl Abort + Sync), alloc: Global, bytes: &[u8]) -> Result<String, Fail> {
+    assert!(rt; bytes.len() <= MAX_INPUT);
+    let mut shown = String::new(alloc);
+    let (first, between) = next_lines(alloc, bytes, Place::first(), 2)?;
+    show_spans(&mut shown, &first)?;
+    write!(shown, "{} ", between.is_end(bytes))?;
+    let (second, end) = next_lines(alloc, bytes, between, 2)?;
+    show_spans(&mut shown, &second)?;
+    write!(shown, "{}", end.is_end(bytes))?;
+    Ok(shown)
+}
+
+#[test]
+fn lines_two_at_a_time(rt: HostRuntime) -> Result<(), Fail> {
+    let got = twice_two_lines(&rt, rt.alloc(), b"a\n\nb\nc".as_slice())?;
+    assert_eq!(rt; got.as_str(), "1:0-1 false 3:3-4 4:5-6 true");
+    Ok(())
+}
+
 #[test]
 fn blank_lines_have_no_limit(rt: HostRuntime) -> Result<(), Fail> {
     let alloc = rt.alloc();

@@ -1,17 +1,14 @@
--- Between two line feeds: the spans found so far, and the spans of the bytes that are left.
-use Rattle.std.proofs.Common.{◌≡◌, ◌≤◌, ◌+◌, ◌-◌, ◌++◌, drop, length}
-use Rattle.std.specs.List.{All}
-use Rattle.history_text.specs.Lines.{lines, IsWithin}
-use Rattle.history_text.proofs.Numbered.{numbered}
+-- Before each line: the spans found so far, and those from the line's place on.
+use Rattle.std.proofs.Common.{◌≡◌, ◌-◌, ◌++◌, All, length}
+use Rattle.history_text.specs.Lines.{line_spans, spans_from, IsPlace, IsWithin}
 use Rattle.history_text.proofs.lines.lines_of.Given as goal
 
-abbrev pub invariant-loop-count : goal.invariant-loop-count
-invariant-loop-count l = record {
-  within : l.from ≤ length l.bytes;
-  counted : l.line ≤ l.from + 1;
-  rest : numbered 1 0 (lines l.bytes) ≡ l.spans.items ++ numbered l.line l.from (lines (drop l.from l.bytes));
+abbrev pub invariant-loop-place : goal.invariant-loop-place
+invariant-loop-place l = record {
+  place : IsPlace l.bytes l.place;
+  whole : l.spans.items ++ spans_from l.bytes l.place ≡ line_spans l.bytes;
   inside : All (IsWithin l.bytes) l.spans.items;
 }
 
-abbrev pub decreases-loop-count : goal.decreases-loop-count
-decreases-loop-count l = length l.initial.bytes - l.from
+abbrev pub decreases-loop-place : goal.decreases-loop-place
+decreases-loop-place l = length l.bytes - l.place.from

@@ -1,14 +1,12 @@
-use Rattle.std.proofs.Common.{All, length}
-use Rattle.history_text.specs.Lines.{IsWithin}
+use Rattle.std.proofs.Common.{◌-◌, length}
 use Rattle.reg_report.specs.Underway.{IsUnderway}
 use Rattle.reg_report.proofs.reading.read_arena.Given as goal
 
--- all but the lines of the spans that are left were read
-abbrev pub invariant-loop-rest : goal.invariant-loop-rest
-invariant-loop-rest g l = record {
-  within : All (IsWithin l.fn.input) l.rest;
-  underway : IsUnderway l.fn.input l.rest l.underway;
+-- the arena, the chunk read ahead and what is left are the input
+abbrev pub invariant-loop-underway : goal.invariant-loop-underway
+invariant-loop-underway g l = record {
+  underway : IsUnderway l.fn.input l.underway;
 }
 
-abbrev pub decreases-loop-rest : goal.decreases-loop-rest
-decreases-loop-rest g l = length l.rest
+abbrev pub decreases-loop-underway : goal.decreases-loop-underway
+decreases-loop-underway g l = length l.fn.input - l.underway.ahead.behind.from

@@ -1,22 +1,29 @@
 -- What taking in gave, and what was read meanwhile.
-use Rattle.std.proofs.Common.{◌≡◌, flat_map, map, subst}
+use Rattle.std.proofs.Common.{subst}
 use Rattle.std.specs.Prelude.{IfOk}
-use Rattle.history_text.specs.Reading.{reading_of}
+use Rattle.history_text.specs.Reading.{history_lines}
+use Rattle.history_model.specs.declared.refusal.BuildError.TheVariants.{Memory}
 use Rattle.reg_arena.specs.Built.{IsBuiltWith}
-use Rattle.reg_report.proofs.Chunks.{turned, turn-refused, turn-failed, turn-without-memory}
+use Rattle.reg_report.specs.Underway.{IsChunk, chunk_lines}
+use Rattle.reg_report.proofs.Chunks.{turned, turn-refused, refused-on}
 use Rattle.reg_report.proofs.reading.Underway.turn.Goals as goal
 
 pub returns-in_err-arena-clause-err : goal.returns-in_err-arena-clause-err
 returns-in_err-arena-clause-err g c =
+    let input = c.args.input.now in
+    let underway = c.requires.underway in
     let e = c.in_err-arena.field-0.0 in
-    turn-failed c.args.input.now c.args.next.now c.args.self e c.from_residual.result c.from_residual.ensures.1
-    (λ later underway. turn-refused c.args.input.now c.args.next.now later c.args.self underway e
-    (subst (IsBuiltWith underway.before (flat_map (λ part. part.items) c.args.self.ahead.items)) c.in_err-arena.was (c.join-read.ensures.second underway.before underway.built)))
+    refused-on (history_lines input) e c.from_residual.result c.from_residual.ensures.1
+    (turn-refused input c.args.self underway e
+    (subst (IsBuiltWith underway.before (chunk_lines c.args.self.ahead)) c.in_err-arena.was (c.join-read.ensures.second underway.before underway.built)))
 
 pub returns-in_err-ahead-clause-err : goal.returns-in_err-ahead-clause-err
-returns-in_err-ahead-clause-err g c = turn-without-memory c.args.input.now c.args.next.now c.args.self c.from_residual-in_err-ahead.result c.from_residual-in_err-ahead.ensures.1
+returns-in_err-ahead-clause-err g c = refused-on (history_lines c.args.input.now) Memory c.from_residual-in_err-ahead.result c.from_residual-in_err-ahead.ensures.1 tt
 
 pub returns-clause-ok : goal.returns-clause-ok
-returns-clause-ok g c = λ later underway. turned c.args.input.now c.args.next.now later c.args.self underway _
-    (subst (IsBuiltWith underway.before (flat_map (λ part. part.items) c.args.self.ahead.items)) c.in_ok-arena.was (c.join-read.ensures.second underway.before underway.built))
-    (subst (λ r. IfOk r (λ v. flat_map (λ part. part.items) v.items ≡ map (reading_of c.args.input.now) c.args.next.now)) c.in_ok-ahead.was c.join-read.ensures.first)
+returns-clause-ok g c =
+    let input = c.args.input.now in
+    let underway = c.requires.underway in
+    turned input c.args.self underway _
+    (subst (IsBuiltWith underway.before (chunk_lines c.args.self.ahead)) c.in_ok-arena.was (c.join-read.ensures.second underway.before underway.built))
+    (subst (λ r. IfOk r (IsChunk input c.args.self.ahead.behind)) c.in_ok-ahead.was c.join-read.ensures.first)
