@@ -8,11 +8,13 @@ use crate::fault::LineFault;
 use crate::limits::MAX_INPUT;
 use crate::line::{LineError, read_line};
 use crate::lines::{Span, lines_of};
-use crate::parts::Parts;
 use rayon::prelude::*;
 use std::alloc::{AllocError, Global};
 use std::sync::atomic::{AtomicBool, Ordering};
 use std::thread::Threads;
+
+/// How many lines one thread reads into one list: so few that what takes them in can soon give their memory back.
+const PART: usize = 8_192;
 
 /// The event of each line that is not blank, or its lowest-numbered fault, in order. Their line numbers ascend.
 ///
@@ -37,7 +39,7 @@ pub fn read_lines(
 }
 
 /// What the lines at some spans of the bytes say, in order: for each its event, or its lowest-numbered fault. They come in
-/// parts, one behind the other: each thread fills its own, and none is copied.
+/// parts, one behind the other, and none is copied.
 ///
 /// Many spans are read by several threads, as many as serve the processors. The error is the want of memory; nothing is
 /// kept then.
@@ -51,19 +53,20 @@ pub fn read_spans(
     ensures { IfOk result (λ v. flat_map (λ part. part.items) v.items ≡ map (reading_of bytes.now) spans.now) }
 {
     let refused = AtomicBool::new(false);
-    let parts = spans
-        .par_iter()
+    spans
+        .par_chunks(PART)
         .map(
-            |span: &Span| -> Result<Result<LineEvent, LineFault>, AllocError>
-                requires { IsWithin bytes.now span.now }
-                ensures { IfOk result (λ r. r ≡ reading_of bytes.entry.now span.now) }
-            { read_span(alloc, bytes, *span, &refused) },
+            |part: &[Span]| -> Result<Vec<Result<LineEvent, LineFault>>, AllocError>
+                requires { All (IsWithin bytes.now) part.now }
+                ensures { IfOk result (λ v. v.items ≡ map (reading_of bytes.entry.now) part.now) }
+            { read_part(alloc, bytes, part, &refused) },
         )
-        .collect::<Result<Parts, AllocError>>(rt, alloc)??;
-    parts.into_parts()
+        .collect::<Result<Vec<Vec<Result<LineEvent, LineFault>>>, AllocError>>(rt, alloc)?
 }
 
-/// The same, by the calling thread alone: it takes no right to start threads.
+/// The lines that [`read_lines`] gives, read by the calling thread alone: it takes no right to start threads.
+///
+/// The error is the want of memory; nothing is kept then.
 pub fn read_lines_alone(
     alloc: Global,
     bytes: &[u8],
@@ -73,33 +76,55 @@ pub fn read_lines_alone(
     ensures ascending { IfOk result (λ v. IsAscending v.items) }
 {
     let spans = lines_of(alloc, bytes)?;
-    let refused = AtomicBool::new(false);
-    let mut lines = Vec::with_capacity(alloc, spans.len())?;
-    for span in &spans {
-        lines.push(read_span(alloc, bytes, *span, &refused)?)?;
-    }
-    Ok(lines)
+    read_in_order(alloc, bytes, &spans)
 }
 
-// Once memory was refused to one line no thread reads another: each would be refused in its turn, slowly.
-fn read_span(
+// Once memory was refused to one part no thread begins another: each would be refused in its turn, slowly.
+fn read_part(
     alloc: Global,
     bytes: &[u8],
-    span: Span,
+    part: &[Span],
     refused: &AtomicBool,
-) -> Result<Result<LineEvent, LineFault>, AllocError>
-    requires { IsWithin bytes.now span }
-    ensures { IfOk result (λ r. r ≡ reading_of bytes.now span) }
+) -> Result<Vec<Result<LineEvent, LineFault>>, AllocError>
+    requires { All (IsWithin bytes.now) part.now }
+    ensures { IfOk result (λ v. v.items ≡ map (reading_of bytes.now) part.now) }
 {
     if refused.load(Ordering::SeqCst) {
         return Err(AllocError);
     }
+    let lines = read_in_order(alloc, bytes, part);
+    if lines.is_err() {
+        refused.store(true, Ordering::SeqCst);
+    }
+    lines
+}
+
+fn read_in_order(
+    alloc: Global,
+    bytes: &[u8],
+    spans: &[Span],
+) -> Result<Vec<Result<LineEvent, LineFault>>, AllocError>
+    requires { All (IsWithin bytes.now) spans.now }
+    ensures { IfOk result (λ v. v.items ≡ map (reading_of bytes.now) spans.now) }
+{
+    let mut lines = Vec::with_capacity(alloc, spans.len())?;
+    for span in spans {
+        lines.push(read_span(alloc, bytes, *span)?)?;
+    }
+    Ok(lines)
+}
+
+fn read_span(
+    alloc: Global,
+    bytes: &[u8],
+    span: Span,
+) -> Result<Result<LineEvent, LineFault>, AllocError>
+    requires { IsWithin bytes.now span }
+    ensures { IfOk result (λ r. r ≡ reading_of bytes.now span) }
+{
     match read_line(alloc, &bytes[span.from..span.to], span.line) {
         Ok(event) => Ok(Ok(event)),
         Err(LineError::Fault(fault)) => Ok(Err(fault)),
-        Err(LineError::Memory) => {
-            refused.store(true, Ordering::SeqCst);
-            Err(AllocError)
-        }
+        Err(LineError::Memory) => Err(AllocError),
     }
 }

@@ -130,9 +130,9 @@ fn told(alloc: Global, lines: &[Result<LineEvent, LineFault>]) -> Result<String,
 fn many_lines_stay_in_order(rt: HostRuntime) -> Result<(), Fail> {
     let alloc = rt.alloc();
     for (name, count) in [
-        ("lines for one thread", 100),
-        ("lines for two threads", 2_500),
-        ("lines for as many threads as there are", 9_000),
+        ("lines of one part", 100),
+        ("lines of two parts", 10_000),
+        ("lines for as many threads as there are", 140_000),
     ] {
         let (text, want) = replies(alloc, count)?;
         assert!(rt; text.len() <= MAX_INPUT);
