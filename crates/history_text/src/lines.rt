@@ -1,5 +1,5 @@
 //! Where the lines of an input stand.
-ghost use Rattle.std.specs.Prelude.{All, ◌≡◌, ◌≤◌, ◌<◌, ◌++◌, ◌∷◌, [], ℕ, List, true, false, length, map, IfOk, OnOk, if◌then◌else◌, slice_range};
+ghost use Rattle.std.specs.Prelude.{All, ◌≡◌, ◌≤◌, ◌<◌, ◌+◌, ◌++◌, ◌∷◌, [], ℕ, List, true, false, length, map, IfOk, OnOk, if◌then◌else◌, slice_range};
 ghost use Rattle.history_text.specs.Lines.{line_spans, spans_from, IsPlace, IsWithin, is_blank as is_blank_line};
 ghost use Rattle.history_text.specs.Reading.{history_lines, reading_of};
 
@@ -80,6 +80,7 @@ pub fn next_lines(
     requires place { IsPlace bytes.now place }
     ensures lines { IfOk result (λ r. r.0.items ++ spans_from bytes.now r.1 ≡ spans_from bytes.now place) }
     ensures within { IfOk result (λ r. All (IsWithin bytes.now) r.0.items) }
+    ensures few { IfOk result (λ r. length r.0.items ≤ most) }
     ensures place { IfOk result (λ r. IsPlace bytes.now r.1) }
     ensures further { IfOk result (λ r. 1 ≤ most → place.from < length bytes.now → place.from < r.1.from) }
 {
@@ -100,6 +101,7 @@ fn pass_line(spans: &mut Vec<Span>, bytes: &[u8], place: Place) -> Result<Place,
     requires left { place.from < length bytes.now }
     ensures lines { IfOk result (λ next. spans.new.items ++ spans_from bytes.now next ≡ spans.old.items ++ spans_from bytes.now place) }
     ensures within { OnOk result (All (IsWithin bytes.now) spans.old.items → All (IsWithin bytes.now) spans.new.items) }
+    ensures few { OnOk result (length spans.new.items ≤ length spans.old.items + 1) }
     ensures place { IfOk result (IsPlace bytes.now) }
     ensures further { IfOk result (λ next. place.from < next.from) }
 {
@@ -125,8 +127,9 @@ fn pass_line(spans: &mut Vec<Span>, bytes: &[u8], place: Place) -> Result<Place,
 fn add(spans: &mut Vec<Span>, bytes: &[u8], span: Span) -> Result<(), AllocError>
     requires order { span.from ≤ span.to }
     requires within { span.to ≤ length bytes.now }
-    ensures { OnOk result (spans.new.items ≡ spans.old.items
+    ensures spans { OnOk result (spans.new.items ≡ spans.old.items
         ++ (if is_blank_line (slice_range bytes.now span.from span.to) then [] else span ∷ [])) }
+    ensures few { OnOk result (length spans.new.items ≤ length spans.old.items + 1) }
 {
     if !is_blank(&bytes[span.from..span.to]) {
         spans.push(span)?;

@@ -99,6 +99,7 @@ fn read_part(
     lines
 }
 
+// What the lines at some spans say, in order.
 fn read_in_order(
     alloc: Global,
     bytes: &[u8],
