@@ -1,41 +1,32 @@
--- The lines of the parts of a list of registers, one behind the other, are the lines of all of them.
-use Rattle.std.proofs.Common.{◌≡◌, ℕ, ◌<◌, List, [], ◌∷◌, ◌++◌, map, Result, Ok, Err, Vec, Global, refl, ap, sym, subst, ◌∙◌, append_assoc}
+-- What is made of the parts of a list, one behind the other, is what is made of the whole list.
+use Rattle.std.proofs.Common.{◌≡◌, ℕ, ◌<◌, List, [], ◌∷◌, ◌++◌, map, Result, Ok, Err, Vec, Global, refl, ap, sym, subst, ◌∙◌}
 use Rattle.std.specs.Prelude.{IfOk, MatchResult, Contains, flat_map}
 use Rattle.std.specs.List.{AllZip}
 use Rattle.rayon.specs.Lists.{chunks_of}
 use Rattle.rayon.proofs.ToStd.{chunks_of-concat}
-use Rattle.reg_report.specs.Text.{line_text, register_json, registers_text}
-use Rattle.reg_report.specs.declared.report.RegReport.{RegReport}
 
-lines-append : (xs ys : List RegReport) → registers_text (xs ++ ys) ≡ registers_text xs ++ registers_text ys
-lines-append [] ys = refl
-lines-append (x ∷ xs) ys =
-    ap (λ l. line_text (register_json x) ++ l) (lines-append xs ys)
-    ∙ sym (append_assoc (line_text (register_json x)) (registers_text xs) (registers_text ys))
+-- `items`: what a part holds that was made; `f`: what is made of a list, part by part
+module _ {X Y V : Type 0} (E : Type 0) (items : V → List Y) (f : List X → List Y) (nothing : f [] ≡ []) (apart : (xs ys : List X) → f (xs ++ ys) ≡ f xs ++ f ys) where
+  abbrev IsMade : List X → Result V E → Type 0
+  IsMade part made = IfOk made (λ v. items v ≡ f part)
 
-module _ (E : Type 0) where
-  -- a part that was made has the lines of its registers
-  abbrev IsMade : List RegReport → Result (Vec ℕ Global) E → Type 0
-  IsMade regs made = IfOk made (λ bytes. bytes.items ≡ registers_text regs)
+  all_made : (parts : List (List X)) (vs : List V) → AllZip IsMade parts (map Ok vs) → flat_map items vs ≡ f (flat_map (λ (part : List X). part) parts)
+  all_made [] [] each = sym nothing
+  all_made [] (v ∷ vs) each = absurd each
+  all_made (part ∷ parts) [] each = absurd each
+  all_made (part ∷ parts) (v ∷ vs) each =
+      let rest = flat_map (λ (one : List X). one) parts in
+      let here : items v ≡ f part = each.0 in
+      ap (λ l. items v ++ l) (all_made parts vs each.1)
+      ∙ (ap (λ l. l ++ f rest) here ∙ sym (apart part rest))
 
-  all_made : (chunks : List (List RegReport)) (parts : List (Vec ℕ Global)) → AllZip IsMade chunks (map Ok parts)
-      → flat_map (λ (part : Vec ℕ Global). part.items) parts ≡ registers_text (flat_map (λ (chunk : List RegReport). chunk) chunks)
-  all_made [] [] each = refl
-  all_made [] (p ∷ ps) each = absurd each
-  all_made (c ∷ cs) [] each = absurd each
-  all_made (c ∷ cs) (p ∷ ps) each =
-      let rest = flat_map (λ (chunk : List RegReport). chunk) cs in
-      let here : p.items ≡ registers_text c = each.0 in
-      ap (λ l. p.items ++ l) (all_made cs ps each.1)
-      ∙ (ap (λ l. l ++ registers_text rest) here ∙ sym (lines-append c rest))
-
-  pub parts-made : (size : ℕ) (regs : List RegReport) (each : List (Result (Vec ℕ Global) E)) (made : Result (Vec (Vec ℕ Global) Global) E)
+  pub parts-made : (size : ℕ) (xs : List X) (each : List (Result V E)) (made : Result (Vec V Global) E)
       → 0 < size
-      → AllZip IsMade (chunks_of size regs) each
-      → MatchResult made (λ v. (parts : List (Vec ℕ Global)) × (each ≡ map Ok parts) × (v.items ≡ parts)) (λ e. Contains each (Err e))
-      → IfOk made (λ v. flat_map (λ (part : Vec ℕ Global). part.items) v.items ≡ registers_text regs)
-  parts-made size regs each (Ok v) pos is got =
-      ap (flat_map (λ (part : Vec ℕ Global). part.items)) got.2
-      ∙ (all_made (chunks_of size regs) got.0 (subst (AllZip IsMade (chunks_of size regs)) got.1 is)
-      ∙ ap registers_text (chunks_of-concat size regs pos))
-  parts-made size regs each (Err e) pos is got = tt
+      → AllZip IsMade (chunks_of size xs) each
+      → MatchResult made (λ v. (vs : List V) × (each ≡ map Ok vs) × (v.items ≡ vs)) (λ e. Contains each (Err e))
+      → IfOk made (λ v. flat_map items v.items ≡ f xs)
+  parts-made size xs each (Ok v) pos is got =
+      ap (flat_map items) got.2
+      ∙ (all_made (chunks_of size xs) got.0 (subst (AllZip IsMade (chunks_of size xs)) got.1 is)
+      ∙ ap f (chunks_of-concat size xs pos))
+  parts-made size xs each (Err e) pos is got = tt

@@ -1,5 +1,5 @@
--- The lines of one register more.
-use Rattle.std.proofs.Common.{◌≡◌, ℕ, zero, suc, ◌+◌, ◌<◌, List, [], ◌∷◌, ◌++◌, length, map, take, get_or, sym, ◌∙◌, ap, arith, append_assoc, append-nil, add-one}
+-- The lines of one register more, and of two parts of a list of registers.
+use Rattle.std.proofs.Common.{◌≡◌, ℕ, zero, suc, ◌+◌, ◌<◌, List, [], ◌∷◌, ◌++◌, length, map, take, get_or, refl, sym, ◌∙◌, ap, arith, append_assoc, append-nil, add-one}
 use Rattle.serde_json.specs.Written.{compact_text}
 use Rattle.reg_report.specs.Text.{line_text, register_json, registers_text}
 use Rattle.reg_report.specs.declared.report.RegReport.{RegReport}
@@ -19,3 +19,9 @@ one_line_more xs i d out new bytes line h at before same is made =
     ∙ ap (λ x. done ++ (x ++ 10 ∷ [])) (same ∙ is)
     ∙ ap (λ x. done ++ line_text (register_json x)) at
     ∙ sym more)
+
+pub lines-append : (xs ys : List RegReport) → registers_text (xs ++ ys) ≡ registers_text xs ++ registers_text ys
+lines-append [] ys = refl
+lines-append (x ∷ xs) ys =
+    ap (λ l. line_text (register_json x) ++ l) (lines-append xs ys)
+    ∙ sym (append_assoc (line_text (register_json x)) (registers_text xs) (registers_text ys))

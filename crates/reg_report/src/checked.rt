@@ -1,12 +1,13 @@
 //! From the bytes of a history to its report.
 ghost use Rattle.std.specs.Prelude.{◌≡◌, ◌<◌, false, true, length, Ok, Err, IfOk, IfErr};
 ghost use Rattle.std.specs.Thread.{IsSync};
+ghost use Rattle.history_model.specs.Operations.{calls};
 ghost use Rattle.reg_pieces.specs.Plan.{IsPlan};
 ghost use Rattle.reg_pieces.specs.Slots.{AreDone};
 ghost use Rattle.reg_report.specs.Answer.{IsAnswer, IsRefused};
 ghost use Rattle.reg_report.specs.First.{IsFirstReport, IsReportBy};
 ghost use Rattle.reg_report.specs.Registers.{AreFindings};
-ghost use Rattle.reg_report.specs.Tally.{AreTallies};
+ghost use Rattle.reg_report.specs.Tally.{AreCalls};
 
 use crate::findings::{Finding, findings};
 use crate::first::first_report;
@@ -14,7 +15,7 @@ use crate::history::history_report_in_parts;
 use crate::reading::read_arena;
 use crate::refusal::Refusal;
 use crate::report::Report;
-use crate::tally::{Tally, count_calls};
+use crate::tally::{Calls, count_calls};
 use history_text::MAX_INPUT;
 use reg_arena::Arena;
 use reg_pieces::{Gate, Pieces, Settings, do_pieces, first_faulty, plan};
@@ -22,30 +23,34 @@ use std::alloc::{AllocError, Global};
 use std::random::RandomSource;
 use std::thread::{Threads, join};
 
-/// What is found of all registers: workers do the pieces of the plan, and meanwhile another thread counts the calls.
+/// What is found of all registers, and how many calls there are: workers do the pieces of the plan, and meanwhile another
+/// thread counts the calls.
 fn find<R: Threads + Sync, G: Gate + Sync>(
     rt: &R,
     alloc: Global,
     arena: &Arena,
     settings: Settings,
     gate: &G,
-) -> Result<Vec<Finding>, AllocError>
+) -> Result<(Vec<Finding>, u32), AllocError>
     requires { settings.first ≡ false }
-    ensures { IfOk result (λ findings. AreFindings arena.now findings.items) }
+    ensures { IfOk result (λ found. AreFindings arena.now found.0.items × (found.1 ≡ length (calls arena.now.events))) }
 {
     let plan = plan(alloc, arena, settings)?;
-    let (tallies, pieces) = join(
+    let (calls, pieces) = join(
         rt,
-        || -> Result<Vec<Tally>, AllocError>
-            ensures { IfOk result (λ tallies. AreTallies arena.entry.now tallies.items) }
+        || -> Result<Calls, AllocError>
+            ensures { IfOk result (AreCalls arena.entry.now) }
         { count_calls(alloc, arena) },
         || -> Result<Pieces, AllocError>
             requires { IsSync R.row × IsPlan arena.now settings.cut plan }
             ensures { IfOk result (AreDone arena.entry.now plan.tasks) }
         { do_pieces(rt, alloc, arena, &plan, settings, gate) },
     );
-    findings(alloc, arena, &plan, pieces?, &tallies?)
+    let Calls { count, tallies } = calls?;
+    let findings = findings(alloc, arena, &plan, pieces?, &tallies)?;
+    Ok((findings, count))
 }
+
 /// The report of the first register that isn't atomic.
 fn report_of_first<R: Threads + Sync, G: Gate + Sync>(
     rt: &R,
@@ -75,8 +80,8 @@ fn report_by<R: Threads + Sync, G: Gate + Sync>(
     if settings.first() {
         report_of_first(rt, alloc, arena, settings, gate)
     } else {
-        let findings = find(rt, alloc, arena, settings, gate)?;
-        history_report_in_parts(rt, alloc, arena, &findings)
+        let (findings, operations) = find(rt, alloc, arena, settings, gate)?;
+        history_report_in_parts(rt, alloc, arena, &findings, operations)
     }
 }
 

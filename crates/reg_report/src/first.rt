@@ -5,14 +5,14 @@ ghost use Rattle.reg_pieces.specs.Workers.{IsFirstFound};
 ghost use Rattle.reg_report.specs.First.{AreFoundLines, IsFirstReport};
 ghost use Rattle.reg_report.specs.Levels.{AreLevels};
 ghost use Rattle.reg_report.specs.Meaning.{IsRegisterReport};
+ghost use Rattle.reg_report.specs.Tally.{AreTallies};
 
 use crate::findings::Finding;
-use crate::history::count_operations;
 use crate::levels::{Levels, listed_levels, several_writers};
 use crate::lists::Registers;
 use crate::register::register_report;
 use crate::report::{RegReport, Report};
-use crate::tally::count_calls;
+use crate::tally::{Tally, count_calls};
 use crate::told::told;
 use history_model::RegId;
 use reg_arena::Arena;
@@ -32,13 +32,18 @@ fn whole_levels(alloc: Global, arena: &Arena, register: RegId) -> Result<Levels,
     }
 }
 
-/// The line of one register, with nothing made for the others.
-fn whole_line(alloc: Global, arena: &Arena, register: RegId) -> Result<RegReport, AllocError>
-    requires { register.0 < length arena.now.names }
+/// The line of one register, with nothing made for the others but the counts of their calls.
+fn whole_line(
+    alloc: Global,
+    arena: &Arena,
+    register: RegId,
+    tallies: &[Tally],
+) -> Result<RegReport, AllocError>
+    requires register { register.0 < length arena.now.names }
+    requires tallies { AreTallies arena.now tallies.now }
     ensures { IfOk result (IsRegisterReport arena.now register.0) }
 {
     let levels = whole_levels(alloc, arena, register)?;
-    let tallies = count_calls(alloc, arena)?;
     let judged = judge(alloc, arena, register)?;
     let tally = tallies[register.0 as usize];
     let finding = Finding {
@@ -51,15 +56,21 @@ fn whole_line(alloc: Global, arena: &Arena, register: RegId) -> Result<RegReport
 }
 
 /// The line of the register found, if any.
-fn first_lines(alloc: Global, arena: &Arena, found: Option<RegId>) -> Result<Registers, AllocError>
-    requires { IsFirstFound arena.now found }
+fn first_lines(
+    alloc: Global,
+    arena: &Arena,
+    found: Option<RegId>,
+    tallies: &[Tally],
+) -> Result<Registers, AllocError>
+    requires found { IsFirstFound arena.now found }
+    requires tallies { AreTallies arena.now tallies.now }
     ensures { IfOk result (AreFoundLines arena.now (is_none found)) }
 {
     told(arena);
     let mut regs = Vec::new(alloc);
     match found {
         Some(register) => {
-            regs.push(whole_line(alloc, arena, register)?)?;
+            regs.push(whole_line(alloc, arena, register, tallies)?)?;
             Ok(Registers::new(regs))
         }
         None => Ok(Registers::new(regs)),
@@ -76,9 +87,10 @@ pub(crate) fn first_report(
     requires { IsFirstFound arena.now found }
     ensures { IfOk result (IsFirstReport arena.now) }
 {
+    let calls = count_calls(alloc, arena)?;
     Ok(Report {
-        regs: first_lines(alloc, arena, found)?,
-        operations: count_operations(arena),
+        regs: first_lines(alloc, arena, found, &calls.tallies)?,
+        operations: calls.count,
         registers: arena.register_count(),
         atomic: found.is_none(),
         order: None,

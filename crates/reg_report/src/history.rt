@@ -7,31 +7,17 @@ ghost use Rattle.reg_report.specs.Registers.{AreFindings, AreLines, AreOrdersSoF
 
 use crate::findings::Finding;
 use crate::lists::{Lines, Registers};
-use crate::merged::ranked;
-use crate::order_lines::order_lines;
+use crate::merged::{ranked, ranked_in_parts};
+use crate::order_lines::{order_lines, order_lines_in_parts};
 use crate::register::register_report;
 use crate::report::{RegReport, Report};
 use crate::told::told;
-use history_model::EvId;
 use rayon::prelude::*;
 use reg_arena::Arena;
 use reg_pieces::Judgement;
 use reg_zones::Placed;
 use std::alloc::{AllocError, Global};
 use std::thread::{Threads, join};
-
-/// The number of operations that were called.
-pub(crate) fn count_operations(arena: &Arena) -> u32
-    ensures { result ≡ length (calls arena.now.events) }
-{
-    let mut count = 0;
-    for number in 0..arena.event_count() {
-        if arena.begins(EvId(number)) {
-            count += 1;
-        }
-    }
-    count
-}
 
 /// The lines of all registers, in the order of their first calls.
 fn register_reports(
@@ -110,33 +96,56 @@ fn whole_order(
     }
 }
 
-/// The report of these lines and this order.
-fn report_of(arena: &Arena, regs: Vec<RegReport>, order: Option<Lines>) -> Report
+/// The same order, made by several threads.
+fn whole_order_in_parts(
+    rt: &(impl Threads + Sync),
+    alloc: Global,
+    arena: &Arena,
+    findings: &[Finding],
+) -> Result<Option<Lines>, AllocError>
+    requires { AreFindings arena.now findings.now }
+    ensures { IfOk result (λ order. IsWholeAtomicity arena.now (is_some order) order) }
+{
+    told(arena);
+    match orders_of(alloc, arena, findings)? {
+        None => Ok(None),
+        Some(orders) => {
+            let merged = ranked_in_parts(rt, alloc, arena, orders)?;
+            Ok(Some(order_lines_in_parts(rt, alloc, arena, &merged)?))
+        }
+    }
+}
+
+/// The report of these lines and this order, and of so many calls.
+fn report_of(arena: &Arena, regs: Vec<RegReport>, order: Option<Lines>, operations: u32) -> Report
     requires regs { AreLines arena.now regs.items }
     requires order { IsWholeAtomicity arena.now (is_some order) order }
+    requires operations { operations ≡ length (calls arena.now.events) }
     ensures { IsReport arena.now result }
 {
     Report {
         regs: Registers::new(regs),
-        operations: count_operations(arena),
+        operations,
         registers: arena.register_count(),
         atomic: order.is_some(),
         order,
     }
 }
 
-/// The report of a history, from what is found of its registers, or want of memory.
+/// The report of a history, from what is found of its registers and the number of its calls, or want of memory.
 pub(crate) fn history_report(
     alloc: Global,
     arena: &Arena,
     findings: &[Finding],
+    operations: u32,
 ) -> Result<Report, AllocError>
-    requires { AreFindings arena.now findings.now }
+    requires findings { AreFindings arena.now findings.now }
+    requires operations { operations ≡ length (calls arena.now.events) }
     ensures { IfOk result (IsReport arena.now) }
 {
     let regs = register_reports(alloc, arena, findings)?;
     let order = whole_order(alloc, arena, findings)?;
-    Ok(report_of(arena, regs, order))
+    Ok(report_of(arena, regs, order, operations))
 }
 
 /// The same report, made by several threads.
@@ -145,20 +154,22 @@ pub(crate) fn history_report_in_parts<R: Threads + Sync>(
     alloc: Global,
     arena: &Arena,
     findings: &[Finding],
+    operations: u32,
 ) -> Result<Report, AllocError>
-    requires { AreFindings arena.now findings.now }
+    requires findings { AreFindings arena.now findings.now }
+    requires operations { operations ≡ length (calls arena.now.events) }
     ensures { IfOk result (IsReport arena.now) }
 {
     let (order, regs) = join(
         rt,
         || -> Result<Option<Lines>, AllocError>
-            requires { AreFindings arena.now findings.now }
+            requires { IsSync R.row × AreFindings arena.now findings.now }
             ensures { IfOk result (λ order. IsWholeAtomicity arena.entry.now (is_some order) order) }
-        { whole_order(alloc, arena, findings) },
+        { whole_order_in_parts(rt, alloc, arena, findings) },
         || -> Result<Vec<RegReport>, AllocError>
             requires { IsSync R.row × AreFindings arena.now findings.now }
             ensures { IfOk result (λ regs. AreLines arena.entry.now regs.items) }
         { register_reports_in_parts(rt, alloc, arena, findings) },
     );
-    Ok(report_of(arena, regs?, order?))
+    Ok(report_of(arena, regs?, order?, operations))
 }

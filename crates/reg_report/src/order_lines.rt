@@ -1,12 +1,17 @@
 //! The lines of an order and of its points.
-ghost use Rattle.std.specs.Prelude.{◌≡◌, IfOk};
+ghost use Rattle.std.specs.Prelude.{◌≡◌, flat_map, IfOk};
 ghost use Rattle.reg_report.specs.Lines.{HaveCalls, HavePoints, call_line, point_line, lines_by};
 
 use crate::lists::Lines;
 use history_model::{EvId, Oper};
+use rayon::prelude::*;
 use reg_arena::Arena;
 use reg_zones::Placed;
 use std::alloc::{AllocError, Global};
+use std::thread::Threads;
+
+/// How many operations of a long order one thread turns into lines at a time.
+const PART: usize = 16_384;
 
 /// The operations of an order by the lines of their calls, without the initial writes.
 pub(crate) fn order_lines(
@@ -22,6 +27,54 @@ pub(crate) fn order_lines(
         if let Oper::Called(id) = placed.oper {
             lines.push(arena.event(id).line)?;
         }
+    }
+    Ok(Lines::new(lines))
+}
+
+/// The same lines, found by several threads.
+pub(crate) fn order_lines_in_parts(
+    rt: &(impl Threads + Sync),
+    alloc: Global,
+    arena: &Arena,
+    order: &[Placed],
+) -> Result<Lines, AllocError>
+    requires { HaveCalls arena.now order.now }
+    ensures { IfOk result (λ lines. lines ≡ lines_by (call_line arena.now.events) order.now) }
+{
+    let parts = lines_of_parts(rt, alloc, arena, order)?;
+    joined(alloc, &parts)
+}
+
+/// The lines of an order in parts, one behind the other, each found by one thread.
+fn lines_of_parts(
+    rt: &(impl Threads + Sync),
+    alloc: Global,
+    arena: &Arena,
+    order: &[Placed],
+) -> Result<Vec<Lines>, AllocError>
+    requires { HaveCalls arena.now order.now }
+    ensures { IfOk result (λ parts. flat_map (λ part. part) parts.items ≡ lines_by (call_line arena.now.events) order.now) }
+{
+    // A part is long, so even one is worth a thread.
+    order
+        .par_chunks(PART)
+        .with_min_len(1)
+        .map(
+            |part: &[Placed]| -> Result<Lines, AllocError>
+                requires { HaveCalls arena.now part.now }
+                ensures { IfOk result (λ lines. lines ≡ lines_by (call_line arena.entry.now.events) part.now) }
+            { order_lines(alloc, arena, part) },
+        )
+        .collect::<Result<Vec<Lines>, AllocError>>(rt, alloc)?
+}
+
+/// Parts one behind the other.
+fn joined(alloc: Global, parts: &[Lines]) -> Result<Lines, AllocError>
+    ensures { IfOk result (λ lines. lines ≡ flat_map (λ part. part) parts.now) }
+{
+    let mut lines = Vec::new(alloc);
+    for part in parts {
+        lines.extend_from_slice(part.as_slice())?;
     }
     Ok(Lines::new(lines))
 }

@@ -1,6 +1,6 @@
-//! How many calls each register has, without those that failed.
+//! How many calls a history has, and how many each register, without those that failed.
 ghost use Rattle.std.specs.Prelude.{◌≡◌, ◌<◌, length, replicate, set, slice_get, Some, IfOk};
-ghost use Rattle.reg_report.specs.Tally.{AreTallies, HasRoom, counted, no_calls};
+ghost use Rattle.reg_report.specs.Tally.{AreCalls, HasRoom, counted, no_calls};
 ghost use Rattle.reg_report.specs.declared.tally.Tally.{Tally as ATally};
 
 use crate::told::told;
@@ -43,6 +43,15 @@ impl Tally {
     }
 }
 
+/// The calls of a history that didn't fail, pending ones too.
+#[derive(Drop)]
+pub(crate) struct Calls {
+    /// How many there are.
+    pub(crate) count: u32,
+    /// Those of each register, by number.
+    pub(crate) tallies: Vec<Tally>,
+}
+
 /// So many registers without calls.
 fn none_counted(alloc: Global, count: u32) -> Result<Vec<Tally>, AllocError>
     ensures { IfOk result (λ tallies. tallies.items ≡ replicate count no_calls) }
@@ -70,17 +79,19 @@ fn add(tallies: &mut Vec<Tally>, op: &Op)
     tallies[register] = tally.and(op);
 }
 
-/// Counts the calls of each register that didn't fail, in one pass over the events.
-pub(crate) fn count_calls(alloc: Global, arena: &Arena) -> Result<Vec<Tally>, AllocError>
-    ensures { IfOk result (λ tallies. AreTallies arena.now tallies.items) }
+/// Counts the calls that didn't fail, all of them and those of each register, in one pass over the events.
+pub(crate) fn count_calls(alloc: Global, arena: &Arena) -> Result<Calls, AllocError>
+    ensures { IfOk result (AreCalls arena.now) }
 {
     told(arena);
     let mut tallies = none_counted(alloc, arena.register_count())?;
+    let mut count = 0;
     for number in 0..arena.event_count() {
         let id = EvId(number);
         if arena.begins(id) {
             add(&mut tallies, &arena.op(Oper::Called(id)));
+            count += 1;
         }
     }
-    Ok(tallies)
+    Ok(Calls { count, tallies })
 }

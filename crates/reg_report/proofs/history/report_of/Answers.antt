@@ -10,7 +10,7 @@ returns c =
     record {
       lines = regs.lines;
       each = regs.each;
-      called = c.count_operations.ensures;
+      called = c.requires.operations;
       named = c.register_count.ensures.count;
       atomic = subst (λ atomic. IsWholeAtomicity h atomic c.args.order) (sym c.is_some.ensures) c.requires.order;
     }

@@ -1,5 +1,9 @@
+use Rattle.reg_report.proofs.Counting.{IsCount}
 use Rattle.reg_report.proofs.Tallying.{AreCounting}
 use Rattle.reg_report.proofs.tally.count_calls.Given as goal
 
 abbrev pub invariant-loop-number : goal.invariant-loop-number
-invariant-loop-number l = AreCounting l.arena l.number l.tallies.items
+invariant-loop-number l = record {
+  all : IsCount l.arena.events l.count l.number;
+  each : AreCounting l.arena l.number l.tallies.items;
+}
