@@ -1,12 +1,13 @@
 -- What a walk over the events of a register keeps: what was shown of each event so far.
-use Rattle.std.proofs.Common.{◌≡◌, ℕ, ◌+◌, ◌-◌, ◌<◌, suc, List, Option, Some, None, length, inl, inr, refl, sym, subst, arith, option_and_then}
+use Rattle.std.proofs.Common.{◌≡◌, ℕ, ◌+◌, ◌<◌, List, Option, Some, None, length, inl, inr, refl, sym, subst, arith, option_and_then}
 use Rattle.std.proofs.lemmas.Bool.{cases_order}
 use Rattle.std.proofs.lemmas.Option.{slice_get_within}
 use Rattle.std.specs.List.{slice_get}
 use Rattle.history_text.specs.declared.event.Val.{Val}
 use Rattle.history_model.specs.declared.event.Event.{Event}
 use Rattle.history_model.specs.declared.ids.EvId.{EvId}
-use Rattle.history_model.specs.Walking.{IsLeastFrom, IsFirstOf, IsNextOf, by_register, by_value, key_at}
+use Rattle.history_model.specs.Walking.{IsLeastFrom, IsFirstOf, IsNextOf, by_register, by_value, key_at, walk_left}
+use Rattle.history_model.proofs.Walking.{walk-ends}
 
 -- an event is behind the walk
 abbrev pub IsPassed : ℕ → Option EvId → Type 0
@@ -59,29 +60,17 @@ module _ (events : List Event) (r : ℕ) (Q : ℕ → Type 0) where
   pub walk-end : IsWalk events r Q None → (i : ℕ) → key_at by_register events i ≡ Some r → Q i
   walk-end w i k = w.behind i k tt
 
--- how many places a walk has before it
-abbrev pub ahead : ℕ → Option EvId → ℕ
-ahead n None = 0
-ahead n (Some id) = suc (n - id.0)
-
-pub ahead-smaller : (events : List Event) (r : ℕ) (id : EvId) (next : Option EvId) → key_at by_register events id.0 ≡ Some r → IsNextOf by_register events id.0 next → ahead (length events) next < ahead (length events) (Some id)
-ahead-smaller events r id None k n = omega arith
-ahead-smaller events r id (Some j) k n = let f = n r k in let l = key-within events id.0 r k in omega (arith, f.0)
-
 -- ---- a loop that stands at `next`
 
 module _ {events : List Event} {r : ℕ} {Q : ℕ → Type 0} {next : Option EvId} {id : EvId} (w : IsWalk events r Q next) (e : next ≡ Some id) where
   pub met-here : IsWalk events r Q (Some id)
   met-here = subst (IsWalk events r Q) e w
 
-  pub met-within : id.0 < length events
-  met-within = key-within events id.0 r (w.here id e)
-
   pub met-more : (after : Option EvId) → Q id.0 → IsNextOf by_register events id.0 after → IsWalk events r Q after
   met-more after q n = walk-more events r Q id after met-here q n
 
-  pub met-smaller : (after : Option EvId) → IsNextOf by_register events id.0 after → ahead (length events) after < ahead (length events) next
-  met-smaller after n = subst (λ (o : Option EvId). ahead (length events) after < ahead (length events) o) (sym e) (ahead-smaller events r id after (w.here id e) n)
+  pub met-smaller : (after : Option EvId) → IsNextOf by_register events id.0 after → walk_left events after < walk_left events next
+  met-smaller after n = subst (λ (o : Option EvId). walk_left events after < walk_left events o) (sym e) (walk-ends r events id after (w.here id e) n)
 
 pub walk-over : {events : List Event} {r : ℕ} {Q : ℕ → Type 0} {next : Option EvId} → IsWalk events r Q next → next ≡ None → IsWalk events r Q None
 walk-over {events} {r} {Q} w e = subst (IsWalk events r Q) e w

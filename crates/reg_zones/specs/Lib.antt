@@ -5,3 +5,4 @@ pub mod Register
 pub mod Sweep
 pub mod Entries
 pub mod Inversions
+pub mod Ahead

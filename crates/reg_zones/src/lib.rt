@@ -9,10 +9,11 @@
 //! The method is that of Gibbons and Korach (Testing Shared Memories, 1997) for distinct written values. To read: `zone`,
 //! then `reads` (the two faults of single reads) and `pass` (one pass over the events, which also compares zones by their
 //! low ends), from which `atomic` answers; then `entry`, `walk` (the same pass, which also lists the operations) and
-//! `canonical` for the order, and `inversion`. `register` is a register with what is known of it, and `valued` asks for an
-//! operation's value.
+//! `canonical` for the order, and `inversion`. `register` is a register with what is known of it, `ahead` what both passes
+//! know of the events to come, and `valued` asks for an operation's value.
 #![tactic(auto)]
 
+mod ahead;
 mod atomic;
 mod canonical;
 mod entry;

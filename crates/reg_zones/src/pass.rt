@@ -5,6 +5,7 @@ ghost use Rattle.reg_zones.specs.Faults.{IsFault};
 ghost use Rattle.reg_zones.specs.Register.{operations_of};
 ghost use Rattle.reg_zones.specs.Sweep.{AreCompared, IsConflictWith, IsClusterOf, IsFound, IsLowEndAt, AreClear, IsMetAt, conflict_in};
 
+use crate::ahead::Ahead;
 use crate::fault::Fault;
 use crate::reads::early_at;
 use crate::register::{Met, Register};
@@ -61,13 +62,14 @@ pub(crate) fn pass(register: Register<'_>) -> Result<Found, Fault>
 {
     let mut early = None;
     let mut clusters = Compared::Clear(initial_forward(register));
-    let mut next = register.arena.first_of_register(register.id);
-    while let Some(id) = next {
+    let mut ahead = Ahead::of(register);
+    while let Some(id) = ahead.next {
+        let further = ahead.further(register);
         let met = register.meet(id);
         let here = early_at(register, met, id)?;
         early = early.or(here);
         clusters = compare_at(register, clusters, met, id);
-        next = register.arena.next_in_register(id);
+        ahead = further;
     }
     let conflict = clusters.conflict();
     Ok(Found { early, conflict })

@@ -7,6 +7,7 @@ ghost use Rattle.reg_zones.specs.Faults.{IsFault};
 ghost use Rattle.reg_zones.specs.Register.{operations_of};
 ghost use Rattle.reg_zones.specs.Sweep.{IsFound};
 
+use crate::ahead::Ahead;
 use crate::entry::{Entry, initial_entry, listed_at};
 use crate::fault::Fault;
 use crate::pass::{Compared, Found, compare_at, initial_forward};
@@ -28,18 +29,19 @@ pub(crate) fn found_and_listed(
     entries.push(initial_entry(register))?;
     let mut early = None;
     let mut clusters = Compared::Clear(initial_forward(register));
-    let mut next = register.arena.first_of_register(register.id);
-    while let Some(id) = next {
+    let mut ahead = Ahead::of(register);
+    while let Some(id) = ahead.next {
+        let further = ahead.further(register);
         let met = register.meet(id);
         match early_at(register, met, id) {
             Err(fault) => return Ok(Err(fault)),
             Ok(here) => early = early.or(here),
         }
-        clusters = compare_at(register, clusters, met, id);
         if let Some(entry) = listed_at(register, met, id) {
             entries.push(entry)?;
         }
-        next = register.arena.next_in_register(id);
+        clusters = compare_at(register, clusters, met, id);
+        ahead = further;
     }
     let conflict = clusters.conflict();
     Ok(Ok((Found { early, conflict }, entries)))
