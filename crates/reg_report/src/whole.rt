@@ -56,8 +56,8 @@ pub fn run<T: Threads + RandomSource + Sync, R: Source, W: Sink, G: Gate + Sync>
 {
     let input = pull_all(alloc, source)?;
     let report = check(rt, alloc, input.as_slice(), settings, gate)?;
-    let bytes = text_in_parts(rt, alloc, &report)?;
-    match deliver(sink, bytes.as_slice()) {
+    let parts = text_in_parts(rt, alloc, &report)?;
+    match deliver(sink, &parts) {
         Ok(()) => Ok(Outcome::of(&report)),
         Err(_) => Err(Refusal::OutputFailed),
     }

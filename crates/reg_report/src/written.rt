@@ -79,36 +79,14 @@ fn lines_in_parts(
         .collect::<Result<Vec<Vec<u8>>, AllocError>>(rt, alloc)?
 }
 
-/// Room for parts, one behind the other, and for `more` bytes.
-fn room_for(alloc: Global, parts: &[Vec<u8>], more: usize) -> Result<Vec<u8>, AllocError>
-    ensures { IfOk result (λ room. room.items ≡ []) }
-{
-    let mut len = more;
-    for part in parts {
-        len = len.saturating_add(part.len());
-    }
-    Vec::with_capacity(alloc, len)
-}
-
-/// Parts one behind the other, and then a line.
-fn joined(alloc: Global, parts: &[Vec<u8>], line: &[u8]) -> Result<Vec<u8>, AllocError>
-    ensures { IfOk result (λ bytes. bytes.items ≡ flat_map (λ part. part.items) parts.now ++ (line.now ++ 10 ∷ [])) }
-{
-    let mut out = room_for(alloc, parts, line.len().saturating_add(1))?;
-    for part in parts {
-        out.extend_from_slice(part.as_slice())?;
-    }
-    put_line(&mut out, line)?;
-    Ok(out)
-}
-
-/// The same bytes as [`text`] gives, made by several threads.
+/// The bytes that [`text`] gives, in parts, one behind the other, made by several threads. To join them, one thread would
+/// copy the whole text once more.
 pub(crate) fn text_in_parts<R: Threads + Sync>(
     rt: &R,
     alloc: Global,
     report: &Report,
-) -> Result<Vec<u8>, AllocError>
-    ensures { IfOk result (λ bytes. bytes.items ≡ report_text report.now) }
+) -> Result<Vec<Vec<u8>>, AllocError>
+    ensures { IfOk result (λ parts. flat_map (λ part. part.items) parts.items ≡ report_text report.now) }
 {
     let (parts, summary) = join(
         rt,
@@ -120,5 +98,9 @@ pub(crate) fn text_in_parts<R: Threads + Sync>(
             ensures { IfOk result (λ line. line.items ≡ compact_text (summary_json report.entry.now)) }
         { summary_line(alloc, report) },
     );
-    joined(alloc, parts?.as_slice(), summary?.as_slice())
+    let mut parts = parts?;
+    let mut line = summary?;
+    line.push(b'\n')?;
+    parts.push(line)?;
+    Ok(parts)
 }
