@@ -1,4 +1,5 @@
 pub mod Pushed
+mod Listing
 mod Numbering
 mod Fitness
 mod Fewness

@@ -25,6 +25,11 @@ abbrev pub IsListOf : History → ℕ → Option ListedReads → Type 0
 IsListOf h r None = HasSingleWriter (register_of h r) → ⊥
 IsListOf h r (Some list) = HasSingleWriter (register_of h r) × (list.register ≡ r) × IsReadList h list
 
+-- the completed reads of each register, by its number
+pub record AreLists (h : History) (lists : List (Option ListedReads)) : Type 0 where
+  pub registers : length lists ≡ length h.names
+  pub each : (r : ℕ) (list : Option ListedReads) → slice_get lists r ≡ Some list → IsListOf h r list
+
 -- the reads of register r numbered from `from` up to and without `len`, in cuts of that many, the last perhaps shorter
 abbrev pub AreCuts : ℕ → ℕ → ℕ → ℕ → List Task → Type 0
 AreCuts cut r from len [] = from ≡ len

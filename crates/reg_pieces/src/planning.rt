@@ -2,14 +2,16 @@
 ghost use Rattle.std.specs.Prelude.{◌<◌, ◌≤◌, length, IfOk, OnOk};
 ghost use Rattle.history_text.specs.declared.limits.TheConstants.{MAX_EVENTS};
 ghost use Rattle.job_board.specs.declared.limits.TheConstants.{MAX_JOBS};
-ghost use Rattle.reg_pieces.specs.Plan.{AddsCuts, IsFirstPlan, IsListOf, IsPlan, IsPlanBy, IsSomePlan};
+ghost use Rattle.reg_pieces.specs.Plan.{AddsCuts, AreLists, IsFirstPlan, IsListOf, IsPlan, IsPlanBy, IsSomePlan};
 
 use crate::settings::Settings;
 use crate::tasks::{Plan, Task};
 use history_model::RegId;
+use rayon::prelude::*;
 use reg_arena::Arena;
 use reg_lamport::{ReadList, reads, single_writer};
 use std::alloc::{AllocError, Global};
+use std::thread::Threads;
 
 /// The completed reads of a register, if it has a single writer.
 ///
@@ -27,6 +29,38 @@ pub fn list_of(
     } else {
         Ok(None)
     }
+}
+
+/// The completed reads of each register, by its number.
+fn lists(alloc: Global, arena: &Arena) -> Result<Vec<Option<ReadList>>, AllocError>
+    ensures { IfOk result (λ lists. AreLists arena.now lists.items) }
+{
+    let count = arena.register_count();
+    let mut lists = Vec::with_capacity(alloc, count as usize)?;
+    for number in 0..count {
+        lists.push(list_of(alloc, arena, RegId(number))?)?;
+    }
+    Ok(lists)
+}
+
+/// The same lists, made by several threads.
+fn lists_in_parts(
+    rt: &(impl Threads + Sync),
+    alloc: Global,
+    arena: &Arena,
+) -> Result<Vec<Option<ReadList>>, AllocError>
+    ensures { IfOk result (λ lists. AreLists arena.now lists.items) }
+{
+    // A register may have many reads, so even one is worth a thread.
+    (0..arena.register_count())
+        .into_par_iter()
+        .with_min_len(1)
+        .map(
+            |number: u32| -> Result<Option<ReadList>, AllocError>
+                ensures { IfOk result (IsListOf arena.entry.now number) }
+            { list_of(alloc, arena, RegId(number)) },
+        )
+        .collect::<Result<Vec<Option<ReadList>>, AllocError>>(rt, alloc)?
 }
 
 /// Adds a task for each cut of so many reads of a register.
@@ -59,20 +93,23 @@ fn few_events(arena: &Arena)
     let _count = arena.event_count();
 }
 
-/// The pieces of work of a whole report, in cuts of so many reads.
-fn whole_plan(alloc: Global, arena: &Arena, cut: u32) -> Result<Plan, AllocError>
-    requires { 0 < cut }
+/// The pieces of work of a whole report, in cuts of so many reads of these lists.
+fn whole_plan(
+    alloc: Global,
+    arena: &Arena,
+    lists: Vec<Option<ReadList>>,
+    cut: u32,
+) -> Result<Plan, AllocError>
+    requires cut { 0 < cut }
+    requires lists { AreLists arena.now lists.items }
     ensures { IfOk result (IsPlan arena.now cut) }
 {
     few_events(arena);
     let mut tasks = Vec::new(alloc);
-    let mut lists = Vec::new(alloc);
     for number in 0..arena.register_count() {
         let register = RegId(number);
-        let list = list_of(alloc, arena, register)?;
         tasks.push(Task::Judge(register))?;
-        add_cuts(&mut tasks, register, &list, cut)?;
-        lists.push(list)?;
+        add_cuts(&mut tasks, register, &lists[number as usize], cut)?;
     }
     Ok(Plan {
         tasks,
@@ -97,7 +134,7 @@ fn first_plan(alloc: Global, arena: &Arena) -> Result<Plan, AllocError>
     })
 }
 
-/// The pieces of work of a history.
+/// The pieces of work of a history. It starts no thread.
 ///
 /// # Errors
 /// If memory was refused; the arena is as before.
@@ -109,6 +146,32 @@ pub fn plan(alloc: Global, arena: &Arena, settings: Settings) -> Result<Plan, Al
     if settings.first() {
         first_plan(alloc, arena)
     } else {
-        whole_plan(alloc, arena, settings.cut())
+        whole_plan(alloc, arena, lists(alloc, arena)?, settings.cut())
+    }
+}
+
+/// The same pieces of work, with the reads of the registers listed by several threads.
+///
+/// # Errors
+/// If memory was refused; the arena is as before.
+pub fn plan_in_parts<R: Threads + Sync>(
+    rt: &R,
+    alloc: Global,
+    arena: &Arena,
+    settings: Settings,
+) -> Result<Plan, AllocError>
+    ensures by { IfOk result (IsPlanBy arena.now settings.cut settings.first) }
+    ensures some { IfOk result (IsSomePlan arena.now) }
+    ensures few { IfOk result (λ plan. length plan.tasks ≤ MAX_JOBS) }
+{
+    if settings.first() {
+        first_plan(alloc, arena)
+    } else {
+        whole_plan(
+            alloc,
+            arena,
+            lists_in_parts(rt, alloc, arena)?,
+            settings.cut(),
+        )
     }
 }

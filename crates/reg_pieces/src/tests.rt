@@ -86,6 +86,15 @@ fn counts_of_pieces(rt: HostRuntime) -> Result<(), Fail> {
     Ok(())
 }
 
+// Several threads list the reads for as many pieces.
+#[test]
+fn count_of_pieces_in_parts(rt: HostRuntime) -> Result<(), Fail> {
+    let arena = two_registers(&rt)?;
+    let plan = plan_in_parts(&rt, rt.alloc(), &arena, settings(1, 1)?)?;
+    assert_eq!(rt; plan.len(), 4);
+    Ok(())
+}
+
 // If the first register that isn't atomic is all that is asked for, each register has one piece.
 #[test]
 fn counts_of_registers(rt: HostRuntime) -> Result<(), Fail> {
