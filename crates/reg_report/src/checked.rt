@@ -18,7 +18,7 @@ use crate::report::Report;
 use crate::tally::{Calls, count_calls};
 use history_text::MAX_INPUT;
 use reg_arena::Arena;
-use reg_pieces::{Gate, Pieces, Settings, do_pieces, first_faulty, plan};
+use reg_pieces::{Gate, Pieces, Settings, do_pieces, first_faulty, plan, plan_in_parts};
 use std::alloc::{AllocError, Global};
 use std::random::RandomSource;
 use std::thread::{Threads, join};
@@ -35,7 +35,7 @@ fn find<R: Threads + Sync, G: Gate + Sync>(
     requires { settings.first ≡ false }
     ensures { IfOk result (λ found. AreFindings arena.now found.0.items × (found.1 ≡ length (calls arena.now.events))) }
 {
-    let plan = plan(alloc, arena, settings)?;
+    let plan = plan_in_parts(rt, alloc, arena, settings)?;
     let (calls, pieces) = join(
         rt,
         || -> Result<Calls, AllocError>
