@@ -1,5 +1,5 @@
 -- What is made of the parts of a list, one behind the other, is what is made of the whole list.
-use Rattle.std.proofs.Common.{◌≡◌, ℕ, ◌<◌, List, [], ◌∷◌, ◌++◌, map, Result, Ok, Err, Vec, Global, refl, ap, sym, subst, ◌∙◌}
+use Rattle.std.proofs.Common.{◌≡◌, ℕ, ◌<◌, List, [], ◌∷◌, ◌++◌, map, Result, Ok, Err, Vec, Global, ap, sym, subst, ◌∙◌}
 use Rattle.std.specs.Prelude.{IfOk, MatchResult, Contains, flat_map}
 use Rattle.std.specs.List.{AllZip}
 use Rattle.rayon.specs.Lists.{chunks_of}

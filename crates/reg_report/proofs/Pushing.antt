@@ -48,6 +48,6 @@ Appends-beginning a b c parts i d h before next =
     let rest = bytes-of (drop (i + 1) parts) in
     let whole : done ++ (part ++ rest) ≡ bytes-of parts = sym (append_assoc done part rest) ∙ (ap (λ xs. xs ++ rest) (sym (one-part-more parts i d h)) ∙ parts-first parts (i + 1)) in
     let out : take (length done + next.0) (bytes-of parts) ≡ done ++ take next.0 part =
-        ap (take (length done + next.0)) (sym whole) ∙ (take-append-add done (part ++ rest) next.0 ∙ ap (λ xs. done ++ xs) (take-append-le next.0 part rest next.1)) in
+    ap (take (length done + next.0)) (sym whole) ∙ (take-append-add done (part ++ rest) next.0 ∙ ap (λ xs. done ++ xs) (take-append-le next.0 part rest next.1)) in
     let fits = length-flat_map-take (λ (one : Vec ℕ Global). one.items) parts i d h in
     (length done + next.0, omega (arith, fits, next.1), subst (Appends a c) (sym out) (Appends-trans a b c done (take next.0 part) before next.2))

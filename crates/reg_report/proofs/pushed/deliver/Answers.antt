@@ -1,11 +1,10 @@
 -- Each part is pushed behind those before it.
-use Rattle.std.proofs.Common.{◌≡◌, ◌∙◌, ◌++◌, [], Result, Ok, Err, List, Vec, Global, ℕ, ap, refl, subst, sym, arith, length, take}
+use Rattle.std.proofs.Common.{◌≡◌, ◌∙◌, Result, Ok, Err, List, Vec, Global, ℕ, ap, refl, subst, sym, arith, length, take}
 use Rattle.std.proofs.Math.Seq.{take-length}
 use Rattle.std.proofs.lemmas.List.{take_all}
 use Rattle.std.specs.Prelude.{OnErr}
 use Rattle.std.specs.Io.KnownBytes.{Appends}
 use Rattle.std.proofs.KnownBytes.{Appends-kept, Appends-nil}
-use Rattle.byte_ends.specs.declared.ends.IoFail.{IoFail}
 use Rattle.reg_report.specs.Ends.{AppendsBeginning}
 use Rattle.reg_report.proofs.Pushing.{Appends-part, Appends-beginning, bytes-of}
 use Rattle.reg_report.proofs.pushed.deliver.Goals as goal
