@@ -132,9 +132,9 @@ line-apart (Initial r) n xs ys = refl
 line-apart (Called i) n xs ys = refl
 
 -- the lines of two parts of an order are those of each
-pub lines-apart : (line : Placed → ℕ) (xs ys : List Placed) → lines_by line (xs ++ ys) ≡ lines_by line xs ++ lines_by line ys
-lines-apart line [] ys = refl
-lines-apart line (x ∷ xs) ys = ap (line_if_called x.oper (line x)) (lines-apart line xs ys) ∙ line-apart x.oper (line x) (lines_by line xs) (lines_by line ys)
+pub lines-append : (line : Placed → ℕ) (xs ys : List Placed) → lines_by line (xs ++ ys) ≡ lines_by line xs ++ lines_by line ys
+lines-append line [] ys = refl
+lines-append line (x ∷ xs) ys = ap (line_if_called x.oper (line x)) (lines-append line xs ys) ∙ line-apart x.oper (line x) (lines_by line xs) (lines_by line ys)
 
 -- the calls of an order's parts are events too
 pub part-calls : (h : History) (size : ℕ) (order : List Placed) → HaveCalls h order → (k : ℕ) (d : List Placed) → k < length (chunks_of size order) → HaveCalls h (get_or (chunks_of size order) k d)

@@ -4,7 +4,7 @@ use Rattle.history_model.specs.History.{History}
 use Rattle.history_model.specs.Operations.{Operation, calls, is_write, writes}
 use Rattle.history_model.specs.declared.op.Op.{Op}
 use Rattle.reg_report.specs.Meaning.{calls_of, is_pending}
-use Rattle.reg_report.specs.declared.tally.Calls.{Calls}
+use Rattle.reg_report.specs.declared.tally.CallCounts.{CallCounts}
 use Rattle.reg_report.specs.declared.tally.Tally.{Tally}
 
 -- the counts of some calls
@@ -35,7 +35,7 @@ pub record AreTallies (h : History) (ts : List Tally) : Type 0 where
   pub count : length ts ≡ length h.names
   pub each : (r : ℕ) (t : Tally) → slice_get ts r ≡ Some t → IsTally (calls_of h r) t
 
--- the counts of all calls, and of each register's
-pub record AreCalls (h : History) (c : Calls) : Type 0 where
-  pub all : c.count ≡ length (calls h.events)
-  pub each : AreTallies h c.tallies.items
+-- the number of all calls, and the counts of each register
+pub record AreCallCounts (h : History) (c : CallCounts) : Type 0 where
+  pub operations : c.operations ≡ length (calls h.events)
+  pub tallies : AreTallies h c.tallies.items

@@ -20,9 +20,9 @@ fn report_alone(alloc: Global, arena: &Arena) -> Result<Report, AllocError>
 {
     let plan = plan(alloc, arena, Settings::alone())?;
     let pieces = do_pieces_alone(alloc, arena, &plan)?;
-    let calls = count_calls(alloc, arena)?;
-    let findings = findings(alloc, arena, &plan, pieces, &calls.tallies)?;
-    history_report(alloc, arena, &findings, calls.count)
+    let counts = count_calls(alloc, arena)?;
+    let findings = findings(alloc, arena, &plan, pieces, &counts.tallies)?;
+    history_report(alloc, arena, &findings, counts.operations)
 }
 
 /// The report of the history in the input, the same as [`check`](crate::check) gives. It takes no right to start threads

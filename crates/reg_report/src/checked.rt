@@ -7,7 +7,7 @@ ghost use Rattle.reg_pieces.specs.Slots.{AreDone};
 ghost use Rattle.reg_report.specs.Answer.{IsAnswer, IsRefused};
 ghost use Rattle.reg_report.specs.First.{IsFirstReport, IsReportBy};
 ghost use Rattle.reg_report.specs.Registers.{AreFindings};
-ghost use Rattle.reg_report.specs.Tally.{AreCalls};
+ghost use Rattle.reg_report.specs.Tally.{AreCallCounts};
 
 use crate::findings::{Finding, findings};
 use crate::first::first_report;
@@ -15,10 +15,10 @@ use crate::history::history_report_in_parts;
 use crate::reading::read_arena;
 use crate::refusal::Refusal;
 use crate::report::Report;
-use crate::tally::{Calls, count_calls};
+use crate::tally::{CallCounts, count_calls};
 use history_text::MAX_INPUT;
 use reg_arena::Arena;
-use reg_pieces::{Gate, Pieces, Settings, do_pieces, first_faulty, plan, plan_in_parts};
+use reg_pieces::{Gate, Pieces, Settings, do_pieces, first_faulty, plan_in_parts};
 use std::alloc::{AllocError, Global};
 use std::random::RandomSource;
 use std::thread::{Threads, join};
@@ -36,19 +36,22 @@ fn find<R: Threads + Sync, G: Gate + Sync>(
     ensures { IfOk result (λ found. AreFindings arena.now found.0.items × (found.1 ≡ length (calls arena.now.events))) }
 {
     let plan = plan_in_parts(rt, alloc, arena, settings)?;
-    let (calls, pieces) = join(
+    let (counts, pieces) = join(
         rt,
-        || -> Result<Calls, AllocError>
-            ensures { IfOk result (AreCalls arena.entry.now) }
+        || -> Result<CallCounts, AllocError>
+            ensures { IfOk result (AreCallCounts arena.entry.now) }
         { count_calls(alloc, arena) },
         || -> Result<Pieces, AllocError>
             requires { IsSync R.row × IsPlan arena.now settings.cut plan }
             ensures { IfOk result (AreDone arena.entry.now plan.tasks) }
         { do_pieces(rt, alloc, arena, &plan, settings, gate) },
     );
-    let Calls { count, tallies } = calls?;
+    let CallCounts {
+        operations,
+        tallies,
+    } = counts?;
     let findings = findings(alloc, arena, &plan, pieces?, &tallies)?;
-    Ok((findings, count))
+    Ok((findings, operations))
 }
 
 /// The report of the first register that isn't atomic.
@@ -62,7 +65,7 @@ fn report_of_first<R: Threads + Sync, G: Gate + Sync>(
     requires { settings.first ≡ true }
     ensures { IfOk result (IsFirstReport arena.now) }
 {
-    let plan = plan(alloc, arena, settings)?;
+    let plan = plan_in_parts(rt, alloc, arena, settings)?;
     let found = first_faulty(rt, alloc, arena, &plan, settings, gate)?;
     first_report(alloc, arena, found)
 }

@@ -32,7 +32,7 @@ fn whole_levels(alloc: Global, arena: &Arena, register: RegId) -> Result<Levels,
     }
 }
 
-/// The line of one register, with nothing made for the others but the counts of their calls.
+/// The line of one register, from the counts of all registers' calls.
 fn whole_line(
     alloc: Global,
     arena: &Arena,
@@ -87,10 +87,10 @@ pub(crate) fn first_report(
     requires { IsFirstFound arena.now found }
     ensures { IfOk result (IsFirstReport arena.now) }
 {
-    let calls = count_calls(alloc, arena)?;
+    let counts = count_calls(alloc, arena)?;
     Ok(Report {
-        regs: first_lines(alloc, arena, found, &calls.tallies)?,
-        operations: calls.count,
+        regs: first_lines(alloc, arena, found, &counts.tallies)?,
+        operations: counts.operations,
         registers: arena.register_count(),
         atomic: found.is_none(),
         order: None,

@@ -116,7 +116,7 @@ fn whole_order_in_parts(
     }
 }
 
-/// The report of these lines and this order, and of so many calls.
+/// The report with these lines, this order and so many operations.
 fn report_of(arena: &Arena, regs: Vec<RegReport>, order: Option<Lines>, operations: u32) -> Report
     requires regs { AreLines arena.now regs.items }
     requires order { IsWholeAtomicity arena.now (is_some order) order }

@@ -41,12 +41,12 @@ pub(crate) fn order_lines_in_parts(
     requires { HaveCalls arena.now order.now }
     ensures { IfOk result (λ lines. lines ≡ lines_by (call_line arena.now.events) order.now) }
 {
-    let parts = lines_of_parts(rt, alloc, arena, order)?;
-    joined(alloc, &parts)
+    let parts = lines_in_parts(rt, alloc, arena, order)?;
+    joined(alloc, &parts, order.len())
 }
 
 /// The lines of an order in parts, one behind the other, each found by one thread.
-fn lines_of_parts(
+fn lines_in_parts(
     rt: &(impl Threads + Sync),
     alloc: Global,
     arena: &Arena,
@@ -68,11 +68,11 @@ fn lines_of_parts(
         .collect::<Result<Vec<Lines>, AllocError>>(rt, alloc)?
 }
 
-/// Parts one behind the other.
-fn joined(alloc: Global, parts: &[Lines]) -> Result<Lines, AllocError>
+/// Parts one behind the other, with room for as many lines as `count`.
+fn joined(alloc: Global, parts: &[Lines], count: usize) -> Result<Lines, AllocError>
     ensures { IfOk result (λ lines. lines ≡ flat_map (λ part. part) parts.now) }
 {
-    let mut lines = Vec::new(alloc);
+    let mut lines = Vec::with_capacity(alloc, count)?;
     for part in parts {
         lines.extend_from_slice(part.as_slice())?;
     }

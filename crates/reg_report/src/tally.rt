@@ -1,6 +1,6 @@
 //! How many calls a history has, and how many each register, without those that failed.
 ghost use Rattle.std.specs.Prelude.{◌≡◌, ◌<◌, length, replicate, set, slice_get, Some, IfOk};
-ghost use Rattle.reg_report.specs.Tally.{AreCalls, HasRoom, counted, no_calls};
+ghost use Rattle.reg_report.specs.Tally.{AreCallCounts, HasRoom, counted, no_calls};
 ghost use Rattle.reg_report.specs.declared.tally.Tally.{Tally as ATally};
 
 use crate::told::told;
@@ -43,11 +43,10 @@ impl Tally {
     }
 }
 
-/// The calls of a history that didn't fail, pending ones too.
+/// How many calls a history has that didn't fail, pending ones too.
 #[derive(Drop)]
-pub(crate) struct Calls {
-    /// How many there are.
-    pub(crate) count: u32,
+pub(crate) struct CallCounts {
+    pub(crate) operations: u32,
     /// Those of each register, by number.
     pub(crate) tallies: Vec<Tally>,
 }
@@ -80,18 +79,21 @@ fn add(tallies: &mut Vec<Tally>, op: &Op)
 }
 
 /// Counts the calls that didn't fail, all of them and those of each register, in one pass over the events.
-pub(crate) fn count_calls(alloc: Global, arena: &Arena) -> Result<Calls, AllocError>
-    ensures { IfOk result (AreCalls arena.now) }
+pub(crate) fn count_calls(alloc: Global, arena: &Arena) -> Result<CallCounts, AllocError>
+    ensures { IfOk result (AreCallCounts arena.now) }
 {
     told(arena);
     let mut tallies = none_counted(alloc, arena.register_count())?;
-    let mut count = 0;
+    let mut operations = 0;
     for number in 0..arena.event_count() {
         let id = EvId(number);
         if arena.begins(id) {
             add(&mut tallies, &arena.op(Oper::Called(id)));
-            count += 1;
+            operations += 1;
         }
     }
-    Ok(Calls { count, tallies })
+    Ok(CallCounts {
+        operations,
+        tallies,
+    })
 }

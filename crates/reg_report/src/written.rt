@@ -79,8 +79,8 @@ fn lines_in_parts(
         .collect::<Result<Vec<Vec<u8>>, AllocError>>(rt, alloc)?
 }
 
-/// The bytes that [`text`] gives, in parts, one behind the other, made by several threads. To join them, one thread would
-/// copy the whole text once more.
+/// The bytes of [`text`] in parts, one behind the other, made by several threads. Joining them would cost one more copy of
+/// the whole text.
 pub(crate) fn text_in_parts<R: Threads + Sync>(
     rt: &R,
     alloc: Global,

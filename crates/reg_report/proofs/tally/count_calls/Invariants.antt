@@ -4,6 +4,6 @@ use Rattle.reg_report.proofs.tally.count_calls.Given as goal
 
 abbrev pub invariant-loop-number : goal.invariant-loop-number
 invariant-loop-number l = record {
-  all : IsCount l.arena.events l.count l.number;
-  each : AreCounting l.arena l.number l.tallies.items;
+  operations : IsCount l.arena.events l.operations l.number;
+  tallies : AreCounting l.arena l.number l.tallies.items;
 }

@@ -7,8 +7,8 @@ use Rattle.rayon.specs.Lists.{chunks_of, chunks_size}
 use Rattle.reg_report.specs.Lines.{HaveCalls, call_line, lines_by}
 use Rattle.reg_report.specs.declared.order_lines.TheConstants.{PART}
 use Rattle.reg_report.proofs.InParts.{parts-made}
-use Rattle.reg_report.proofs.OrderLines.{lines-apart, part-calls}
-use Rattle.reg_report.proofs.order_lines.lines_of_parts.Goals as goal
+use Rattle.reg_report.proofs.OrderLines.{lines-append, part-calls}
+use Rattle.reg_report.proofs.order_lines.lines_in_parts.Goals as goal
 
 pub collect-requires-clause-ready : goal.collect-requires-clause-ready
 collect-requires-clause-ready g c = rw (c.map.ensures.base, c.map.ensures.f, c.with_min_len.ensures.base, c.par_chunks.ensures.slice, c.par_chunks.ensures.size)
@@ -26,6 +26,6 @@ returns g c =
     let size = max (chunks_size c.par_chunks.result) 1 in
     let shown = h.1.1 ∙ (ap (λ b. chunks_of (max (chunks_size b) 1) b.slice.now) chunks ∙ ap (chunks_of size) c.par_chunks.ensures.slice) in
     let found = slice-AllZip h.1.0 (chunks_of size order) shown (λ part made. IfOk made (λ lines. lines ≡ lines_by (call_line c.map.result.f.1.now.events) part)) h.0 h.1.2 in
-    parts-made _ (λ lines. lines) (lines_by (call_line c.args.arena.now.events)) refl (lines-apart (call_line c.args.arena.now.events)) size order h.0 c.in_ok-collect.field-0 (omega arith)
+    parts-made _ (λ lines. lines) (lines_by (call_line c.args.arena.now.events)) refl (lines-append (call_line c.args.arena.now.events)) size order h.0 c.in_ok-collect.field-0 (omega arith)
     (subst (λ a. AllZip (λ part made. IfOk made (λ lines. lines ≡ lines_by (call_line a.events) part)) (chunks_of size order) h.0) arena found)
     h.2
