@@ -2,7 +2,7 @@
 use crate::short::{arena_of, lines};
 use crate::walks::{add_process, walks};
 use history_text::{LineEvent, LineFault};
-use reg_arena::{Arena, HashKey};
+use reg_arena::{Arena, HashKey, Numbering};
 use std::alloc::{AllocError, Global};
 use std::io;
 use std::process::Abort;
@@ -150,8 +150,10 @@ fn no_key_changes_an_answer(rt: HostRuntime) -> Result<(), Fail> {
         (0x5A5A, 0xA5A5),
     ] {
         let key = HashKey { first, second };
+        let lines = parts(&rt, alloc, KEYED)?;
+        let numbered = Numbering::new(alloc, key).number_parts(alloc, lines)?;
         let empty = Arena::empty(alloc, key, 4)?;
-        match empty.with_lines(alloc, parts(&rt, alloc, KEYED)?) {
+        match empty.with_lines(alloc, &numbered) {
             Ok(arena) => {
                 let mut text = walks(alloc, &arena)?;
                 add_process(&mut text, alloc, &arena, 70_000)?;

@@ -3,6 +3,7 @@ pub mod RowWritten
 pub mod Threading
 pub mod Joining
 pub mod Keys
+pub mod Numbered
 pub mod Values
 pub mod Append
 pub mod AppendCalls

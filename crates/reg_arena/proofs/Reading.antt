@@ -3,7 +3,8 @@ use Rattle.std.proofs.Common.{◌≡◌, ℕ, zero, suc, ◌+◌, ◌<◌, ◌�
 use Rattle.std.specs.Prelude.{Result, Ok, Err, flat_map}
 use Rattle.std.specs.Result.{result_ok, IsErrAnd, IfErr}
 use Rattle.std.proofs.lemmas.Bool.{cases_order}
-use Rattle.std.proofs.lemmas.List.{append_assoc, append-nil, length-append, take_all}
+use Rattle.std.proofs.lemmas.Grind.{flat_map-append}
+use Rattle.std.proofs.lemmas.List.{append_assoc, append-nil, flat_map_more, length-append, take_all}
 use Rattle.std.proofs.lemmas.List.Elements.{filter_map-append}
 use Rattle.std.proofs.lemmas.Option.{slice_get_past}
 use Rattle.history_text.specs.declared.event.LineEvent.{LineEvent}
@@ -115,20 +116,25 @@ nothing-built h e = record {
 pub all-built : (before all : List Line) (h : History) → IsBuilt before h → before ++ [] ≡ all → IsWellFormed all × (h ≡ history_of (events_of all))
 all-built before all h built e = let same : before ≡ all = sym (append-nil before) ∙ e in (subst IsWellFormed same built.well_formed, built.is ∙ ap (λ lines. history_of (events_of lines)) same)
 
--- the lines of a part have been taken in
-pub next-part : {V : Type 0} (items : V → List Line) (before : List Line) (part : V) (rest parts : List V) (all : List Line) → parts ≡ part ∷ rest → before ++ flat_map items parts ≡ all → before ++ items part ++ flat_map items rest ≡ all
-next-part items before part rest parts all e whole = append_assoc before (items part) (flat_map items rest) ∙ ap (λ parts. before ++ flat_map items parts) (sym e) ∙ whole
+module _ {V : Type 0} (items : V → List Line) (before : List Line) (parts : List V) (n : ℕ) (part : V) (at : slice_get parts n ≡ Some part) where
+  abbrev taken : List Line
+  taken = flat_map items (take n parts)
 
--- an error at a part refuses all lines that begin so, whatever stands behind them
-pub parts-refused : (before taken part rest all : List Line) → taken ++ part ++ rest ≡ all → (r : Result History BuildError) (x : BuildError) → IsErrAnd r (λ y. y ≡ x) → ((after : List Line) → IsBuildError ((before ++ taken) ++ part ++ after) x) → IsBuiltWith before all r
-parts-refused before taken part rest all e (Ok h) x p refused = absurd p
-parts-refused before taken part rest all e (Err y) x p refused = λ after. subst (IsBuildError (before ++ all ++ after)) (sym p) (subst (λ lines. IsBuildError lines x) (same after) (refused (rest ++ after)))
-  where
-    front : (before ++ taken) ++ part ++ rest ≡ before ++ all
-    front = ap (λ lines. lines ++ rest) (append_assoc before taken part) ∙ append_assoc before (taken ++ part) rest ∙ ap (λ lines. before ++ lines) e
+  abbrev rest : List Line
+  rest = flat_map items (drop (suc n) parts)
 
-    same : (after : List Line) → (before ++ taken) ++ part ++ (rest ++ after) ≡ before ++ all ++ after
-    same after = sym (append_assoc ((before ++ taken) ++ part) rest after) ∙ ap (λ lines. lines ++ after) front
+  -- the lines of one part more have been taken in
+  pub parts-more : (before ++ flat_map items (take n parts)) ++ items part ≡ before ++ flat_map items (take (n + 1) parts)
+  parts-more = let next : suc n ≡ n + 1 = omega arith in flat_map_more items before (take n parts) part ∙ ap (λ parts. before ++ flat_map items parts) (sym (take-push parts n part at) ∙ ap (λ m. take m parts) next)
+
+  -- the lines of the parts before, of the part there and of the parts behind it are all lines
+  whole-parts : (before ++ taken) ++ items part ++ rest ≡ before ++ flat_map items parts
+  whole-parts = ap (λ lines. lines ++ rest) (append_assoc before taken (items part)) ∙ append_assoc before (taken ++ items part) rest ∙ ap (λ lines. before ++ lines) (append_assoc taken (items part) rest ∙ (sym (flat_map-append items (take n parts) (part ∷ drop (suc n) parts)) ∙ ap (flat_map items) (sym (split-at parts n part at))))
+
+  -- an error at a part refuses all lines that begin so, whatever stands behind them
+  pub parts-refused : (r : Result History BuildError) (x : BuildError) → IsErrAnd r (λ y. y ≡ x) → ((after : List Line) → IsBuildError ((before ++ flat_map items (take n parts)) ++ items part ++ after) x) → IsBuiltWith before (flat_map items parts) r
+  parts-refused (Ok h) x p refused = absurd p
+  parts-refused (Err y) x p refused = λ after. subst (IsBuildError (before ++ flat_map items parts ++ after)) (sym p) (subst (λ lines. IsBuildError lines x) (sym (append_assoc (before ++ taken ++ items part) rest after) ∙ ap (λ lines. lines ++ after) whole-parts) (refused (rest ++ after)))
 
 -- an error that is passed on refuses all lines
 pub error-of-all : (all : List Line) (r : Result History BuildError) (x : BuildError) → IsErrAnd r (λ y. y ≡ x) → IsBuildError all x → IfErr r (IsBuildError all)

@@ -3,3 +3,4 @@ pub mod Rows
 pub mod EventLists
 pub mod Step
 pub mod Built
+pub mod Numbered

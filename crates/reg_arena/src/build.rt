@@ -1,12 +1,14 @@
 //! From lines to an arena: each event is refused, or taken into the history so far.
 //!
 //! A step that runs out of memory half way leaves an empty arena: an arena is the history of some events at any time.
-ghost use Rattle.std.specs.Prelude.{◌≡◌, [], ℕ, List, Option, length, cond, nat_le, flat_map, IfOk, IfErr, Some, None, true};
+ghost use Rattle.std.specs.Prelude.{◌≡◌, [], ℕ, List, Option, Ok, OnOk, bytes_eq, length, cond, nat_le, flat_map, IfOk, IfErr, Some, None, true};
 ghost use Rattle.history_text.specs.declared.event.LineEvent.{LineEvent as ALineEvent};
 ghost use Rattle.history_text.specs.declared.event.ReplyParts.{ReplyParts as AReplyParts};
 ghost use Rattle.history_text.specs.declared.event.Val.{Val as AVal};
 ghost use Rattle.reg_arena.specs.Built.{IsBuilt, IsBuiltWith};
 ghost use Rattle.reg_arena.specs.EventLists.{AreEventLists};
+ghost use Rattle.reg_arena.specs.Numbered.{AreNumbered, ArePartsNumbered, IsNumbered, lines_of, name_called, names_with};
+ghost use Rattle.std.specs.List.{position_or_len};
 ghost use Rattle.history_model.specs.Events.{Asked, asked_by, ended_by, failed_by, is_crash, replied_by};
 ghost use Rattle.history_model.specs.History.{history_of};
 ghost use Rattle.history_model.specs.declared.refusal.Reason.TheVariants.{TooMany};
@@ -19,6 +21,7 @@ use crate::arena::Arena;
 use crate::event_lists::EventLists;
 use crate::hash_key::HashKey;
 use crate::names::Names;
+use crate::numbering::{NumberedLines, Numbering};
 use crate::seeded::Seeded;
 use crate::standing::{Open, Standing};
 use history_model::{BuildError, EvId, Event, LineRefusal, Reason, RegId, What};
@@ -46,8 +49,10 @@ impl Arena {
         ensures err { IfErr result (λ e. IsBuildError events.items e) }
     {
         let key = HashKey::digest(&events);
-        let mut arena = Arena::empty(alloc, key, events.len())?;
-        arena.add_lines(alloc, &events)?;
+        let count = events.len();
+        let numbered = Numbering::new(alloc, key).number_lines(alloc, events)?;
+        let mut arena = Arena::empty(alloc, key, count)?;
+        arena.add_lines(alloc, &numbered)?;
         Ok(arena)
     }
 
@@ -56,46 +61,43 @@ impl Arena {
     /// # Errors
     /// The want of memory.
     pub fn empty(alloc: Global, key: HashKey, count: usize) -> Result<Self, AllocError>
-        ensures { IfOk result (IsBuilt []) }
+        ensures built { IfOk result (IsBuilt []) }
+        ensures names { IfOk result (λ a. a.names ≡ []) }
     {
         let arena = Arena::new(alloc, MAX_EVENTS.min(count), Seeded::new(key))?;
         Ok(arena)
     }
 
     /// The arena with the events of more lines behind the others, or the refusal of the first faulty one of these, with the lowest number that applies
-    /// there. The lines come in parts, one behind the other, and each part is dropped when its events are taken in.
+    /// there. The lines come in parts, one behind the other, and have the numbers of their registers by the names so far, as [`Numbering`] gives them.
     ///
     /// # Errors
-    /// `Refused` if the history isn't well formed, whatever stands behind these lines, and `Memory` if memory was refused; what was built and the lines are
-    /// then dropped.
-    pub fn with_lines(
-        mut self,
-        alloc: Global,
-        parts: Vec<Vec<Result<LineEvent, LineFault>>>,
-    ) -> Result<Self, BuildError>
-        ensures { (before : List Line) → IsBuilt before self → IsBuiltWith before (flat_map (λ part. part.items) parts.items) result }
+    /// `Refused` if the history isn't well formed, whatever stands behind these lines, and `Memory` if memory was refused; what was built is then dropped.
+    pub fn with_lines(mut self, alloc: Global, parts: &[NumberedLines]) -> Result<Self, BuildError>
+        requires { ArePartsNumbered self.names parts.now }
+        ensures { (before : List Line) → IsBuilt before self → IsBuiltWith before (flat_map lines_of parts.now) result }
     {
         for part in parts {
-            self.add_lines(alloc, &part)?;
+            self.add_lines(alloc, part)?;
         }
         Ok(self)
     }
 
     /// The arena with the events of more lines behind the others, or the refusal of the first faulty one of these.
-    fn add_lines(
-        &mut self,
-        alloc: Global,
-        lines: &[Result<LineEvent, LineFault>],
-    ) -> Result<(), BuildError>
-        ensures { (before : List Line) → IsBuilt before self.old → IsBuiltWith before lines.now (step_result self.new result) }
+    fn add_lines(&mut self, alloc: Global, part: &NumberedLines) -> Result<(), BuildError>
+        requires { AreNumbered self.old.names (lines_of part.now) part.now.numbers.items }
+        ensures built { (before : List Line) → IsBuilt before self.old → IsBuiltWith before (lines_of part.now) (step_result self.new result) }
+        ensures names { OnOk result (self.new.names ≡ names_with self.old.names (lines_of part.now)) }
     {
-        for line in lines {
+        for (place, line) in part.lines.iter().enumerate() {
+            // The arena's invariant is known once a field is used.
+            let _ = &self.names;
             match line {
                 Err(fault) => {
                     let refusal = refused(fault.line, Reason::Faulty(fault.kind));
                     return Err(BuildError::Refused(refusal));
                 }
-                Ok(event) => self.step(alloc, event)?,
+                Ok(event) => self.step(alloc, event, part.numbers[place])?,
             }
         }
         Ok(())
@@ -106,19 +108,21 @@ impl Arena {
         ensures { IfOk result (λ a. a ≡ history_of []) }
     {
         Ok(Arena {
-            names: Names::new(alloc, hasher),
+            names: Names::new(alloc),
             lists: EventLists::new(alloc, count, hasher)?,
         })
     }
 
-    /// The arena with the event of a line behind the others, or the event's refusal.
-    fn step(&mut self, alloc: Global, event: &LineEvent) -> Result<(), BuildError>
+    /// The arena with the event of a line behind the others, or the event's refusal. The number is that of the register that it calls.
+    fn step(&mut self, alloc: Global, event: &LineEvent, number: usize) -> Result<(), BuildError>
+        requires { IsNumbered self.old.names (name_called (Ok event.now)) number }
         ensures { (es : List ALineEvent) → AreAccepted es → self.old ≡ history_of es → IsStep es event.now (step_result self.new result) }
     {
         match &event.kind {
-            Kind::CallRead(name) => self.call(alloc, event, name, OpKind::ReadOp, None),
+            Kind::CallRead(name) => self.call(alloc, event, name, number, OpKind::ReadOp, None),
             Kind::CallWrite(name, n) => {
-                self.call(alloc, event, name, OpKind::WriteOp, Some(Val::Int(*n)))
+                let value = Some(Val::Int(*n));
+                self.call(alloc, event, name, number, OpKind::WriteOp, value)
             }
             Kind::Reply(parts) => self.reply(event, parts),
             Kind::Fail(parts) => self.fail(event, parts),
@@ -132,17 +136,32 @@ impl Arena {
         alloc: Global,
         event: &LineEvent,
         name: &Name,
+        number: usize,
         kind: OpKind,
         value: Option<Val>,
     ) -> Result<(), BuildError>
-        requires { asked_by event.now.kind ≡ Some (record { register = name.now; kind = kind; value = value }) }
+        requires asked { asked_by event.now.kind ≡ Some (record { register = name.now; kind = kind; value = value }) }
+        requires number { number ≡ position_or_len (bytes_eq name.now) self.old.names }
         ensures { (es : List ALineEvent) → AreAccepted es → self.old ≡ history_of es → IsStep es event.now (step_result self.new result) }
     {
-        let number = self.names.number(name);
+        // The arena's invariant is known once a field is used.
+        let _ = &self.names;
+        let number = self.known(number);
         let last = self.last_with(number, value);
         match self.call_refusal(event, last) {
             Some(refusal) => Err(BuildError::Refused(refusal)),
             None => Ok(self.add_call(alloc, event, name, number, kind, value, last)?),
+        }
+    }
+
+    /// A register's number, if the register was called before.
+    fn known(&self, number: usize) -> Option<u32>
+        ensures { (name : List ℕ) → number ≡ position_or_len (bytes_eq name) self.now.names → IsNumber self.now.names name result }
+    {
+        if number < self.names.len() {
+            Some(number as u32)
+        } else {
+            None
         }
     }
 

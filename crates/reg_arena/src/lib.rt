@@ -2,12 +2,13 @@
 //!
 //! What the floor above may rely on: [`Arena::build`] accepts and refuses exactly as the definitions say, and the arena's model is the history of the
 //! accepted events. An arena that begins as [`Arena::empty`] and takes in more lines by [`Arena::with_lines`] promises the same, whatever the key of its
-//! hashes. Each walk of the arena is the filter of the one list of events, ascending: by register, by process, and by register and value. Operations,
-//! their times and their order are those of the definitions in `history_model`, whose laws say what holds of them. All calls but these three take no
-//! memory and always answer.
+//! hashes; a [`Numbering`] first gives these lines the numbers of their registers. Each walk of the arena is the filter of the one list of events,
+//! ascending: by register, by process, and by register and value. Operations, their times and their order are those of the definitions in
+//! `history_model`, whose laws say what holds of them. All calls but these take no memory and always answer.
 //!
 //! Read it in this order: `hash_key` and `seeded`, which make the hashes; `optional`, `packed_event` and `rows`, which keep the events; `list_ends`, `processes`, `joins`,
-//! `event_lists` and `entries`, the lists that run through them; `names`; `arena`, `called` and `of_value`, which answer; `agrees`, `standing` and `build`.
+//! `event_lists` and `entries`, the lists that run through them; `numbering`, which numbers the registers of lines, and `names`; `arena`, `called` and
+//! `of_value`, which answer; `agrees`, `standing` and `build`.
 #![tactic(auto)]
 
 mod agrees;
@@ -20,6 +21,7 @@ mod hash_key;
 mod joins;
 mod list_ends;
 mod names;
+mod numbering;
 mod of_value;
 mod optional;
 mod packed_event;
@@ -30,3 +32,4 @@ mod standing;
 
 pub use arena::Arena;
 pub use hash_key::HashKey;
+pub use numbering::{NumberedLines, Numbering};

@@ -9,15 +9,22 @@ use Rattle.history_model.specs.History.{History, history_of}
 use Rattle.history_model.specs.Refusals.{Line, IsBuildError, IsWellFormed, events_of}
 use Rattle.history_model.specs.declared.refusal.BuildError.{BuildError}
 use Rattle.reg_arena.specs.Built.{IsBuilt, IsBuiltWith}
+use Rattle.reg_arena.specs.Numbered.{names_with}
+use Rattle.reg_arena.proofs.Numbered.{names-lines}
 use Rattle.reg_report.specs.declared.reading.Underway.{Underway}
-use Rattle.reg_report.specs.Underway.{IsChunk, IsUnderway, chunk_lines, lines_from}
+use Rattle.reg_report.specs.Underway.{IsChunk, IsNumberedBehind, IsUnderway, chunk_lines, lines_from}
 
 module _ (input : List ℕ) (state : Underway) (underway : IsUnderway input state) where
+  -- the names up to the chunk's end are those of the arena that has taken it in
+  names-behind : (h : History) → IsBuilt (underway.before ++ chunk_lines state.ahead) h → state.ahead.numbering ≡ h.names
+  names-behind h built = underway.numbered.names_after ∙ (ap (λ (g : History). names_with g.names (chunk_lines state.ahead)) underway.built.is ∙ (sym (names-lines underway.before (chunk_lines state.ahead)) ∙ ap (λ (g : History). g.names) (sym built.is)))
+
   -- the chunk read ahead is taken in, and the next one is read
-  pub turned : (after : Underway) → IsBuilt (underway.before ++ chunk_lines state.ahead) after.arena → IsChunk input state.ahead.behind after.ahead → IsUnderway input after
+  pub turned : (after : Underway) → IsBuilt (underway.before ++ chunk_lines state.ahead) after.arena → IsChunk input state.ahead.behind state.ahead.numbering after.ahead → IsUnderway input after
   turned after built chunk = let taken = underway.before ++ chunk_lines state.ahead in record {
     before = taken;
     built = built;
+    numbered = subst (λ names. IsNumberedBehind names after.ahead) (names-behind after.arena built) chunk.numbered;
     at = chunk.at;
     whole = append_assoc taken (chunk_lines after.ahead) (lines_from input after.ahead.behind) ∙ ap (λ lines. taken ++ lines) chunk.whole ∙ underway.whole;
   }

@@ -1,4 +1,4 @@
-//! From the bytes of a history to its arena: while the lines of one chunk are taken in, those of the next are found and read.
+//! From the bytes of a history to its arena: while the lines of one chunk are taken in, those of the next are found, read and numbered.
 ghost use Rattle.std.specs.Prelude.{◌≡◌, ◌≤◌, ◌<◌, List, flat_map, length, IfOk, IfErr};
 ghost use Rattle.std.specs.Thread.{IsSync};
 ghost use Rattle.history_text.specs.Lines.{IsPlace};
@@ -6,11 +6,12 @@ ghost use Rattle.history_text.specs.Reading.{history_lines};
 ghost use Rattle.history_model.specs.History.{history_of};
 ghost use Rattle.history_model.specs.Refusals.{IsBuildError, IsWellFormed, Line, events_of};
 ghost use Rattle.reg_arena.specs.Built.{IsBuilt, IsBuiltWith};
+ghost use Rattle.reg_arena.specs.Numbered.{ArePartsNumbered, lines_of};
 ghost use Rattle.reg_report.specs.Underway.{IsChunk, IsUnderway};
 
 use history_model::BuildError;
-use history_text::{LineEvent, LineFault, MAX_INPUT, Place, next_lines, read_spans};
-use reg_arena::{Arena, HashKey};
+use history_text::{MAX_INPUT, Place, next_lines, read_spans};
+use reg_arena::{Arena, HashKey, NumberedLines, Numbering};
 use std::alloc::{AllocError, Global};
 use std::random::RandomSource;
 use std::thread::{self, Threads};
@@ -23,28 +24,36 @@ const CHUNK: usize = 32_768;
 /// events as the input could have, since to count its lines would cost more: room that no event fills is never touched.
 const SHORTEST_EVENT: usize = 30;
 
-/// The lines of one chunk, which were read, and where the next chunk begins.
+/// The lines of one chunk, which were read and numbered, where the next chunk begins, and the numbers of the registers up to there.
 #[derive(Drop)]
 struct Chunk {
-    lines: Vec<Vec<Result<LineEvent, LineFault>>>,
+    lines: Vec<NumberedLines>,
     behind: Place,
+    numbering: Numbering,
 }
 
 impl Chunk {
-    /// Finds the lines of the chunk at a place, and has threads read them.
+    /// Finds the lines of the chunk at a place, has threads read them, and numbers their registers.
     fn read<R: Threads + Sync>(
         rt: &R,
         alloc: Global,
         input: &[u8],
         place: Place,
+        numbering: Numbering,
     ) -> Result<Self, AllocError>
         requires limit { length input.now ≤ MAX_INPUT }
         requires place { IsPlace input.now place }
-        ensures { IfOk result (IsChunk input.now place) }
+        ensures { IfOk result (IsChunk input.now place numbering) }
     {
+        let mut numbering = numbering;
         let (spans, behind) = next_lines(alloc, input, place, CHUNK)?;
-        let lines = read_spans(rt, alloc, input, &spans)?;
-        Ok(Chunk { lines, behind })
+        let parts = read_spans(rt, alloc, input, &spans)?;
+        let lines = numbering.number_parts(alloc, parts)?;
+        Ok(Chunk {
+            lines,
+            behind,
+            numbering,
+        })
     }
 }
 
@@ -53,6 +62,8 @@ impl Chunk {
 struct Underway {
     arena: Arena,
     ahead: Chunk,
+    /// The lines that were taken in last, which are left to the next turn's reader to drop.
+    spent: Vec<NumberedLines>,
 }
 
 impl Underway {
@@ -71,21 +82,38 @@ impl Underway {
         ensures err { IfErr result (IsBuildError (history_lines input.now)) }
         ensures further { IfOk result (λ state. self.ahead.behind.from < length input.now → self.ahead.behind.from < state.ahead.behind.from) }
     {
-        let Underway { arena, ahead } = self;
-        let Chunk { lines, behind } = ahead;
+        let Underway {
+            arena,
+            ahead,
+            spent,
+        } = self;
+        let Chunk {
+            lines,
+            behind,
+            numbering,
+        } = ahead;
+        let parts = lines.as_slice();
         let (read, taken) = thread::join(
             rt,
-            || -> Result<Chunk, AllocError>
+            move || -> Result<Chunk, AllocError>
                 requires { IsSync R.row × (length input.now ≤ MAX_INPUT) × IsPlace input.now behind }
-                ensures { IfOk result (IsChunk input.entry.now behind) }
-            { Chunk::read(rt, alloc, input, behind) },
+                ensures { IfOk result (IsChunk input.entry.now behind numbering) }
+            {
+                drop(spent);
+                Chunk::read(rt, alloc, input, behind, numbering)
+            },
             move || -> Result<Arena, BuildError>
-                ensures { (before : List Line) → IsBuilt before arena → IsBuiltWith before (flat_map (λ part. part.items) lines.items) result }
-            { arena.with_lines(alloc, lines) },
+                requires { ArePartsNumbered arena.names parts.now }
+                ensures { (before : List Line) → IsBuilt before arena → IsBuiltWith before (flat_map lines_of parts.entry.now) result }
+            { arena.with_lines(alloc, parts) },
         );
         let arena = taken?;
         let ahead = read?;
-        Ok(Underway { arena, ahead })
+        Ok(Underway {
+            arena,
+            ahead,
+            spent: lines,
+        })
     }
 }
 
@@ -103,12 +131,22 @@ pub(crate) fn read_arena<R: Threads + RandomSource + Sync>(
     ensures err { IfErr result (λ e. IsBuildError (history_lines input.now) e) }
 {
     let room = input.len() / SHORTEST_EVENT + 1;
-    let arena = Arena::empty(alloc, HashKey::drawn(rt, input), room)?;
-    let ahead = Chunk::read(rt, alloc, input, Place::first())?;
-    let mut underway = Underway { arena, ahead };
+    let key = HashKey::drawn(rt, input);
+    let arena = Arena::empty(alloc, key, room)?;
+    let numbering = Numbering::new(alloc, key);
+    let ahead = Chunk::read(rt, alloc, input, Place::first(), numbering)?;
+    let mut underway = Underway {
+        arena,
+        ahead,
+        spent: Vec::new(alloc),
+    };
     while !underway.ahead.behind.is_end(input) {
         underway = underway.turn(rt, alloc, input)?;
     }
-    let Underway { arena, ahead } = underway;
-    arena.with_lines(alloc, ahead.lines)
+    let Underway {
+        arena,
+        ahead,
+        spent: _,
+    } = underway;
+    arena.with_lines(alloc, &ahead.lines)
 }

@@ -5,7 +5,7 @@ use Rattle.history_model.specs.declared.event.Event.{Event}
 use Rattle.history_model.specs.declared.ids.EvId.{EvId}
 use Rattle.reg_zones.specs.declared.ahead.Ahead.{Ahead}
 
--- of the events of register r, the one after the next is known too
+-- the event after the next of register r is the one that follows the next, and, if there is one, an event of the register
 pub record IsAhead (events : List Event) (r : ℕ) (ahead : Ahead) : Type 0 where
   pub follows : (id : EvId) → ahead.next ≡ Some id → IsNextOf by_register events id.0 ahead.after
   pub on : IsOnWalk events r ahead.after

@@ -24,8 +24,8 @@ impl Ahead {
 
     /// What is ahead one event further on.
     ///
-    /// It reads the row of the event that comes next, and other registers' rows lie between the two. A step calls it first,
-    /// so that the row is fetched while the event at hand is judged.
+    /// It reads the row of the next event, which may be far from that of the event at hand. So a step calls it first: the row
+    /// is fetched while the event at hand is judged.
     pub(crate) fn further(self, register: Register<'_>) -> Self
         requires { IsAhead register.arena.now.events register.id.0 self }
         ensures next { (id : EvId) → self.next ≡ Some id → IsNextOf by_register register.entry.arena.now.events id.0 result.next }
@@ -34,7 +34,7 @@ impl Ahead {
         Ahead::before(register, self.after)
     }
 
-    /// What is ahead before this event, or at the end.
+    /// What is ahead if this event is the next, or if none is.
     fn before(register: Register<'_>, next: Option<EvId>) -> Self
         requires { IsOnWalk register.arena.now.events register.id.0 next }
         ensures next { result.next ≡ next }

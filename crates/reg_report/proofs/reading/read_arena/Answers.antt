@@ -1,5 +1,8 @@
 -- No chunk is left when the last one is taken in.
+use Rattle.std.proofs.Common.{flat_map, subst}
 use Rattle.history_text.specs.Reading.{history_lines}
+use Rattle.reg_arena.specs.Built.{IsBuiltWith}
+use Rattle.reg_arena.specs.Numbered.{lines_of}
 use Rattle.history_model.specs.declared.refusal.BuildError.TheVariants.{Memory}
 use Rattle.reg_report.proofs.Chunks.{ended-ok, refused-on}
 use Rattle.reg_report.proofs.reading.read_arena.Goals as goal
@@ -10,4 +13,5 @@ returns-in_err-ahead-clause-err g c = refused-on (history_lines c.args.input.now
 pub returns-clause-ok : goal.returns-clause-ok
 returns-clause-ok g c =
     let underway = c.loop-underway.invariant.underway in
-    ended-ok c.args.input.now c.loop-underway.underway underway (c.is_end.ensures.none c.loop-underway-test.false) c.with_lines.result (c.with_lines.ensures underway.before underway.built)
+    ended-ok c.args.input.now c.loop-underway.underway underway (c.is_end.ensures.none c.loop-underway-test.false) c.with_lines.result
+    (subst (λ lines. IsBuiltWith underway.before (flat_map lines_of lines) c.with_lines.result) c.deref.ensures.value (c.with_lines.ensures underway.before underway.built))

@@ -1,9 +1,5 @@
-use Rattle.std.proofs.Common.{arith}
 use Rattle.reg_arena.proofs.Step.{memory-step}
 use Rattle.reg_arena.proofs.arena.Arena.call.Goals as goal
-
-pub number-number-requires : goal.number-number-requires
-number-number-requires c = let i = c.self.invariant in omega (arith, i.1, i.0.known, i.0.room)
 
 pub returns-in_err-add_call-in-None : goal.returns-in_err-add_call-in-None
 returns-in_err-add_call-in-None c = λ es acc q. memory-step es c.args.event.now _ c.from_residual.result c.from_residual.ensures.1
