@@ -88,6 +88,26 @@ fn report_by<R: Threads + Sync, G: Gate + Sync>(
     }
 }
 
+/// The report of [`check`], and the arena that it was made from, which takes a while to drop.
+pub(crate) fn report_and_arena<R: Threads + RandomSource + Sync, G: Gate + Sync>(
+    rt: &R,
+    alloc: Global,
+    input: &[u8],
+    settings: Settings,
+    gate: &G,
+) -> Result<(Report, Arena), Refusal>
+    ensures ok { IfOk result (λ made. IsAnswer settings.first input.now (Ok made.0)) }
+    ensures err { IfErr result (IsRefused settings.first input.now) }
+    ensures long { MAX_INPUT < length input.now → result ≡ Err Refusal.TooLong }
+{
+    if input.len() > MAX_INPUT {
+        return Err(Refusal::TooLong);
+    }
+    let arena = read_arena(rt, alloc, input)?;
+    let report = report_by(rt, alloc, &arena, settings, gate)?;
+    Ok((report, arena))
+}
+
 /// The report of the history in the input: of the whole of it, or of its first register that isn't atomic, as the settings
 /// ask. Workers do its pieces, past the gate; neither their number, nor the cut, nor the gate changes the report.
 ///
@@ -105,9 +125,6 @@ pub fn check<R: Threads + RandomSource + Sync, G: Gate + Sync>(
     ensures err { IfErr result (IsRefused settings.first input.now) }
     ensures long { MAX_INPUT < length input.now → result ≡ Err Refusal.TooLong }
 {
-    if input.len() > MAX_INPUT {
-        return Err(Refusal::TooLong);
-    }
-    let arena = read_arena(rt, alloc, input)?;
-    Ok(report_by(rt, alloc, &arena, settings, gate)?)
+    let (report, _) = report_and_arena(rt, alloc, input, settings, gate)?;
+    Ok(report)
 }

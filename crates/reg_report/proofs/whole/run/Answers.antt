@@ -20,3 +20,10 @@ returns-in-Ok-clause-atomic g c =
     let input = c.in_ok-input.input.items in
     let answer = subst (λ bytes. IsAnswer c.args.settings.first bytes (Ok report)) c.as_slice.ensures.value c.in_ok-report.ensures.ok in
     (input, c.in_ok-input.ensures.all.0, subst (IsOutcome input) (sym c.of.ensures) (told-outcome c.args.settings.first input report answer))
+
+pub returns-in-Ok-clause-report : goal.returns-in-Ok-clause-report
+returns-in-Ok-clause-report g c =
+    let report = c.in_ok-report.report in
+    let answer = subst (λ input. IsAnswer c.args.settings.first input (Ok report)) c.as_slice.ensures.value c.in_ok-report.ensures.ok in
+    let made : bytes-of c.deref.result.now ≡ report_text report = ap bytes-of c.deref.ensures.value ∙ c.in_ok-parts.ensures in
+    (c.in_ok-input.input.items, c.in_ok-input.ensures.all.0, bytes-of c.deref.result.now, (report, answer, made, c.of.ensures), c.in-Ok.ensures.ok)
