@@ -1,5 +1,9 @@
 //! The pieces of a history, done by workers at once and by threads of the callers' own.
-ghost use Rattle.std.specs.Prelude.{◌≡◌, false, All, IfOk};
+//!
+//! A test hands its body's work to small functions that ask for the rights they need: those are proved in a fraction
+//! of the time that one long test over the whole `HostRuntime` takes.
+ghost use Rattle.std.specs.Prelude.{◌≡◌, ◌≤◌, false, All, IfOk};
+ghost use Rattle.job_board.specs.declared.limits.TheConstants.{FULL_WEIGHT};
 ghost use Rattle.reg_pieces.specs.Plan.{IsSomePlan};
 ghost use Rattle.reg_pieces.specs.Workers.{IsNewSeat};
 
@@ -64,26 +68,33 @@ fn limits_of_settings(rt: HostRuntime) -> Result<(), Fail> {
     Ok(())
 }
 
-// The arena of the two registers.
-fn two_registers(rt: &(impl Threads + AllocGlobal + Abort + Sync)) -> Result<Arena, Fail> {
+// The arena of a history.
+fn arena_of(rt: &(impl Threads + AllocGlobal + Abort + Sync), text: &str) -> Result<Arena, Fail> {
     let alloc = rt.alloc();
-    assert!(rt; TWO_REGISTERS.len() <= MAX_INPUT);
-    let lines = read_lines(rt, alloc, TWO_REGISTERS.as_bytes())?;
+    assert!(rt; text.len() <= MAX_INPUT);
+    let lines = read_lines(rt, alloc, text.as_bytes())?;
     Ok(Arena::build(alloc, lines)?)
+}
+
+// How many pieces one thread finds by these settings.
+fn count(alloc: Global, arena: &Arena, by: Settings) -> Result<u64, AllocError> {
+    Ok(plan(alloc, arena, by)?.len())
+}
+
+// So many pieces in cuts of so many reads.
+fn expect_counts(rt: &(impl AllocGlobal + Abort), arena: &Arena) -> Result<(), Fail> {
+    for (cut, want) in COUNTS {
+        let by = settings(1, cut)?;
+        assert_eq!(rt; count(rt.alloc(), arena, by)?, want, "{cut}");
+    }
+    Ok(())
 }
 
 // Each register has a piece, and with a single writer one for each cut of its reads.
 #[test]
 fn counts_of_pieces(rt: HostRuntime) -> Result<(), Fail> {
-    let arena = two_registers(&rt)?;
-    for (cut, count) in COUNTS {
-        assert_eq!(rt;
-            plan(rt.alloc(), &arena, settings(1, cut)?)?.len(),
-            count,
-            "{cut}"
-        );
-    }
-    Ok(())
+    let arena = arena_of(&rt, TWO_REGISTERS)?;
+    expect_counts(&rt, &arena)
 }
 
 // How many pieces there are in cuts of one read, if several threads list the reads.
@@ -91,39 +102,74 @@ fn count_in_parts(rt: &(impl Threads + AllocGlobal + Sync), arena: &Arena) -> Re
     Ok(plan_in_parts(rt, rt.alloc(), arena, settings(1, 1)?)?.len())
 }
 
-// They are as many as one thread finds.
+// Those are as many as one thread finds.
+fn expect_count_in_parts(
+    rt: &(impl Threads + AllocGlobal + Abort + Sync),
+    arena: &Arena,
+) -> Result<(), Fail> {
+    assert_eq!(rt; count_in_parts(rt, arena)?, 4);
+    Ok(())
+}
+
+// Several threads find as many pieces as one does.
 #[test]
 fn count_of_pieces_in_parts(rt: HostRuntime) -> Result<(), Fail> {
-    let arena = two_registers(&rt)?;
-    assert_eq!(rt; count_in_parts(&rt, &arena)?, 4);
+    let arena = arena_of(&rt, TWO_REGISTERS)?;
+    expect_count_in_parts(&rt, &arena)
+}
+
+// The settings of a run that asks for the first register that isn't atomic alone.
+fn first_settings(workers: u32, cut: u32) -> Result<Settings, Fail> {
+    Ok(Settings::new(workers, cut, true).ok_or("a number beyond its limit")?)
+}
+
+// A piece for each of the two registers, whatever the cut.
+fn expect_registers(rt: &(impl AllocGlobal + Abort), arena: &Arena) -> Result<(), Fail> {
+    for cut in [1, 2, 4096] {
+        let by = first_settings(2, cut)?;
+        assert_eq!(rt; count(rt.alloc(), arena, by)?, 2, "{cut}");
+    }
     Ok(())
 }
 
 // If the first register that isn't atomic is all that is asked for, each register has one piece.
 #[test]
 fn counts_of_registers(rt: HostRuntime) -> Result<(), Fail> {
-    let arena = two_registers(&rt)?;
-    for cut in [1, 2, 4096] {
-        let by = Settings::new(2, cut, true).ok_or("a number beyond its limit")?;
-        assert_eq!(rt; plan(rt.alloc(), &arena, by)?.len(), 2, "{cut}");
-    }
+    let arena = arena_of(&rt, TWO_REGISTERS)?;
+    expect_registers(&rt, &arena)
+}
+
+// What one worker does alone past a gate.
+fn worked_alone(
+    alloc: Global,
+    arena: &Arena,
+    by: Settings,
+    gate: &impl Gate,
+) -> Result<Worked, AllocError> {
+    let plan = plan(alloc, arena, by)?;
+    let (board, seat) = Board::open(alloc, plan.len())?;
+    Ok(work(alloc, arena, &plan, &board, seat, gate))
+}
+
+// The first of two registers isn't atomic, and the second was skipped.
+fn expect_second_skipped(rt: &impl Abort, done: &[(u64, Piece)]) {
+    assert_eq!(rt; done.len(), 2);
+    assert!(rt; matches!(done.first(), Some((0, Piece::Judged(Judgement::Faulty(_))))));
+    assert!(rt; matches!(done.get(1), Some((1, Piece::Skipped))));
+}
+
+// One worker alone skips the second of the two registers.
+fn expect_skips(rt: &(impl AllocGlobal + Abort), arena: &Arena) -> Result<(), Fail> {
+    let worked = worked_alone(rt.alloc(), arena, first_settings(1, 1)?, &OpenGate)?;
+    expect_second_skipped(rt, worked.done.as_slice());
     Ok(())
 }
 
 // A worker that found the first register not to be atomic skips the second, and makes no order.
 #[test]
 fn registers_above_a_fault_are_skipped(rt: HostRuntime) -> Result<(), Fail> {
-    let alloc = rt.alloc();
-    let arena = two_registers(&rt)?;
-    let by = Settings::new(1, 1, true).ok_or("a number beyond its limit")?;
-    let plan = plan(alloc, &arena, by)?;
-    let (board, seat) = Board::open(alloc, plan.len())?;
-    let worked = work(alloc, &arena, &plan, &board, seat, &OpenGate);
-    let done = worked.done.as_slice();
-    assert_eq!(rt; done.len(), 2);
-    assert!(rt; matches!(done.first(), Some((0, Piece::Judged(Judgement::Faulty(_))))));
-    assert!(rt; matches!(done.get(1), Some((1, Piece::Skipped))));
-    Ok(())
+    let arena = arena_of(&rt, TWO_REGISTERS)?;
+    expect_skips(&rt, &arena)
 }
 
 // Counts how often the piece of one number arrives.
@@ -171,14 +217,22 @@ fn expect_once(
     Ok(())
 }
 
+// So it is by each of these numbers of workers.
+fn expect_once_by_all(
+    rt: &(impl Threads + AllocGlobal + Abort + Sync),
+    arena: &Arena,
+) -> Result<(), Fail> {
+    for workers in [1, 2, 3, 4, 16] {
+        expect_once(rt, arena, workers)?;
+    }
+    Ok(())
+}
+
 // However many workers there are, each piece passes the gate once.
 #[test]
 fn each_piece_passes_the_gate_once(rt: HostRuntime) -> Result<(), Fail> {
-    let arena = two_registers(&rt)?;
-    for workers in [1, 2, 3, 4, 16] {
-        expect_once(&rt, &arena, workers)?;
-    }
-    Ok(())
+    let arena = arena_of(&rt, TWO_REGISTERS)?;
+    expect_once_by_all(&rt, &arena)
 }
 
 // A worker for each seat, in a thread of its own.
@@ -246,21 +300,52 @@ fn numbers(alloc: Global, back: &[Worked]) -> Result<Option<Vec<u64>>, AllocErro
     Ok(Some(numbers))
 }
 
+// What threads of the callers' own hand back, each with one of so many seats.
+fn worked_by_seats<R: Threads + AllocGlobal + Wait + Sync>(
+    rt: &R,
+    arena: &Arena,
+    plan: &Plan,
+    count: u32,
+) -> Result<Vec<Worked>, AllocError>
+    requires plan { IsSomePlan arena.now plan.now }
+    requires count { (1 ≤ count) × (count ≤ FULL_WEIGHT) }
+{
+    let alloc = rt.alloc();
+    let (board, seat) = Board::open(alloc, plan.len())?;
+    let seats = seats_of(alloc, plan, &board, seat, count)?;
+    all_worked(rt, alloc, arena, plan, &board, seats)
+}
+
+// Each of so many threads handed something back, and all of them did each of the four pieces once.
+fn expect_all_done(
+    rt: &(impl AllocGlobal + Abort),
+    back: &[Worked],
+    count: u32,
+) -> Result<(), Fail> {
+    assert_eq!(rt; back.len(), count as usize);
+    let done = numbers(rt.alloc(), back)?.ok_or("memory was refused")?;
+    assert_eq!(rt; done.as_slice(), [0, 1, 2, 3].as_slice(), "{count} seats");
+    Ok(())
+}
+
+// However many seats there are, each piece is done once.
+fn expect_done_by_seats<R: Threads + AllocGlobal + Abort + Wait + Sync>(
+    rt: &R,
+    arena: &Arena,
+) -> Result<(), Fail> {
+    let plan = plan(rt.alloc(), arena, settings(1, 1)?)?;
+    for count in 1..17u32 {
+        let back = worked_by_seats(rt, arena, &plan, count)?;
+        expect_all_done(rt, back.as_slice(), count)?;
+    }
+    Ok(())
+}
+
 // Threads of the callers' own, each with a seat, do each piece once.
 #[test]
 fn callers_threads_do_each_piece_once(rt: HostRuntime) -> Result<(), Fail> {
-    let alloc = rt.alloc();
-    let arena = two_registers(&rt)?;
-    let plan = plan(alloc, &arena, settings(1, 1)?)?;
-    for count in 1..17u32 {
-        let (board, seat) = Board::open(alloc, plan.len())?;
-        let seats = seats_of(alloc, &plan, &board, seat, count)?;
-        let back = all_worked(&rt, alloc, &arena, &plan, &board, seats)?;
-        assert_eq!(rt; back.len(), count as usize);
-        let done = numbers(alloc, &back)?.ok_or("memory was refused")?;
-        assert_eq!(rt; done.as_slice(), [0, 1, 2, 3].as_slice(), "{count} seats");
-    }
-    Ok(())
+    let arena = arena_of(&rt, TWO_REGISTERS)?;
+    expect_done_by_seats(&rt, &arena)
 }
 
 // Two registers that are atomic: memory is wanted for the order of each.
@@ -280,24 +365,27 @@ impl Gate for CountsAll {
     }
 }
 
+// How many pieces pass the gate of one worker alone, and how many it draws.
+fn passed_and_drawn(alloc: Global, arena: &Arena) -> Result<(u64, u64), Fail> {
+    let gate = CountsAll {
+        arrived: AtomicU64::new(0),
+    };
+    let worked = worked_alone(alloc, arena, settings(1, 1)?, &gate)?;
+    let drawn = (worked.done.len() as u64).saturating_add(u64::from(worked.refused));
+    Ok((gate.arrived.load(Ordering::SeqCst), drawn))
+}
+
+// The two are as many.
+fn expect_all_passed(rt: &(impl AllocGlobal + Abort), arena: &Arena) -> Result<(), Fail> {
+    let (passed, drawn) = passed_and_drawn(rt.alloc(), arena)?;
+    assert_eq!(rt; passed, drawn, "done before the gate");
+    Ok(())
+}
+
 // A piece passes the gate before it is done, so one for which memory is refused has passed it too. It is
 // tests/gate_comes_first that refuses memory to this test.
 #[test]
 fn each_drawn_piece_has_passed_the_gate(rt: HostRuntime) -> Result<(), Fail> {
-    let alloc = rt.alloc();
-    let lines = read_lines(&rt, alloc, TWO_ORDERS.as_bytes())?;
-    let arena = Arena::build(alloc, lines)?;
-    let plan = plan(alloc, &arena, settings(1, 1)?)?;
-    let (board, seat) = Board::open(alloc, plan.len())?;
-    let gate = CountsAll {
-        arrived: AtomicU64::new(0),
-    };
-    let worked = work(alloc, &arena, &plan, &board, seat, &gate);
-    let drawn = (worked.done.len() as u64).saturating_add(u64::from(worked.refused));
-    assert_eq!(rt;
-        gate.arrived.load(Ordering::SeqCst),
-        drawn,
-        "done before the gate"
-    );
-    Ok(())
+    let arena = arena_of(&rt, TWO_ORDERS)?;
+    expect_all_passed(&rt, &arena)
 }
