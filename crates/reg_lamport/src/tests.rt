@@ -2,7 +2,7 @@ use super::*;
 use history_model::RegId;
 use history_text::{MAX_INPUT, read_lines};
 use reg_arena::Arena;
-use std::alloc::Global;
+use std::alloc::{AllocError, Global};
 use std::process::Abort;
 use std::test::Fail;
 use std::thread::Threads;
@@ -40,19 +40,30 @@ const GOT2: &str = r#"{"process":3,"event":"reply","value":2}"#;
 
 const GOT9: &str = r#"{"process":3,"event":"reply","value":9}"#;
 
+// These lines, each with a line end.
+fn text_of(alloc: Global, lines: &[&str]) -> Result<String, AllocError> {
+    let mut text = String::new(alloc);
+    for line in lines {
+        text.push_str(line)?;
+        text.push('\n')?;
+    }
+    Ok(text)
+}
+
 // The arena of a history of these lines.
 fn arena_of(
     rt: &(impl Threads + Abort + Sync),
     alloc: Global,
     lines: &[&str],
 ) -> Result<Arena, Fail> {
-    let mut text = String::new(alloc);
-    for line in lines {
-        text.push_str(line)?;
-        text.push('\n')?;
-    }
+    let text = text_of(alloc, lines)?;
     assert!(rt; text.len() <= MAX_INPUT);
     Ok(Arena::build(alloc, read_lines(rt, alloc, text.as_bytes())?)?)
+}
+
+// How many reads a register has.
+fn count(alloc: Global, arena: &Arena, register: u32) -> Result<usize, AllocError> {
+    Ok(reads(alloc, arena, RegId(register))?.len())
 }
 
 // The line of the first read among these numbers that breaks the level, or 0 if each keeps it.
@@ -77,23 +88,30 @@ fn bad_line(
 }
 
 // The reads of the register, and the least line that breaks safe and regular; `several writers` for those.
+fn verdict_on(rt: &impl Abort, alloc: Global, arena: &Arena) -> Result<String, Fail> {
+    let count = count(alloc, arena, 0)?;
+    if !single_writer(arena, RegId(0)) {
+        return Ok(format!(in alloc; "{count} several writers")?);
+    }
+    let safe = bad_line(rt, alloc, arena, (0, count), Level::Safe)?;
+    let regular = bad_line(rt, alloc, arena, (0, count), Level::Regular)?;
+    Ok(format!(in alloc; "{count} safe {safe} regular {regular}")?)
+}
+
+// The same of a history of these lines.
 fn verdict(
     rt: &(impl Threads + Abort + Sync),
     alloc: Global,
     lines: &[&str],
 ) -> Result<String, Fail> {
     let arena = arena_of(rt, alloc, lines)?;
-    let count = reads(alloc, &arena, RegId(0))?.len();
-    if !single_writer(&arena, RegId(0)) {
-        return Ok(format!(in alloc; "{count} several writers")?);
-    }
-    let safe = bad_line(rt, alloc, &arena, (0, count), Level::Safe)?;
-    let regular = bad_line(rt, alloc, &arena, (0, count), Level::Regular)?;
-    Ok(format!(in alloc; "{count} safe {safe} regular {regular}")?)
+    verdict_on(rt, alloc, &arena)
 }
 
 // A name, the lines of a history, and its verdict.
-const VERDICTS: [(&str, &[&str], &str); 22] = [
+type Row = (&'static str, &'static [&'static str], &'static str);
+
+const VERDICTS: [Row; 22] = [
     ("no event", &[], "0 safe 0 regular 0"),
     (
         "a new value, then the old one, while the write is open",
@@ -198,39 +216,80 @@ const VERDICTS: [(&str, &[&str], &str); 22] = [
     ),
 ];
 
+// The verdict of one history.
+fn expect_verdict(rt: &(impl Threads + AllocGlobal + Abort + Sync), row: &Row) -> Result<(), Fail> {
+    let (name, lines, want) = *row;
+    let got = verdict(rt, rt.alloc(), lines)?;
+    assert_eq!(rt; got.as_str(), want, "{name}");
+    Ok(())
+}
+
+// The verdicts of all these histories.
+fn expect_verdicts(
+    rt: &(impl Threads + AllocGlobal + Abort + Sync),
+    rows: &[Row],
+) -> Result<(), Fail> {
+    for row in rows {
+        expect_verdict(rt, row)?;
+    }
+    Ok(())
+}
+
 #[test]
 fn verdicts_of_histories(rt: HostRuntime) -> Result<(), Fail> {
+    expect_verdicts(&rt, &VERDICTS)
+}
+
+// Three reads, of which those numbered 1 and 2, called at lines 5 and 7, give what nobody wrote.
+const THREE_READS: &[&str] = &[WRITE_1, OK, READ, GOT1, READ, GOT9, READ, GOT2];
+
+// A part of them, and the line of its first read that breaks either level.
+const PARTS: [(usize, usize, u32); 8] = [
+    (0, 0, 0),
+    (0, 1, 0),
+    (0, 2, 5),
+    (0, 3, 5),
+    (1, 1, 0),
+    (1, 2, 5),
+    (2, 3, 7),
+    (3, 3, 0),
+];
+
+// The register has three reads, and no other register has one.
+fn expect_three_reads(rt: &(impl AllocGlobal + Abort), arena: &Arena) -> Result<(), Fail> {
     let alloc = rt.alloc();
-    for (name, lines, want) in VERDICTS {
-        let got = verdict(&rt, alloc, lines)?;
-        assert_eq!(rt; got.as_str(), want, "{name}");
+    assert_eq!(rt; count(alloc, arena, 0)?, 3);
+    assert!(rt; !reads(alloc, arena, RegId(0))?.is_empty());
+    assert!(rt; reads(alloc, arena, RegId(1))?.is_empty());
+    Ok(())
+}
+
+// The first bad read of a part is called at this line, by both levels.
+fn expect_bad_line(
+    rt: &(impl AllocGlobal + Abort),
+    arena: &Arena,
+    part: (usize, usize),
+    want: u32,
+) -> Result<(), Fail> {
+    let (from, to) = part;
+    for level in [Level::Safe, Level::Regular] {
+        let got = bad_line(rt, rt.alloc(), arena, part, level)?;
+        assert_eq!(rt; got, want, "{level:?} from {from} to {to}");
+    }
+    Ok(())
+}
+
+// The reads are these three, and so it is of each part of them.
+fn expect_bad_lines(rt: &(impl AllocGlobal + Abort), arena: &Arena) -> Result<(), Fail> {
+    expect_three_reads(rt, arena)?;
+    for (from, to, want) in PARTS {
+        expect_bad_line(rt, arena, (from, to), want)?;
     }
     Ok(())
 }
 
 #[test]
 fn first_bad_reads_of_parts(rt: HostRuntime) -> Result<(), Fail> {
-    let alloc = rt.alloc();
-    // The reads numbered 1 and 2, called at lines 5 and 7, give what nobody wrote.
-    let lines = [WRITE_1, OK, READ, GOT1, READ, GOT9, READ, GOT2];
-    let arena = arena_of(&rt, alloc, &lines)?;
-    assert_eq!(rt; reads(alloc, &arena, RegId(0))?.len(), 3);
-    assert!(rt; !reads(alloc, &arena, RegId(0))?.is_empty());
-    assert!(rt; reads(alloc, &arena, RegId(1))?.is_empty());
-    for (from, to, want) in [
-        (0, 0, 0),
-        (0, 1, 0),
-        (0, 2, 5),
-        (0, 3, 5),
-        (1, 1, 0),
-        (1, 2, 5),
-        (2, 3, 7),
-        (3, 3, 0),
-    ] {
-        for level in [Level::Safe, Level::Regular] {
-            let got = bad_line(&rt, alloc, &arena, (from, to), level)?;
-            assert_eq!(rt; got, want, "{level:?} from {from} to {to}");
-        }
-    }
-    Ok(())
+    let arena = arena_of(&rt, rt.alloc(), THREE_READS)?;
+    expect_bad_lines(&rt, &arena)
 }
