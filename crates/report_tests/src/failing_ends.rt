@@ -1,10 +1,12 @@
 //! Ends that give and take little at a time, and ends that fail.
-ghost use Rattle.std.specs.Prelude.{◌≡◌};
+ghost use Rattle.std.specs.Prelude.{◌≡◌, ◌<◌};
 
 use crate::histories::settings;
+use crate::rows::READ_ONCE;
 use history_model::{LineRefusal, Reason};
 use history_text::LineKind;
 use reg_report::{MemSink, MemSource, OpenGate, Outcome, Refusal, Sink, Source, run};
+use std::process::Abort;
 use std::random::RandomSource;
 use std::test::Fail;
 use std::thread::Threads;
@@ -51,112 +53,163 @@ fn run_between(
     })
 }
 
+// So few bytes at a time are the bytes of the whole.
+fn expect_whole(
+    rt: &(impl Threads + RandomSource + AllocGlobal + Abort + Sync),
+    pulled: usize,
+    pushed: usize,
+) -> Result<(), Fail>
+    requires pulled { 0 < pulled }
+    requires pushed { 0 < pushed }
+{
+    let source = MemSource::new(HISTORY.as_bytes(), pulled, None);
+    let sink = MemSink::new(rt.alloc(), REPORT.len(), pushed, false)?;
+    let ran = run_between(rt, source, sink)?;
+    assert_eq!(rt; ran.answer, Ok(Outcome::NotAtomic), "{pulled} {pushed}");
+    assert_eq!(rt;
+        ran.taken.as_slice(),
+        REPORT.as_bytes(),
+        "{pulled} {pushed}"
+    );
+    assert_eq!(rt; ran.failures, (0, 0), "{pulled} {pushed}");
+    Ok(())
+}
+
 // However few bytes come at a time, they are the bytes of the whole.
 #[test]
 fn bytes_a_few_at_a_time(rt: HostRuntime) -> Result<(), Fail> {
-    let alloc = rt.alloc();
     for (pulled, pushed) in [(1, 1), (1, 4096), (7, 10), (4096, 1), (4096, 4096)] {
-        let source = MemSource::new(HISTORY.as_bytes(), pulled, None);
-        let sink = MemSink::new(alloc, REPORT.len(), pushed, false)?;
-        let ran = run_between(&rt, source, sink)?;
-        assert_eq!(rt; ran.answer, Ok(Outcome::NotAtomic), "{pulled} {pushed}");
-        assert_eq!(rt;
-            ran.taken.as_slice(),
-            REPORT.as_bytes(),
-            "{pulled} {pushed}"
-        );
-        assert_eq!(rt; ran.failures, (0, 0), "{pulled} {pushed}");
+        expect_whole(&rt, pulled, pushed)?;
     }
+    Ok(())
+}
+
+// A run over the history, a byte at a time, from a source that fails at this pull.
+fn run_failing(
+    rt: &(impl Threads + RandomSource + AllocGlobal + Sync),
+    pull: u64,
+) -> Result<Ran, Fail> {
+    let source = MemSource::new(HISTORY.as_bytes(), 1, Some(pull));
+    let sink = MemSink::new(rt.alloc(), 4096, 4096, false)?;
+    run_between(rt, source, sink)
+}
+
+// A run whose source fails gives nothing to its sink.
+fn expect_input_failed(
+    rt: &(impl Threads + RandomSource + AllocGlobal + Abort + Sync),
+    pull: u64,
+) -> Result<(), Fail> {
+    let ran = run_failing(rt, pull)?;
+    assert_eq!(rt; ran.answer, Err(Refusal::InputFailed), "{pull}");
+    assert_eq!(rt; ran.taken.len(), 0, "{pull}");
+    assert_eq!(rt; ran.failures, (1, 0), "{pull}");
+    Ok(())
+}
+
+// A source that would fail only after its end doesn't fail.
+fn expect_answered(
+    rt: &(impl Threads + RandomSource + AllocGlobal + Abort + Sync),
+    pull: u64,
+) -> Result<(), Fail> {
+    assert_eq!(rt; run_failing(rt, pull)?.answer, Ok(Outcome::NotAtomic));
     Ok(())
 }
 
 // A source that fails at any of its pulls, the one that would tell the end too.
 #[test]
 fn failing_source(rt: HostRuntime) -> Result<(), Fail> {
-    let alloc = rt.alloc();
     let last = HISTORY.len() as u64 + 1;
     for pull in 1..=last {
-        let source = MemSource::new(HISTORY.as_bytes(), 1, Some(pull));
-        let sink = MemSink::new(alloc, 4096, 4096, false)?;
-        let ran = run_between(&rt, source, sink)?;
-        assert_eq!(rt; ran.answer, Err(Refusal::InputFailed), "{pull}");
-        assert_eq!(rt; ran.taken.len(), 0, "{pull}");
-        assert_eq!(rt; ran.failures, (1, 0), "{pull}");
+        expect_input_failed(&rt, pull)?;
     }
-    let source = MemSource::new(HISTORY.as_bytes(), 1, Some(last + 1));
-    let sink = MemSink::new(alloc, 4096, 4096, false)?;
-    assert_eq!(rt;
-        run_between(&rt, source, sink)?.answer,
-        Ok(Outcome::NotAtomic)
-    );
+    expect_answered(&rt, last + 1)
+}
+
+// A sink with room for so many bytes of the report has exactly those.
+fn expect_full(
+    rt: &(impl Threads + RandomSource + AllocGlobal + Abort + Sync),
+    taken: &[u8],
+) -> Result<(), Fail> {
+    let room = taken.len();
+    let source = MemSource::new(HISTORY.as_bytes(), 4096, None);
+    let sink = MemSink::new(rt.alloc(), room, 10, false)?;
+    let ran = run_between(rt, source, sink)?;
+    assert_eq!(rt; ran.answer, Err(Refusal::OutputFailed), "{room}");
+    assert_eq!(rt; ran.taken.as_slice(), taken, "{room}");
+    assert_eq!(rt; ran.failures, (0, 1), "{room}");
     Ok(())
 }
 
 // A sink that is full before the whole report is out has exactly what it had room for.
 #[test]
 fn full_sink(rt: HostRuntime) -> Result<(), Fail> {
-    let alloc = rt.alloc();
     for room in 0..REPORT.len() {
-        let source = MemSource::new(HISTORY.as_bytes(), 4096, None);
-        let sink = MemSink::new(alloc, room, 10, false)?;
-        let ran = run_between(&rt, source, sink)?;
-        assert_eq!(rt; ran.answer, Err(Refusal::OutputFailed), "{room}");
-        assert_eq!(rt; ran.taken.as_slice(), &REPORT.as_bytes()[..room], "{room}");
-        assert_eq!(rt; ran.failures, (0, 1), "{room}");
+        expect_full(&rt, &REPORT.as_bytes()[..room])?;
     }
     Ok(())
 }
 
-// A sink that fails at its flush has the whole report, and the run says that it failed.
-#[test]
-fn failing_flush(rt: HostRuntime) -> Result<(), Fail> {
-    let alloc = rt.alloc();
+// A sink that fails at its flush has the whole report.
+fn expect_flush_failed(
+    rt: &(impl Threads + RandomSource + AllocGlobal + Abort + Sync),
+) -> Result<(), Fail> {
     let source = MemSource::new(HISTORY.as_bytes(), 4096, None);
-    let sink = MemSink::new(alloc, REPORT.len(), 4096, true)?;
-    let ran = run_between(&rt, source, sink)?;
+    let sink = MemSink::new(rt.alloc(), REPORT.len(), 4096, true)?;
+    let ran = run_between(rt, source, sink)?;
     assert_eq!(rt; ran.answer, Err(Refusal::OutputFailed));
     assert_eq!(rt; ran.taken.as_slice(), REPORT.as_bytes());
     assert_eq!(rt; ran.failures, (0, 1));
     Ok(())
 }
 
+// A sink that fails at its flush has the whole report, and the run says that it failed.
+#[test]
+fn failing_flush(rt: HostRuntime) -> Result<(), Fail> {
+    expect_flush_failed(&rt)
+}
+
+// A run over a write and a read of it is refused, and its sink took these bytes.
+fn expect_ten_bytes(
+    rt: &(impl Threads + RandomSource + AllocGlobal + Abort + Sync),
+    fail_at: Option<u64>,
+    refusal: Refusal,
+    taken: &str,
+) -> Result<(), Fail> {
+    let source = MemSource::new(READ_ONCE.as_bytes(), 4096, fail_at);
+    let sink = MemSink::new(rt.alloc(), 10, 4096, false)?;
+    let ran = run_between(rt, source, sink)?;
+    assert_eq!(rt; ran.answer, Err(refusal));
+    assert_eq!(rt; ran.taken.as_slice(), taken.as_bytes());
+    Ok(())
+}
+
 // A write and a read of it into a sink that takes ten bytes, and from a source that fails at once.
 #[test]
 fn ten_bytes(rt: HostRuntime) -> Result<(), Fail> {
-    let alloc = rt.alloc();
-    let history = r#"{"process":1,"event":"call","op":"write","register":"x","value":5}
-{"process":1,"event":"reply"}
-{"process":2,"event":"call","op":"read","register":"x"}
-{"process":2,"event":"reply","value":5}
-"#;
-    for (fail_at, refusal, taken) in [
-        (None, Refusal::OutputFailed, r#"{"atomic":"#),
-        (Some(1), Refusal::InputFailed, ""),
-    ] {
-        let source = MemSource::new(history.as_bytes(), 4096, fail_at);
-        let sink = MemSink::new(alloc, 10, 4096, false)?;
-        let ran = run_between(&rt, source, sink)?;
-        assert_eq!(rt; ran.answer, Err(refusal));
-        assert_eq!(rt; ran.taken.as_slice(), taken.as_bytes());
-    }
+    expect_ten_bytes(&rt, None, Refusal::OutputFailed, r#"{"atomic":"#)?;
+    expect_ten_bytes(&rt, Some(1), Refusal::InputFailed, "")
+}
+
+// An input that is refused for this line leaves the sink empty.
+fn expect_refused(
+    rt: &(impl Threads + RandomSource + AllocGlobal + Abort + Sync),
+    input: &str,
+    line: u32,
+    kind: LineKind,
+) -> Result<(), Fail> {
+    let source = MemSource::new(input.as_bytes(), 1, None);
+    let sink = MemSink::new(rt.alloc(), 4096, 1, false)?;
+    let ran = run_between(rt, source, sink)?;
+    let reason = Reason::Faulty(kind);
+    assert_eq!(rt; ran.answer, Err(Refusal::At(LineRefusal { line, reason })));
+    assert_eq!(rt; ran.taken.len(), 0);
+    assert_eq!(rt; ran.failures, (0, 0));
     Ok(())
 }
 
 // An input that is refused leaves the sink empty.
 #[test]
 fn refused_input(rt: HostRuntime) -> Result<(), Fail> {
-    let alloc = rt.alloc();
-    for (input, line, kind) in [
-        ("{\n", 1, LineKind::NotJson),
-        ("\n[]\n", 2, LineKind::NotObject),
-    ] {
-        let source = MemSource::new(input.as_bytes(), 1, None);
-        let sink = MemSink::new(alloc, 4096, 1, false)?;
-        let ran = run_between(&rt, source, sink)?;
-        let reason = Reason::Faulty(kind);
-        assert_eq!(rt; ran.answer, Err(Refusal::At(LineRefusal { line, reason })));
-        assert_eq!(rt; ran.taken.len(), 0);
-        assert_eq!(rt; ran.failures, (0, 0));
-    }
-    Ok(())
+    expect_refused(&rt, "{\n", 1, LineKind::NotJson)?;
+    expect_refused(&rt, "\n[]\n", 2, LineKind::NotObject)
 }

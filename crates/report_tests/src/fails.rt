@@ -1,15 +1,12 @@
 //! Histories with calls that failed and processes that crashed, and what a run answers to each.
-use crate::first::expect_first;
-use crate::histories::{answered_by, settings};
-use crate::rows::REPORTS;
-use reg_report::{OpenGate, Outcome};
-use std::process::Abort;
-use std::random::RandomSource;
+use crate::first::expect_firsts;
+use crate::histories::{expect_refusals, expect_reports};
+use crate::rows::{EMPTY_REPORT, Refused, Report};
+use reg_report::Outcome;
 use std::test::Fail;
-use std::thread::Threads;
 
 // A name, a history, the bytes of its report, and whether it is atomic.
-const ENDED: [(&str, &str, &str, Outcome); 15] = [
+const ENDED: [Report; 15] = [
     (
         "a write that failed, then a read of null",
         r#"{"process":1,"event":"call","op":"write","register":"x","value":5}
@@ -200,7 +197,7 @@ const ENDED: [(&str, &str, &str, Outcome); 15] = [
 ];
 
 // A name, a history, the line that says why it is refused, and the number of the refusal.
-const REFUSED: [(&str, &str, &str, u8); 24] = [
+const REFUSED: [Refused; 24] = [
     (
         "the value of a write that failed, written again",
         r#"{"process":1,"event":"call","op":"write","register":"x","value":5}
@@ -404,7 +401,8 @@ const REFUSED: [(&str, &str, &str, u8); 24] = [
 ];
 
 // After a write that failed, its value is read: this is the fault of the one register, and all that the early answer has.
-const FIRST_AFTER_A_FAIL: (&str, &str, Outcome) = (
+const FIRST_AFTER_A_FAIL: Report = (
+    "the first register, after a fail",
     r#"{"process":1,"event":"call","op":"write","register":"x","value":5}
 {"process":1,"event":"fail"}
 {"process":2,"event":"call","op":"read","register":"x"}
@@ -417,7 +415,8 @@ const FIRST_AFTER_A_FAIL: (&str, &str, Outcome) = (
 );
 
 // A register of a failed call alone is atomic, and the second register isn't.
-const SECOND_AFTER_A_FAIL: (&str, &str, Outcome) = (
+const SECOND_AFTER_A_FAIL: Report = (
+    "the second register, after a fail",
     r#"{"process":1,"event":"call","op":"write","register":"a","value":5}
 {"process":1,"event":"fail"}
 {"process":1,"event":"crash"}
@@ -431,7 +430,8 @@ const SECOND_AFTER_A_FAIL: (&str, &str, Outcome) = (
 );
 
 // After a write that failed, the initial value is read, and the early answer is the summary.
-const ATOMIC_AFTER_A_FAIL: (&str, &str, Outcome) = (
+const ATOMIC_AFTER_A_FAIL: Report = (
+    "an atomic history with a fail",
     r#"{"process":1,"event":"call","op":"write","register":"x","value":5}
 {"process":1,"event":"fail"}
 {"process":2,"event":"call","op":"read","register":"x"}
@@ -442,30 +442,11 @@ const ATOMIC_AFTER_A_FAIL: (&str, &str, Outcome) = (
     Outcome::Atomic,
 );
 
-// The report of each of these histories by so many workers in cuts of so many reads.
-fn expect_ended(
-    rt: &(impl Threads + RandomSource + AllocGlobal + Abort + Sync),
-    workers: u32,
-    cut: u32,
-) -> Result<(), Fail> {
-    for (name, input, want, outcome) in ENDED {
-        let by = settings(workers, cut)?;
-        let (report, told) = answered_by(rt, input.as_bytes(), by, &OpenGate)?;
-        assert_eq!(rt;
-            report.as_slice(),
-            want.as_bytes(),
-            "{name} by {workers}, {cut}"
-        );
-        assert_eq!(rt; told, Ok(outcome), "{name} by {workers}, {cut}");
-    }
-    Ok(())
-}
-
 // What failed or crashed is in the report as it should be, whatever the number of workers and the cut.
 #[test]
 fn ended_histories(rt: HostRuntime) -> Result<(), Fail> {
     for (workers, cut) in [(1, 1), (2, 1), (4, 4096), (16, 2)] {
-        expect_ended(&rt, workers, cut)?;
+        expect_reports(&rt, &ENDED, workers, cut)?;
     }
     Ok(())
 }
@@ -473,34 +454,26 @@ fn ended_histories(rt: HostRuntime) -> Result<(), Fail> {
 // For which line each history is refused, and what is said of it.
 #[test]
 fn refused_histories(rt: HostRuntime) -> Result<(), Fail> {
-    for (name, input, want, number) in REFUSED {
-        let by = settings(4, 4096)?;
-        let (said, told) = answered_by(&rt, input.as_bytes(), by, &OpenGate)?;
-        assert_eq!(rt; said.as_slice(), want.as_bytes(), "{name}");
-        assert_eq!(rt; told, Err(number), "{name}");
-    }
-    Ok(())
+    expect_refusals(&rt, &REFUSED)
 }
 
 // A crash of a process that did nothing is an empty history.
+const CRASH_ALONE: &[Report] = &[(
+    "a crash alone, with no line end",
+    r#"{"process":1,"event":"crash"}"#,
+    EMPTY_REPORT,
+    Outcome::Atomic,
+)];
+
 #[test]
 fn crash_alone(rt: HostRuntime) -> Result<(), Fail> {
-    let (_, _, want, outcome) = REPORTS[0];
-    let input = r#"{"process":1,"event":"crash"}"#;
-    let by = settings(4, 4096)?;
-    let (report, told) = answered_by(&rt, input.as_bytes(), by, &OpenGate)?;
-    assert_eq!(rt; report.as_slice(), want.as_bytes());
-    assert_eq!(rt; told, Ok(outcome));
-    Ok(())
+    expect_reports(&rt, CRASH_ALONE, 4, 4096)
 }
+
+const AFTER_A_FAIL: &[Report] = &[FIRST_AFTER_A_FAIL, SECOND_AFTER_A_FAIL, ATOMIC_AFTER_A_FAIL];
 
 // The early answer too judges operations, so a failed call doesn't count.
 #[test]
 fn first_after_a_fail(rt: HostRuntime) -> Result<(), Fail> {
-    for row in [FIRST_AFTER_A_FAIL, SECOND_AFTER_A_FAIL, ATOMIC_AFTER_A_FAIL] {
-        for workers in [1, 2, 16] {
-            expect_first(&rt, row, workers)?;
-        }
-    }
-    Ok(())
+    expect_firsts(&rt, AFTER_A_FAIL, &[1, 2, 16])
 }

@@ -1,14 +1,16 @@
 //! Runs that ask for the first register that isn't atomic alone.
-use crate::histories::{answered_by, first_settings};
+use crate::histories::{expect_report, first_settings};
+use crate::rows::Report;
 use crate::workers::expect_past_each;
-use reg_report::{OpenGate, Outcome};
+use reg_report::Outcome;
 use std::process::Abort;
 use std::random::RandomSource;
 use std::test::Fail;
 use std::thread::Threads;
 
 // The first register is atomic, and the two others have reads of what nobody wrote.
-const SECOND_OF_THREE: (&str, &str, Outcome) = (
+const SECOND_OF_THREE: Report = (
+    "the second of three registers",
     r#"{"process":1,"event":"call","op":"write","register":"a","value":1}
 {"process":1,"event":"reply"}
 {"process":2,"event":"call","op":"read","register":"b"}
@@ -23,7 +25,8 @@ const SECOND_OF_THREE: (&str, &str, Outcome) = (
 );
 
 // In each of two registers a new value is read, then the old one; several processes write the second.
-const FIRST_OF_TWO: (&str, &str, Outcome) = (
+const FIRST_OF_TWO: Report = (
+    "the first of two registers",
     r#"{"process":1,"event":"call","op":"write","register":"x","value":1}
 {"process":1,"event":"reply"}
 {"process":1,"event":"call","op":"write","register":"x","value":2}
@@ -48,7 +51,8 @@ const FIRST_OF_TWO: (&str, &str, Outcome) = (
 );
 
 // The second register's fault is over before the first one's: the first by appearance counts, whatever was found sooner.
-const FIRST_BY_APPEARANCE: (&str, &str, Outcome) = (
+const FIRST_BY_APPEARANCE: Report = (
+    "the first register by appearance",
     r#"{"process":1,"event":"call","op":"read","register":"a"}
 {"process":2,"event":"call","op":"read","register":"b"}
 {"process":2,"event":"reply","value":9}
@@ -62,7 +66,8 @@ const FIRST_BY_APPEARANCE: (&str, &str, Outcome) = (
 );
 
 // Several processes write the last register, and its second write is pending.
-const LAST_OF_TWO: (&str, &str, Outcome) = (
+const LAST_OF_TWO: Report = (
+    "the last of two registers",
     r#"{"process":1,"event":"call","op":"write","register":"a","value":1}
 {"process":1,"event":"reply"}
 {"process":1,"event":"call","op":"write","register":"b","value":1}
@@ -78,7 +83,8 @@ const LAST_OF_TWO: (&str, &str, Outcome) = (
 );
 
 // A write and a read of it.
-const ATOMIC: (&str, &str, Outcome) = (
+const ATOMIC: Report = (
+    "an atomic history",
     r#"{"process":1,"event":"call","op":"write","register":"x","value":5}
 {"process":1,"event":"reply"}
 {"process":2,"event":"call","op":"read","register":"x"}
@@ -89,50 +95,58 @@ const ATOMIC: (&str, &str, Outcome) = (
     Outcome::Atomic,
 );
 
-const NO_EVENTS: (&str, &str, Outcome) = (
+const NO_EVENTS: Report = (
+    "no events",
     "",
     r#"{"atomic":"yes","operations":0,"registers":0}
 "#,
     Outcome::Atomic,
 );
 
-// The report of a history by so many workers.
-pub(crate) fn expect_first(
+// The report of a history by so many workers, whatever the cut.
+fn expect_first(
     rt: &(impl Threads + RandomSource + AllocGlobal + Abort + Sync),
-    row: (&str, &str, Outcome),
+    row: &Report,
     workers: u32,
 ) -> Result<(), Fail> {
-    let (input, want, outcome) = row;
     for cut in [1, 4096] {
-        let by = first_settings(workers, cut)?;
-        let (report, told) = answered_by(rt, input.as_bytes(), by, &OpenGate)?;
-        assert_eq!(rt; report.as_slice(), want.as_bytes(), "{workers}, {cut}");
-        assert_eq!(rt; told, Ok(outcome), "{workers}, {cut}");
+        expect_report(rt, row, first_settings(workers, cut)?)?;
     }
     Ok(())
 }
 
-// The first register by appearance that isn't atomic is reported alone, and the summary counts all of them.
-#[test]
-fn first_registers(rt: HostRuntime) -> Result<(), Fail> {
-    for row in [
-        SECOND_OF_THREE,
-        FIRST_OF_TWO,
-        FIRST_BY_APPEARANCE,
-        LAST_OF_TWO,
-        ATOMIC,
-        NO_EVENTS,
-    ] {
-        for workers in [1, 2, 4, 16] {
-            expect_first(&rt, row, workers)?;
+// The report of each history by each number of workers.
+pub(crate) fn expect_firsts(
+    rt: &(impl Threads + RandomSource + AllocGlobal + Abort + Sync),
+    rows: &[Report],
+    workers: &[u32],
+) -> Result<(), Fail> {
+    for row in rows {
+        for count in workers {
+            expect_first(rt, row, *count)?;
         }
     }
     Ok(())
 }
 
+const FIRSTS: &[Report] = &[
+    SECOND_OF_THREE,
+    FIRST_OF_TWO,
+    FIRST_BY_APPEARANCE,
+    LAST_OF_TWO,
+    ATOMIC,
+    NO_EVENTS,
+];
+
+// The first register by appearance that isn't atomic is reported alone, and the summary counts all of them.
+#[test]
+fn first_registers(rt: HostRuntime) -> Result<(), Fail> {
+    expect_firsts(&rt, FIRSTS, &[1, 2, 4, 16])
+}
+
 // A register that is held back changes no byte, though the others are done and flagged before it.
 #[test]
 fn a_held_register_holds_no_other(rt: HostRuntime) -> Result<(), Fail> {
-    expect_past_each(&rt, SECOND_OF_THREE, 3, first_settings(2, 1)?)?;
-    expect_past_each(&rt, FIRST_BY_APPEARANCE, 3, first_settings(2, 1)?)
+    expect_past_each(&rt, &SECOND_OF_THREE, 3, first_settings(2, 1)?)?;
+    expect_past_each(&rt, &FIRST_BY_APPEARANCE, 3, first_settings(2, 1)?)
 }

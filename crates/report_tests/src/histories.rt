@@ -1,14 +1,15 @@
 //! What a run answers to whole histories.
-use crate::rows::{REFUSALS, REPORTS};
+use crate::rows::{EMPTY_REPORT, READ_ONCE, READ_ONCE_REPORT, REFUSALS, REPORTS, Refused, Report};
 use history_model::{LineRefusal, Reason};
 use reg_report::{Gate, MemSink, MemSource, OpenGate, Outcome, Refusal, Settings, message, run};
 use std::alloc::{AllocError, Global};
+use std::process::Abort;
 use std::random::RandomSource;
 use std::test::Fail;
 use std::thread::Threads;
 
 // The bytes of an answer: the report with its outcome, or what the refusal says with its number.
-type Answer = (Vec<u8>, Result<Outcome, u8>);
+pub(crate) type Answer = (Vec<u8>, Result<Outcome, u8>);
 
 // So many workers, and so many reads to a piece.
 pub(crate) fn settings(workers: u32, cut: u32) -> Result<Settings, Fail> {
@@ -59,37 +60,82 @@ fn answered(
     Ok(answered_by(rt, input, settings(4, 4096)?, &OpenGate)?)
 }
 
-// The report of each history.
-#[test]
-fn reports(rt: HostRuntime) -> Result<(), Fail> {
-    for (name, input, want, outcome) in REPORTS {
-        let (report, told) = answered(&rt, input.as_bytes())?;
-        assert_eq!(rt; report.as_slice(), want.as_bytes(), "{name}");
-        assert_eq!(rt; told, Ok(outcome), "{name}");
+// The report of a history by these settings.
+pub(crate) fn expect_report(
+    rt: &(impl Threads + RandomSource + AllocGlobal + Abort + Sync),
+    row: &Report,
+    by: Settings,
+) -> Result<(), Fail> {
+    let (name, input, want, outcome) = *row;
+    let (report, told) = answered_by(rt, input.as_bytes(), by, &OpenGate)?;
+    assert_eq!(rt; report.as_slice(), want.as_bytes(), "{name} by {by:?}");
+    assert_eq!(rt; told, Ok(outcome), "{name} by {by:?}");
+    Ok(())
+}
+
+// The report of each of these histories by so many workers in cuts of so many reads.
+pub(crate) fn expect_reports(
+    rt: &(impl Threads + RandomSource + AllocGlobal + Abort + Sync),
+    rows: &[Report],
+    workers: u32,
+    cut: u32,
+) -> Result<(), Fail> {
+    let by = settings(workers, cut)?;
+    for row in rows {
+        expect_report(rt, row, by)?;
     }
     Ok(())
 }
 
-// For which line each history is refused, and what is said of it.
+#[test]
+fn reports(rt: HostRuntime) -> Result<(), Fail> {
+    expect_reports(&rt, &REPORTS, 4, 4096)
+}
+
+// For which line a history is refused, and what is said of it.
+fn expect_refusal(
+    rt: &(impl Threads + RandomSource + AllocGlobal + Abort + Sync),
+    row: &Refused,
+) -> Result<(), Fail> {
+    let (name, input, want, number) = *row;
+    let (said, told) = answered(rt, input.as_bytes())?;
+    assert_eq!(rt; said.as_slice(), want.as_bytes(), "{name}");
+    assert_eq!(rt; told, Err(number), "{name}");
+    Ok(())
+}
+
+// Each of these histories is refused.
+pub(crate) fn expect_refusals(
+    rt: &(impl Threads + RandomSource + AllocGlobal + Abort + Sync),
+    rows: &[Refused],
+) -> Result<(), Fail> {
+    for row in rows {
+        expect_refusal(rt, row)?;
+    }
+    Ok(())
+}
+
 #[test]
 fn refusals(rt: HostRuntime) -> Result<(), Fail> {
-    for (name, input, want, number) in REFUSALS {
-        let (said, told) = answered(&rt, input.as_bytes())?;
-        assert_eq!(rt; said.as_slice(), want.as_bytes(), "{name}");
-        assert_eq!(rt; told, Err(number), "{name}");
-    }
+    expect_refusals(&rt, &REFUSALS)
+}
+
+// A line of this byte alone is not JSON.
+fn expect_no_text(
+    rt: &(impl Threads + RandomSource + AllocGlobal + Abort + Sync),
+    byte: u8,
+) -> Result<(), Fail> {
+    let (said, told) = answered(rt, &[byte])?;
+    assert_eq!(rt; said.as_slice(), "line 1: not JSON".as_bytes(), "{byte}");
+    assert_eq!(rt; told, Err(2), "{byte}");
     Ok(())
 }
 
 // A byte that no UTF-8 has is no JSON, and neither is the byte 0.
 #[test]
 fn bytes_of_no_text(rt: HostRuntime) -> Result<(), Fail> {
-    for byte in [255, 0] {
-        let (said, told) = answered(&rt, &[byte])?;
-        assert_eq!(rt; said.as_slice(), "line 1: not JSON".as_bytes(), "{byte}");
-        assert_eq!(rt; told, Err(2), "{byte}");
-    }
-    Ok(())
+    expect_no_text(&rt, 255)?;
+    expect_no_text(&rt, 0)
 }
 
 // A reply of nobody with arrays in arrays, so many deep.
@@ -102,14 +148,23 @@ fn nested(alloc: Global, depth: usize) -> Result<Vec<u8>, AllocError> {
     Ok(line)
 }
 
+// What is answered to so many arrays in arrays.
+fn expect_depth(
+    rt: &(impl Threads + RandomSource + AllocGlobal + Abort + Sync),
+    depth: usize,
+    number: u8,
+) -> Result<(), Fail> {
+    let input = nested(rt.alloc(), depth)?;
+    let (_, told) = answered(rt, input.as_slice())?;
+    assert_eq!(rt; told, Err(number));
+    Ok(())
+}
+
 // What is nested deeper than the reader takes is no JSON to it.
 #[test]
 fn depths(rt: HostRuntime) -> Result<(), Fail> {
-    for (depth, number) in [(20, 10), (2000, 2)] {
-        let (_, told) = answered(&rt, nested(rt.alloc(), depth)?.as_slice())?;
-        assert_eq!(rt; told, Err(number));
-    }
-    Ok(())
+    expect_depth(&rt, 20, 10)?;
+    expect_depth(&rt, 2000, 2)
 }
 
 // A write and a read of it, with so many spaces after the first line and before all lines.
@@ -119,32 +174,49 @@ fn spaced(alloc: Global, after: usize, before: usize) -> Result<Vec<u8>, AllocEr
         input.extend_from_slice(vec![in alloc; b' '; before]?.as_slice())?;
         input.push(b'\n')?;
     }
-    let (_, history, _, _) = REPORTS[1];
-    let (first, rest) = history.as_bytes().split_at(66);
+    let (first, rest) = READ_ONCE.as_bytes().split_at(66);
     input.extend_from_slice(first)?;
     input.extend_from_slice(vec![in alloc; b' '; after]?.as_slice())?;
     input.extend_from_slice(rest)?;
     Ok(input)
 }
 
+// The answer to that history with so many spaces.
+fn expect_spaced(
+    rt: &(impl Threads + RandomSource + AllocGlobal + Abort + Sync),
+    after: usize,
+    before: usize,
+    want: &str,
+) -> Result<(), Fail> {
+    let input = spaced(rt.alloc(), after, before)?;
+    let (bytes, _) = answered(rt, input.as_slice())?;
+    assert_eq!(rt; bytes.as_slice(), want.as_bytes());
+    Ok(())
+}
+
 // A line may have 65,536 bytes, and a blank line more.
 #[test]
 fn longest_line(rt: HostRuntime) -> Result<(), Fail> {
-    let alloc = rt.alloc();
-    let (_, _, report, _) = REPORTS[1];
-    let (same, _) = answered(&rt, spaced(alloc, 65_470, 0)?.as_slice())?;
-    assert_eq!(rt; same.as_slice(), report.as_bytes());
-    let (said, _) = answered(&rt, spaced(alloc, 65_471, 0)?.as_slice())?;
-    assert_eq!(rt;
-        said.as_slice(),
-        "line 1: line is longer than 65536 bytes".as_bytes()
-    );
-    let (later, _) = answered(&rt, spaced(alloc, 0, 65_537)?.as_slice())?;
-    let want =
+    expect_spaced(&rt, 65_470, 0, READ_ONCE_REPORT)?;
+    expect_spaced(&rt, 65_471, 0, "line 1: line is longer than 65536 bytes")?;
+    let later =
         r#"{"atomic":"yes","order":[2,4],"pending":0,"points":[2,4],"reads":1,"register":"x","regular":"yes","safe":"yes","writes":1}
 {"atomic":"yes","operations":2,"order":[2,4],"registers":1}
 "#;
-    assert_eq!(rt; later.as_slice(), want.as_bytes());
+    expect_spaced(&rt, 0, 65_537, later)
+}
+
+// What is said of a refusal that no line has, and its number.
+fn expect_other_refusal(
+    rt: &(impl AllocGlobal + Abort),
+    refusal: Refusal,
+    want: &str,
+    number: u8,
+) -> Result<(), Fail> {
+    let text = message(rt.alloc(), &refusal)?;
+    assert_eq!(rt; text.as_str(), want);
+    assert_eq!(rt; refusal.number(), number);
+    assert_eq!(rt; (refusal.line(), refusal.other()), (None, None));
     Ok(())
 }
 
@@ -157,10 +229,7 @@ fn other_refusals(rt: HostRuntime) -> Result<(), Fail> {
         (Refusal::NoRoom, "no memory or no thread", 17),
         (Refusal::OutputFailed, "output could not be written", 18),
     ] {
-        let text = message(rt.alloc(), &refusal)?;
-        assert_eq!(rt; text.as_str(), want);
-        assert_eq!(rt; refusal.number(), number);
-        assert_eq!(rt; (refusal.line(), refusal.other()), (None, None));
+        expect_other_refusal(&rt, refusal, want, number)?;
     }
     Ok(())
 }
@@ -175,28 +244,41 @@ fn answered_to(
     Ok(answered(rt, input.as_slice())?.1)
 }
 
+// So it is refused, or not.
+fn expect_answer_to(
+    rt: &(impl Threads + RandomSource + AllocGlobal + Abort + Sync),
+    byte: u8,
+    length: usize,
+    want: Result<Outcome, u8>,
+) -> Result<(), Fail> {
+    assert_eq!(rt; answered_to(rt, byte, length)?, want, "{byte} {length}");
+    Ok(())
+}
+
 // One line up to the limit of the input is too long a line; with one byte more, the input is too long.
 #[test]
 fn longest_input(rt: HostRuntime) -> Result<(), Fail> {
-    for (byte, length, want) in [
-        (b'a', 67_108_864, Err(1)),
-        (b'a', 67_108_865, Err(15)),
-        (b'\n', 67_108_865, Err(15)),
-    ] {
-        assert_eq!(rt; answered_to(&rt, byte, length)?, want, "{byte} {length}");
-    }
+    expect_answer_to(&rt, b'a', 67_108_864, Err(1))?;
+    expect_answer_to(&rt, b'a', 67_108_865, Err(15))?;
+    expect_answer_to(&rt, b'\n', 67_108_865, Err(15))
+}
+
+// So many line ends have the report of an empty history.
+fn expect_empty(
+    rt: &(impl Threads + RandomSource + AllocGlobal + Abort + Sync),
+    count: usize,
+) -> Result<(), Fail> {
+    let input = vec![in rt.alloc(); b'\n'; count]?;
+    let (report, told) = answered(rt, input.as_slice())?;
+    assert_eq!(rt; report.as_slice(), EMPTY_REPORT.as_bytes());
+    assert_eq!(rt; told, Ok(Outcome::Atomic));
     Ok(())
 }
 
 // As many line ends as an input may have are an empty history.
 #[test]
 fn most_line_ends(rt: HostRuntime) -> Result<(), Fail> {
-    let (_, _, want, _) = REPORTS[0];
-    let input = vec![in rt.alloc(); b'\n'; 67_108_864]?;
-    let (report, told) = answered(&rt, input.as_slice())?;
-    assert_eq!(rt; report.as_slice(), want.as_bytes());
-    assert_eq!(rt; told, Ok(Outcome::Atomic));
-    Ok(())
+    expect_empty(&rt, 67_108_864)
 }
 
 const CALL: &str = r#"{"process":1,"event":"call","op":"read","register":"x"}
@@ -218,25 +300,43 @@ fn most_events(alloc: Global) -> Result<Vec<u8>, AllocError> {
     Ok(input)
 }
 
-// As many events as there may be are answered; with one call more, its line is refused.
-#[test]
-fn longest_history(rt: HostRuntime) -> Result<(), Fail> {
-    let alloc = rt.alloc();
-    let mut input = most_events(alloc)?;
-    let four = settings(4, 4096)?;
-    assert!(rt; run_on(&rt, input.as_slice(), LONGEST_REPORT, four, &OpenGate).is_ok());
-    input.extend_from_slice(CALL.as_bytes())?;
+// Whether a run answers this history, or why it doesn't, if its report may have so many bytes.
+fn refusal_of(
+    rt: &(impl Threads + RandomSource + AllocGlobal + Sync),
+    input: &[u8],
+    room: usize,
+) -> Result<Option<Refusal>, Fail> {
+    Ok(run_on(rt, input, room, settings(4, 4096)?, &OpenGate).err())
+}
+
+// With one call more than there may be, its line is refused.
+fn expect_one_too_many(
+    rt: &(impl Threads + RandomSource + AllocGlobal + Abort + Sync),
+    input: &[u8],
+) -> Result<(), Fail> {
     let one_too_many = Refusal::At(LineRefusal {
         line: 1_048_577,
         reason: Reason::TooMany,
     });
     assert_eq!(rt;
-        message(alloc, &one_too_many)?.as_str(),
+        message(rt.alloc(), &one_too_many)?.as_str(),
         "line 1048577: more than 1048576 events"
     );
-    assert_eq!(rt;
-        run_on(&rt, input.as_slice(), 0, four, &OpenGate).err(),
-        Some(one_too_many)
-    );
+    assert_eq!(rt; refusal_of(rt, input, 0)?, Some(one_too_many));
     Ok(())
+}
+
+// As many events as there may be are answered; with one call more, its line is refused.
+fn expect_most_events(
+    rt: &(impl Threads + RandomSource + AllocGlobal + Abort + Sync),
+) -> Result<(), Fail> {
+    let mut input = most_events(rt.alloc())?;
+    assert!(rt; refusal_of(rt, input.as_slice(), LONGEST_REPORT)?.is_none());
+    input.extend_from_slice(CALL.as_bytes())?;
+    expect_one_too_many(rt, input.as_slice())
+}
+
+#[test]
+fn longest_history(rt: HostRuntime) -> Result<(), Fail> {
+    expect_most_events(&rt)
 }

@@ -1,4 +1,6 @@
 //! What is said of a line that is refused, whatever its number.
+ghost use Rattle.std.specs.Prelude.{◌<◌};
+
 use history_model::{LineRefusal, Reason};
 use history_text::LineKind;
 use reg_report::{Refusal, message};
@@ -71,16 +73,62 @@ fn words_of(alloc: Global, reason: Reason) -> Result<String, Fail> {
     Ok(String::from_str(alloc, words)?)
 }
 
+// What is said of a line for this reason.
+fn expect_said(
+    rt: &(impl AllocGlobal + Abort),
+    line: u32,
+    reason: Reason,
+    words: &str,
+) -> Result<(), Fail> {
+    let alloc = rt.alloc();
+    let want = format!(in alloc; "line {line}: {words}")?;
+    assert_eq!(rt; said(alloc, line, reason)?.as_str(), want.as_str());
+    Ok(())
+}
+
+// The same is said of each line for this reason.
+fn expect_same(rt: &(impl AllocGlobal + Abort), reason: Reason) -> Result<(), Fail> {
+    let words = words_of(rt.alloc(), reason)?;
+    for line in LINES {
+        expect_said(rt, line, reason, words.as_str())?;
+    }
+    Ok(())
+}
+
 // A refusal says the same of each line but for the number of the line.
 #[test]
 fn each_line_by_its_number(rt: HostRuntime) -> Result<(), Fail> {
-    let alloc = rt.alloc();
     for reason in ALONE {
-        let words = words_of(alloc, reason)?;
-        for line in LINES {
-            let want = format!(in alloc; "line {line}: {words}")?;
-            assert_eq!(rt; said(alloc, line, reason)?.as_str(), want.as_str());
-        }
+        expect_same(&rt, reason)?;
+    }
+    Ok(())
+}
+
+// What is said of each line for a reason that names this other line.
+fn expect_other(
+    rt: &(impl AllocGlobal + Abort),
+    number: usize,
+    begin: &str,
+    other: u32,
+) -> Result<(), Fail>
+    requires { number < 3 }
+{
+    let words = format!(in rt.alloc(); "{begin} {other}")?;
+    for line in LINES {
+        expect_said(rt, line, naming(other)[number], words.as_str())?;
+    }
+    Ok(())
+}
+
+// And the same of each other line for one of the reasons that name another.
+fn expect_others(rt: &(impl AllocGlobal + Abort), number: usize) -> Result<(), Fail>
+    requires { number < 3 }
+{
+    let words = words_of(rt.alloc(), naming(1)[number])?;
+    let (begin, end) = words.as_str().rsplit_once(' ').ok_or("no other line")?;
+    assert_eq!(rt; end, "1");
+    for other in LINES {
+        expect_other(rt, number, begin, other)?;
     }
     Ok(())
 }
@@ -88,18 +136,8 @@ fn each_line_by_its_number(rt: HostRuntime) -> Result<(), Fail> {
 // And the same of each other line but for that line's number, which comes last.
 #[test]
 fn each_other_line_by_its_number(rt: HostRuntime) -> Result<(), Fail> {
-    let alloc = rt.alloc();
     for number in 0..3 {
-        let words = words_of(alloc, naming(1)[number])?;
-        let (begin, end) = words.as_str().rsplit_once(' ').ok_or("no other line")?;
-        assert_eq!(rt; end, "1");
-        for line in LINES {
-            for other in LINES {
-                let want = format!(in alloc; "line {line}: {begin} {other}")?;
-                let given = said(alloc, line, naming(other)[number])?;
-                assert_eq!(rt; given.as_str(), want.as_str());
-            }
-        }
+        expect_others(&rt, number)?;
     }
     Ok(())
 }

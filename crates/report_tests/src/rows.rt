@@ -1,25 +1,34 @@
 //! Histories and what each of them is answered, worked out by hand from the definitions.
 use reg_report::Outcome;
 
-/// A name, a history, the bytes of its report, and whether it is atomic.
-pub(crate) const REPORTS: [(&str, &str, &str, Outcome); 25] = [
-    (
-        "no events",
-        "",
-        r#"{"atomic":"yes","operations":0,"order":[],"registers":0}
-"#,
-        Outcome::Atomic,
-    ),
-    (
-        "a write, then a read of it",
-        r#"{"process":1,"event":"call","op":"write","register":"x","value":5}
+/// The report of a history without events.
+pub(crate) const EMPTY_REPORT: &str = r#"{"atomic":"yes","operations":0,"order":[],"registers":0}
+"#;
+
+/// A write, and a read of it.
+pub(crate) const READ_ONCE: &str =
+    r#"{"process":1,"event":"call","op":"write","register":"x","value":5}
 {"process":1,"event":"reply"}
 {"process":2,"event":"call","op":"read","register":"x"}
 {"process":2,"event":"reply","value":5}
-"#,
-        r#"{"atomic":"yes","order":[1,3],"pending":0,"points":[1,3],"reads":1,"register":"x","regular":"yes","safe":"yes","writes":1}
+"#;
+
+/// The report of these.
+pub(crate) const READ_ONCE_REPORT: &str =
+    r#"{"atomic":"yes","order":[1,3],"pending":0,"points":[1,3],"reads":1,"register":"x","regular":"yes","safe":"yes","writes":1}
 {"atomic":"yes","operations":2,"order":[1,3],"registers":1}
-"#,
+"#;
+
+/// A name, a history, the bytes of its report, and whether it is atomic.
+pub(crate) type Report = (&'static str, &'static str, &'static str, Outcome);
+
+/// Histories with their reports.
+pub(crate) const REPORTS: [Report; 25] = [
+    ("no events", "", EMPTY_REPORT, Outcome::Atomic),
+    (
+        "a write, then a read of it",
+        READ_ONCE,
+        READ_ONCE_REPORT,
         Outcome::Atomic,
     ),
     (
@@ -317,7 +326,10 @@ pub(crate) const REPORTS: [(&str, &str, &str, Outcome); 25] = [
 ];
 
 /// A name, a history, the line that says why it is refused, and the number of the refusal.
-pub(crate) const REFUSALS: [(&str, &str, &str, u8); 15] = [
+pub(crate) type Refused = (&'static str, &'static str, &'static str, u8);
+
+/// Histories with their refusals.
+pub(crate) const REFUSALS: [Refused; 15] = [
     (
         "a value written twice",
         r#"{"process":1,"event":"call","op":"write","register":"x","value":5}

@@ -1,7 +1,7 @@
 //! Runs by several workers: by all settings, and past gates that hold pieces back.
-use crate::histories::{answered_by, settings};
-use crate::rows::REPORTS;
-use reg_report::{Gate, OpenGate, Outcome, Settings};
+use crate::histories::{Answer, answered_by, expect_reports, settings};
+use crate::rows::{REPORTS, Report};
+use reg_report::{Gate, Outcome, Settings};
 use std::alloc::{AllocError, Global};
 use std::process::Abort;
 use std::random::RandomSource;
@@ -21,33 +21,14 @@ const MOST_TURNS: u32 = 200_000_000;
 // How often a gate looks while it holds the first piece.
 const HELD_TURNS: u32 = 1_000_000;
 
-// The input of a history of this name, its report, and its outcome.
-fn row(name: &str) -> Result<(&'static str, &'static str, Outcome), Fail> {
-    for (row, input, report, outcome) in REPORTS {
-        if row == name {
-            return Ok((input, report, outcome));
+// The history of this name.
+fn row(name: &str) -> Result<Report, Fail> {
+    for row in &REPORTS {
+        if row.0 == name {
+            return Ok(*row);
         }
     }
     Err(Fail::from("no history of this name"))
-}
-
-// The report of each history by so many workers in cuts of so many reads.
-fn expect_reports(
-    rt: &(impl Threads + RandomSource + AllocGlobal + Abort + Sync),
-    workers: u32,
-    cut: u32,
-) -> Result<(), Fail> {
-    for (name, input, want, outcome) in REPORTS {
-        let by = settings(workers, cut)?;
-        let (report, told) = answered_by(rt, input.as_bytes(), by, &OpenGate)?;
-        assert_eq!(rt;
-            report.as_slice(),
-            want.as_bytes(),
-            "{name} by {workers}, {cut}"
-        );
-        assert_eq!(rt; told, Ok(outcome), "{name} by {workers}, {cut}");
-    }
-    Ok(())
 }
 
 // Neither the number of workers nor the cut changes a byte.
@@ -64,7 +45,7 @@ fn reports_by_nine_settings(rt: HostRuntime) -> Result<(), Fail> {
         (16, 2),
         (16, 1_048_576),
     ] {
-        expect_reports(&rt, workers, cut)?;
+        expect_reports(&rt, &REPORTS, workers, cut)?;
     }
     Ok(())
 }
@@ -98,25 +79,49 @@ impl Gate for HoldsOne {
     }
 }
 
-// The workers of these settings do all other pieces of a history while any one of them is held.
+// What is answered while this one of so many pieces is held, and whether its gate gave up.
+fn answered_past(
+    rt: &(impl Threads + RandomSource + AllocGlobal + Sync),
+    input: &str,
+    pieces: u64,
+    held: u64,
+    by: Settings,
+) -> Result<(Answer, bool), AllocError> {
+    let gate = HoldsOne {
+        held,
+        others: pieces.saturating_sub(1),
+        arrived: AtomicU64::new(0),
+        gave_up: AtomicBool::new(false),
+    };
+    let answer = answered_by(rt, input.as_bytes(), by, &gate)?;
+    Ok((answer, gate.gave_up.load(Ordering::SeqCst)))
+}
+
+// The workers of these settings do all other pieces of a history while this one is held.
+fn expect_past(
+    rt: &(impl Threads + RandomSource + AllocGlobal + Abort + Sync),
+    row: &Report,
+    pieces: u64,
+    held: u64,
+    by: Settings,
+) -> Result<(), Fail> {
+    let (_, input, want, outcome) = *row;
+    let ((report, told), gave_up) = answered_past(rt, input, pieces, held, by)?;
+    assert!(rt; !gave_up, "{held} of {pieces}");
+    assert_eq!(rt; report.as_slice(), want.as_bytes(), "{held} of {pieces}");
+    assert_eq!(rt; told, Ok(outcome), "{held} of {pieces}");
+    Ok(())
+}
+
+// So they do while any one of them is held.
 pub(crate) fn expect_past_each(
     rt: &(impl Threads + RandomSource + AllocGlobal + Abort + Sync),
-    row: (&str, &str, Outcome),
+    row: &Report,
     pieces: u64,
     by: Settings,
 ) -> Result<(), Fail> {
-    let (input, want, outcome) = row;
     for held in 0..pieces {
-        let gate = HoldsOne {
-            held,
-            others: pieces.saturating_sub(1),
-            arrived: AtomicU64::new(0),
-            gave_up: AtomicBool::new(false),
-        };
-        let (report, told) = answered_by(rt, input.as_bytes(), by, &gate)?;
-        assert!(rt; !gate.gave_up.load(Ordering::SeqCst), "{held} of {pieces}");
-        assert_eq!(rt; report.as_slice(), want.as_bytes(), "{held} of {pieces}");
-        assert_eq!(rt; told, Ok(outcome), "{held} of {pieces}");
+        expect_past(rt, row, pieces, held, by)?;
     }
     Ok(())
 }
@@ -125,7 +130,7 @@ pub(crate) fn expect_past_each(
 #[test]
 fn a_held_piece_holds_no_other(rt: HostRuntime) -> Result<(), Fail> {
     for (name, pieces) in TWO_REGISTERS {
-        expect_past_each(&rt, row(name)?, pieces, settings(2, 1)?)?;
+        expect_past_each(&rt, &row(name)?, pieces, settings(2, 1)?)?;
     }
     Ok(())
 }
@@ -155,24 +160,34 @@ impl Gate for HoldsAll {
     }
 }
 
+// No more pieces of this atomic history are at work at once than there are workers.
+fn expect_no_more(
+    rt: &(impl Threads + RandomSource + AllocGlobal + Abort + Sync),
+    input: &str,
+    workers: u32,
+) -> Result<(), Fail> {
+    let gate = HoldsAll {
+        arrived: AtomicU64::new(0),
+        let_go: AtomicU64::new(0),
+        gave_up: AtomicBool::new(false),
+    };
+    let (_, told) = answered_by(rt, input.as_bytes(), settings(workers, 1)?, &gate)?;
+    let at_once = gate.let_go.load(Ordering::SeqCst);
+    assert!(rt; !gate.gave_up.load(Ordering::SeqCst), "{workers}");
+    assert!(rt;
+        0 < at_once && at_once <= u64::from(workers),
+        "{workers}: {at_once}"
+    );
+    assert_eq!(rt; told, Ok(Outcome::Atomic), "{workers}");
+    Ok(())
+}
+
 // A worker draws a piece once it has done the one before: there is no thread for each piece.
 #[test]
 fn no_more_pieces_at_once_than_workers(rt: HostRuntime) -> Result<(), Fail> {
     let input = reads_of_a_write(rt.alloc(), 15)?;
     for workers in 1..=15u32 {
-        let gate = HoldsAll {
-            arrived: AtomicU64::new(0),
-            let_go: AtomicU64::new(0),
-            gave_up: AtomicBool::new(false),
-        };
-        let (_, told) = answered_by(&rt, input.as_bytes(), settings(workers, 1)?, &gate)?;
-        let at_once = gate.let_go.load(Ordering::SeqCst);
-        assert!(rt; !gate.gave_up.load(Ordering::SeqCst), "{workers}");
-        assert!(rt;
-            0 < at_once && at_once <= u64::from(workers),
-            "{workers}: {at_once}"
-        );
-        assert_eq!(rt; told, Ok(Outcome::Atomic), "{workers}");
+        expect_no_more(&rt, input.as_str(), workers)?;
     }
     Ok(())
 }
