@@ -1,6 +1,9 @@
 //! Process numbers on both sides of the table's limit, and the key of the hashes.
+ghost use Rattle.std.specs.Prelude.{◌<◌};
+
 use crate::short::{arena_of, lines};
 use crate::walks::{add_process, walks};
+use history_model::BuildError;
 use history_text::{LineEvent, LineFault};
 use reg_arena::{Arena, HashKey, Numbering};
 use std::alloc::{AllocError, Global};
@@ -29,16 +32,26 @@ const LINES: [(u32, &str); 11] = [
     (4_294_967_295, " 4"),
 ];
 
-#[test]
-fn small_and_large_processes_keep_their_lists(rt: HostRuntime) -> Result<(), Fail> {
-    let alloc = rt.alloc();
-    let arena = arena_of(&rt, alloc, MIXED)?;
+// The lines of a process.
+fn process_lines(alloc: Global, arena: &Arena, process: u32) -> Result<String, AllocError> {
+    let mut text = String::new(alloc);
+    add_process(&mut text, alloc, arena, process)?;
+    Ok(text)
+}
+
+// Each of these processes has its lines.
+fn expect_lists(rt: &(impl AllocGlobal + Abort), arena: &Arena) -> Result<(), Fail> {
     for (process, want) in LINES {
-        let mut text = String::new(alloc);
-        add_process(&mut text, alloc, &arena, process)?;
+        let text = process_lines(rt.alloc(), arena, process)?;
         assert_eq!(rt; text.as_str(), want, "process {process}");
     }
     Ok(())
+}
+
+#[test]
+fn small_and_large_processes_keep_their_lists(rt: HostRuntime) -> Result<(), Fail> {
+    let arena = arena_of(&rt, rt.alloc(), MIXED)?;
+    expect_lists(&rt, &arena)
 }
 
 // A system whose random bytes are all the same.
@@ -80,21 +93,35 @@ fn parts(
     Ok(parts)
 }
 
+// Both words differ.
+fn expect_different(rt: &impl Abort, one: HashKey, other: HashKey) {
+    assert_ne!(rt; one.first, other.first);
+    assert_ne!(rt; one.second, other.second);
+}
+
+// The key that is drawn has the random bytes in both words.
+fn expect_drawn(rt: &impl Abort, drawn: HashKey) {
+    assert_eq!(rt; drawn.first, 0x5A5A_5A5A_5A5A_5A5A);
+    assert_eq!(rt; drawn.second, 0x5A5A_5A5A_5A5A_5A5A);
+}
+
+// The digest of this input, which other inputs don't have.
+fn expect_digest(rt: &impl Abort, digest: HashKey, input: &[u8]) {
+    assert_ne!(rt; digest.first, digest.second);
+    assert_eq!(rt; digest, HashKey::drawn(&Refusing, input));
+    for other in [b"p1 W x 6".as_slice(), b"p2 W x 5", b"p1 W x 5 ", b""] {
+        expect_different(rt, digest, HashKey::drawn(&Refusing, other));
+    }
+}
+
 #[test]
 fn a_key_is_drawn_or_a_digest(rt: HostRuntime) -> Result<(), Fail> {
     let input = b"p1 W x 5".as_slice();
     let drawn = HashKey::drawn(&Alike { byte: 0x5A }, input);
-    assert_eq!(rt; drawn.first, 0x5A5A_5A5A_5A5A_5A5A);
-    assert_eq!(rt; drawn.second, 0x5A5A_5A5A_5A5A_5A5A);
+    expect_drawn(&rt, drawn);
     let digest = HashKey::drawn(&Refusing, input);
     assert_ne!(rt; digest, drawn);
-    assert_ne!(rt; digest.first, digest.second);
-    assert_eq!(rt; digest, HashKey::drawn(&Refusing, input));
-    for other in [b"p1 W x 6".as_slice(), b"p2 W x 5", b"p1 W x 5 ", b""] {
-        let changed = HashKey::drawn(&Refusing, other);
-        assert_ne!(rt; digest.first, changed.first);
-        assert_ne!(rt; digest.second, changed.second);
-    }
+    expect_digest(&rt, digest, input);
     Ok(())
 }
 
@@ -116,17 +143,36 @@ const DIFFERENT: [&str; 14] = [
     "p1 W x 5; p1 crash",
 ];
 
+// The digest of a history in short.
+fn digest_of(
+    rt: &(impl Threads + Sync),
+    alloc: Global,
+    history: &str,
+) -> Result<HashKey, AllocError> {
+    Ok(HashKey::digest(&lines(rt, alloc, history)?))
+}
+
+// The digest of a history differs from those of the histories before it.
+fn expect_new_digest(
+    rt: &(impl Threads + AllocGlobal + Abort + Sync),
+    one: usize,
+) -> Result<(), Fail>
+    requires { one < 14 }
+{
+    let digest = digest_of(rt, rt.alloc(), DIFFERENT[one])?;
+    assert_ne!(rt; digest.first, digest.second, "{}", DIFFERENT[one]);
+    for other in 0..one {
+        let before = digest_of(rt, rt.alloc(), DIFFERENT[other])?;
+        assert_ne!(rt; digest.first, before.first, "{one} and {other}");
+        assert_ne!(rt; digest.second, before.second, "{one} and {other}");
+    }
+    Ok(())
+}
+
 #[test]
 fn a_digest_reads_every_part(rt: HostRuntime) -> Result<(), Fail> {
-    let alloc = rt.alloc();
     for one in 0..DIFFERENT.len() {
-        let digest = HashKey::digest(&lines(&rt, alloc, DIFFERENT[one])?);
-        assert_ne!(rt; digest.first, digest.second, "{}", DIFFERENT[one]);
-        for other in 0..one {
-            let before = HashKey::digest(&lines(&rt, alloc, DIFFERENT[other])?);
-            assert_ne!(rt; digest.first, before.first, "{one} and {other}");
-            assert_ne!(rt; digest.second, before.second, "{one} and {other}");
-        }
+        expect_new_digest(&rt, one)?;
     }
     Ok(())
 }
@@ -139,9 +185,39 @@ const KEYED: &str =
 const WALKS: &str =
     "register 0: 1 3 5 7 | | 3 5 7 | | |; register 1: 2 4 6 8 9 10 | | 9 | 4 6 8 | |; p1: 1 5; p2: 2 6; p3: 9; p4:;  3 7 10";
 
+// The walks of `KEYED` in an arena of this key, or why it is refused.
+fn walks_by(
+    rt: &(impl Threads + AllocGlobal + Sync),
+    key: HashKey,
+) -> Result<Result<String, BuildError>, AllocError> {
+    let alloc = rt.alloc();
+    let lines = parts(rt, alloc, KEYED)?;
+    let numbered = Numbering::new(alloc, key).number_parts(alloc, lines)?;
+    let empty = Arena::empty(alloc, key, 4)?;
+    let arena = match empty.with_lines(alloc, &numbered) {
+        Ok(arena) => arena,
+        Err(error) => return Ok(Err(error)),
+    };
+    let mut text = walks(alloc, &arena)?;
+    add_process(&mut text, alloc, &arena, 70_000)?;
+    Ok(Ok(text))
+}
+
+// They are the same by this key as by any other.
+fn expect_walks(
+    rt: &(impl Threads + AllocGlobal + Abort + Sync),
+    first: u64,
+    second: u64,
+) -> Result<(), Fail> {
+    match walks_by(rt, HashKey { first, second })? {
+        Ok(text) => assert_eq!(rt; text.as_str(), WALKS, "{first} and {second}"),
+        Err(error) => assert!(rt; false, "{first} and {second}: {error:?}"),
+    }
+    Ok(())
+}
+
 #[test]
 fn no_key_changes_an_answer(rt: HostRuntime) -> Result<(), Fail> {
-    let alloc = rt.alloc();
     for (first, second) in [
         (0, 0),
         (0, 1),
@@ -149,18 +225,7 @@ fn no_key_changes_an_answer(rt: HostRuntime) -> Result<(), Fail> {
         (u64::MAX, u64::MAX),
         (0x5A5A, 0xA5A5),
     ] {
-        let key = HashKey { first, second };
-        let lines = parts(&rt, alloc, KEYED)?;
-        let numbered = Numbering::new(alloc, key).number_parts(alloc, lines)?;
-        let empty = Arena::empty(alloc, key, 4)?;
-        match empty.with_lines(alloc, &numbered) {
-            Ok(arena) => {
-                let mut text = walks(alloc, &arena)?;
-                add_process(&mut text, alloc, &arena, 70_000)?;
-                assert_eq!(rt; text.as_str(), WALKS, "{first} and {second}");
-            }
-            Err(error) => assert!(rt; false, "{first} and {second}: {error:?}"),
-        }
+        expect_walks(&rt, first, second)?;
     }
     Ok(())
 }

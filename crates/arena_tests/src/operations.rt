@@ -4,7 +4,7 @@ ghost use Rattle.std.specs.Prelude.{◌<◌, length};
 use crate::short::arena_of;
 use history_model::{EvId, Op, Oper};
 use reg_arena::Arena;
-use std::alloc::AllocError;
+use std::alloc::{AllocError, Global};
 use std::process::Abort;
 use std::test::Fail;
 
@@ -46,28 +46,42 @@ fn op_at(arena: &Arena, id: EvId) -> Option<Op>
     }
 }
 
-#[test]
-fn operations_have_their_times(rt: HostRuntime) -> Result<(), Fail> {
-    let alloc = rt.alloc();
-    let arena = arena_of(
-        &rt,
-        alloc,
-        "p1 W x 5; p2 R x; p2 = null; p1 ok; p1 W x 7; p2 R y",
-    )?;
+// An event's operation is shown like this.
+fn expect_operation(
+    rt: &impl Abort,
+    alloc: Global,
+    op: Option<Op>,
+    row: (u32, &str),
+) -> Result<(), Fail> {
+    let (event, want) = row;
+    match op {
+        Some(op) => {
+            let got = format!(in alloc; "{op:?}")?;
+            assert_eq!(rt; got.as_str(), want, "event {event}");
+        }
+        None => assert!(rt; false, "event {event} has no operation"),
+    }
+    Ok(())
+}
+
+// The operations of all events, of two registers.
+fn expect_operations(rt: &(impl AllocGlobal + Abort), arena: &Arena) -> Result<(), Fail> {
     for (event, want) in OPERATIONS {
         if event < arena.event_count() {
-            match op_at(&arena, EvId(event)) {
-                Some(op) => {
-                    let got = format!(in alloc; "{op:?}")?;
-                    assert_eq!(rt; got.as_str(), want, "event {event}");
-                }
-                None => assert!(rt; false, "event {event} has no operation"),
-            }
+            let op = op_at(arena, EvId(event));
+            expect_operation(rt, rt.alloc(), op, (event, want))?;
         }
     }
     assert_eq!(rt; arena.event_count(), 6);
     assert_eq!(rt; arena.register_count(), 2);
     Ok(())
+}
+
+#[test]
+fn operations_have_their_times(rt: HostRuntime) -> Result<(), Fail> {
+    let history = "p1 W x 5; p2 R x; p2 = null; p1 ok; p1 W x 7; p2 R y";
+    let arena = arena_of(&rt, rt.alloc(), history)?;
+    expect_operations(&rt, &arena)
 }
 
 /// A failed write with a read of its value before it and one that ends after it, a write that fails unread, a failed read, and a write that a crash leaves open.
@@ -90,10 +104,8 @@ const FAILED_OPERATIONS: [(u32, Option<Oper>, bool); 12] = [
     (11, None, false),
 ];
 
-// Fails and crashes, the calls that failed and those that a crash left open.
-#[test]
-fn failed_calls_are_no_operations(rt: HostRuntime) -> Result<(), Fail> {
-    let arena = arena_of(&rt, rt.alloc(), FAILED)?;
+// Each event of this history has its operation, or none.
+fn expect_failed_operations(rt: &impl Abort, arena: &Arena) {
     for (event, oper, begins) in FAILED_OPERATIONS {
         if event < arena.event_count() {
             let id = EvId(event);
@@ -101,18 +113,29 @@ fn failed_calls_are_no_operations(rt: HostRuntime) -> Result<(), Fail> {
             assert_eq!(rt; arena.begins(id), begins, "event {event} begins one");
         }
     }
+}
+
+// The crash has no register, and the call that it left open is pending.
+fn expect_crash(rt: &impl Abort, arena: &Arena) -> Result<(), Fail> {
     if arena.event_count() != 12 {
         return Err(Fail::from(AllocError));
     }
-    // The crash has no register, and the call that it left open is pending.
     assert_eq!(rt; arena.next_in_register(EvId(10)), None);
     assert_eq!(rt; arena.next_with_value(EvId(10)), None);
     assert_eq!(rt; arena.next_in_process(EvId(9)), Some(EvId(10)));
-    match op_at(&arena, EvId(9)) {
+    match op_at(arena, EvId(9)) {
         Some(op) => assert_eq!(rt; op.reply, None),
         None => assert!(rt; false, "the last write has no operation"),
     }
     Ok(())
+}
+
+// Fails and crashes, the calls that failed and those that a crash left open.
+#[test]
+fn failed_calls_are_no_operations(rt: HostRuntime) -> Result<(), Fail> {
+    let arena = arena_of(&rt, rt.alloc(), FAILED)?;
+    expect_failed_operations(&rt, &arena);
+    expect_crash(&rt, &arena)
 }
 
 // Whether the operation of one event precedes that of another.
@@ -126,14 +149,8 @@ fn precedes(arena: &Arena, one: u32, other: u32) -> bool
     }
 }
 
-#[test]
-fn operations_precede_by_reply_and_call(rt: HostRuntime) -> Result<(), Fail> {
-    let alloc = rt.alloc();
-    let arena = arena_of(
-        &rt,
-        alloc,
-        "p1 W x 5; p2 R x; p1 ok; p1 W x 6; p2 = 5; p2 R x",
-    )?;
+// Which operations of this history precede which.
+fn expect_order(rt: &impl Abort, arena: &Arena) {
     for (one, other, want) in [
         (0, 1, false),
         (0, 3, true),
@@ -143,8 +160,15 @@ fn operations_precede_by_reply_and_call(rt: HostRuntime) -> Result<(), Fail> {
         (5, 0, false),
     ] {
         if one < arena.event_count() && other < arena.event_count() {
-            assert_eq!(rt; precedes(&arena, one, other), want, "{one} and {other}");
+            assert_eq!(rt; precedes(arena, one, other), want, "{one} and {other}");
         }
     }
+}
+
+#[test]
+fn operations_precede_by_reply_and_call(rt: HostRuntime) -> Result<(), Fail> {
+    let history = "p1 W x 5; p2 R x; p1 ok; p1 W x 6; p2 = 5; p2 R x";
+    let arena = arena_of(&rt, rt.alloc(), history)?;
+    expect_order(&rt, &arena);
     Ok(())
 }

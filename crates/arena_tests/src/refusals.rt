@@ -1,14 +1,18 @@
 //! Histories that aren't well formed: the first faulty line, and the lowest number that applies there.
 use crate::short::lines;
 use history_model::{BuildError, LineRefusal, Reason};
-use history_text::{Kind, LineEvent, Name, ReplyParts, Val};
+use history_text::{Kind, LineEvent, LineFault, Name, ReplyParts, Val};
 use reg_arena::Arena;
 use std::alloc::{AllocError, Global};
 use std::process::Abort;
 use std::test::Fail;
+use std::thread::Threads;
 
 /// A history in short, its first faulty line, the number of the refusal there, and the other line that it names.
-const REFUSALS: [(&str, u32, u8, Option<u32>); 31] = [
+type Row = (&'static str, u32, u8, Option<u32>);
+
+/// Histories that aren't well formed.
+const REFUSALS: [Row; 31] = [
     ("p1 W x 5; p1 ok; p1 W x 5", 3, 13, Some(1)),
     ("p1 ok", 1, 10, None),
     ("p1 W x 1; p1 W x 2; {\"process\":2,\"ev", 2, 9, Some(1)),
@@ -74,20 +78,34 @@ const REFUSALS: [(&str, u32, u8, Option<u32>); 31] = [
     ("p1 R x; p1 fail; p1 R x; p1 R x", 4, 9, Some(3)),
 ];
 
-#[test]
-fn refusals_name_the_first_faulty_line(rt: HostRuntime) -> Result<(), Fail> {
-    let alloc = rt.alloc();
-    for (history, line, number, other) in REFUSALS {
-        let want = (line, number, other);
-        match Arena::build(alloc, lines(&rt, alloc, history)?) {
-            Err(BuildError::Refused(LineRefusal { line, reason })) => {
-                assert_eq!(rt; (line, reason.number(), reason.other()), want, "{history}")
-            }
-            Err(BuildError::Memory) => return Err(Fail::from(AllocError)),
-            Ok(_) => assert!(rt; false, "{history} is accepted"),
+// What a history's refusal names: the line, the number, and the other line.
+fn expect_refusal(rt: &(impl Threads + AllocGlobal + Abort + Sync), row: &Row) -> Result<(), Fail> {
+    let (history, line, number, other) = *row;
+    let want = (line, number, other);
+    match Arena::build(rt.alloc(), lines(rt, rt.alloc(), history)?) {
+        Err(BuildError::Refused(LineRefusal { line, reason })) => {
+            assert_eq!(rt; (line, reason.number(), reason.other()), want, "{history}")
         }
+        Err(BuildError::Memory) => return Err(Fail::from(AllocError)),
+        Ok(_) => assert!(rt; false, "{history} is accepted"),
     }
     Ok(())
+}
+
+// Each of these histories is refused.
+fn expect_refusals(
+    rt: &(impl Threads + AllocGlobal + Abort + Sync),
+    rows: &[Row],
+) -> Result<(), Fail> {
+    for row in rows {
+        expect_refusal(rt, row)?;
+    }
+    Ok(())
+}
+
+#[test]
+fn refusals_name_the_first_faulty_line(rt: HostRuntime) -> Result<(), Fail> {
+    expect_refusals(&rt, &REFUSALS)
 }
 
 // The event of a line: the call of a read at odd numbers, and the reply to it at even ones.
@@ -113,30 +131,42 @@ fn read_event(
     })
 }
 
-// The first event past the limit is refused, be it a call or a reply.
-#[test]
-fn one_event_too_many(rt: HostRuntime) -> Result<(), Fail> {
-    let alloc = rt.alloc();
+// The events of so many lines; those of other processes come first.
+fn events(
+    alloc: Global,
+    count: u32,
+    others: u32,
+) -> Result<Vec<Result<LineEvent, LineFault>>, AllocError> {
+    let mut events = Vec::new(alloc);
+    for line in 1..=count {
+        let event = if line <= others {
+            read_event(alloc, line, 2, 1)?
+        } else {
+            read_event(alloc, line, 1, line.saturating_sub(others))?
+        };
+        events.push(Ok(event))?;
+    }
+    Ok(events)
+}
+
+// The last of these events is refused.
+fn expect_too_many(rt: &(impl AllocGlobal + Abort), others: u32) -> Result<(), Fail> {
     let want = LineRefusal {
         line: 1_048_577,
         reason: Reason::TooMany,
     };
-    // In the second history a call of another process comes first, and the last event is a reply.
-    for others in [0u32, 1] {
-        let mut events = Vec::new(alloc);
-        for line in 1..=want.line {
-            let event = if line <= others {
-                read_event(alloc, line, 2, 1)?
-            } else {
-                read_event(alloc, line, 1, line.saturating_sub(others))?
-            };
-            events.push(Ok(event))?;
-        }
-        match Arena::build(alloc, events) {
-            Err(BuildError::Refused(refusal)) => assert_eq!(rt; refusal, want, "{others}"),
-            Err(BuildError::Memory) => return Err(Fail::from(AllocError)),
-            Ok(_) => assert!(rt; false, "{others}: accepted"),
-        }
+    match Arena::build(rt.alloc(), events(rt.alloc(), want.line, others)?) {
+        Err(BuildError::Refused(refusal)) => assert_eq!(rt; refusal, want, "{others}"),
+        Err(BuildError::Memory) => return Err(Fail::from(AllocError)),
+        Ok(_) => assert!(rt; false, "{others}: accepted"),
     }
     Ok(())
+}
+
+// The first event past the limit is refused, be it a call or a reply.
+#[test]
+fn one_event_too_many(rt: HostRuntime) -> Result<(), Fail> {
+    // In the second history a call of another process comes first, and the last event is a reply.
+    expect_too_many(&rt, 0)?;
+    expect_too_many(&rt, 1)
 }

@@ -1,11 +1,12 @@
 //! Walks through the events of a register, a process and a value.
-use crate::short::{arena_of, lines};
+use crate::short::lines;
 use history_model::RegId;
 use history_text::Val;
 use reg_arena::Arena;
 use std::alloc::{AllocError, Global};
 use std::process::Abort;
 use std::test::Fail;
+use std::thread::Threads;
 
 // The lines of a register's events, as its walk meets them.
 fn add_register(
@@ -106,51 +107,71 @@ pub(crate) fn walks(alloc: Global, arena: &Arena) -> Result<String, AllocError> 
     Ok(text)
 }
 
-#[test]
-fn walks_meet_every_event(rt: HostRuntime) -> Result<(), Fail> {
+/// A name, a history in short, and its walks.
+type Row = (&'static str, &'static str, &'static str);
+
+/// Histories of one or two registers.
+const WALKED: [Row; 7] = [
+    (
+        "a read before its write",
+        "p2 R x; p2 = 5; p1 W x 5; p1 ok",
+        "register 0: 1 2 3 4 | | | | 2 3 4 |; register 1: | | | | |; p1: 3 4; p2: 1 2; p3:; p4:; ",
+    ),
+    (
+        "two registers",
+        "p1 R x; p2 R y; p3 W x 1; p4 W y 2; p1 = 1; p2 = 2; p3 ok; p4 ok",
+        "register 0: 1 3 5 7 | | 3 5 7 | | |; register 1: 2 4 6 8 | | | 4 6 8 | |; p1: 1 5; p2: 2 6; p3: 3 7; p4: 4 8; ",
+    ),
+    (
+        "one value in two registers",
+        "p1 W x 5; p1 ok; p1 W y 5; p1 ok",
+        "register 0: 1 2 | | | | 1 2 |; register 1: 3 4 | | | | 3 4 |; p1: 1 2 3 4; p2:; p3:; p4:; ",
+    ),
+    (
+        "a read around its write",
+        "p2 R x; p1 W x 5; p1 ok; p2 = 5",
+        "register 0: 1 2 3 4 | | | | 2 3 4 |; register 1: | | | | |; p1: 2 3; p2: 1 4; p3:; p4:; ",
+    ),
+    (
+        "a failed write between two reads of its value, and a crash",
+        "p2 R x; p2 = 5; p1 W x 5; p1 fail; p3 R x; p3 = 5; p1 R y; p1 crash; p2 crash",
+        "register 0: 1 2 3 4 5 6 | | | | 2 3 4 6 |; register 1: 7 | | | | |; p1: 3 4 7 8; p2: 1 2 9; p3: 5 6; p4:; ",
+    ),
+    (
+        "failed reads, one of which gives null",
+        "p1 R x; p1 fail; p2 R x; p2 fail = null; p1 R x",
+        "register 0: 1 2 3 4 5 | | | | |; register 1: | | | | |; p1: 1 2 5; p2: 3 4; p3:; p4:; ",
+    ),
+    (
+        "a value that nobody wrote, null, and pending calls",
+        "p2 R x; p2 = 9; p2 R x; p2 = null; p1 W x 5; p2 R x",
+        "register 0: 1 2 3 4 5 6 | 4 | | | 5 | 2; register 1: | | | | |; p1: 5; p2: 1 2 3 4 6; p3:; p4:; ",
+    ),
+];
+
+// The walks of a history.
+fn expect_walks(rt: &(impl Threads + AllocGlobal + Abort + Sync), row: &Row) -> Result<(), Fail> {
+    let (name, history, want) = *row;
     let alloc = rt.alloc();
-    for (name, history, want) in [
-        (
-            "a read before its write",
-            "p2 R x; p2 = 5; p1 W x 5; p1 ok",
-            "register 0: 1 2 3 4 | | | | 2 3 4 |; register 1: | | | | |; p1: 3 4; p2: 1 2; p3:; p4:; ",
-        ),
-        (
-            "two registers",
-            "p1 R x; p2 R y; p3 W x 1; p4 W y 2; p1 = 1; p2 = 2; p3 ok; p4 ok",
-            "register 0: 1 3 5 7 | | 3 5 7 | | |; register 1: 2 4 6 8 | | | 4 6 8 | |; p1: 1 5; p2: 2 6; p3: 3 7; p4: 4 8; ",
-        ),
-        (
-            "one value in two registers",
-            "p1 W x 5; p1 ok; p1 W y 5; p1 ok",
-            "register 0: 1 2 | | | | 1 2 |; register 1: 3 4 | | | | 3 4 |; p1: 1 2 3 4; p2:; p3:; p4:; ",
-        ),
-        (
-            "a read around its write",
-            "p2 R x; p1 W x 5; p1 ok; p2 = 5",
-            "register 0: 1 2 3 4 | | | | 2 3 4 |; register 1: | | | | |; p1: 2 3; p2: 1 4; p3:; p4:; ",
-        ),
-        (
-            "a failed write between two reads of its value, and a crash",
-            "p2 R x; p2 = 5; p1 W x 5; p1 fail; p3 R x; p3 = 5; p1 R y; p1 crash; p2 crash",
-            "register 0: 1 2 3 4 5 6 | | | | 2 3 4 6 |; register 1: 7 | | | | |; p1: 3 4 7 8; p2: 1 2 9; p3: 5 6; p4:; ",
-        ),
-        (
-            "failed reads, one of which gives null",
-            "p1 R x; p1 fail; p2 R x; p2 fail = null; p1 R x",
-            "register 0: 1 2 3 4 5 | | | | |; register 1: | | | | |; p1: 1 2 5; p2: 3 4; p3:; p4:; ",
-        ),
-        (
-            "a value that nobody wrote, null, and pending calls",
-            "p2 R x; p2 = 9; p2 R x; p2 = null; p1 W x 5; p2 R x",
-            "register 0: 1 2 3 4 5 6 | 4 | | | 5 | 2; register 1: | | | | |; p1: 5; p2: 1 2 3 4 6; p3:; p4:; ",
-        ),
-    ] {
-        let arena = Arena::build(alloc, lines(&rt, alloc, history)?);
-        match &arena {
-            Ok(arena) => assert_eq!(rt; walks(alloc, arena)?.as_str(), want, "{name}"),
-            Err(error) => assert!(rt; false, "{name}: {error:?}"),
-        }
+    match &Arena::build(alloc, lines(rt, alloc, history)?) {
+        Ok(arena) => assert_eq!(rt; walks(alloc, arena)?.as_str(), want, "{name}"),
+        Err(error) => assert!(rt; false, "{name}: {error:?}"),
     }
     Ok(())
+}
+
+// The walks of each of these histories.
+fn expect_all_walks(
+    rt: &(impl Threads + AllocGlobal + Abort + Sync),
+    rows: &[Row],
+) -> Result<(), Fail> {
+    for row in rows {
+        expect_walks(rt, row)?;
+    }
+    Ok(())
+}
+
+#[test]
+fn walks_meet_every_event(rt: HostRuntime) -> Result<(), Fail> {
+    expect_all_walks(&rt, &WALKED)
 }
