@@ -15,30 +15,25 @@ same-columns : {e g : List Event} {k l r s p q v w : List (Option EvId)} {n m : 
 same-columns e k r p v n = cc (e, k, r, p, v, n)
 
 -- the row at a place is `old`
-module _ (rows : List Row) (i : ℕ) (old : Row) (at : old ≡ get_or rows i old) where
+module _ (rows : List Row) (links : List (Option EvId)) (i : ℕ) (old : Row) (at : old ≡ get_or rows i old) where
   -- a column that can't tell the new row from the old one
   kept : {A : Type 0} (f : Row → A) (new : Row) → f new ≡ f old → map f (set rows i new) ≡ map f rows
   kept f new same = map-set_same f rows i new old (same ∙ ap f at)
 
-  pub call-written : (o : Option EvId) → columns_of (set rows i (record old { call = o })) ≡ with_calls (columns_of rows) (set (columns_of rows).calls i o)
+  pub call-written : (o : Option EvId) → columns_of (set rows i (record old { call = o })) links ≡ with_calls (columns_of rows links) (set (columns_of rows links).calls i o)
   call-written o =
       let new : Row = record old { call = o } in
-      same-columns (kept (λ r. unpacked r.event) new refl) (map-set (λ (r : Row). r.call) rows i new) (kept (λ r. r.in_register) new refl) (kept (λ r. r.in_process) new refl) (kept (λ r. r.in_value) new refl) (kept (λ r. r.number) new refl)
+      same-columns (kept (λ r. unpacked r.event) new refl) (map-set (λ (r : Row). r.call) rows i new) refl (kept (λ r. r.in_process) new refl) (kept (λ r. r.in_value) new refl) (kept (λ r. r.number) new refl)
 
-  pub register-written : (o : Option EvId) → columns_of (set rows i (record old { in_register = o })) ≡ with_in_register (columns_of rows) (set (columns_of rows).in_register i o)
-  register-written o =
-      let new : Row = record old { in_register = o } in
-      same-columns (kept (λ r. unpacked r.event) new refl) (kept (λ r. r.call) new refl) (map-set (λ (r : Row). r.in_register) rows i new) (kept (λ r. r.in_process) new refl) (kept (λ r. r.in_value) new refl) (kept (λ r. r.number) new refl)
-
-  pub process-written : (o : Option EvId) → columns_of (set rows i (record old { in_process = o })) ≡ with_in_process (columns_of rows) (set (columns_of rows).in_process i o)
+  pub process-written : (o : Option EvId) → columns_of (set rows i (record old { in_process = o })) links ≡ with_in_process (columns_of rows links) (set (columns_of rows links).in_process i o)
   process-written o =
       let new : Row = record old { in_process = o } in
-      same-columns (kept (λ r. unpacked r.event) new refl) (kept (λ r. r.call) new refl) (kept (λ r. r.in_register) new refl) (map-set (λ (r : Row). r.in_process) rows i new) (kept (λ r. r.in_value) new refl) (kept (λ r. r.number) new refl)
+      same-columns (kept (λ r. unpacked r.event) new refl) (kept (λ r. r.call) new refl) refl (map-set (λ (r : Row). r.in_process) rows i new) (kept (λ r. r.in_value) new refl) (kept (λ r. r.number) new refl)
 
-  pub value-written : (o : Option EvId) → columns_of (set rows i (record old { in_value = o })) ≡ with_in_value (columns_of rows) (set (columns_of rows).in_value i o)
+  pub value-written : (o : Option EvId) → columns_of (set rows i (record old { in_value = o })) links ≡ with_in_value (columns_of rows links) (set (columns_of rows links).in_value i o)
   value-written o =
       let new : Row = record old { in_value = o } in
-      same-columns (kept (λ r. unpacked r.event) new refl) (kept (λ r. r.call) new refl) (kept (λ r. r.in_register) new refl) (kept (λ r. r.in_process) new refl) (map-set (λ (r : Row). r.in_value) rows i new) (kept (λ r. r.number) new refl)
+      same-columns (kept (λ r. unpacked r.event) new refl) (kept (λ r. r.call) new refl) refl (kept (λ r. r.in_process) new refl) (map-set (λ (r : Row). r.in_value) rows i new) (kept (λ r. r.number) new refl)
 
 -- ---- an event joins its lists, one column after another, and then has a row
 

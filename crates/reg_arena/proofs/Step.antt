@@ -39,7 +39,7 @@ use Rattle.history_model.proofs.Turns.{value-of-call}
 use Rattle.reg_arena.proofs.Open.{open-some, number-stays}
 use Rattle.history_model.proofs.Named.{event-register}
 use Rattle.reg_arena.proofs.Refused.{events-length, crash-none}
-use Rattle.history_model.proofs.Lists.{slice_get-push, slice_get-push_other}
+use Rattle.history_model.proofs.Lists.{slice_get_inside, slice_get-push, slice_get-push_other}
 use Rattle.history_model.specs.declared.refusal.Reason.TheVariants.{TooMany}
 
 -- an event that isn't refused is accepted
@@ -169,6 +169,13 @@ no-call events ev id c = record { call = λ ne. absurd (ne c); same = λ f. absu
 -- the register of an open call has a name
 pub open-named : (h : History) → IsRecorded h → (p : ℕ) (o : Open) → IsOpenCall h.events p o → o.register.0 < length h.names
 open-named h rec p o q = event-register h rec o.call.0 o.register.0 (ap (option_and_then by_register) q.there ∙ ap (option_map {U = ℕ} (λ (r : RegId). r.0)) q.register)
+
+-- it is one of the names that an arena keeps
+pub open-name : (names : List (List ℕ)) (events : List Event) (h : History) → record { names = names; events = events } ≡ h → IsRecorded h → (p : ℕ) (o : Open) → IsOpenCall h.events p o → (name : List ℕ) × (slice_get names o.register.0 ≡ Some name)
+open-name names events h viewed rec p o q =
+    let l = open-named h rec p o q in
+    let n = ap (λ (h : History). length h.names) viewed in
+    slice_get_inside names o.register.0 (omega (arith, l, n))
 
 module _ (es : List LineEvent) (acc : AreAccepted es) (e : LineEvent) (o : Open) (h : IsOpenCall (history_of es).events e.process o) where
   -- what the open call asks for, in the event's words

@@ -31,11 +31,11 @@ pub record Columns : Type 0 where
   -- the number of the entry of the event's register and value
   pub numbers : List (Option ℕ)
 
-abbrev pub columns_of : List Row → Columns
-columns_of rows = record {
+abbrev pub columns_of : List Row → List (Option EvId) → Columns
+columns_of rows in_register = record {
   events = map (λ r. unpacked r.event) rows;
   calls = map (λ r. r.call) rows;
-  in_register = map (λ r. r.in_register) rows;
+  in_register = in_register;
   in_process = map (λ r. r.in_process) rows;
   in_value = map (λ r. r.in_value) rows;
   numbers = map (λ r. r.number) rows;

@@ -1,24 +1,31 @@
 //! Whether a reply or a fail agrees with its call.
-ghost use Rattle.std.specs.Prelude.{◌≡◌, bytes_eq};
+ghost use Rattle.std.specs.Prelude.{◌≡◌, ◌<◌, ℕ, List, Some, bytes_eq, length, slice_get};
 ghost use Rattle.history_text.specs.Values.{kind_eq};
 ghost use Rattle.history_model.specs.Events.{agrees, fail_agrees, failed_value_agrees, reply_agrees, value_agrees};
 
+use crate::names::Names;
+use crate::standing::Open;
+use history_model::RegId;
 use history_text::{OpKind, ReplyParts, Val};
 
-/// Whether each thing that a reply says is as in its call, of which `name` is the register's.
-pub(crate) fn reply_agrees(parts: &ReplyParts, name: &str, kind: OpKind, value: Option<Val>) -> bool
-    ensures { result ≡ reply_agrees (record { register = name.now; kind = kind; value = value }) parts.now }
+/// Whether each thing that a reply says is as in its call.
+pub(crate) fn reply_agrees(parts: &ReplyParts, names: &Names, call: Open) -> bool
+    requires { call.register.0 < length names.now }
+    ensures { (name : List ℕ) → slice_get names.now call.register.0 ≡ Some name → result ≡ reply_agrees (record { register = name; kind = call.kind; value = call.value }) parts.now }
 {
-    op_agrees(parts.op, kind) && register_agrees(parts, name) && value_agrees(value, parts.value)
+    op_agrees(parts.op, call.kind)
+        && register_agrees(parts, names, call.register)
+        && value_agrees(call.value, parts.value)
 }
 
 /// The same of a fail.
-pub(crate) fn fail_agrees(parts: &ReplyParts, name: &str, kind: OpKind, value: Option<Val>) -> bool
-    ensures { result ≡ fail_agrees (record { register = name.now; kind = kind; value = value }) parts.now }
+pub(crate) fn fail_agrees(parts: &ReplyParts, names: &Names, call: Open) -> bool
+    requires { call.register.0 < length names.now }
+    ensures { (name : List ℕ) → slice_get names.now call.register.0 ≡ Some name → result ≡ fail_agrees (record { register = name; kind = call.kind; value = call.value }) parts.now }
 {
-    op_agrees(parts.op, kind)
-        && register_agrees(parts, name)
-        && failed_value_agrees(value, parts.value)
+    op_agrees(parts.op, call.kind)
+        && register_agrees(parts, names, call.register)
+        && failed_value_agrees(call.value, parts.value)
 }
 
 fn op_agrees(said: Option<OpKind>, kind: OpKind) -> bool
@@ -30,12 +37,14 @@ fn op_agrees(said: Option<OpKind>, kind: OpKind) -> bool
     }
 }
 
-fn register_agrees(parts: &ReplyParts, name: &str) -> bool
-    ensures { result ≡ agrees bytes_eq parts.now.register name.now }
+/// Whether a reply says nothing of the register, or its name. That name is read only then: it may lie far off.
+fn register_agrees(parts: &ReplyParts, names: &Names, register: RegId) -> bool
+    requires { register.0 < length names.now }
+    ensures { (name : List ℕ) → slice_get names.now register.0 ≡ Some name → result ≡ agrees bytes_eq parts.now.register name }
 {
     match &parts.register {
         None => true,
-        Some(said) => said.as_str() == name,
+        Some(said) => said.as_str() == names.get(register.0),
     }
 }
 

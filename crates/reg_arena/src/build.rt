@@ -276,8 +276,7 @@ impl Arena {
     {
         // The arena's invariant is known once a field is used.
         let _ = &self.names;
-        let name = self.name(opened.register);
-        if !reply_agrees(parts, name, opened.kind, opened.value) {
+        if !reply_agrees(parts, &self.names, opened) {
             return Some(refused(event.line, Reason::Disagreement));
         }
         if opened.value.is_none() && parts.value.is_none() {
@@ -299,8 +298,7 @@ impl Arena {
     {
         // The arena's invariant is known once a field is used.
         let _ = &self.names;
-        let name = self.name(opened.register);
-        if !fail_agrees(parts, name, opened.kind, opened.value) {
+        if !fail_agrees(parts, &self.names, opened) {
             return Some(refused(event.line, Reason::Disagreement));
         }
         self.too_many(event)
@@ -420,10 +418,7 @@ impl Arena {
     {
         // A write's call has the value of its reply, so that nothing is looked up.
         let (value, alike) = match opened.kind {
-            OpKind::ReadOp => (
-                parts.value,
-                self.lists.last_of_value(opened.register, parts.value),
-            ),
+            OpKind::ReadOp => (parts.value, self.lists.alike(opened.register, parts.value)),
             OpKind::WriteOp => (opened.value, Some(opened.call)),
         };
         let event = Event {

@@ -1,5 +1,5 @@
 //! What is looked up in the threaded lists.
-ghost use Rattle.std.specs.Prelude.{◌≡◌, ◌<◌, ℕ, length, option_and_then, None, Some};
+ghost use Rattle.std.specs.Prelude.{◌≡◌, ◌<◌, ℕ, length, option_and_then, slice_get, None, Some, IsTrue};
 ghost use Rattle.history_text.specs.declared.event.Val.{Val as AVal};
 ghost use Rattle.history_model.specs.Walking.{IsFirstOf, by_process, by_value, key_at};
 ghost use Rattle.reg_arena.specs.EventLists.{AreEventLists, IsAlike, IsKeptWrite, IsLastOf, by_write, event_number, value_entry};
@@ -97,6 +97,29 @@ impl EventLists {
             },
             None => None,
         }
+    }
+
+    /// An event of a register with a value, if there is one. The last reply is looked at first: most reads return what that did, and then nothing is looked up.
+    pub(crate) fn alike(&self, register: RegId, value: Option<Val>) -> Option<EvId>
+        requires { AreEventLists self.now }
+        ensures { (e : AnEvent) → e.register ≡ Some register → e.value ≡ value → IsAlike self.now.rows.events e result }
+    {
+        let value = value?;
+        match self.guesses.get(register.0 as usize) {
+            Some(guess) if self.has(*guess, register, value) => Some(*guess),
+            _ => self.last_of_value(register, Some(value)),
+        }
+    }
+
+    /// Whether there is an event `id`, and it has this register and value.
+    fn has(&self, id: EvId, register: RegId, value: Val) -> bool
+        ensures { IsTrue result → (e : AnEvent) × (slice_get self.now.rows.events id.0 ≡ Some e) × (e.register ≡ Some register) × (e.value ≡ Some value) }
+    {
+        if id.0 as usize >= self.rows.len() {
+            return false;
+        }
+        let event = self.rows.event(id);
+        event.register == Some(register) && event.value == Some(value)
     }
 
     /// The last event of a process.

@@ -21,6 +21,9 @@ use std::alloc::{AllocError, Global};
 pub(crate) struct EventLists {
     pub(crate) rows: Rows,
     pub(crate) registers: Vec<Ends>,
+    /// The last reply of each register: a guess at the event whose value the next read returns. Contracts don't speak of it, and whoever asks looks whether
+    /// it fits.
+    pub(crate) guesses: Vec<EvId>,
     pub(crate) processes: Processes,
     /// The registers and values that events have; the place of each is the number of its entry.
     pub(crate) values: IndexSet<(u32, Option<i64>), Seeded>,
@@ -37,6 +40,7 @@ impl EventLists {
         Ok(EventLists {
             rows: Rows::with_capacity(alloc, count)?,
             registers: Vec::new(alloc),
+            guesses: Vec::new(alloc),
             processes: Processes::new(alloc, count, hasher),
             values: IndexSet::with_hasher(alloc, hasher),
             entries: Vec::new(alloc),
@@ -51,6 +55,7 @@ impl EventLists {
     {
         self.rows.clear();
         self.registers.clear();
+        self.guesses.clear();
         self.processes.clear();
         self.values.clear();
         self.entries.clear();
@@ -76,6 +81,7 @@ impl EventLists {
     {
         let id = EvId(self.rows.len() as u32);
         let found = self.number_of(alike);
+        keep_guess(&mut self.guesses, event, id)?;
         join_register(&mut self.rows, &mut self.registers, event.register, id)?;
         join_process(&mut self.rows, &mut self.processes, event.process, id)?;
         let number = join_value(
@@ -91,6 +97,20 @@ impl EventLists {
         self.rows.push(event, call, number)?;
         Ok(())
     }
+}
+
+/// Keeps event `id` as the guess at the value that is read next, if it is a reply, or the first event of its register.
+fn keep_guess(guesses: &mut Vec<EvId>, event: Event, id: EvId) -> Result<(), AllocError> {
+    let Some(register) = event.register else {
+        return Ok(());
+    };
+    let number = register.0 as usize;
+    if number >= guesses.len() {
+        guesses.push(id)?;
+    } else if let What::Reply(_) = event.what {
+        guesses[number] = id;
+    }
+    Ok(())
 }
 
 /// The call that an event has beside it. A fail takes its call from the operations, and has none.

@@ -25,7 +25,11 @@ impl Arena {
         requires { register.0 < length self.now.names }
         ensures { IsFirstReply self.now register.0 value result }
     {
-        reply_time(value, self.lists.entry(register, value))
+        match value {
+            // The initial write replies before all events, so nothing is looked up.
+            Val::Null => reply_time(value, None),
+            Val::Int(_) => reply_time(value, self.lists.entry(register, value)),
+        }
     }
 
     /// The write of an event's value to its register, with no look-up; of an event without a value `None`.

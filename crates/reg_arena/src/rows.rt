@@ -1,5 +1,6 @@
-//! What is kept of each event: the event, and beside it what leads to others. All of it lies in one row, so that a step of a walk touches one place
-//! of memory, and not one in each of six columns.
+//! What is kept of each event: the event, and beside it what leads to others. It lies in one row, so that a step touches one place of memory, and not
+//! one in each of six columns. Only the links of the registers lie apart: a walk along them needs no row to find the next one, so it can have the rows
+//! fetched before it needs them.
 ghost use Rattle.std.specs.Prelude.{◌≡◌, ◌<◌, length, set, slice_get, Some, None, IfSome, IfOk, OnOk};
 ghost use Rattle.history_model.specs.declared.ids.EvId.{EvId as AnEvId};
 ghost use Rattle.reg_arena.specs.Rows.{no_columns, with_calls, with_event, with_in_process, with_in_register, with_in_value};
@@ -17,20 +18,21 @@ struct Row {
     event: PackedEvent,
     /// The call of the operation that the event belongs to.
     call: OptionalEvent,
-    /// The next event of the same register, of the same process, and of the same register and value.
-    in_register: OptionalEvent,
+    /// The next event of the same process, and of the same register and value.
     in_process: OptionalEvent,
     in_value: OptionalEvent,
     /// The number of the entry of the event's register and value.
     number: OptionalNumber,
 }
 
-const _: () = prove!(size_of::<Row>() == 48);
+const _: () = prove!(size_of::<Row>() == 40);
 
 /// What is kept of all events, in their order. Contracts see a column for each part of it.
 #[derive(Drop)]
 pub(crate) struct Rows {
     rows: Vec<Row>,
+    /// The next event of the same register, for each event.
+    in_register: Vec<OptionalEvent>,
 }
 
 impl Model for Rows {
@@ -38,7 +40,7 @@ impl Model for Rows {
 
     ghost Value = { Columns };
 
-    ghost view = { λ r. columns_of r.rows.items };
+    ghost view = { λ r. columns_of r.rows.items r.in_register.items };
 }
 
 impl Rows {
@@ -48,6 +50,7 @@ impl Rows {
     {
         Ok(Rows {
             rows: Vec::with_capacity(alloc, count)?,
+            in_register: Vec::with_capacity(alloc, count)?,
         })
     }
 
@@ -56,6 +59,7 @@ impl Rows {
         ensures { self.new ≡ no_columns }
     {
         self.rows.clear();
+        self.in_register.clear();
     }
 
     /// How many events there are.
@@ -83,10 +87,10 @@ impl Rows {
 
     /// The next event of the same register.
     pub(crate) fn next_in_register(&self, id: EvId) -> Option<EvId>
-        requires { id.0 < length self.now.events }
+        requires { id.0 < length self.now.in_register }
         ensures { slice_get self.now.in_register id.0 ≡ Some result }
     {
-        self.rows[id.0 as usize].in_register.get()
+        self.in_register[id.0 as usize].get()
     }
 
     /// The next event of the same process.
@@ -128,11 +132,11 @@ impl Rows {
         self.rows.push(Row {
             event: PackedEvent::new(event),
             call: OptionalEvent::new(call),
-            in_register: OptionalEvent::new(None),
             in_process: OptionalEvent::new(None),
             in_value: OptionalEvent::new(None),
             number: OptionalNumber::new(number),
         })?;
+        self.in_register.push(OptionalEvent::new(None))?;
         Ok(())
     }
 
@@ -146,11 +150,11 @@ impl Rows {
 
     /// The event `next` comes after the event `id` in its register.
     pub(crate) fn link_in_register(&mut self, id: EvId, next: EvId)
-        requires within { id.0 < length self.old.events }
+        requires within { id.0 < length self.old.in_register }
         requires bound { next.0 < NO_NUMBER }
         ensures { self.new ≡ with_in_register self.old (set self.old.in_register id.0 (Some next)) }
     {
-        self.rows[id.0 as usize].in_register = OptionalEvent::new(Some(next));
+        self.in_register[id.0 as usize] = OptionalEvent::new(Some(next));
     }
 
     /// The event `next` comes after the event `id` in its process.

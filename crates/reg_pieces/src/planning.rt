@@ -105,8 +105,9 @@ fn whole_plan(
     ensures { IfOk result (IsPlan arena.now cut) }
 {
     few_events(arena);
-    let mut tasks = Vec::new(alloc);
-    for number in 0..arena.register_count() {
+    let count = arena.register_count();
+    let mut tasks = Vec::with_capacity(alloc, count as usize)?;
+    for number in 0..count {
         let register = RegId(number);
         tasks.push(Task::Judge(register))?;
         add_cuts(&mut tasks, register, &lists[number as usize], cut)?;

@@ -60,9 +60,10 @@ pub(crate) fn findings(
     requires tallies { AreTallies arena.now tallies.now }
     ensures { IfOk result (λ findings. AreFindings arena.now findings.items) }
 {
-    let mut findings = Vec::new(alloc);
+    let count = arena.register_count();
+    let mut findings = Vec::with_capacity(alloc, count as usize)?;
     let mut next = 0;
-    for number in 0..arena.register_count() {
+    for number in 0..count {
         let register = RegId(number);
         let (judged, levels, after) = register_pieces(arena, plan, register, &mut pieces, next);
         findings.push(Finding {

@@ -3,11 +3,12 @@ ghost use Rattle.std.specs.Prelude.{◌≡◌, ◌+◌};
 ghost use Rattle.history_model.specs.Operations.{initial_write};
 ghost use Rattle.reg_zones.specs.Entries.{IsListedAt, entry_of};
 ghost use Rattle.reg_zones.specs.Register.{operations_of};
-ghost use Rattle.reg_zones.specs.Sweep.{IsMetAt};
+ghost use Rattle.reg_zones.specs.Sweep.{IsClusterOf, IsMetAt};
 
+use crate::pass::Cluster;
 use crate::register::{Met, Register};
 use crate::valued::valued_event;
-use crate::zone::{zone_at, zone_of};
+use crate::zone::zone_at;
 use history_model::{EvId, Oper};
 use history_text::OpKind;
 
@@ -23,17 +24,16 @@ pub(crate) struct Entry {
     pub(crate) oper: Oper,
 }
 
-/// The entry of the initial write.
-pub(crate) fn initial_entry(register: Register<'_>) -> Entry
+/// The entry of the initial write, whose cluster this is.
+pub(crate) fn initial_entry(register: Register<'_>, initial: Cluster) -> Entry
+    requires { IsClusterOf (operations_of register) (initial_write register.id.0) initial }
     ensures { result ≡ entry_of (operations_of register.entry) (initial_write register.entry.id.0) }
 {
-    let oper = Oper::Initial(register.id);
-    let zone = zone_of(register.arena, oper);
     Entry {
-        low: zone.low(),
+        low: initial.zone.low(),
         turn: 0,
         call: 0,
-        oper,
+        oper: Oper::Initial(register.id),
     }
 }
 

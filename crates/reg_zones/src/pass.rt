@@ -61,14 +61,15 @@ pub(crate) fn pass(register: Register<'_>) -> Result<Found, Fault>
     ensures err { IfErr result (λ fault. IsFault (operations_of register.entry) fault) }
 {
     let mut early = None;
-    let mut clusters = Compared::Clear(initial_forward(register));
+    let initial = initial_cluster(register);
+    let mut clusters = Compared::Clear(initial_forward(register, initial));
     let mut ahead = Ahead::of(register);
     while let Some(id) = ahead.next {
         let further = ahead.further(register);
-        let met = register.meet(id);
+        let met = register.meet(id, ahead.oper);
         let here = early_at(register, met, id)?;
         early = early.or(here);
-        clusters = compare_at(register, clusters, met, id);
+        compare_at(register, &mut clusters, met, id);
         ahead = further;
     }
     let conflict = clusters.conflict();
@@ -76,10 +77,10 @@ pub(crate) fn pass(register: Register<'_>) -> Result<Found, Fault>
 }
 
 /// The cluster of the initial write, if its zone is forward: the last forward cluster before all events.
-pub(crate) fn initial_forward(register: Register<'_>) -> Option<Cluster>
+pub(crate) fn initial_forward(register: Register<'_>, initial: Cluster) -> Option<Cluster>
+    requires { IsClusterOf (operations_of register) (initial_write register.id.0) initial }
     ensures { AreClear (operations_of register.entry) 2 result }
 {
-    let initial = initial_cluster(register);
     if initial.zone.is_forward() {
         Some(initial)
     } else {
@@ -88,7 +89,7 @@ pub(crate) fn initial_forward(register: Register<'_>) -> Option<Cluster>
 }
 
 /// The cluster of the initial write, whose low end is 0 or 1.
-fn initial_cluster(register: Register<'_>) -> Cluster
+pub(crate) fn initial_cluster(register: Register<'_>) -> Cluster
     ensures { IsClusterOf (operations_of register.entry) (initial_write register.entry.id.0) result }
 {
     let write = Oper::Initial(register.id);
@@ -96,26 +97,23 @@ fn initial_cluster(register: Register<'_>) -> Cluster
     Cluster { write, zone }
 }
 
-/// What is known of the zones once the event `id` is met.
-pub(crate) fn compare_at(register: Register<'_>, clusters: Compared, met: Met, id: EvId) -> Compared
+/// Adds what the event `id` tells of the zones: it is written only where a cluster has its low end, which few events are.
+pub(crate) fn compare_at(register: Register<'_>, clusters: &mut Compared, met: Met, id: EvId)
     requires here { IsMetAt register.arena.now register.id.0 id.0 met }
-    requires so_far { AreCompared (operations_of register) (id.0 + 2) clusters }
-    ensures { AreCompared (operations_of register.entry) (id.0 + 3) result }
+    requires so_far { AreCompared (operations_of register) (id.0 + 2) clusters.old }
+    ensures { AreCompared (operations_of register.entry) (id.0 + 3) clusters.new }
 {
-    let Compared::Clear(last) = clusters else {
-        return clusters;
+    let Compared::Clear(last) = *clusters else {
+        return;
     };
     let Some(cluster) = low_end_at(register, met, id) else {
-        return clusters;
+        return;
     };
     if let Some(first) = conflict_with(last, cluster) {
-        return Compared::Conflict(first, cluster);
+        *clusters = Compared::Conflict(first, cluster);
+    } else if cluster.zone.is_forward() {
+        *clusters = Compared::Clear(Some(cluster));
     }
-    Compared::Clear(if cluster.zone.is_forward() {
-        Some(cluster)
-    } else {
-        last
-    })
 }
 
 /// The cluster whose low end is the event, if there is one.

@@ -1,7 +1,7 @@
 //! A register of an arena, with what is known of it.
-ghost use Rattle.std.specs.Prelude.{◌≡◌, ◌<◌, Some, length};
+ghost use Rattle.std.specs.Prelude.{◌≡◌, ◌<◌, ◌↔◌, IsTrue, Some, length};
 ghost use Rattle.history_model.specs.History.{IsRecorded};
-ghost use Rattle.history_model.specs.Naming.{IsNamed, IsOper, op_shown};
+ghost use Rattle.history_model.specs.Naming.{IsNamed, IsOper, IsOperOf, op_shown};
 ghost use Rattle.history_model.specs.Operations.{Operation};
 ghost use Rattle.history_model.specs.Walking.{by_register, key_at};
 ghost use Rattle.reg_zones.specs.Sweep.{IsMetAt};
@@ -53,18 +53,26 @@ impl<'a> Register<'a> {
         (Register::new(arena, op.register), op)
     }
 
-    /// What an event of the register is: a call, a reply or neither.
-    pub(crate) fn meet(self, id: EvId) -> Met
-        requires { key_at by_register self.arena.now.events id.0 ≡ Some self.id.0 }
+    /// What an event of the register is, by the operation that it belongs to: a call, a reply or neither.
+    pub(crate) fn meet(self, id: EvId, oper: Option<Oper>) -> Met
+        requires event { key_at by_register self.arena.now.events id.0 ≡ Some self.id.0 }
+        requires oper { IsOperOf self.arena.now id.0 oper }
         ensures { IsMetAt self.entry.arena.now self.entry.id.0 id.0 result }
     {
-        if self.arena.begins(id) {
-            let oper = Oper::Called(id);
-            Met::Call(oper, self.arena.op(oper))
-        } else if self.arena.op_of(id).is_some() {
-            Met::Reply
-        } else {
-            Met::Nothing
+        match oper {
+            Some(oper) if is_called_at(oper, id) => Met::Call(oper, self.arena.op(oper)),
+            Some(_) => Met::Reply,
+            None => Met::Nothing,
         }
+    }
+}
+
+/// Whether the operation's call is this event.
+fn is_called_at(oper: Oper, id: EvId) -> bool
+    ensures { IsTrue result ↔ (oper ≡ Oper.Called id) }
+{
+    match oper {
+        Oper::Called(call) => call.0 == id.0,
+        Oper::Initial(_) => false,
     }
 }

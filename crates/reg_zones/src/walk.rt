@@ -10,7 +10,7 @@ ghost use Rattle.reg_zones.specs.Sweep.{IsFound};
 use crate::ahead::Ahead;
 use crate::entry::{Entry, initial_entry, listed_at};
 use crate::fault::Fault;
-use crate::pass::{Compared, Found, compare_at, initial_forward};
+use crate::pass::{Compared, Found, compare_at, initial_cluster, initial_forward};
 use crate::reads::early_at;
 use crate::register::Register;
 use std::alloc::{AllocError, Global};
@@ -25,14 +25,15 @@ pub(crate) fn found_and_listed(
         (λ both. IsFound (operations_of register.entry) both.0 × IsListing (operations_of register.entry) both.1.items)
         (λ fault. IsFault (operations_of register.entry) fault)) }
 {
+    let initial = initial_cluster(register);
     let mut entries = Vec::new(alloc);
-    entries.push(initial_entry(register))?;
+    entries.push(initial_entry(register, initial))?;
     let mut early = None;
-    let mut clusters = Compared::Clear(initial_forward(register));
+    let mut clusters = Compared::Clear(initial_forward(register, initial));
     let mut ahead = Ahead::of(register);
     while let Some(id) = ahead.next {
         let further = ahead.further(register);
-        let met = register.meet(id);
+        let met = register.meet(id, ahead.oper);
         match early_at(register, met, id) {
             Err(fault) => return Ok(Err(fault)),
             Ok(here) => early = early.or(here),
@@ -40,7 +41,7 @@ pub(crate) fn found_and_listed(
         if let Some(entry) = listed_at(register, met, id) {
             entries.push(entry)?;
         }
-        clusters = compare_at(register, clusters, met, id);
+        compare_at(register, &mut clusters, met, id);
         ahead = further;
     }
     let conflict = clusters.conflict();

@@ -15,7 +15,7 @@ loop-number-preserved c =
     let cut = c.args.cut in
     let lists = c.args.lists.items in
     let list = c.index.result.now in
-    let inside : n < length lists = omega (arith, c.loop-number-test.true, c.register_count-number-end.ensures.count, c.requires.lists.registers) in
+    let inside : n < length lists = omega (arith, c.loop-number-test.true, c.register_count-count.ensures.count, c.requires.lists.registers) in
     let here : take (n + 1) lists ≡ take n lists ++ list ∷ [] = take_more lists n list inside ∙ ap (λ (x : Option ListedReads). take n lists ++ x ∷ []) (sym c.index.ensures) in
     let added = c.in_ok-add_cuts.ensures in
     let tasks : c.add_cuts.new.tasks.items ≡ l.tasks.items ++ Judge (record { 0 = n }) ∷ added.0 =
@@ -30,13 +30,13 @@ returns c =
     let l = c.loop-number in
     let cut = c.args.cut in
     let lists = c.args.lists.items in
-    let whole : take l.number lists ≡ lists = take_all l.number lists (omega (arith, c.loop-number-test.false, c.register_count-number-end.ensures.count, c.requires.lists.registers)) in
+    let whole : take l.number lists ≡ lists = take_all l.number lists (omega (arith, c.loop-number-test.false, c.register_count-count.ensures.count, c.requires.lists.registers)) in
     let numbered = subst (λ xs. AreTasks cut 0 xs l.tasks.items) whole l.invariant in
     let few = plan-few h cut (record { tasks = l.tasks.items; lists = lists; first = false }) c.requires.cut c.requires.lists.registers c.requires.lists.each numbered in
     record {
       registers = c.requires.lists.registers;
       lists = c.requires.lists.each;
       numbered = numbered;
-      few = omega (arith, few, c.few_events.ensures, c.register_count-number-end.ensures.count, c.register_count-number-end.ensures.bound);
+      few = omega (arith, few, c.few_events.ensures, c.register_count-count.ensures.count, c.register_count-count.ensures.bound);
       whole = refl;
     }

@@ -15,7 +15,8 @@ pub returns-in_default-low_end_at : goal.returns-in_default-low_end_at
 returns-in_default-low_end_at c =
     let none = c.in_default-low_end_at.ensures in
     let met = subst (AreCompared (operations_of c.args.register) (c.args.id.0 + 2)) c.in-Clear.is c.requires.so_far in
-    three c.args.id.0 _ _ (step_none (operations_of c.args.register) (facts c.args.register).history (c.args.id.0 + 2) c.in-Clear.last none met)
+    subst (AreCompared (operations_of c.args.register) (c.args.id.0 + 3)) (sym c.in-Clear.is)
+    (three c.args.id.0 _ _ (step_none (operations_of c.args.register) (facts c.args.register).history (c.args.id.0 + 2) c.in-Clear.last none met))
 
 pub returns-in-Some-conflict_with : goal.returns-in-Some-conflict_with
 returns-in-Some-conflict_with c =
@@ -36,4 +37,5 @@ returns-else-is_forward c =
     let f = c.in-Some.ensures in
     let k = c.in_default-conflict_with.ensures in
     let met = subst (AreCompared (operations_of c.args.register) (c.args.id.0 + 2)) c.in-Clear.is c.requires.so_far in
-    three c.args.id.0 _ _ (step_backward (operations_of c.args.register) (facts c.args.register).history (c.args.id.0 + 2) c.in-Clear.last c.in-Some.cluster f met k (λ l. false≢true (sym c.if-is_forward.false ∙ c.is_forward.ensures.1 l)))
+    subst (AreCompared (operations_of c.args.register) (c.args.id.0 + 3)) (sym c.in-Clear.is)
+    (three c.args.id.0 _ _ (step_backward (operations_of c.args.register) (facts c.args.register).history (c.args.id.0 + 2) c.in-Clear.last c.in-Some.cluster f met k (λ l. false≢true (sym c.if-is_forward.false ∙ c.is_forward.ensures.1 l))))

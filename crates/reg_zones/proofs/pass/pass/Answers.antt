@@ -24,8 +24,11 @@ loop-ahead-init c =
       comparing = comparing-start h r (facts c.args.register) _ next c.initial_forward.ensures first;
     }
 
-pub meet-met-requires : goal.meet-met-requires
-meet-met-requires c = c.loop-ahead.invariant.walk.here c.in-Some.id c.in-Some.is
+pub meet-met-requires-clause-event : goal.meet-met-requires-clause-event
+meet-met-requires-clause-event c = c.loop-ahead.invariant.walk.here c.in-Some.id c.in-Some.is
+
+pub meet-met-requires-clause-oper : goal.meet-met-requires-clause-oper
+meet-met-requires-clause-oper c = c.loop-ahead.invariant.ahead.oper c.in-Some.id c.in-Some.is
 
 passed_up : (ops : List Operation) (fault : Fault) (result : Result Found Fault) → IsErrAnd result (λ e. e ≡ fault) → IsFault ops fault → IfErr result (λ e. IsFault ops e)
 passed_up ops fault (Ok found) e f = tt
@@ -40,8 +43,8 @@ returns-in_err-here-clause-err c =
     passed_up ops _ c.from_residual.result c.from_residual.ensures.1
     (subst (IsFault ops) (sym f.1) (first_unwritten h r (facts c.args.register) c.in-Some.id f.0 (met-here c.loop-ahead.invariant.walk c.in-Some.is) f.2))
 
-pub compare_at-clusters-requires-clause-so_far : goal.compare_at-clusters-requires-clause-so_far
-compare_at-clusters-requires-clause-so_far c =
+pub compare_at-requires-clause-so_far : goal.compare_at-requires-clause-so_far
+compare_at-requires-clause-so_far c =
     let h = c.args.register.arena.now in
     let r = c.args.register.id.0 in
     comparing-here h r (facts c.args.register) c.loop-ahead.clusters c.in-Some.id (subst (IsComparing (of_register r (operations h)) c.loop-ahead.clusters) c.in-Some.is c.loop-ahead.invariant.comparing)
@@ -62,7 +65,7 @@ loop-ahead-preserved c =
       ahead = c.further-further.ensures.ahead;
       walk = met-more c.loop-ahead.invariant.walk c.in-Some.is _ c.in_ok-here.ensures.written after;
       early = subst (λ (o : Option (Oper × Oper)). IsEarlySoFar h r o next) (sym c.or-early.ensures) (early-more h r y c.loop-ahead.early c.in_ok-here.here id next so_far c.in_ok-here.ensures.early after);
-      comparing = comparing-more h r y _ id next (c.loop-ahead.invariant.walk.here id c.in-Some.is) c.compare_at-clusters.ensures after;
+      comparing = comparing-more h r y _ id next (c.loop-ahead.invariant.walk.here id c.in-Some.is) c.compare_at.ensures after;
     }
 
 pub returns-clause-ok : goal.returns-clause-ok

@@ -28,8 +28,11 @@ loop-ahead-init c =
       listing = subst (λ (xs : List Entry). IsListingSoFar h.events r (of_register r (operations h)) xs next) (sym items) (listing-start h r (facts c.args.register) next first);
     }
 
-pub meet-met-requires : goal.meet-met-requires
-meet-met-requires c = c.loop-ahead.invariant.walk.here c.in-Some.id c.in-Some.is
+pub meet-met-requires-clause-event : goal.meet-met-requires-clause-event
+meet-met-requires-clause-event c = c.loop-ahead.invariant.walk.here c.in-Some.id c.in-Some.is
+
+pub meet-met-requires-clause-oper : goal.meet-met-requires-clause-oper
+meet-met-requires-clause-oper c = c.loop-ahead.invariant.ahead.oper c.in-Some.id c.in-Some.is
 
 pub returns-in-Err : goal.returns-in-Err
 returns-in-Err c =
@@ -39,8 +42,8 @@ returns-in-Err c =
     let f = c.in-Err.ensures.unwritten in
     subst (IsFault ops) (sym f.1) (first_unwritten h r (facts c.args.register) c.in-Some.id f.0 (met-here c.loop-ahead.invariant.walk c.in-Some.is) f.2)
 
-pub compare_at-clusters-requires-clause-so_far : goal.compare_at-clusters-requires-clause-so_far
-compare_at-clusters-requires-clause-so_far c =
+pub compare_at-requires-clause-so_far : goal.compare_at-requires-clause-so_far
+compare_at-requires-clause-so_far c =
     let h = c.args.register.arena.now in
     let r = c.args.register.id.0 in
     comparing-here h r (facts c.args.register) c.loop-ahead.clusters c.in-Some.id (subst (IsComparing (of_register r (operations h)) c.loop-ahead.clusters) c.in-Some.is c.loop-ahead.invariant.comparing)
@@ -63,7 +66,7 @@ loop-ahead-preserved c =
       ahead = c.further-further.ensures.ahead;
       walk = met-more c.loop-ahead.invariant.walk c.in-Some.is _ c.in-Ok.ensures.written after;
       early = subst (λ (o : Option (Oper × Oper)). IsEarlySoFar h r o next) (sym c.or-early.ensures) (early-more h r y c.loop-ahead.early c.in-Ok.here id next early_so_far c.in-Ok.ensures.early after);
-      comparing = comparing-more h r y _ id next (c.loop-ahead.invariant.walk.here id c.in-Some.is) c.compare_at-clusters.ensures after;
+      comparing = comparing-more h r y _ id next (c.loop-ahead.invariant.walk.here id c.in-Some.is) c.compare_at.ensures after;
       listing = elim c.match-listed_at.branch [
         | in-Some-listed_at+in_ok-push-2 w ↦
             let pushed = w.in_ok-push-2.ensures in

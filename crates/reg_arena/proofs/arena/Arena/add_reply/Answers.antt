@@ -8,7 +8,7 @@ use Rattle.history_model.specs.declared.event.Event.{Event}
 use Rattle.history_model.specs.declared.event.What.TheVariants.{Reply}
 use Rattle.history_model.proofs.Accepted.{reply-ends}
 use Rattle.reg_arena.proofs.Step.{accepted-push, room-of, next-history, event_by, reply-event_is, open-named, open-write, names-of_end, reply-call}
-use Rattle.reg_arena.proofs.ByEvent.{alike-last, alike-same}
+use Rattle.reg_arena.proofs.ByEvent.{alike-same}
 use Rattle.reg_arena.proofs.arena.Arena.add_reply.Goals as goal
 use Rattle.reg_arena.proofs.arena.Arena.add_reply.Goals.{in-ReadOp, in-WriteOp}
 
@@ -35,7 +35,7 @@ append-requires-clause-alike c =
     let o = subst (λ (h : History). IsOpenCall h.events c.args.event.now.process c.args.opened) t.is c.requires.opened in
     let here = subst (λ (h : History). IsOpenCall h.events c.args.event.now.process c.args.opened) (sym c.self.view_is) c.requires.opened in
     elim c.match-opened.branch [
-      | in-ReadOp w ↦ rw w.value-is (alike-last c.self.inside.lists.rows.events (event_by c.args.event.now (Some c.args.opened.register) (Reply c.args.opened.kind) c.args.parts.now.value) c.args.opened.register w.last_of_value.result refl w.last_of_value.ensures.last w.last_of_value.ensures.none)
+      | in-ReadOp w ↦ rw w.value-is (w.alike.ensures (event_by c.args.event.now (Some c.args.opened.register) (Reply c.args.opened.kind) c.args.parts.now.value) refl refl)
       | in-WriteOp w ↦
           let v = open-write t.before t.accepted c.args.event.now c.args.opened o w.in-WriteOp.is in
           let ev : Event = event_by c.args.event.now (Some c.args.opened.register) (Reply c.args.opened.kind) c.args.opened.value in

@@ -1,16 +1,31 @@
-use Rattle.std.proofs.Common.{sym, ap, subst, ◌∙◌, arith, length}
-use Rattle.history_model.specs.History.{History}
+use Rattle.std.proofs.Common.{◌≡◌, ◌<◌, ◌∙◌, ℕ, List, Option, None, ap, arith, length, sym, subst}
+use Rattle.history_model.specs.History.{History, IsRecorded}
 use Rattle.history_model.specs.OfValue.{IsFirstReply}
-use Rattle.reg_arena.specs.EventLists.{reply_time}
+use Rattle.history_text.specs.declared.event.Val.{Val}
+use Rattle.reg_arena.specs.EventLists.{AreEventLists, reply_time, value_entry}
+use Rattle.reg_arena.specs.declared.event_lists.EventLists.{EventLists}
 use Rattle.reg_arena.proofs.Times.{has-times, first-time}
 use Rattle.reg_arena.proofs.arena.Arena.first_reply.Goals as goal
 
-pub reply_time-requires : goal.reply_time-requires
-reply_time-requires c = λ y q. has-times c.self.inside.lists c.self.invariant.0 (c.args.register.0, c.args.value) y (sym c.entry.ensures ∙ q)
+module _ (names : List (List ℕ)) (t : EventLists) (a : AreEventLists t) (rec : IsRecorded (record { names = names; events = t.rows.events })) where
+  -- the time by the entry of a register and value is the answer
+  by-entry : (h : History) → record { names = names; events = t.rows.events } ≡ h → (k : ℕ × Val) → k.0 < length h.names → (r : Option ℕ) → r ≡ reply_time k.1 (value_entry t.values.keys t.entries.items k) → IsFirstReply h k.0 k.1 r
+  by-entry h viewed k known r is =
+      let l = ap (λ (h : History). length h.names) viewed in
+      subst (λ (h : History). IsFirstReply h k.0 k.1 r) viewed
+      (subst (IsFirstReply _ k.0 k.1) (sym is) (first-time names t a rec k (omega (arith, known, l))))
 
-pub returns : goal.returns
-returns c =
-    let l = ap (λ (h : History). length h.names) c.self.view_is in
-    subst (λ (h : History). IsFirstReply h c.args.register.0 c.args.value c.reply_time.result) c.self.view_is
-    (subst (IsFirstReply _ c.args.register.0 c.args.value) (sym (c.reply_time.ensures ∙ ap (reply_time c.args.value) c.entry.ensures))
-    (first-time c.self.inside.names c.self.inside.lists c.self.invariant.0 c.self.invariant.2 (c.args.register.0, c.args.value) (omega (arith, c.requires, l))))
+pub reply_time-requires-in-Int : goal.reply_time-requires-in-Int
+reply_time-requires-in-Int c = λ y q. has-times c.self.inside.lists c.self.invariant.0 (c.args.register.0, c.args.value) y (sym c.entry.ensures ∙ q)
+
+pub returns-in-Null : goal.returns-in-Null
+returns-in-Null c =
+    let t = c.self.inside.lists in
+    let k : ℕ × Val = (c.args.register.0, c.args.value) in
+    let initial = ap (λ v. reply_time v None) c.in-Null.is ∙ sym (ap (λ v. reply_time v (value_entry t.values.keys t.entries.items k)) c.in-Null.is) in
+    by-entry c.self.inside.names t c.self.invariant.0 c.self.invariant.2 c.args.self.now c.self.view_is k c.requires c.reply_time.result (c.reply_time.ensures ∙ initial)
+
+pub returns-in-Int : goal.returns-in-Int
+returns-in-Int c =
+    let k : ℕ × Val = (c.args.register.0, c.args.value) in
+    by-entry c.self.inside.names c.self.inside.lists c.self.invariant.0 c.self.invariant.2 c.args.self.now c.self.view_is k c.requires c.reply_time-in-Int.result (c.reply_time-in-Int.ensures ∙ ap (reply_time c.args.value) c.entry.ensures)

@@ -1,31 +1,44 @@
-use Rattle.std.proofs.Common.{inl, sym, ◌∙◌}
-use Rattle.history_model.proofs.Walking.{event-at}
+use Rattle.std.proofs.Common.{◌≡◌, ◌-◌, ◌∙◌, ℕ, Some, None, ap, arith, inl, refl, sym, subst}
+use Rattle.std.proofs.lemmas.Bool.{false≢true}
+use Rattle.history_model.specs.declared.ids.EvId.{EvId}
+use Rattle.history_model.specs.declared.ids.Oper.TheVariants.{Called}
+use Rattle.history_model.specs.Naming.{IsNamed, IsOper, IsOperOf}
+use Rattle.history_model.proofs.Named.{has-oper}
+use Rattle.history_model.proofs.Recorded.{of_register-In}
+use Rattle.history_model.specs.Operations.{operations}
 use Rattle.reg_zones.proofs.Known.{facts}
 use Rattle.reg_zones.proofs.MetEvents.{met-reply, met-nothing}
-use Rattle.reg_zones.proofs.Walks.{key-within}
-use Rattle.reg_zones.proofs.Registers.{begun, none-begun}
+use Rattle.reg_zones.proofs.Registers.{begun, call-name, found-name}
 use Rattle.reg_zones.proofs.register.Register.meet.Goals as goal
 
-pub begins-requires : goal.begins-requires
-begins-requires c = key-within c.args.self.arena.now.events c.args.id.0 c.args.self.id.0 c.requires
-
 pub op-requires : goal.op-requires
-op-requires c = let x = event-at c.args.self.id.0 c.args.self.arena.now.events c.args.id c.requires in (x.0, x.1, sym (c.begins.ensures x.0 x.1) ∙ c.if-begins.true)
+op-requires c =
+    let h = c.args.self.arena.now in
+    let f = subst (IsOperOf h c.args.id.0) c.in-Some.is c.requires.oper in
+    subst (IsOper h) f.1.named (has-oper h f.0 f.1.one)
 
-pub returns-then-begins : goal.returns-then-begins
-returns-then-begins c =
+pub returns-in-Some : goal.returns-in-Some
+returns-in-Some c =
+    let h = c.args.self.arena.now in
     let o = c.op.ensures in
-    let b = begun c.args.self.arena.now c.args.self.id.0 (facts c.args.self) c.args.id o.0 c.requires o.1 in
+    let called = c.is_called_at.ensures.0 c.if-is_called_at.true in
+    let b = begun h c.args.self.id.0 (facts c.args.self) c.args.id o.0 c.requires.event (subst (λ name. IsNamed h name o.0) called o.1) in
     (o.0, record { one = b.0; event = inl b.1; shown = o.2 }, sym o.1.named, b.1)
 
-pub returns-then-is_some : goal.returns-then-is_some
-returns-then-is_some c =
+pub returns-in-Some-2 : goal.returns-in-Some-2
+returns-in-Some-2 c =
     let h = c.args.self.arena.now in
     let r = c.args.self.id.0 in
-    let x = event-at r h.events c.args.id c.requires in
-    met-reply h r (facts c.args.self) c.args.id.0 c.op_of.result c.requires c.op_of.ensures
-    (λ o k e. none-begun h r (facts c.args.self) c.args.id.0 x.0 o x.1 (sym (c.begins.ensures x.0 x.1) ∙ c.if-begins.false) k e)
-    (sym c.is_some.ensures ∙ c.if-is_some.true)
+    let y = facts c.args.self in
+    let i = c.args.id.0 in
+    let f = subst (IsOperOf h i) c.in-Some.is c.requires.oper in
+    met-reply h r y i (Some c.in-Some.oper) c.requires.event f
+    (λ o k t.
+    let named = (call-name h r y o k).1 (omega (arith, t)) in
+    let here : record { 0 = o.call - 2 } ≡ c.args.id = ap (λ (n : ℕ). let e : EvId = record { 0 = n } in e) (omega (arith, t)) in
+    let oper = sym (found-name h r y i (Some c.in-Some.oper) c.in-Some.oper f o (of_register-In r (operations h) o k).0 (inl t)) ∙ (named ∙ ap Called here) in
+    false≢true (sym c.if-is_called_at.false ∙ c.is_called_at.ensures.1 oper))
+    refl
 
-pub returns-else-is_some : goal.returns-else-is_some
-returns-else-is_some c = met-nothing c.args.self.arena.now c.args.self.id.0 (facts c.args.self) c.args.id.0 c.op_of.result c.op_of.ensures (sym c.is_some.ensures ∙ c.if-is_some.false)
+pub returns-in-None : goal.returns-in-None
+returns-in-None c = met-nothing c.args.self.arena.now c.args.self.id.0 (facts c.args.self) c.args.id.0 None (subst (IsOperOf c.args.self.arena.now c.args.id.0) c.in-None.is c.requires.oper) refl
