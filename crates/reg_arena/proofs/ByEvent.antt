@@ -66,7 +66,7 @@ number-absent t a e none = go (by_value e) refl
 -- ---- an event of the same register and value
 
 -- the last event of an event's register and value is like it
-pub alike-last : (es : List Event) (e : Event) (r : RegId) (o : Option EvId) → e.register ≡ Some r → ((v : Val) → e.value ≡ Some v → IsLastOf by_value es (r.0, v) o) → (e.value ≡ None → o ≡ None) → IsAlike es e o
+alike-last : (es : List Event) (e : Event) (r : RegId) (o : Option EvId) → e.register ≡ Some r → ((v : Val) → e.value ≡ Some v → IsLastOf by_value es (r.0, v) o) → (e.value ≡ None → o ≡ None) → IsAlike es e o
 alike-last es e r o reg some none = go e.value refl o refl
   where
     go : (w : Option Val) → e.value ≡ w → (p : Option EvId) → o ≡ p → IsAlike es e p

@@ -9,23 +9,23 @@ use history_model::RegId;
 use history_text::{OpKind, ReplyParts, Val};
 
 /// Whether each thing that a reply says is as in its call.
-pub(crate) fn reply_agrees(parts: &ReplyParts, names: &Names, call: Open) -> bool
-    requires { call.register.0 < length names.now }
-    ensures { (name : List ℕ) → slice_get names.now call.register.0 ≡ Some name → result ≡ reply_agrees (record { register = name; kind = call.kind; value = call.value }) parts.now }
+pub(crate) fn reply_agrees(parts: &ReplyParts, names: &Names, opened: Open) -> bool
+    requires { opened.register.0 < length names.now }
+    ensures { (name : List ℕ) → slice_get names.now opened.register.0 ≡ Some name → result ≡ reply_agrees (record { register = name; kind = opened.kind; value = opened.value }) parts.now }
 {
-    op_agrees(parts.op, call.kind)
-        && register_agrees(parts, names, call.register)
-        && value_agrees(call.value, parts.value)
+    op_agrees(parts.op, opened.kind)
+        && register_agrees(parts, names, opened.register)
+        && value_agrees(opened.value, parts.value)
 }
 
 /// The same of a fail.
-pub(crate) fn fail_agrees(parts: &ReplyParts, names: &Names, call: Open) -> bool
-    requires { call.register.0 < length names.now }
-    ensures { (name : List ℕ) → slice_get names.now call.register.0 ≡ Some name → result ≡ fail_agrees (record { register = name; kind = call.kind; value = call.value }) parts.now }
+pub(crate) fn fail_agrees(parts: &ReplyParts, names: &Names, opened: Open) -> bool
+    requires { opened.register.0 < length names.now }
+    ensures { (name : List ℕ) → slice_get names.now opened.register.0 ≡ Some name → result ≡ fail_agrees (record { register = name; kind = opened.kind; value = opened.value }) parts.now }
 {
-    op_agrees(parts.op, call.kind)
-        && register_agrees(parts, names, call.register)
-        && failed_value_agrees(call.value, parts.value)
+    op_agrees(parts.op, opened.kind)
+        && register_agrees(parts, names, opened.register)
+        && failed_value_agrees(opened.value, parts.value)
 }
 
 fn op_agrees(said: Option<OpKind>, kind: OpKind) -> bool
@@ -37,7 +37,7 @@ fn op_agrees(said: Option<OpKind>, kind: OpKind) -> bool
     }
 }
 
-/// Whether a reply says nothing of the register, or its name. That name is read only then: it may lie far off.
+/// Whether a reply or a fail names no register, or that of its call. The register's name may lie far off, so it is read only if one is named.
 fn register_agrees(parts: &ReplyParts, names: &Names, register: RegId) -> bool
     requires { register.0 < length names.now }
     ensures { (name : List ℕ) → slice_get names.now register.0 ≡ Some name → result ≡ agrees bytes_eq parts.now.register name }

@@ -274,8 +274,6 @@ impl Arena {
         requires opened { IsStanding self.now.events event.now.process (Opened opened) }
         ensures { (es : List ALineEvent) → AreAccepted es → self.now ≡ history_of es → result ≡ event_refusal es event.now }
     {
-        // The arena's invariant is known once a field is used.
-        let _ = &self.names;
         if !reply_agrees(parts, &self.names, opened) {
             return Some(refused(event.line, Reason::Disagreement));
         }
@@ -296,8 +294,6 @@ impl Arena {
         requires opened { IsStanding self.now.events event.now.process (Opened opened) }
         ensures { (es : List ALineEvent) → AreAccepted es → self.now ≡ history_of es → result ≡ event_refusal es event.now }
     {
-        // The arena's invariant is known once a field is used.
-        let _ = &self.names;
         if !fail_agrees(parts, &self.names, opened) {
             return Some(refused(event.line, Reason::Disagreement));
         }

@@ -99,20 +99,21 @@ impl EventLists {
         }
     }
 
-    /// An event of a register with a value, if there is one. The last reply is looked at first: most reads return what that did, and then nothing is looked up.
+    /// An event of a register with a value, if there is one. The register's last reply is looked at first: most reads return its value, and then nothing is
+    /// looked up.
     pub(crate) fn alike(&self, register: RegId, value: Option<Val>) -> Option<EvId>
         requires { AreEventLists self.now }
         ensures { (e : AnEvent) → e.register ≡ Some register → e.value ≡ value → IsAlike self.now.rows.events e result }
     {
         let value = value?;
         match self.guesses.get(register.0 as usize) {
-            Some(guess) if self.has(*guess, register, value) => Some(*guess),
+            Some(guess) if self.is_of(*guess, register, value) => Some(*guess),
             _ => self.last_of_value(register, Some(value)),
         }
     }
 
-    /// Whether there is an event `id`, and it has this register and value.
-    fn has(&self, id: EvId, register: RegId, value: Val) -> bool
+    /// Whether `id` is an event of this register with this value.
+    fn is_of(&self, id: EvId, register: RegId, value: Val) -> bool
         ensures { IsTrue result → (e : AnEvent) × (slice_get self.now.rows.events id.0 ≡ Some e) × (e.register ≡ Some register) × (e.value ≡ Some value) }
     {
         if id.0 as usize >= self.rows.len() {

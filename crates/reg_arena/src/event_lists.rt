@@ -21,8 +21,8 @@ use std::alloc::{AllocError, Global};
 pub(crate) struct EventLists {
     pub(crate) rows: Rows,
     pub(crate) registers: Vec<Ends>,
-    /// The last reply of each register: a guess at the event whose value the next read returns. Contracts don't speak of it, and whoever asks looks whether
-    /// it fits.
+    /// The last reply of each register, or its first event while it has none: a guess at an event with the value that the next read returns. No contract
+    /// speaks of it; `alike` looks whether it fits.
     pub(crate) guesses: Vec<EvId>,
     pub(crate) processes: Processes,
     /// The registers and values that events have; the place of each is the number of its entry.
@@ -99,7 +99,7 @@ impl EventLists {
     }
 }
 
-/// Keeps event `id` as the guess at the value that is read next, if it is a reply, or the first event of its register.
+/// Keeps event `id` as its register's guess, if it is a reply or the register's first event.
 fn keep_guess(guesses: &mut Vec<EvId>, event: Event, id: EvId) -> Result<(), AllocError> {
     let Some(register) = event.register else {
         return Ok(());

@@ -1,6 +1,5 @@
 -- What an event of a register is there: the call of an operation, the reply to one, or neither.
-use Rattle.std.proofs.Common.{◌≡◌, ℕ, ◌+◌, Option, Some, None, is_some, true, false, inl, inr, refl, sym, ap, arith}
-use Rattle.std.proofs.lemmas.Bool.{false≢true}
+use Rattle.std.proofs.Common.{◌≡◌, ℕ, ◌+◌, Some, None, inl, inr, refl, ap, arith}
 use Rattle.history_model.specs.declared.ids.Oper.{Oper}
 use Rattle.history_model.specs.declared.op.Op.{Op}
 use Rattle.history_model.specs.Lists.{In}
@@ -27,16 +26,14 @@ module _ (h : History) (r : ℕ) (y : IsKnown h r) where
       omega (arith, m.3, e, ap (λ (o : Operation). o.call) same)
 
   -- what belongs to an operation, and calls none, is its reply
-  pub met-reply : (i : ℕ) (found : Option Oper) → key_at by_register h.events i ≡ Some r → IsOperOf h i found → ((o : Operation) → In o (of_register r (operations h)) → o.call ≡ i + 2 → ⊥) → is_some found ≡ true → IsMetAt h r i Reply
-  met-reply i None key f none e = absurd (false≢true e)
-  met-reply i (Some name) key f none e =
+  pub met-reply : (i : ℕ) (name : Oper) → key_at by_register h.events i ≡ Some r → IsOperOf h i (Some name) → ((o : Operation) → In o (of_register r (operations h)) → o.call ≡ i + 2 → ⊥) → IsMetAt h r i Reply
+  met-reply i name key f none =
       let k = key-operation h r y i f.0 key f.1.one f.2 in
       elim f.2 [ inl t ↦ absurd (none f.0 k t) | inr t ↦ (f.0, k, t.0, t.1) ]
 
   -- what belongs to no operation
-  pub met-nothing : (i : ℕ) (found : Option Oper) → IsOperOf h i found → is_some found ≡ false → IsMetAt h r i Nothing
-  met-nothing i None f e = λ o k t. f o (of_register-In r (operations h) o k).0 t
-  met-nothing i (Some name) f e = absurd (false≢true (sym e))
+  pub met-nothing : (i : ℕ) → IsOperOf h i None → IsMetAt h r i Nothing
+  met-nothing i f = λ o k t. f o (of_register-In r (operations h) o k).0 t
 
 -- what belongs to an operation belongs to it as it is shown
 pub belonging : (h : History) (r i : ℕ) (o : Operation) → In o (of_register r (operations h)) → IsEventOf i o → IsBelonging h r i o (op_shown o)

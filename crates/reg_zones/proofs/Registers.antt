@@ -1,9 +1,7 @@
 -- The events of a register and its operations belong together.
-use Rattle.std.proofs.Common.{◌≡◌, ℕ, ◌+◌, ◌-◌, ◌<◌, ◌≤◌, true, false, Option, Some, None, unwrap_or, length, ◌⊎◌, inl, inr, refl, sym, ap, subst, ◌∙◌, arith}
-use Rattle.std.proofs.lemmas.Bool.{cases_Bool, cases_lt, false≢true}
-use Rattle.std.specs.List.{slice_get}
+use Rattle.std.proofs.Common.{◌≡◌, ℕ, ◌+◌, ◌-◌, ◌<◌, ◌≤◌, Option, Some, None, unwrap_or, length, ◌⊎◌, inl, inr, refl, sym, ap, subst, ◌∙◌, arith}
+use Rattle.std.proofs.lemmas.Bool.{cases_Bool, cases_lt}
 use Rattle.history_text.specs.declared.event.Val.{Val}
-use Rattle.history_model.specs.declared.event.Event.{Event}
 use Rattle.history_model.specs.declared.ids.EvId.{EvId}
 use Rattle.history_model.specs.declared.ids.Oper.{Oper}
 use Rattle.history_model.specs.declared.ids.Oper.TheVariants.{Initial, Called}
@@ -11,11 +9,10 @@ use Rattle.history_model.specs.Lists.{In}
 use Rattle.history_model.specs.History.{History}
 use Rattle.history_model.specs.Operations.{Operation, IsWrite, IsCompleted, is_write, of_register, operations, initial_write}
 use Rattle.history_model.specs.Walking.{by_register, key_at}
-use Rattle.history_model.specs.Naming.{IsEventOf, IsNamed, IsOper, IsOperOf, begins_at, name_by, name_of}
+use Rattle.history_model.specs.Naming.{IsEventOf, IsNamed, IsOperOf, name_by, name_of}
 use Rattle.history_model.specs.OfValue.{IsMember, IsFirstReply, IsLastCall}
 use Rattle.reg_zones.specs.Clusters.{IsKept, IsInCluster, first_reply, last_call, low_end, HasFirstReply, HasLastCall}
 use Rattle.reg_zones.proofs.Known.{IsKnown, process-of}
-use Rattle.history_model.proofs.Named.{has-oper}
 use Rattle.reg_zones.proofs.Ends.{kept-member, first_reply-at, first_reply-is, last_call-at, last_call-is}
 use Rattle.reg_zones.proofs.ClearBelow.{first_completed}
 use Rattle.reg_zones.proofs.Walks.{key-within}
@@ -64,15 +61,6 @@ module _ (h : History) (r : ℕ) (y : IsKnown h r) where
         (λ l. ap (λ q. name_by q a) n ∙ ap (λ m. Initial (record { 0 = m })) j.1, λ l. absurd (omega (arith, l, ap (λ (o : Operation). o.call) e)))
     | inr p ↦ (λ l. absurd (omega (arith, l, y.history.called a p.0 k p.1)), λ l. ap (λ q. name_by q a) p.1)
   ]
-
-  -- an event that begins no operation calls none
-  pub none-begun : (i : ℕ) (e : Event) (o : Operation) → slice_get h.events i ≡ Some e → begins_at h.events i e ≡ false → In o (of_register r (operations h)) → o.call ≡ i + 2 → ⊥
-  none-begun i e o at none k c =
-      let named = subst (IsOper h) ((call-name o k).1 (omega (arith, c))) (has-oper h o (of_register-In r (operations h) o k).0) in
-      let q : o.call - 2 ≡ i = omega (arith, c) in
-      let x = subst (λ m. (f : Event) × (slice_get h.events m ≡ Some f) × (begins_at h.events m f ≡ true)) q named in
-      let same : x.0 ≡ e = let a = x.1 in cc (a, at) in
-      false≢true (sym none ∙ (ap (begins_at h.events i) (sym same) ∙ x.2))
 
   -- the name that the arena gives an event's operation
   pub found-name : (i : ℕ) (found : Option Oper) (other : Oper) → IsOperOf h i found → (a : Operation) → In a (operations h) → IsEventOf i a → name_of a ≡ unwrap_or found other

@@ -8,7 +8,7 @@ ghost use Rattle.reg_zones.specs.Ahead.{IsAhead};
 use crate::register::Register;
 use history_model::{EvId, Oper};
 
-/// The two events that a walk comes to next, each with the operation that it belongs to, and the event after them.
+/// The two events that a walk comes to next, each with the operation that it belongs to, if it does to one, and the event after them.
 #[derive(Clone, Copy)]
 pub(crate) struct Ahead {
     pub(crate) next: Option<EvId>,
@@ -54,7 +54,7 @@ impl Ahead {
     }
 }
 
-/// The operation that an event of the register belongs to, if there is an event.
+/// The operation that an event of the register belongs to, if there is an event and it belongs to one.
 fn oper_at(register: Register<'_>, event: Option<EvId>) -> Option<Oper>
     requires { IsOnWalk register.arena.now.events register.id.0 event }
     ensures { (id : AnEvId) → event ≡ Some id → IsOperOf register.entry.arena.now id.0 result }

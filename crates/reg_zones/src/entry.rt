@@ -24,7 +24,7 @@ pub(crate) struct Entry {
     pub(crate) oper: Oper,
 }
 
-/// The entry of the initial write, whose cluster this is.
+/// The entry of the initial write; `initial` is its cluster.
 pub(crate) fn initial_entry(register: Register<'_>, initial: Cluster) -> Entry
     requires { IsClusterOf (operations_of register) (initial_write register.id.0) initial }
     ensures { result ≡ entry_of (operations_of register.entry) (initial_write register.entry.id.0) }

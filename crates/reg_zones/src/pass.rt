@@ -97,7 +97,7 @@ pub(crate) fn initial_cluster(register: Register<'_>) -> Cluster
     Cluster { write, zone }
 }
 
-/// Adds what the event `id` tells of the zones: it is written only where a cluster has its low end, which few events are.
+/// Takes the event `id` into what is known of the zones. That changes only where a forward cluster, or one that conflicts, has its low end.
 pub(crate) fn compare_at(register: Register<'_>, clusters: &mut Compared, met: Met, id: EvId)
     requires here { IsMetAt register.arena.now register.id.0 id.0 met }
     requires so_far { AreCompared (operations_of register) (id.0 + 2) clusters.old }

@@ -14,7 +14,7 @@ use reg_arena::Arena;
 pub(crate) enum Met {
     /// The call of this operation, which has this name.
     Call(Oper, Op),
-    /// The reply to a call. Which one isn't looked up: a reply has the value of its operation.
+    /// The reply to a call. Its operation isn't looked up: a reply has the value of its operation.
     Reply,
     /// A fail, or the call that failed.
     Nothing,
