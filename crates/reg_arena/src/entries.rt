@@ -1,5 +1,5 @@
 //! What is looked up in the threaded lists.
-ghost use Rattle.std.specs.Prelude.{◌≡◌, ◌<◌, ℕ, length, option_and_then, slice_get, None, Some, IsTrue};
+ghost use Rattle.std.specs.Prelude.{◌≡◌, ◌<◌, ◌↔◌, ℕ, length, option_and_then, slice_get, None, Some, IsTrue};
 ghost use Rattle.history_text.specs.declared.event.Val.{Val as AVal};
 ghost use Rattle.history_model.specs.Walking.{IsFirstOf, by_process, by_value, key_at};
 ghost use Rattle.reg_arena.specs.EventLists.{AreEventLists, IsAlike, IsKeptWrite, IsLastOf, by_write, event_number, value_entry};
@@ -114,7 +114,7 @@ impl EventLists {
 
     /// Whether `id` is an event of this register with this value.
     fn is_of(&self, id: EvId, register: RegId, value: Val) -> bool
-        ensures { IsTrue result → (e : AnEvent) × (slice_get self.now.rows.events id.0 ≡ Some e) × (e.register ≡ Some register) × (e.value ≡ Some value) }
+        ensures { IsTrue result ↔ ((e : AnEvent) × (slice_get self.now.rows.events id.0 ≡ Some e) × (e.register ≡ Some register) × (e.value ≡ Some value)) }
     {
         if id.0 as usize >= self.rows.len() {
             return false;
