@@ -6,6 +6,7 @@ use Rattle.std.proofs.lemmas.List.{length_push}
 use Rattle.std.proofs.lemmas.Option.{same_Some, slice_get-get_or, slice_get_read, slice_get_within}
 use Rattle.history_model.specs.History.{History}
 use Rattle.reg_pieces.proofs.Pushed.{push-cases}
+use Rattle.reg_report.specs.FoundText.{AreLinesOf}
 use Rattle.reg_report.specs.Meaning.{IsRegisterReport}
 use Rattle.reg_report.specs.Registers.{AreFindings, AreFirstFindings, AreFirstLines, AreLines, IsFinding}
 use Rattle.reg_report.specs.declared.findings.Finding.{Finding}
@@ -40,24 +41,39 @@ module _ (h : History) where
     ];
   }
 
+  -- each line has its finding, and there are as many
+  abbrev HaveFindings : List Finding → List RegReport → Type 0
+  HaveFindings findings regs = (r : ℕ) (reg : RegReport) → slice_get regs r ≡ Some reg → (finding : Finding) × (slice_get findings r ≡ Some finding) × IsRegisterReport h finding.register.0 reg
+
+  have_findings : (findings : List Finding) (regs : List RegReport) → AreLinesOf h findings regs → (length regs ≡ length findings) × HaveFindings findings regs
+  have_findings [] [] each = (refl, λ r reg q. let l = slice_get_within [] r reg q in absurd (omega (arith, l)))
+  have_findings [] (reg ∷ regs) each = absurd each
+  have_findings (finding ∷ findings) [] each = absurd each
+  have_findings (finding ∷ findings) (reg ∷ regs) each = let rest = have_findings findings regs each.1 in (ap suc rest.0, one_more rest.1)
+    where
+      one_more : HaveFindings findings regs → HaveFindings (finding ∷ findings) (reg ∷ regs)
+      one_more rest zero line q = (finding, refl, subst (IsRegisterReport h finding.register.0) (same_Some _ _ q) each.0)
+      one_more rest (suc r) line q = rest r line q
+
+  -- the lines of what is found of all registers are the lines of all
+  pub lines-of : (findings : List Finding) (regs : List RegReport) → AreFindings h findings → AreLinesOf h findings regs → AreLines h regs
+  lines-of findings regs a each =
+      let all = have_findings findings regs each in
+      record {
+        lines = all.0 ∙ a.count;
+        each = λ r reg q. let f = all.1 r reg q in subst (λ m. IsRegisterReport h m reg) (a.each r f.0 f.1).0 f.2;
+      }
+
   module _ (E : Type 0) where
     -- a line that was made is that of the finding's register
     abbrev IsMade : Finding → Result RegReport E → Type 0
     IsMade finding made = IfOk made (IsRegisterReport h finding.register.0)
 
-    -- each line has its finding, and there are as many
-    abbrev HaveFindings : List Finding → List RegReport → Type 0
-    HaveFindings findings regs = (r : ℕ) (reg : RegReport) → slice_get regs r ≡ Some reg → (finding : Finding) × (slice_get findings r ≡ Some finding) × IsRegisterReport h finding.register.0 reg
-
-    all_made : (findings : List Finding) (regs : List RegReport) → AllZip IsMade findings (map Ok regs) → (length regs ≡ length findings) × HaveFindings findings regs
-    all_made [] [] each = (refl, λ r reg q. let l = slice_get_within [] r reg q in absurd (omega (arith, l)))
+    all_made : (findings : List Finding) (regs : List RegReport) → AllZip IsMade findings (map Ok regs) → AreLinesOf h findings regs
+    all_made [] [] each = tt
     all_made [] (reg ∷ regs) each = absurd each
     all_made (finding ∷ findings) [] each = absurd each
-    all_made (finding ∷ findings) (reg ∷ regs) each = let rest = all_made findings regs each.1 in (ap suc rest.0, one_more rest.1)
-      where
-        one_more : HaveFindings findings regs → HaveFindings (finding ∷ findings) (reg ∷ regs)
-        one_more rest zero line q = (finding, refl, subst (IsRegisterReport h finding.register.0) (same_Some _ _ q) each.0)
-        one_more rest (suc r) line q = rest r line q
+    all_made (finding ∷ findings) (reg ∷ regs) each = (each.0, all_made findings regs each.1)
 
     pub lines-made : (findings : List Finding) (each : List (Result RegReport E)) (made : Result (Vec RegReport Global) E)
         → AreFindings h findings
@@ -65,10 +81,5 @@ module _ (h : History) where
         → MatchResult made (λ v. (regs : List RegReport) × (each ≡ map Ok regs) × (v.items ≡ regs)) (λ e. Contains each (Err e))
         → IfOk made (λ v. AreLines h v.items)
     lines-made findings each (Ok v) a is got =
-        let all = all_made findings got.0 (subst (AllZip IsMade findings) got.1 is) in
-        let lines : AreLines h got.0 = record {
-          lines = all.0 ∙ a.count;
-          each = λ r reg q. let f = all.1 r reg q in subst (λ m. IsRegisterReport h m reg) (a.each r f.0 f.1).0 f.2;
-        } in
-        subst (AreLines h) (sym got.2) lines
+        subst (AreLines h) (sym got.2) (lines-of findings got.0 a (all_made findings got.0 (subst (AllZip IsMade findings) got.1 is)))
     lines-made findings each (Err e) a is got = tt

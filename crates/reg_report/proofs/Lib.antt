@@ -12,6 +12,7 @@ mod OrderLines
 mod Atomic
 mod Counting
 mod Found
+mod FoundText
 mod OneReport
 mod Cutting
 mod Assembly

@@ -12,6 +12,7 @@ pub mod Levels
 pub mod Atomicity
 pub mod Registers
 pub mod Answer
+pub mod FoundText
 pub mod Ends
 pub mod Run
 pub mod Cuts

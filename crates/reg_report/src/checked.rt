@@ -25,7 +25,7 @@ use std::thread::{Threads, join};
 
 /// What is found of all registers, and how many calls there are: workers do the pieces of the plan, and meanwhile another
 /// thread counts the calls.
-fn find<R: Threads + Sync, G: Gate + Sync>(
+pub(crate) fn find<R: Threads + Sync, G: Gate + Sync>(
     rt: &R,
     alloc: Global,
     arena: &Arena,
@@ -55,7 +55,7 @@ fn find<R: Threads + Sync, G: Gate + Sync>(
 }
 
 /// The report of the first register that isn't atomic.
-fn report_of_first<R: Threads + Sync, G: Gate + Sync>(
+pub(crate) fn report_of_first<R: Threads + Sync, G: Gate + Sync>(
     rt: &R,
     alloc: Global,
     arena: &Arena,
@@ -88,26 +88,6 @@ fn report_by<R: Threads + Sync, G: Gate + Sync>(
     }
 }
 
-/// The report of [`check`], and the arena that it was made from, which takes a while to drop.
-pub(crate) fn report_and_arena<R: Threads + RandomSource + Sync, G: Gate + Sync>(
-    rt: &R,
-    alloc: Global,
-    input: &[u8],
-    settings: Settings,
-    gate: &G,
-) -> Result<(Report, Arena), Refusal>
-    ensures ok { IfOk result (λ made. IsAnswer settings.first input.now (Ok made.0)) }
-    ensures err { IfErr result (IsRefused settings.first input.now) }
-    ensures long { MAX_INPUT < length input.now → result ≡ Err Refusal.TooLong }
-{
-    if input.len() > MAX_INPUT {
-        return Err(Refusal::TooLong);
-    }
-    let arena = read_arena(rt, alloc, input)?;
-    let report = report_by(rt, alloc, &arena, settings, gate)?;
-    Ok((report, arena))
-}
-
 /// The report of the history in the input: of the whole of it, or of its first register that isn't atomic, as the settings
 /// ask. Workers do its pieces, past the gate; neither their number, nor the cut, nor the gate changes the report.
 ///
@@ -125,6 +105,9 @@ pub fn check<R: Threads + RandomSource + Sync, G: Gate + Sync>(
     ensures err { IfErr result (IsRefused settings.first input.now) }
     ensures long { MAX_INPUT < length input.now → result ≡ Err Refusal.TooLong }
 {
-    let (report, _) = report_and_arena(rt, alloc, input, settings, gate)?;
-    Ok(report)
+    if input.len() > MAX_INPUT {
+        return Err(Refusal::TooLong);
+    }
+    let arena = read_arena(rt, alloc, input)?;
+    Ok(report_by(rt, alloc, &arena, settings, gate)?)
 }

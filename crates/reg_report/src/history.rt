@@ -1,5 +1,5 @@
 //! The report of an accepted history.
-ghost use Rattle.std.specs.Prelude.{◌≡◌, All, length, is_some, IfOk};
+ghost use Rattle.std.specs.Prelude.{◌≡◌, length, is_some, IfOk};
 ghost use Rattle.std.specs.Thread.{IsSync};
 ghost use Rattle.history_model.specs.Operations.{calls};
 ghost use Rattle.reg_report.specs.Meaning.{IsRegisterReport, IsReport, IsWholeAtomicity};
@@ -97,7 +97,7 @@ fn whole_order(
 }
 
 /// The same order, made by several threads.
-fn whole_order_in_parts(
+pub(crate) fn whole_order_in_parts(
     rt: &(impl Threads + Sync),
     alloc: Global,
     arena: &Arena,

@@ -1,44 +1,18 @@
 //! From the bytes that a source has left to the report that a sink takes.
-ghost use Rattle.std.specs.Prelude.{◌≡◌, ◌≢◌, ◌⊎◌, ◌-◌, ◌^◌, ◌<◌, ◌↔◌, flat_map, length, Err, IfOk, OnOk, IfErr, IfSome};
-ghost use Rattle.std.specs.Thread.{IsSync};
+ghost use Rattle.std.specs.Prelude.{◌≡◌, ◌≢◌, ◌⊎◌, ◌-◌, ◌^◌, ◌<◌, ◌↔◌, length, Err, IfOk, OnOk, IfErr, IfSome};
 ghost use Rattle.history_text.specs.declared.limits.TheConstants.{MAX_INPUT};
-ghost use Rattle.reg_report.specs.Text.{report_text};
 ghost use Rattle.reg_report.specs.Run.{IsOfInput, IsRefusedWhole, Reports, ReportsBeginning, TellsAtomic};
 
-use crate::checked::report_and_arena;
+use crate::answered::answer;
 use crate::outcome::Outcome;
 use crate::pulled::pull_all;
 use crate::pushed::deliver;
 use crate::refusal::Refusal;
-use crate::report::Report;
-use crate::written::text_in_parts;
 use byte_ends::{Sink, Source};
-use reg_arena::Arena;
 use reg_pieces::{Gate, Settings};
-use std::alloc::{AllocError, Global};
+use std::alloc::Global;
 use std::random::RandomSource;
-use std::thread::{Threads, join};
-
-/// The bytes of a report in parts, made while another thread drops what the report came from.
-fn text_beside_drop<T: Threads + Sync>(
-    rt: &T,
-    alloc: Global,
-    report: &Report,
-    arena: Arena,
-    input: Vec<u8>,
-) -> Result<Vec<Vec<u8>>, AllocError>
-    ensures { IfOk result (λ parts. flat_map (λ part. part.items) parts.items ≡ report_text report.now) }
-{
-    let (parts, ()) = join(
-        rt,
-        || -> Result<Vec<Vec<u8>>, AllocError>
-            requires { IsSync T.row }
-            ensures { IfOk result (λ parts. flat_map (λ part. part.items) parts.items ≡ report_text report.entry.now) }
-        { text_in_parts(rt, alloc, report) },
-        move || drop((arena, input)),
-    );
-    parts
-}
+use std::thread::Threads;
 
 /// Checks the history in all the bytes that the source has left, pushes its report, whole, and flushes. Nothing is
 /// pushed before the whole report is made.
@@ -80,10 +54,9 @@ pub fn run<T: Threads + RandomSource + Sync, R: Source, W: Sink, G: Gate + Sync>
     ensures nothing { IfErr result (λ refusal. refusal ≢ Refusal.OutputFailed → sink.new ≡ sink.old) }
 {
     let input = pull_all(alloc, source)?;
-    let (report, arena) = report_and_arena(rt, alloc, input.as_slice(), settings, gate)?;
-    let parts = text_beside_drop(rt, alloc, &report, arena, input)?;
-    match deliver(sink, &parts) {
-        Ok(()) => Ok(Outcome::of(&report)),
+    let text = answer(rt, alloc, input, settings, gate)?;
+    match deliver(sink, &text.parts) {
+        Ok(()) => Ok(text.outcome),
         Err(_) => Err(Refusal::OutputFailed),
     }
 }
