@@ -5,7 +5,7 @@
 //! from a board and does their pieces. [`do_pieces`] has as many workers as the [`Settings`] say do all of them at
 //! once, and gives what is done by number, each piece the one that its task asks for; [`first_faulty`] has them find
 //! the first register that isn't atomic, with one piece a register. Neither the number of workers nor the [`Gate`] that
-//! they pass changes what is given. [`do_pieces_alone`] starts no thread.
+//! they pass changes what is given.
 //!
 //! Read it in this order: `settings`; `tasks` and `planning`, which number the work; `order`, `judgement`, `bad_reads` and
 //! `piece`, what is done for one number; `gate` and `worker`; `pieces`, where what is done is kept; `workers`, all of it at
@@ -38,4 +38,4 @@ pub use planning::{list_of, plan, plan_in_parts};
 pub use settings::{MAX_CUT, MAX_WORKERS, Settings};
 pub use tasks::{Plan, Task};
 pub use worker::{Worked, work};
-pub use workers::{do_pieces, do_pieces_alone};
+pub use workers::do_pieces;

@@ -49,19 +49,8 @@ impl Settings {
         })
     }
 
-    /// One worker, and cuts of the greatest size, since there is nobody to share a register's reads with; the whole report.
-    pub fn alone() -> Settings
-        ensures { result ≡ record { workers = 1; cut = MAX_CUT; first = false } }
-    {
-        Settings {
-            workers: 1,
-            cut: MAX_CUT,
-            first: false,
-        }
-    }
-
     /// How many workers there are, 1 to [`MAX_WORKERS`].
-    pub(crate) fn workers(&self) -> u32
+    pub fn workers(&self) -> u32
         ensures value { result ≡ self.now.workers }
         ensures limits { (1 ≤ result) × (result ≤ MAX_WORKERS) }
     {

@@ -1,12 +1,12 @@
-//! All workers at once, or one alone.
-ghost use Rattle.std.specs.Prelude.{◌≡◌, ◌≤◌, ℕ, All, IfOk, IfSome, length};
+//! All workers at once.
+ghost use Rattle.std.specs.Prelude.{◌≡◌, ◌≤◌, All, IfOk, IfSome, length};
 ghost use Rattle.job_board.specs.declared.limits.TheConstants.{FULL_WEIGHT};
 ghost use Rattle.reg_pieces.specs.Plan.{IsPlan, IsSomePlan};
 ghost use Rattle.reg_pieces.specs.Slots.{AreDone, AreEmpty};
 ghost use Rattle.reg_pieces.specs.Work.{HasWorked};
 ghost use Rattle.reg_pieces.specs.Workers.{ClosesWhole, IsHandedBack, IsNewSeat, view_with, weight_back, weight_of_all, weight_so_far};
 
-use crate::gate::{Gate, OpenGate};
+use crate::gate::Gate;
 use crate::pieces::Pieces;
 use crate::settings::Settings;
 use crate::tasks::Plan;
@@ -144,20 +144,5 @@ pub fn do_pieces<R: Threads + Sync, G: Gate + Sync>(
     let (board, seat) = Board::open(alloc, plan.len())?;
     let seats = seats_of(alloc, plan, &board, seat, settings.workers())?;
     let back = all_work(rt, alloc, arena, plan, &board, seats, gate)?;
-    gathered(arena, plan, board, pieces, back)
-}
-
-/// The same pieces, done by the calling thread alone: it takes no right to start threads.
-///
-/// # Errors
-/// If memory was refused; what was done is dropped.
-pub fn do_pieces_alone(alloc: Global, arena: &Arena, plan: &Plan) -> Result<Pieces, AllocError>
-    requires { (cut : ℕ) × IsPlan arena.now cut plan.now }
-    ensures { IfOk result (AreDone arena.now plan.now.tasks) }
-{
-    let pieces = Pieces::empty(alloc, plan.len())?;
-    let (board, seat) = Board::open(alloc, plan.len())?;
-    let mut back = Vec::with_capacity(alloc, 1)?;
-    back.push(work(alloc, arena, plan, &board, seat, &OpenGate))?;
     gathered(arena, plan, board, pieces, back)
 }

@@ -6,7 +6,9 @@ mod Naming
 mod MergedOrder
 mod Restrict
 mod Locality
-mod Stable
+mod Elements
+mod Chaining
+mod Buckets
 mod Gathered
 mod OrderLines
 mod Atomic

@@ -38,7 +38,7 @@ pub record AreCounting (h : History) (n : ℕ) (ts : List Tally) : Type 0 where
 none-yet : (h : History) (r : ℕ) → IsCounting h r 0 no_calls
 none-yet h r = record { write = omega arith; read = omega arith; open_calls = omega arith }
 
-all-alike : {X : Type 0} (n : ℕ) (x : X) (i : ℕ) (y : X) → slice_get (replicate n x) i ≡ Some y → y ≡ x
+pub all-alike : {X : Type 0} (n : ℕ) (x : X) (i : ℕ) (y : X) → slice_get (replicate n x) i ≡ Some y → y ≡ x
 all-alike zero x i y q = absurd (cc (q))
 all-alike (suc n) x zero y q = cc (q)
 all-alike (suc n) x (suc i) y q = all-alike n x i y q

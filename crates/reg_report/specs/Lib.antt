@@ -1,6 +1,7 @@
 pub mod Refusals
 pub mod Text
 pub mod Sends
+pub mod ByPoint
 pub mod Merged
 pub mod Meaning
 pub mod First

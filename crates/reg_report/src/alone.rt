@@ -4,25 +4,20 @@ ghost use Rattle.history_text.specs.declared.limits.TheConstants.{MAX_INPUT};
 ghost use Rattle.reg_report.specs.Answer.{IsAnswer, IsRefused};
 ghost use Rattle.reg_report.specs.Meaning.{IsReport};
 
-use crate::findings::findings;
 use crate::history::history_report;
+use crate::one_by_one::find_one_by_one;
 use crate::refusal::Refusal;
 use crate::report::Report;
-use crate::tally::count_calls;
 use history_text::{MAX_INPUT, read_lines_alone};
 use reg_arena::Arena;
-use reg_pieces::{Settings, do_pieces_alone, plan};
 use std::alloc::{AllocError, Global};
 
-/// The report of an accepted history, with all its pieces done here.
+/// The report of an accepted history, made by this thread.
 fn report_alone(alloc: Global, arena: &Arena) -> Result<Report, AllocError>
     ensures { IfOk result (IsReport arena.now) }
 {
-    let plan = plan(alloc, arena, Settings::alone())?;
-    let pieces = do_pieces_alone(alloc, arena, &plan)?;
-    let counts = count_calls(alloc, arena)?;
-    let findings = findings(alloc, arena, &plan, pieces, &counts.tallies)?;
-    history_report(alloc, arena, &findings, counts.operations)
+    let (findings, operations) = find_one_by_one(alloc, arena)?;
+    history_report(alloc, arena, &findings, operations)
 }
 
 /// The report of the history in the input, the same as [`check`](crate::check) gives. It takes no right to start threads

@@ -1,36 +1,19 @@
 //! The report of the first register that isn't atomic.
-ghost use Rattle.std.specs.Prelude.{◌<◌, length, is_none, Some, IfOk};
-ghost use Rattle.history_model.specs.Operations.{register_of};
+ghost use Rattle.std.specs.Prelude.{◌<◌, length, is_none, IfOk};
 ghost use Rattle.reg_pieces.specs.Workers.{IsFirstFound};
 ghost use Rattle.reg_report.specs.First.{AreFoundLines, IsFirstReport};
-ghost use Rattle.reg_report.specs.Levels.{AreLevels};
 ghost use Rattle.reg_report.specs.Meaning.{IsRegisterReport};
 ghost use Rattle.reg_report.specs.Tally.{AreTallies};
 
-use crate::findings::Finding;
-use crate::levels::{Levels, listed_levels, several_writers};
 use crate::lists::Registers;
+use crate::one_by_one::finding_of;
 use crate::register::register_report;
 use crate::report::{RegReport, Report};
 use crate::tally::{Tally, count_calls};
 use crate::told::told;
 use history_model::RegId;
 use reg_arena::Arena;
-use reg_pieces::{BadReads, judge, list_of};
 use std::alloc::{AllocError, Global};
-
-/// Both levels of a register, from all its reads.
-fn whole_levels(alloc: Global, arena: &Arena, register: RegId) -> Result<Levels, AllocError>
-    ensures { IfOk result (AreLevels (register_of arena.now register.0)) }
-{
-    match list_of(alloc, arena, register)? {
-        Some(list) => {
-            let first = BadReads::among(arena, &list, 0, list.len());
-            Ok(listed_levels(arena, &list, first))
-        }
-        None => Ok(several_writers()),
-    }
-}
 
 /// The line of one register, from the counts of all registers' calls.
 fn whole_line(
@@ -43,15 +26,7 @@ fn whole_line(
     requires tallies { AreTallies arena.now tallies.now }
     ensures { IfOk result (IsRegisterReport arena.now register.0) }
 {
-    let levels = whole_levels(alloc, arena, register)?;
-    let judged = judge(alloc, arena, register)?;
-    let tally = tallies[register.0 as usize];
-    let finding = Finding {
-        register,
-        judged,
-        levels,
-        tally,
-    };
+    let finding = finding_of(alloc, arena, register, tallies)?;
     register_report(alloc, arena, &finding)
 }
 

@@ -7,7 +7,7 @@ ghost use Rattle.reg_report.specs.Registers.{AreFindings, AreLines, AreOrdersSoF
 
 use crate::findings::Finding;
 use crate::lists::{Lines, Registers};
-use crate::merged::{ranked, ranked_in_parts};
+use crate::merged::ranked;
 use crate::order_lines::{order_lines, order_lines_in_parts};
 use crate::register::register_report;
 use crate::report::{RegReport, Report};
@@ -90,7 +90,7 @@ fn whole_order(
     match orders_of(alloc, arena, findings)? {
         None => Ok(None),
         Some(orders) => {
-            let merged = ranked(arena, orders)?;
+            let merged = ranked(alloc, arena, &orders)?;
             Ok(Some(order_lines(alloc, arena, &merged)?))
         }
     }
@@ -110,7 +110,7 @@ pub(crate) fn whole_order_in_parts(
     match orders_of(alloc, arena, findings)? {
         None => Ok(None),
         Some(orders) => {
-            let merged = ranked_in_parts(rt, alloc, arena, orders)?;
+            let merged = ranked(alloc, arena, &orders)?;
             Ok(Some(order_lines_in_parts(rt, alloc, arena, &merged)?))
         }
     }

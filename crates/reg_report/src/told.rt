@@ -6,11 +6,12 @@ use history_model::{
 };
 use reg_arena::Arena;
 
-/// Its operations have names, lines and numbered registers. It does nothing.
+/// Its events and registers are few, and its operations have names, lines and numbered registers. It does nothing.
 pub(crate) fn told(arena: &Arena)
     ensures { IsTold arena.now }
 {
-    let _count = arena.event_count();
+    let _events = arena.event_count();
+    let _registers = arena.register_count();
     accepted_is_history();
     registers_are_numbered();
     names_are_unique();

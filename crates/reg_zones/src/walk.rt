@@ -15,6 +15,29 @@ use crate::reads::early_at;
 use crate::register::Register;
 use std::alloc::{AllocError, Global};
 
+/// For how many operations a walk asks for room before it begins, at most.
+const MANY: usize = 64;
+
+/// About how many operations a walk of the register lists, to ask for their room at once: the initial write, and those that
+/// the register's events begin, up to `MANY`.
+///
+/// With many registers the rows of these events lie far apart. A step here does so little that the processor fetches several
+/// rows at a time, and the walk, which does more at each event, then finds them at hand.
+fn room_for(register: Register<'_>) -> usize {
+    let mut room = 1;
+    let mut next = register.arena.first_of_register(register.id);
+    while let Some(id) = next {
+        if room == MANY {
+            return room;
+        }
+        if register.arena.begins(id) {
+            room += 1;
+        }
+        next = register.arena.next_in_register(id);
+    }
+    room
+}
+
 /// What a walk found of early reads and of zones, with the kept writes and the completed reads, each once, by call; or the
 /// first completed read without a write.
 pub(crate) fn found_and_listed(
@@ -26,7 +49,7 @@ pub(crate) fn found_and_listed(
         (λ fault. IsFault (operations_of register.entry) fault)) }
 {
     let initial = initial_cluster(register);
-    let mut entries = Vec::new(alloc);
+    let mut entries = Vec::with_capacity(alloc, room_for(register))?;
     entries.push(initial_entry(register, initial))?;
     let mut early = None;
     let mut clusters = Compared::Clear(initial_forward(register, initial));

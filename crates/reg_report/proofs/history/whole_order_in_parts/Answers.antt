@@ -5,7 +5,7 @@ use Rattle.reg_report.proofs.Atomic.{merged-calls, whole-atomic, whole-not-atomi
 use Rattle.reg_report.proofs.history.whole_order_in_parts.Goals as goal
 
 pub order_lines_in_parts-requires : goal.order_lines_in_parts-requires
-order_lines_in_parts-requires g c = (search rules, subst (HaveCalls c.args.arena.now) (sym c.deref.ensures.value) (merged-calls c.args.arena.now c.told.ensures c.in_ok-merged-in-Some.merged.items c.in_ok-merged-in-Some.ensures))
+order_lines_in_parts-requires g c = (search rules, subst (HaveCalls c.args.arena.now) (sym c.deref-in-Some.ensures.value) (merged-calls c.args.arena.now c.told.ensures c.in_ok-merged-in-Some.merged.items c.in_ok-merged-in-Some.ensures))
 
 pub returns-in-None : goal.returns-in-None
 returns-in-None g c = let h = c.args.arena.now in whole-not-atomic h c.told.ensures (length h.names) (subst (AreOrdersSoFar h (length h.names)) c.in-None.is c.in_ok-orders_of.ensures)
@@ -13,4 +13,4 @@ returns-in-None g c = let h = c.args.arena.now in whole-not-atomic h c.told.ensu
 pub returns-in_ok-order_lines_in_parts-in-Some : goal.returns-in_ok-order_lines_in_parts-in-Some
 returns-in_ok-order_lines_in_parts-in-Some g c =
     let h = c.args.arena.now in
-    whole-atomic h c.told.ensures c.in_ok-merged-in-Some.merged.items c.in_ok-order_lines_in_parts-in-Some.field-0 c.in_ok-merged-in-Some.ensures (c.in_ok-order_lines_in_parts-in-Some.ensures ∙ ap (lines_by (call_line h.events)) c.deref.ensures.value)
+    whole-atomic h c.told.ensures c.in_ok-merged-in-Some.merged.items c.in_ok-order_lines_in_parts-in-Some.field-0 c.in_ok-merged-in-Some.ensures (c.in_ok-order_lines_in_parts-in-Some.ensures ∙ ap (lines_by (call_line h.events)) c.deref-in-Some.ensures.value)

@@ -1,17 +1,21 @@
-use Rattle.std.proofs.Common.{◌∙◌, subst, nat_cmp}
-use Rattle.std.specs.Prelude.{IsPermutation}
-use Rattle.std.specs.List.Sorted.{IsStableByKey}
+use Rattle.std.proofs.Common.{◌∙◌, List, ap, arith, length, subst}
+use Rattle.std.proofs.lemmas.Result.{IfOk-weaker}
 use Rattle.reg_zones.specs.declared.placed.Placed.{Placed}
-use Rattle.reg_report.proofs.Gathered.{names, merged_answer}
+use Rattle.reg_report.specs.ByPoint.{IsByPoint}
+use Rattle.reg_report.specs.Merged.{IsMergedAnswer}
+use Rattle.reg_report.proofs.Gathered.{few, merged_answer, names}
 use Rattle.reg_report.proofs.merged.ranked.Goals as goal
+
+pub by_point-requires : goal.by_point-requires
+by_point-requires c = let count = few c.args.arena.now c.told.ensures c.requires.0 c.requires.1 in omega (arith, count, ap length c.requires.2, c.told.ensures.few)
 
 pub returns : goal.returns
 returns c =
     let h = c.args.arena.now in
     let os = c.requires.0 in
-    let merged = c.rank.new.merged.items in
     let given = c.requires.2 ∙ names h c.told.ensures os c.requires.1 in
-    merged_answer h c.told.ensures os c.requires.1 merged
-    (subst (λ ms. IsPermutation ms merged) given c.rank.ensures.permutation)
-    c.in_ok-rank.ensures.ascending
-    (subst (λ ms. IsStableByKey (λ (x : Placed). x.point) nat_cmp ms merged) given c.rank.ensures.stable)
+    IfOk-weaker c.by_point.result
+    (λ listed. IsByPoint c.args.orders.now listed.items)
+    (λ listed. IsMergedAnswer h listed.items)
+    (λ listed is. merged_answer h c.told.ensures os c.requires.1 listed.items (subst (λ (ops : List Placed). IsByPoint ops listed.items) given is))
+    c.by_point.ensures

@@ -19,7 +19,7 @@ loop-ahead-init c =
     let next = c.of-ahead.result.next in
     let first = c.of-ahead.ensures.first in
     let pushed = c.in_ok-push.ensures in
-    let items = pushed.items ∙ (ap (λ (xs : List Entry). xs ++ c.initial_entry.result ∷ []) c.new-entries.ensures.items ∙ ap (λ (x : Entry). x ∷ []) c.initial_entry.ensures) in
+    let items = pushed.items ∙ (ap (λ (xs : List Entry). xs ++ c.initial_entry.result ∷ []) c.in_ok-entries.ensures.items ∙ ap (λ (x : Entry). x ∷ []) c.initial_entry.ensures) in
     record {
       ahead = c.of-ahead.ensures.ahead;
       walk = walk-start h.events r (λ i. IsUnwrittenAt (of_register r (operations h)) (i + 2) None) next first;

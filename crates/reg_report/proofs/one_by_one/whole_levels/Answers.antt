@@ -1,7 +1,7 @@
 use Rattle.std.proofs.Common.{subst}
 use Rattle.reg_pieces.specs.Plan.{IsListOf}
 use Rattle.reg_report.proofs.ListedLevels.{own-list}
-use Rattle.reg_report.proofs.first.whole_levels.Goals as goal
+use Rattle.reg_report.proofs.one_by_one.whole_levels.Goals as goal
 
 pub among-first-requires-clause-list : goal.among-first-requires-clause-list
 among-first-requires-clause-list c =
