@@ -1,5 +1,5 @@
 //! From what is found of all registers to the bytes of the report. Each thread makes the line of a register and writes it
-//! at once, so that nothing but the text of the lines is kept.
+//! at once, so that no line is kept as values.
 ghost use Rattle.std.specs.Prelude.{◌≡◌, All, false, flat_map, length, is_some, IfOk};
 ghost use Rattle.std.specs.Thread.{IsSync};
 ghost use Rattle.serde_json.specs.Written.{compact_text};

@@ -64,8 +64,8 @@ fn findings_of(alloc: Global, arena: &Arena, tallies: &[Tally]) -> Result<Vec<Fi
 
 /// What is found of all registers, and how many calls there are.
 ///
-/// The thread does all that is to be done of a register before it goes on to the next one. So the register's events are
-/// fetched once, and nothing is kept of it but what was found.
+/// The thread judges a register and finds its levels before it goes on to the next one. So its events are likely still at
+/// hand, and nothing is kept of it but what was found.
 pub(crate) fn find_one_by_one(
     alloc: Global,
     arena: &Arena,

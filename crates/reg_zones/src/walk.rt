@@ -1,7 +1,7 @@
 //! One walk over a register's events that looks for a fault, as `pass` does, and lists the operations as it goes.
 //!
 //! Each event is met once for both. Callers that want the fault alone use `pass`, which takes no memory.
-ghost use Rattle.std.specs.Prelude.{IfOk, MatchResult};
+ghost use Rattle.std.specs.Prelude.{◌≤◌, IfOk, MatchResult};
 ghost use Rattle.reg_zones.specs.Entries.{IsListing};
 ghost use Rattle.reg_zones.specs.Faults.{IsFault};
 ghost use Rattle.reg_zones.specs.Register.{operations_of};
@@ -23,7 +23,9 @@ const MANY: usize = 64;
 ///
 /// With many registers the rows of these events lie far apart. A step here does so little that the processor fetches several
 /// rows at a time, and the walk, which does more at each event, then finds them at hand.
-fn room_for(register: Register<'_>) -> usize {
+fn room_for(register: Register<'_>) -> usize
+    ensures { (1 ≤ result) × (result ≤ MANY) }
+{
     let mut room = 1;
     let mut next = register.arena.first_of_register(register.id);
     while let Some(id) = next {

@@ -7,7 +7,7 @@ use Rattle.reg_zones.proofs.walk.room_for.Goals.{then-begins, else-begins}
 pub loop-next-init : goal.loop-next-init
 loop-next-init c = record {
   on = walk-first c.args.register.id.0 c.args.register.arena.now.events c.first_of_register-next.result c.first_of_register-next.ensures;
-  few = omega arith;
+  bound = (omega arith, omega arith);
 }
 
 pub begins-requires : goal.begins-requires
@@ -17,7 +17,7 @@ begins-requires c =
     walk-within r es c.in-Some.id (subst (IsOnWalk es r) c.in-Some.is c.loop-next.invariant.on)
 
 pub overflow_add-room : goal.overflow_add-room
-overflow_add-room c = omega (arith, c.loop-next.invariant.few)
+overflow_add-room c = omega (arith, c.loop-next.invariant.bound.1)
 
 pub next_in_register-next-requires : goal.next_in_register-next-requires
 next_in_register-next-requires c =
@@ -39,8 +39,11 @@ loop-next-preserved c =
     let on = subst (IsOnWalk es r) c.in-Some.is c.loop-next.invariant.on in
     record {
       on = walk-next r es c.in-Some.id c.next_in_register-next.result on c.next_in_register-next.ensures.next;
-      few = elim c.if-begins.branch [
-        | then-begins w ↦ omega (arith, w.room-is, c.loop-next.invariant.few, c.if-room-eq-MANY.false)
-        | else-begins w ↦ omega (arith, w.room-is, c.loop-next.invariant.few)
+      bound = elim c.if-begins.branch [
+        | then-begins w ↦ (omega (arith, w.room-is), omega (arith, w.room-is, c.loop-next.invariant.bound.1, c.if-room-eq-MANY.false))
+        | else-begins w ↦ (omega (arith, w.room-is, c.loop-next.invariant.bound.0), omega (arith, w.room-is, c.loop-next.invariant.bound.1))
       ];
     }
+
+pub returns : goal.returns
+returns c = c.loop-next.invariant.bound

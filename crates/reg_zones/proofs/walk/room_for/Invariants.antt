@@ -5,7 +5,7 @@ use Rattle.reg_zones.proofs.walk.room_for.Given as goal
 abbrev pub invariant-loop-next : goal.invariant-loop-next
 invariant-loop-next l = record {
   on : IsOnWalk l.register.arena.now.events l.register.id.0 l.next;
-  few : l.room ≤ 64;
+  bound : (1 ≤ l.room) × (l.room ≤ 64);
 }
 
 abbrev pub decreases-loop-next : goal.decreases-loop-next
