@@ -25,7 +25,8 @@ use std::random::RandomSource;
 use std::thread::{Threads, join};
 
 /// What is found of all registers, and how many calls there are: workers do the pieces of the plan, and meanwhile another
-/// thread counts the calls. One worker has nobody to share with, and takes one register after another without a plan.
+/// thread counts the calls. One worker has nobody to share with, and takes one register after another without a plan, if
+/// there is no gate to pass.
 pub(crate) fn find<R: Threads + Sync, G: Gate + Sync>(
     rt: &R,
     alloc: Global,
@@ -36,7 +37,7 @@ pub(crate) fn find<R: Threads + Sync, G: Gate + Sync>(
     requires { settings.first ≡ false }
     ensures { IfOk result (λ found. AreFindings arena.now found.0.items × (found.1 ≡ length (calls arena.now.events))) }
 {
-    if settings.workers() == 1 {
+    if settings.workers() == 1 && gate.is_open() {
         return find_one_by_one(alloc, arena);
     }
     let plan = plan_in_parts(rt, alloc, arena, settings)?;
@@ -93,8 +94,7 @@ fn report_by<R: Threads + Sync, G: Gate + Sync>(
 }
 
 /// The report of the history in the input: of the whole of it, or of its first register that isn't atomic, as the settings
-/// ask. Workers do its pieces, past the gate; one worker takes one register after another, and passes no gate unless the
-/// first register that isn't atomic is asked for. Neither their number, nor the cut, nor the gate changes the report.
+/// ask. Workers do its pieces, past the gate. Neither their number, nor the cut, nor the gate changes the report.
 ///
 /// # Errors
 /// `TooLong` if the input has more than [`MAX_INPUT`] bytes, whatever memory there is; `At` for the first faulty

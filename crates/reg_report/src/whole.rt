@@ -15,7 +15,7 @@ use std::random::RandomSource;
 use std::thread::Threads;
 
 /// Checks the history in all the bytes that the source has left, pushes its report, whole, and flushes. Nothing is
-/// pushed before the whole report is made. Of workers and the gate it does as [`check`](crate::check).
+/// pushed before the whole report is made. Workers pass the gate as in [`check`](crate::check).
 ///
 /// # Errors
 /// - `InputFailed`: a pull failed. It is answered for no other reason.
