@@ -5,10 +5,12 @@ use Rattle.std.specs.Result.{IsErrAnd, IfErr}
 use Rattle.std.proofs.lemmas.Bool.{ltb-true}
 use Rattle.history_text.specs.declared.limits.TheConstants.{MAX_INPUT}
 use Rattle.history_text.specs.Reading.{history_lines}
+use Rattle.history_model.specs.History.{History}
 use Rattle.history_model.specs.Refusals.{Line, IsBuildError}
 use Rattle.history_model.specs.declared.refusal.BuildError.{BuildError}
 use Rattle.history_model.specs.declared.refusal.BuildError.TheVariants.{Refused, Memory}
-use Rattle.reg_report.specs.Answer.{IsAnswer, IsAnswerToLines, IsRefused}
+use Rattle.reg_report.specs.Answer.{IsAnswer, IsAnswerToLines, IsArenaOf, IsRefused}
+use Rattle.reg_report.specs.First.{IsReportBy}
 use Rattle.reg_report.specs.Refusals.{of_build}
 use Rattle.reg_report.specs.declared.refusal.Refusal.{Refusal}
 use Rattle.reg_report.specs.declared.refusal.Refusal.TheVariants.{NoRoom, TooLong}
@@ -20,6 +22,10 @@ answer-within first input answer within answered = go (nat_lt MAX_INPUT (length 
     go : (b : Bool) → nat_lt MAX_INPUT (length input) ≡ b → MatchBool b (answer ≡ Err TooLong) (IsAnswerToLines first (history_lines input) answer)
     go true e = let l = ltb-true MAX_INPUT (length input) e in absurd (omega (arith, l, within))
     go false e = answered
+
+-- the report of an input's arena is the answer
+pub answer-of-arena : (first : Bool) (input : List ℕ) (arena : History) (report : Report) → IsArenaOf input arena → IsReportBy first arena report → IsAnswer first input (Ok report)
+answer-of-arena first input arena report a r = answer-within first input (Ok report) a.within (a.well_formed, subst (λ (h : History). IsReportBy first h report) a.is r)
 
 -- what refuses the lines of an input refuses the input
 refused-within : (first : Bool) (input : List ℕ) (e : BuildError) → length input ≤ MAX_INPUT → IsBuildError (history_lines input) e → IsRefused first input (of_build e)

@@ -9,6 +9,7 @@ mod Locality
 mod Elements
 mod Chaining
 mod Buckets
+mod Ascending
 mod Gathered
 mod OrderLines
 mod Atomic

@@ -1,9 +1,9 @@
 -- The answer to an input.
-use Rattle.std.specs.Prelude.{◌≡◌, ◌⊎◌, ℕ, List, Bool, length, nat_lt, cond, MatchBool, Result, Ok, Err}
+use Rattle.std.specs.Prelude.{◌≡◌, ◌⊎◌, ◌≤◌, ℕ, List, Bool, length, nat_lt, cond, MatchBool, Result, Ok, Err}
 use Rattle.history_text.specs.declared.limits.TheConstants.{MAX_INPUT}
 use Rattle.history_text.specs.Reading.{history_lines}
 use Rattle.history_model.specs.Refusals.{Line, IsRefusal, IsWellFormed, events_of}
-use Rattle.history_model.specs.History.{history_of}
+use Rattle.history_model.specs.History.{History, history_of}
 use Rattle.reg_report.specs.First.{IsReportBy}
 use Rattle.reg_report.specs.Text.{report_text}
 use Rattle.reg_report.specs.declared.report.Report.{Report}
@@ -36,3 +36,9 @@ IsAnswerText first input bytes told = (report : Report) × IsAnswer first input 
 -- why there is no answer: the refusal is the answer, or memory was refused
 abbrev pub IsRefused : Bool → List ℕ → Refusal → Type 0
 IsRefused first input refusal = (refusal ≡ NoRoom) ⊎ IsAnswer first input (Err refusal)
+
+-- the arena of an input that is within its limit and well formed
+pub record IsArenaOf (input : List ℕ) (arena : History) : Type 0 where
+  pub within : length input ≤ MAX_INPUT
+  pub well_formed : IsWellFormed (history_lines input)
+  pub is : arena ≡ history_of (events_of (history_lines input))

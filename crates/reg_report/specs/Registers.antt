@@ -7,7 +7,7 @@ use Rattle.reg_pieces.specs.Judged.{IsJudged}
 use Rattle.reg_zones.specs.declared.placed.Placed.{Placed}
 use Rattle.reg_report.specs.Levels.{AreLevels}
 use Rattle.reg_report.specs.Meaning.{IsRegisterReport, calls_of}
-use Rattle.reg_report.specs.Merged.{AreGathered}
+use Rattle.reg_report.specs.Merged.{AreGathered, IsMergedAnswer}
 use Rattle.reg_report.specs.Tally.{IsTally}
 use Rattle.history_model.specs.Operations.{register_of}
 use Rattle.reg_report.specs.declared.findings.Finding.{Finding}
@@ -42,3 +42,8 @@ AreLines h regs = AreFirstLines h (length h.names) regs
 abbrev pub AreOrdersSoFar : History → ℕ → Option (Vec Placed Global) → Type 0
 AreOrdersSoFar h n (Some orders) = AreGathered h n orders.items
 AreOrdersSoFar h n None = (r : ℕ) × (r < n) × (IsAtomic (register_of h r) → ⊥)
+
+-- the merged order of all registers, or one of these isn't atomic
+abbrev pub IsMergedIfAtomic : History → Option (Vec Placed Global) → Type 0
+IsMergedIfAtomic h (Some merged) = IsMergedAnswer h merged.items
+IsMergedIfAtomic h None = (r : ℕ) × (r < length h.names) × (IsAtomic (register_of h r) → ⊥)

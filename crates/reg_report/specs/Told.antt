@@ -1,5 +1,5 @@
 -- What the laws of histories tell of an accepted history.
-use Rattle.std.specs.Prelude.{◌≡◌, ℕ, ◌+◌, ◌*◌, ◌<◌, ◌≤◌, ◌-◌, length, Some}
+use Rattle.std.specs.Prelude.{◌≡◌, ℕ, ◌<◌, ◌≤◌, ◌-◌, length, Some}
 use Rattle.history_text.specs.declared.limits.TheConstants.{MAX_EVENTS}
 use Rattle.history_model.specs.declared.event.Event.{Event}
 use Rattle.history_model.specs.declared.event.What.TheVariants.{Call}
@@ -11,7 +11,8 @@ use Rattle.history_model.specs.Naming.{IsEventIn, IsNamed, IsOper, name_of}
 
 -- its registers and events are few, and its operations belong to numbered registers and, but for the initial writes, to calls among its events
 pub record IsTold (h : History) : Type 0 where
-  pub few : length h.names + length h.events ≤ 2 * MAX_EVENTS
+  pub events : length h.events ≤ MAX_EVENTS
+  pub registers : length h.names ≤ MAX_EVENTS
   pub history : (r : ℕ) → IsHistory (of_register r (operations h))
   pub numbered : (o : Operation) → In o (operations h) → o.register < length h.names
   pub oper : (o : Operation) → In o (operations h) → IsOper h (name_of o)

@@ -4,13 +4,13 @@ ghost use Rattle.history_text.specs.declared.limits.TheConstants.{MAX_INPUT};
 ghost use Rattle.reg_report.specs.Answer.{IsAnswerText, IsRefused};
 ghost use Rattle.reg_report.specs.FoundText.{IsReportText};
 
-use crate::checked::{find, report_of_first};
+use crate::find::find;
+use crate::first::report_of_first;
 use crate::found_text::{ReportText, whole_text};
 use crate::outcome::Outcome;
-use crate::reading::read_arena;
+use crate::reading::arena_of;
 use crate::refusal::Refusal;
 use crate::written::text;
-use history_text::MAX_INPUT;
 use reg_arena::Arena;
 use reg_pieces::{Gate, Settings};
 use std::alloc::{AllocError, Global};
@@ -72,9 +72,6 @@ pub(crate) fn answer<T: Threads + RandomSource + Sync, G: Gate + Sync>(
     ensures err { IfErr result (IsRefused settings.first input.items) }
     ensures long { MAX_INPUT < length input.items → result ≡ Err Refusal.TooLong }
 {
-    if input.len() > MAX_INPUT {
-        return Err(Refusal::TooLong);
-    }
-    let arena = read_arena(rt, alloc, input.as_slice())?;
+    let arena = arena_of(rt, alloc, input.as_slice())?;
     Ok(text_by(rt, alloc, arena, input, settings, gate)?)
 }

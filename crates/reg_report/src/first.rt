@@ -1,5 +1,5 @@
 //! The report of the first register that isn't atomic.
-ghost use Rattle.std.specs.Prelude.{◌<◌, length, is_none, IfOk};
+ghost use Rattle.std.specs.Prelude.{◌≡◌, ◌<◌, true, length, is_none, IfOk};
 ghost use Rattle.reg_pieces.specs.Workers.{IsFirstFound};
 ghost use Rattle.reg_report.specs.First.{AreFoundLines, IsFirstReport};
 ghost use Rattle.reg_report.specs.Meaning.{IsRegisterReport};
@@ -13,7 +13,9 @@ use crate::tally::{Tally, count_calls};
 use crate::told::told;
 use history_model::RegId;
 use reg_arena::Arena;
+use reg_pieces::{Gate, Settings, first_faulty, plan_in_parts};
 use std::alloc::{AllocError, Global};
+use std::thread::Threads;
 
 /// The line of one register, from the counts of all registers' calls.
 fn whole_line(
@@ -54,11 +56,7 @@ fn first_lines(
 
 /// The report of a history whose first register that isn't atomic is `found`: its line, if there is one, and the summary
 /// without an order.
-pub(crate) fn first_report(
-    alloc: Global,
-    arena: &Arena,
-    found: Option<RegId>,
-) -> Result<Report, AllocError>
+fn first_report(alloc: Global, arena: &Arena, found: Option<RegId>) -> Result<Report, AllocError>
     requires { IsFirstFound arena.now found }
     ensures { IfOk result (IsFirstReport arena.now) }
 {
@@ -70,4 +68,20 @@ pub(crate) fn first_report(
         atomic: found.is_none(),
         order: None,
     })
+}
+
+/// The report of the first register that isn't atomic, which workers look for.
+pub(crate) fn report_of_first<R: Threads + Sync, G: Gate + Sync>(
+    rt: &R,
+    alloc: Global,
+    arena: &Arena,
+    settings: Settings,
+    gate: &G,
+) -> Result<Report, AllocError>
+    requires { settings.first ≡ true }
+    ensures { IfOk result (IsFirstReport arena.now) }
+{
+    let plan = plan_in_parts(rt, alloc, arena, settings)?;
+    let found = first_faulty(rt, alloc, arena, &plan, settings, gate)?;
+    first_report(alloc, arena, found)
 }

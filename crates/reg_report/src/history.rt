@@ -3,11 +3,11 @@ ghost use Rattle.std.specs.Prelude.{◌≡◌, length, is_some, IfOk};
 ghost use Rattle.std.specs.Thread.{IsSync};
 ghost use Rattle.history_model.specs.Operations.{calls};
 ghost use Rattle.reg_report.specs.Meaning.{IsRegisterReport, IsReport, IsWholeAtomicity};
-ghost use Rattle.reg_report.specs.Registers.{AreFindings, AreLines, AreOrdersSoFar, IsFinding};
+ghost use Rattle.reg_report.specs.Registers.{AreFindings, AreLines, AreOrdersSoFar, IsFinding, IsMergedIfAtomic};
 
 use crate::findings::Finding;
 use crate::lists::{Lines, Registers};
-use crate::merged::ranked;
+use crate::merged::merge_gathered;
 use crate::order_lines::{order_lines, order_lines_in_parts};
 use crate::register::register_report;
 use crate::report::{RegReport, Report};
@@ -67,14 +67,29 @@ fn orders_of(
     requires { AreFindings arena.now findings.now }
     ensures { IfOk result (AreOrdersSoFar arena.now (length arena.now.names)) }
 {
-    let mut orders = Vec::new(alloc);
+    let mut operations = Vec::new(alloc);
     for finding in findings {
         match &finding.judged {
-            Judgement::Order(order) => orders.extend_from_slice(order.as_slice())?,
+            Judgement::Order(order) => operations.extend_from_slice(order.as_slice())?,
             Judgement::Faulty(_) => return Ok(None),
         }
     }
-    Ok(Some(orders))
+    Ok(Some(operations))
+}
+
+/// The operations of all registers in the merged order, if each register is atomic.
+fn merged_order(
+    alloc: Global,
+    arena: &Arena,
+    findings: &[Finding],
+) -> Result<Option<Vec<Placed>>, AllocError>
+    requires { AreFindings arena.now findings.now }
+    ensures { IfOk result (IsMergedIfAtomic arena.now) }
+{
+    match orders_of(alloc, arena, findings)? {
+        None => Ok(None),
+        Some(operations) => Ok(Some(merge_gathered(alloc, arena, operations)?)),
+    }
 }
 
 /// The merged order by lines, if each register is atomic.
@@ -87,12 +102,9 @@ fn whole_order(
     ensures { IfOk result (λ order. IsWholeAtomicity arena.now (is_some order) order) }
 {
     told(arena);
-    match orders_of(alloc, arena, findings)? {
+    match merged_order(alloc, arena, findings)? {
         None => Ok(None),
-        Some(orders) => {
-            let merged = ranked(alloc, arena, &orders)?;
-            Ok(Some(order_lines(alloc, arena, &merged)?))
-        }
+        Some(merged) => Ok(Some(order_lines(alloc, arena, &merged)?)),
     }
 }
 
@@ -107,12 +119,9 @@ pub(crate) fn whole_order_in_parts(
     ensures { IfOk result (λ order. IsWholeAtomicity arena.now (is_some order) order) }
 {
     told(arena);
-    match orders_of(alloc, arena, findings)? {
+    match merged_order(alloc, arena, findings)? {
         None => Ok(None),
-        Some(orders) => {
-            let merged = ranked(alloc, arena, &orders)?;
-            Ok(Some(order_lines_in_parts(rt, alloc, arena, &merged)?))
-        }
+        Some(merged) => Ok(Some(order_lines_in_parts(rt, alloc, arena, &merged)?)),
     }
 }
 

@@ -8,13 +8,13 @@
 //! [`laws`] says why the whole history is atomic exactly if each of its registers is, and that a history has one report.
 //!
 //! To read, from the input on: `pulled`; `answered`, which asks all others for the report's bytes, as `checked` does for its
-//! values, and `alone` without threads; below them `reading`, which makes the arena, `reg_pieces`, and `tally`, which counts
-//! the calls; `findings`, which puts what is done together, with `levels`, and `one_by_one`, where one thread does all;
-//! `found_text`, which writes each register's line as soon as it is made, `history`, which makes the report's values, or
-//! `first`, if the first register that isn't atomic is all that is asked for: there `register` makes the line of one
-//! register, with `fault_lines` and `order_lines`, and `merged` the order of all, with `by_point`; then `report` with
-//! `lists`, `send` and `written`; `pushed`, `outcome` and `whole` at last. `refusal` and `wording` say why there is no
-//! report, and `told` asks the arena for what its laws say.
+//! values, and `alone` without threads; below them `reading`, which makes the arena, and `find`, which has `reg_pieces` do
+//! the work and `tally` count the calls; `findings`, which puts what is done together, with `levels`, and `one_by_one`,
+//! where one thread does all; `found_text`, which writes each register's line as soon as it is made, `history`, which makes
+//! the report's values, or `first`, if the first register that isn't atomic is all that is asked for: there `register`
+//! makes the line of one register, with `fault_lines` and `order_lines`, and `merged` the order of all, with `by_point`;
+//! then `report` with `lists`, `send` and `written`; `pushed`, `outcome` and `whole` at last. `refusal` and `wording` say
+//! why there is no report, and `told` asks the arena for what its laws say.
 #![tactic(auto)]
 
 mod alone;
@@ -22,6 +22,7 @@ mod answered;
 mod by_point;
 mod checked;
 mod fault_lines;
+mod find;
 mod findings;
 mod first;
 mod found_text;

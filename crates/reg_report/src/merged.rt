@@ -16,29 +16,29 @@ pub fn merge(alloc: Global, arena: &Arena, orders: &[Order]) -> Result<Vec<Place
     requires { AreOrders arena.now orders.now }
     ensures { IfOk result (λ v. IsMergedAnswer arena.now v.items) }
 {
-    ranked(alloc, arena, &gathered(alloc, orders)?)
+    merge_gathered(alloc, arena, gathered(alloc, orders)?)
 }
 
-/// The merged order, from the orders of all registers, one behind the other.
-pub(crate) fn ranked(
+/// The merged order, from the operations of all orders, one order behind the other.
+pub(crate) fn merge_gathered(
     alloc: Global,
     arena: &Arena,
-    orders: &[Placed],
+    operations: Vec<Placed>,
 ) -> Result<Vec<Placed>, AllocError>
-    requires { AreGathered arena.now (length arena.now.names) orders.now }
+    requires { AreGathered arena.now (length arena.now.names) operations.items }
     ensures { IfOk result (λ v. IsMergedAnswer arena.now v.items) }
 {
     told(arena);
-    by_point(alloc, orders)
+    by_point(alloc, operations)
 }
 
 /// The operations of all orders, one order behind the other.
 fn gathered(alloc: Global, orders: &[Order]) -> Result<Vec<Placed>, AllocError>
     ensures { IfOk result (λ v. v.items ≡ flat_map (λ order. order) orders.now) }
 {
-    let mut merged = Vec::new(alloc);
+    let mut operations = Vec::new(alloc);
     for order in orders {
-        merged.extend_from_slice(order.as_slice())?;
+        operations.extend_from_slice(order.as_slice())?;
     }
-    Ok(merged)
+    Ok(operations)
 }

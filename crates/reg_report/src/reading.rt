@@ -1,14 +1,17 @@
 //! From the bytes of a history to its arena: while the lines of one chunk are taken in, those of the next are found, read and numbered.
-ghost use Rattle.std.specs.Prelude.{◌≡◌, ◌≤◌, ◌<◌, List, flat_map, length, IfOk, IfErr};
+ghost use Rattle.std.specs.Prelude.{◌≡◌, ◌≤◌, ◌<◌, Bool, List, flat_map, length, Err, IfOk, IfErr};
 ghost use Rattle.std.specs.Thread.{IsSync};
+ghost use Rattle.history_text.specs.declared.limits.TheConstants.{MAX_INPUT};
 ghost use Rattle.history_text.specs.Lines.{IsPlace};
 ghost use Rattle.history_text.specs.Reading.{history_lines};
 ghost use Rattle.history_model.specs.History.{history_of};
 ghost use Rattle.history_model.specs.Refusals.{IsBuildError, IsWellFormed, Line, events_of};
 ghost use Rattle.reg_arena.specs.Built.{IsBuilt, IsBuiltWith};
 ghost use Rattle.reg_arena.specs.Numbered.{ArePartsNumbered, lines_of};
+ghost use Rattle.reg_report.specs.Answer.{IsArenaOf, IsRefused};
 ghost use Rattle.reg_report.specs.Underway.{IsChunk, IsUnderway};
 
+use crate::refusal::Refusal;
 use history_model::BuildError;
 use history_text::{MAX_INPUT, Place, next_lines, read_spans};
 use reg_arena::{Arena, HashKey, NumberedLines, Numbering};
@@ -121,7 +124,7 @@ impl Underway {
 ///
 /// # Errors
 /// `Refused` if the history isn't well formed, and `Memory` if memory was refused; what was made is dropped then.
-pub(crate) fn read_arena<R: Threads + RandomSource + Sync>(
+fn read_arena<R: Threads + RandomSource + Sync>(
     rt: &R,
     alloc: Global,
     input: &[u8],
@@ -149,4 +152,23 @@ pub(crate) fn read_arena<R: Threads + RandomSource + Sync>(
         spent: _,
     } = underway;
     arena.with_lines(alloc, &ahead.lines)
+}
+
+/// The arena of the history in the input, or why there is none.
+///
+/// # Errors
+/// As of [`check`](crate::check).
+pub(crate) fn arena_of<R: Threads + RandomSource + Sync>(
+    rt: &R,
+    alloc: Global,
+    input: &[u8],
+) -> Result<Arena, Refusal>
+    ensures ok { IfOk result (IsArenaOf input.now) }
+    ensures err { (first : Bool) → IfErr result (IsRefused first input.now) }
+    ensures long { MAX_INPUT < length input.now → result ≡ Err Refusal.TooLong }
+{
+    if input.len() > MAX_INPUT {
+        return Err(Refusal::TooLong);
+    }
+    Ok(read_arena(rt, alloc, input)?)
 }

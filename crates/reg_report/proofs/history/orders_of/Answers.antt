@@ -14,8 +14,8 @@ loop-finding-preserved c =
     let found = found-at h c.args.findings.now l.finding-index c.finding-item.result c.requires (omega arith) c.finding-item.is in
     let judged = subst (IsJudged (register_of h c.finding-item.result.register.0)) c.in-Order.is found.1.judged in
     let order = subst (λ n. IsOrder (register_of h n) c.in-Order.order) found.0 judged.1 in
-    let items = c.in_ok-extend_from_slice-in-Order.ensures.items ∙ ap (λ order. l.orders.items ++ order) c.as_slice.ensures in
-    subst (AreGathered h (l.finding-index + 1)) (sym items) (one-gathered-more h l.finding-index l.orders.items c.in-Order.order l.invariant order)
+    let items = c.in_ok-extend_from_slice-in-Order.ensures.items ∙ ap (λ order. l.operations.items ++ order) c.as_slice.ensures in
+    subst (AreGathered h (l.finding-index + 1)) (sym items) (one-gathered-more h l.finding-index l.operations.items c.in-Order.order l.invariant order)
 
 pub returns-in-Faulty : goal.returns-in-Faulty
 returns-in-Faulty c =

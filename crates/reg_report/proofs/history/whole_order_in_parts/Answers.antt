@@ -1,16 +1,20 @@
-use Rattle.std.proofs.Common.{rules, length, ap, sym, subst, ◌∙◌}
+use Rattle.std.proofs.Common.{rules, ap, sym, subst, ◌∙◌}
 use Rattle.reg_report.specs.Lines.{HaveCalls, call_line, lines_by}
-use Rattle.reg_report.specs.Registers.{AreOrdersSoFar}
+use Rattle.reg_report.specs.Registers.{IsMergedIfAtomic}
 use Rattle.reg_report.proofs.Atomic.{merged-calls, whole-atomic, whole-not-atomic}
 use Rattle.reg_report.proofs.history.whole_order_in_parts.Goals as goal
 
 pub order_lines_in_parts-requires : goal.order_lines_in_parts-requires
-order_lines_in_parts-requires g c = (search rules, subst (HaveCalls c.args.arena.now) (sym c.deref-in-Some.ensures.value) (merged-calls c.args.arena.now c.told.ensures c.in_ok-merged-in-Some.merged.items c.in_ok-merged-in-Some.ensures))
+order_lines_in_parts-requires g c =
+    let h = c.args.arena.now in
+    let merged = subst (IsMergedIfAtomic h) c.in-Some.is c.in_ok-merged_order.ensures in
+    (search rules, subst (HaveCalls h) (sym c.deref.ensures.value) (merged-calls h c.told.ensures c.in-Some.merged.items merged))
 
 pub returns-in-None : goal.returns-in-None
-returns-in-None g c = let h = c.args.arena.now in whole-not-atomic h c.told.ensures (length h.names) (subst (AreOrdersSoFar h (length h.names)) c.in-None.is c.in_ok-orders_of.ensures)
+returns-in-None g c = let h = c.args.arena.now in whole-not-atomic h c.told.ensures (subst (IsMergedIfAtomic h) c.in-None.is c.in_ok-merged_order.ensures)
 
 pub returns-in_ok-order_lines_in_parts-in-Some : goal.returns-in_ok-order_lines_in_parts-in-Some
 returns-in_ok-order_lines_in_parts-in-Some g c =
     let h = c.args.arena.now in
-    whole-atomic h c.told.ensures c.in_ok-merged-in-Some.merged.items c.in_ok-order_lines_in_parts-in-Some.field-0 c.in_ok-merged-in-Some.ensures (c.in_ok-order_lines_in_parts-in-Some.ensures ∙ ap (lines_by (call_line h.events)) c.deref-in-Some.ensures.value)
+    let merged = subst (IsMergedIfAtomic h) c.in-Some.is c.in_ok-merged_order.ensures in
+    whole-atomic h c.told.ensures c.in-Some.merged.items c.in_ok-order_lines_in_parts-in-Some.field-0 merged (c.in_ok-order_lines_in_parts-in-Some.ensures ∙ ap (lines_by (call_line h.events)) c.deref.ensures.value)

@@ -3,4 +3,4 @@ use Rattle.std.specs.List.{flat_map}
 use Rattle.reg_report.proofs.merged.gathered.Given as goal
 
 abbrev pub invariant-loop-order : goal.invariant-loop-order
-invariant-loop-order l = l.merged.items ≡ flat_map (λ order. order) (take l.order-index l.orders)
+invariant-loop-order l = l.operations.items ≡ flat_map (λ order. order) (take l.order-index l.orders)

@@ -1,5 +1,4 @@
-use Rattle.std.proofs.Common.{◌∙◌}
 use Rattle.reg_report.proofs.merged.merge.Goals as goal
 
-pub ranked-requires : goal.ranked-requires
-ranked-requires c = (c.args.orders.now, c.requires, c.deref.ensures.value ∙ c.in_ok-gathered.ensures)
+pub merge_gathered-requires : goal.merge_gathered-requires
+merge_gathered-requires c = (c.args.orders.now, c.requires, c.in_ok-gathered.ensures)

@@ -1,7 +1,7 @@
 use Rattle.std.proofs.Common.{rules, subst}
 use Rattle.std.specs.Prelude.{MatchBool}
 use Rattle.reg_pieces.specs.Plan.{IsFirstPlan, IsPlan}
-use Rattle.reg_report.proofs.checked.find.Goals as goal
+use Rattle.reg_report.proofs.find.find.Goals as goal
 
 pub join-counts-requires-after_bounds : goal.join-counts-requires-after_bounds
 join-counts-requires-after_bounds g c κs within =
