@@ -1,6 +1,6 @@
 # make: prove and build bin/regcheck. make run: run it on a shipped example, or on FILE=...
 # make try: the same at once, unproved and with checks at run time; for a first look.
-# make test: the merge gate; then, by the programs that it built, the examples, hostile runs, and the tests of regkit.
+# make test: `rt ci`, which proves all; then, by the programs that it built, the examples, hostile runs, and the tests of regkit.
 # make fuzz: compare the program with the reference on spoiled histories for SECONDS=...
 # make library: bin/libregcheck.a, bin/libregcheck.so and bin/regcheck.pc, to call the checker from C and other languages.
 # make embed-test: compare the library with the program from C, Python, Go and Rust, on COUNT=... histories; under valgrind too.

@@ -14,7 +14,7 @@ use Rattle.reg_pieces.specs.Judged.{IsJudged}
 use Rattle.reg_report.specs.Lines.{HaveCalls, HavePoints, call_line, point_line, lines_by}
 use Rattle.reg_report.specs.Meaning.{IsAtomicity, IsWholeAtomicity, ShowsFault}
 use Rattle.reg_report.specs.Merged.{AreFirstOrders, AreGathered, IsMergedAnswer}
-use Rattle.reg_report.specs.Registers.{IsMergedIfAtomic}
+use Rattle.reg_report.specs.Registers.{IsSomeNotAtomic}
 use Rattle.reg_report.specs.Told.{IsTold}
 use Rattle.reg_pieces.specs.declared.judgement.Judgement.TheVariants.{Order, Faulty}
 use Rattle.reg_report.specs.declared.report.FaultLines.{FaultLines}
@@ -93,5 +93,5 @@ module _ (h : History) (t : IsTold h) where
     ),
   )
 
-  pub whole-not-atomic : IsMergedIfAtomic h None → IsWholeAtomicity h false None
+  pub whole-not-atomic : IsSomeNotAtomic h → IsWholeAtomicity h false None
   whole-not-atomic a = (λ atomic. a.2 ((each (operations h) t.history).0 atomic a.0), refl)

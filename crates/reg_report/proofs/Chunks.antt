@@ -1,8 +1,9 @@
 -- The lines of an input, chunk by chunk: what is known when one is taken in while the next is read, and when none is left.
-use Rattle.std.proofs.Common.{◌≡◌, ℕ, List, [], ◌++◌, map, Ok, Err, sym, ap, subst, ◌∙◌}
+use Rattle.std.proofs.Common.{◌≡◌, ◌≤◌, ℕ, List, [], ◌++◌, length, map, Ok, Err, sym, ap, subst, ◌∙◌}
 use Rattle.std.specs.Prelude.{Result}
 use Rattle.std.specs.Result.{IsErrAnd, IfErr, IfOk}
 use Rattle.std.proofs.lemmas.List.{append-nil, append_assoc}
+use Rattle.history_text.specs.declared.limits.TheConstants.{MAX_INPUT}
 use Rattle.history_text.specs.Lines.{spans_from}
 use Rattle.history_text.specs.Reading.{reading_of, history_lines}
 use Rattle.history_model.specs.History.{History, history_of}
@@ -11,6 +12,7 @@ use Rattle.history_model.specs.declared.refusal.BuildError.{BuildError}
 use Rattle.reg_arena.specs.Built.{IsBuilt, IsBuiltWith}
 use Rattle.reg_arena.specs.Numbered.{names_with}
 use Rattle.reg_arena.proofs.Numbered.{names-lines}
+use Rattle.reg_report.specs.Answer.{IsArenaOf}
 use Rattle.reg_report.specs.declared.reading.Underway.{Underway}
 use Rattle.reg_report.specs.Underway.{IsChunk, IsNumberedBehind, IsUnderway, chunk_lines, lines_from}
 
@@ -38,9 +40,13 @@ module _ (input : List ℕ) (state : Underway) (underway : IsUnderway input stat
   all-ahead : underway.before ++ chunk_lines state.ahead ≡ history_lines input
   all-ahead = sym (append-nil (underway.before ++ chunk_lines state.ahead)) ∙ ap (λ spans. underway.before ++ chunk_lines state.ahead ++ map (reading_of input) spans) (sym none) ∙ underway.whole
 
-  pub ended-ok : (r : Result History BuildError) → IsBuiltWith underway.before (chunk_lines state.ahead) r → IfOk r (λ h. IsWellFormed (history_lines input) × (h ≡ history_of (events_of (history_lines input))))
-  ended-ok (Ok h) built = (subst IsWellFormed all-ahead built.well_formed, built.is ∙ ap (λ lines. history_of (events_of lines)) all-ahead)
-  ended-ok (Err e) refused = tt
+  pub ended-ok : length input ≤ MAX_INPUT → (r : Result History BuildError) → IsBuiltWith underway.before (chunk_lines state.ahead) r → IfOk r (IsArenaOf input)
+  ended-ok within (Ok h) built = record {
+    within = within;
+    well_formed = subst IsWellFormed all-ahead built.well_formed;
+    is = built.is ∙ ap (λ lines. history_of (events_of lines)) all-ahead;
+  }
+  ended-ok within (Err e) refused = tt
 
 -- the error of a step, passed on
 pub refused-on : {A : Type 0} (lines : List Line) (e : BuildError) (r : Result A BuildError) → IsErrAnd r (λ y. y ≡ e) → IsBuildError lines e → IfErr r (IsBuildError lines)

@@ -38,12 +38,16 @@ pub record AreFirstLines (h : History) (n : ℕ) (regs : List RegReport) : Type 
 abbrev pub AreLines : History → List RegReport → Type 0
 AreLines h regs = AreFirstLines h (length h.names) regs
 
--- the canonical orders of the registers below n, one behind the other, or one of these isn't atomic
-abbrev pub AreOrdersSoFar : History → ℕ → Option (Vec Placed Global) → Type 0
-AreOrdersSoFar h n (Some orders) = AreGathered h n orders.items
-AreOrdersSoFar h n None = (r : ℕ) × (r < n) × (IsAtomic (register_of h r) → ⊥)
+-- some register isn't atomic
+abbrev pub IsSomeNotAtomic : History → Type 0
+IsSomeNotAtomic h = (r : ℕ) × (r < length h.names) × (IsAtomic (register_of h r) → ⊥)
+
+-- the canonical orders of all registers, one behind the other, or one of these isn't atomic
+abbrev pub AreGatheredIfAtomic : History → Option (Vec Placed Global) → Type 0
+AreGatheredIfAtomic h (Some gathered) = AreGathered h (length h.names) gathered.items
+AreGatheredIfAtomic h None = IsSomeNotAtomic h
 
 -- the merged order of all registers, or one of these isn't atomic
 abbrev pub IsMergedIfAtomic : History → Option (Vec Placed Global) → Type 0
 IsMergedIfAtomic h (Some merged) = IsMergedAnswer h merged.items
-IsMergedIfAtomic h None = (r : ℕ) × (r < length h.names) × (IsAtomic (register_of h r) → ⊥)
+IsMergedIfAtomic h None = IsSomeNotAtomic h

@@ -56,7 +56,7 @@ fn first_lines(
 
 /// The report of a history whose first register that isn't atomic is `found`: its line, if there is one, and the summary
 /// without an order.
-fn first_report(alloc: Global, arena: &Arena, found: Option<RegId>) -> Result<Report, AllocError>
+fn report_of_found(alloc: Global, arena: &Arena, found: Option<RegId>) -> Result<Report, AllocError>
     requires { IsFirstFound arena.now found }
     ensures { IfOk result (IsFirstReport arena.now) }
 {
@@ -83,5 +83,5 @@ pub(crate) fn report_of_first<R: Threads + Sync, G: Gate + Sync>(
 {
     let plan = plan_in_parts(rt, alloc, arena, settings)?;
     let found = first_faulty(rt, alloc, arena, &plan, settings, gate)?;
-    first_report(alloc, arena, found)
+    report_of_found(alloc, arena, found)
 }

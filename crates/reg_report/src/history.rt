@@ -3,7 +3,7 @@ ghost use Rattle.std.specs.Prelude.{◌≡◌, length, is_some, IfOk};
 ghost use Rattle.std.specs.Thread.{IsSync};
 ghost use Rattle.history_model.specs.Operations.{calls};
 ghost use Rattle.reg_report.specs.Meaning.{IsRegisterReport, IsReport, IsWholeAtomicity};
-ghost use Rattle.reg_report.specs.Registers.{AreFindings, AreLines, AreOrdersSoFar, IsFinding, IsMergedIfAtomic};
+ghost use Rattle.reg_report.specs.Registers.{AreFindings, AreGatheredIfAtomic, AreLines, IsFinding, IsMergedIfAtomic};
 
 use crate::findings::Finding;
 use crate::lists::{Lines, Registers};
@@ -65,7 +65,7 @@ fn orders_of(
     findings: &[Finding],
 ) -> Result<Option<Vec<Placed>>, AllocError>
     requires { AreFindings arena.now findings.now }
-    ensures { IfOk result (AreOrdersSoFar arena.now (length arena.now.names)) }
+    ensures { IfOk result (AreGatheredIfAtomic arena.now) }
 {
     let mut operations = Vec::new(alloc);
     for finding in findings {
@@ -108,7 +108,7 @@ fn whole_order(
     }
 }
 
-/// The same order, made by several threads.
+/// The same lines. One thread merges the orders, and then several find the lines.
 pub(crate) fn whole_order_in_parts(
     rt: &(impl Threads + Sync),
     alloc: Global,

@@ -10,11 +10,11 @@
 //! To read, from the input on: `pulled`; `answered`, which asks all others for the report's bytes, as `checked` does for its
 //! values, and `alone` without threads; below them `reading`, which makes the arena, and `find`, which has `reg_pieces` do
 //! the work and `tally` count the calls; `findings`, which puts what is done together, with `levels`, and `one_by_one`,
-//! where one thread does all; `found_text`, which writes each register's line as soon as it is made, `history`, which makes
-//! the report's values, or `first`, if the first register that isn't atomic is all that is asked for: there `register`
-//! makes the line of one register, with `fault_lines` and `order_lines`, and `merged` the order of all, with `by_point`;
-//! then `report` with `lists`, `send` and `written`; `pushed`, `outcome` and `whole` at last. `refusal` and `wording` say
-//! why there is no report, and `told` asks the arena for what its laws say.
+//! where one thread does all; `found_text`, which writes each register's line as soon as it is made, or `history`, which
+//! makes the report's values. If the first register that isn't atomic is all that is asked for, `first` has `reg_pieces`
+//! look for it. `register` makes the line of one register, with `fault_lines` and `order_lines`, and `merged` the order of
+//! all, with `by_point`. Then come `report` with `lists`, `send` and `written`, and `pushed`, `outcome` and `whole` at last.
+//! `refusal` and `wording` say why there is no report, and `told` asks the arena for what its laws say.
 #![tactic(auto)]
 
 mod alone;

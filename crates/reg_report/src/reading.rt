@@ -4,8 +4,7 @@ ghost use Rattle.std.specs.Thread.{IsSync};
 ghost use Rattle.history_text.specs.declared.limits.TheConstants.{MAX_INPUT};
 ghost use Rattle.history_text.specs.Lines.{IsPlace};
 ghost use Rattle.history_text.specs.Reading.{history_lines};
-ghost use Rattle.history_model.specs.History.{history_of};
-ghost use Rattle.history_model.specs.Refusals.{IsBuildError, IsWellFormed, Line, events_of};
+ghost use Rattle.history_model.specs.Refusals.{IsBuildError, Line};
 ghost use Rattle.reg_arena.specs.Built.{IsBuilt, IsBuiltWith};
 ghost use Rattle.reg_arena.specs.Numbered.{ArePartsNumbered, lines_of};
 ghost use Rattle.reg_report.specs.Answer.{IsArenaOf, IsRefused};
@@ -130,7 +129,7 @@ fn read_arena<R: Threads + RandomSource + Sync>(
     input: &[u8],
 ) -> Result<Arena, BuildError>
     requires { length input.now ≤ MAX_INPUT }
-    ensures ok { IfOk result (λ a. IsWellFormed (history_lines input.now) × (a ≡ history_of (events_of (history_lines input.now)))) }
+    ensures ok { IfOk result (IsArenaOf input.now) }
     ensures err { IfErr result (λ e. IsBuildError (history_lines input.now) e) }
 {
     let room = input.len() / SHORTEST_EVENT + 1;

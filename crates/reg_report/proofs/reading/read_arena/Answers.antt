@@ -13,5 +13,5 @@ returns-in_err-ahead-clause-err g c = refused-on (history_lines c.args.input.now
 pub returns-clause-ok : goal.returns-clause-ok
 returns-clause-ok g c =
     let underway = c.loop-underway.invariant.underway in
-    ended-ok c.args.input.now c.loop-underway.underway underway (c.is_end.ensures.none c.loop-underway-test.false) c.with_lines.result
+    ended-ok c.args.input.now c.loop-underway.underway underway (c.is_end.ensures.none c.loop-underway-test.false) c.requires c.with_lines.result
     (subst (λ lines. IsBuiltWith underway.before (flat_map lines_of lines) c.with_lines.result) c.deref.ensures.value (c.with_lines.ensures underway.before underway.built))
