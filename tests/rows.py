@@ -12,6 +12,7 @@ INVERSION = "p1 W x 1; p1 ok; p1 W x 2; p2 R x; p2 = 2; p2 R x; p2 = 1; p1 ok"
 MERGED = "p1 R x; p2 R y; p3 W x 1; p4 W y 2; p1 = 1; p2 = 2; p3 ok; p4 ok"
 WRITTEN_TWICE = "p1 W x 5; p1 ok; p1 W x 5"
 TWO_REGISTERS = INVERSION + "; p1 W y 1; p1 ok; p2 W y 2; p2 ok; p3 R y; p3 = 2; p3 R y; p3 = 1"
+BLOCK = b"\n" * 2_000_000  # blank lines, more than the program reads at once
 BAD_WORDS = b"""error: invalid value '17' for '--workers <N>': 17 is not in 1..=16
 
 For more information, try '--help'.
@@ -55,6 +56,13 @@ def sixteen_registers() -> bytes:
     return history("; ".join(shown))
 
 
+def in_two_blocks(given: bytes) -> bytes:
+    """The same events, with so many blank lines among them that the program doesn't read them at once."""
+    lines = given.splitlines(keepends=True)
+    half = len(lines) // 2
+    return b"".join(lines[:half]) + BLOCK + b"".join(lines[half:])
+
+
 class Case(NamedTuple):
     name: str
     words: Tuple[str, ...]  # of the command line
@@ -80,4 +88,6 @@ def refused_cases() -> List[Case]:
     cases.append(Case("bad words", ("--workers", "17"), history(INVERSION), (3, b"", BAD_WORDS)))
     cases.append(case("two_registers --cut 1", ("--workers", "4", "--cut", "1"), history(TWO_REGISTERS))._replace(threaded=True))
     cases.append(case("sixteen_registers", ("--workers", "4"), sixteen_registers())._replace(threaded=True))
+    cases.append(case("inversion in two blocks", ("--workers", "2"), in_two_blocks(history(INVERSION)))._replace(threaded=True))
+    cases.append(case("written_twice before a block", (), history(WRITTEN_TWICE) + BLOCK)._replace(threaded=True))
     return cases

@@ -24,4 +24,8 @@ mod FoundLines
 pub mod Pulling
 mod Pushing
 mod Answering
-mod Chunks
+mod Behind
+mod Holding
+mod Passing
+mod Turning
+mod Refusing

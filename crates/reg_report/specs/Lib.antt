@@ -17,4 +17,6 @@ pub mod FoundText
 pub mod Ends
 pub mod Run
 pub mod Cuts
+pub mod Pulled
+pub mod Intake
 pub mod Underway

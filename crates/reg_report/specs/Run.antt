@@ -21,14 +21,6 @@ IsOfInput InputFailed = ⊥
 IsOfInput NoRoom = ⊥
 IsOfInput OutputFailed = ⊥
 
--- why not all bytes of a source could be had
-abbrev pub IsOfPull : Refusal → Type 0
-IsOfPull (At r) = ⊥
-IsOfPull TooLong = Unit {0}
-IsOfPull InputFailed = Unit {0}
-IsOfPull NoRoom = Unit {0}
-IsOfPull OutputFailed = ⊥
-
 -- the answer to all the bytes that were left is a report: its bytes were taken, and it has this outcome
 abbrev pub Reports : Bool → Option (List ℕ) → Option (List ℕ) → Option (List ℕ) → Outcome → Type 0
 Reports first left old new outcome =

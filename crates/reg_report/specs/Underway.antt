@@ -1,38 +1,71 @@
--- The reading of an input chunk by chunk: what is built, what was read ahead, and what is left.
-use Rattle.std.specs.Prelude.{◌≡◌, ◌<◌, ◌++◌, ℕ, List, flat_map, length, map}
-use Rattle.history_text.specs.declared.lines.Place.{Place}
-use Rattle.history_text.specs.Lines.{IsPlace, spans_from}
-use Rattle.history_text.specs.Reading.{reading_of, history_lines}
-use Rattle.history_model.specs.Refusals.{Line}
-use Rattle.reg_arena.specs.Built.{IsBuilt}
+-- The reading of a source turn by turn: what is built, what was read ahead, and what is held.
+use Rattle.std.specs.Prelude.{◌≡◌, ◌+◌, ◌<◌, ◌≤◌, ◌++◌, ℕ, List, [], true, flat_map, length, Option, Some, Result}
+use Rattle.history_text.specs.declared.limits.TheConstants.{MAX_INPUT}
+use Rattle.history_text.specs.Reading.{history_lines}
+use Rattle.history_model.specs.History.{History}
+use Rattle.history_model.specs.Refusals.{Line, IsRefusal}
+use Rattle.history_model.specs.declared.refusal.BuildError.{BuildError}
+use Rattle.reg_arena.specs.Built.{IsBuilt, IsBuiltWith}
 use Rattle.reg_arena.specs.Numbered.{ArePartsNumbered, lines_of, names_with}
-use Rattle.reg_report.specs.declared.reading.Chunk.{Chunk}
+use Rattle.reg_arena.specs.declared.numbering.NumberedLines.{NumberedLines}
+use Rattle.reg_report.specs.Ends.{IsAll, IsTooLong, IsWithinLimit}
+use Rattle.reg_report.specs.Intake.{MayCome, lines_behind}
+use Rattle.reg_report.specs.Pulled.{Exceeds, Gives, nothing}
+use Rattle.reg_report.specs.declared.intake.Intake.{Intake}
+use Rattle.reg_report.specs.declared.pulled.Pulled.{Pulled}
+use Rattle.reg_report.specs.declared.reading.Reader.{Reader}
 use Rattle.reg_report.specs.declared.reading.Underway.{Underway}
+use Rattle.reg_report.specs.declared.refusal.Refusal.{Refusal}
+use Rattle.reg_report.specs.declared.refusal.Refusal.TheVariants.{At, TooLong, InputFailed, NoRoom, OutputFailed}
 
--- the lines from a place on, read
-abbrev pub lines_from : List ℕ → Place → List Line
-lines_from input place = map (reading_of input) (spans_from input place)
+-- the lines of some parts, one behind the other
+abbrev pub lines_in : List NumberedLines → List Line
+lines_in parts = flat_map lines_of parts
 
--- the lines of a chunk
-abbrev pub chunk_lines : Chunk → List Line
-chunk_lines chunk = flat_map lines_of chunk.lines.items
+-- the lines have their numbers by the names before them, and the names after are these with those of the lines
+pub record AreNumberedBehind (names after : List (List ℕ)) (parts : List NumberedLines) : Type 0 where
+  pub numbers : ArePartsNumbered names parts
+  pub names_after : after ≡ names_with names (lines_in parts)
 
--- the chunk's lines have their numbers by the names before them, and its names are these with those of its lines
-pub record IsNumberedBehind (names : List (List ℕ)) (chunk : Chunk) : Type 0 where
-  pub numbers : ArePartsNumbered names chunk.lines.items
-  pub names_after : chunk.numbering ≡ names_with names (chunk_lines chunk)
+-- what came of taking more lines into an arena that is there
+pub record IsWithLines (arena : Option History) (lines : List Line) (result : Result History BuildError) : Type 0 where
+  pub whole : (built : History) (before : List Line) → arena ≡ Some built → IsBuilt before built → IsBuiltWith before lines result
 
--- the chunk's lines are the first of those from a place on, and behind them stand the others; there is a line less to read, if one was left
-pub record IsChunk (input : List ℕ) (place : Place) (names : List (List ℕ)) (chunk : Chunk) : Type 0 where
-  pub at : IsPlace input chunk.behind
-  pub whole : chunk_lines chunk ++ lines_from input chunk.behind ≡ lines_from input place
-  pub further : place.from < length input → place.from < chunk.behind.from
-  pub numbered : IsNumberedBehind names chunk
+-- the source gave these bytes since nothing was pulled, and whatever may come, their lines are those that were read and those of what is held
+pub record IsReadSoFar (left now : Option (List ℕ)) (failed failed_now : ℕ) (bytes : List ℕ) (read : List Line) (intake : Intake) : Type 0 where
+  pub given : Gives left now failed failed_now nothing intake.pulled bytes
+  pub lines : (more : List ℕ) → MayCome intake.pulled.is_ended more → read ++ lines_behind intake.lines_before (intake.held.items ++ more) ≡ history_lines (bytes ++ more)
+  pub end : intake.pulled.is_ended ≡ true → intake.held.items ≡ []
+  pub room : intake.lines_before + length intake.held.items ≤ intake.pulled.total
 
--- the input's lines are those of which the arena is built, behind them those of the chunk that was read ahead, and then those that are left
-pub record IsUnderway (input : List ℕ) (state : Underway) : Type 0 where
+-- the arena is built of some lines, and those that were read are these and the ones that were read ahead
+pub record IsUnderway (left now : Option (List ℕ)) (failed failed_now : ℕ) (intake : Intake) (reader : Reader) (state : Underway) : Type 0 where
   pub before : List Line
   pub built : IsBuilt before state.arena
-  pub numbered : IsNumberedBehind state.arena.names state.ahead
-  pub at : IsPlace input state.ahead.behind
-  pub whole : before ++ chunk_lines state.ahead ++ lines_from input state.ahead.behind ≡ history_lines input
+  pub numbered : AreNumberedBehind state.arena.names reader.numbering state.ahead.items
+  pub bytes : List ℕ
+  pub so_far : IsReadSoFar left now failed failed_now bytes (before ++ lines_in state.ahead.items) intake
+
+-- why no arena is built of what the source gives: of the line that is refused, whatever may come
+abbrev pub IsStopped : Option (List ℕ) → Option (List ℕ) → ℕ → ℕ → Pulled → Refusal → Type 0
+IsStopped left now failed failed_now pulled (At r) = (bytes : List ℕ) × Gives left now failed failed_now nothing pulled bytes × ((more : List ℕ) → MayCome pulled.is_ended more → IsRefusal (history_lines (bytes ++ more)) r)
+IsStopped left now failed failed_now pulled TooLong = Exceeds left now failed failed_now nothing
+IsStopped left now failed failed_now pulled InputFailed = failed < failed_now
+IsStopped left now failed failed_now pulled NoRoom = (bytes : List ℕ) × Gives left now failed failed_now nothing pulled bytes
+IsStopped left now failed failed_now pulled OutputFailed = ⊥
+
+-- whether a refusal may be another one once the rest is pulled
+abbrev pub MayChange : Refusal → Type 0
+MayChange (At r) = Unit {0}
+MayChange TooLong = ⊥
+MayChange InputFailed = ⊥
+MayChange NoRoom = Unit {0}
+MayChange OutputFailed = ⊥
+
+-- why there is no arena of all the bytes that a source had left
+abbrev pub IsRefusedOf : Option (List ℕ) → ℕ → ℕ → Refusal → Type 0
+IsRefusedOf left failed failed_now (At r) = (bytes : List ℕ) × IsAll left bytes × (length bytes ≤ MAX_INPUT) × IsRefusal (history_lines bytes) r × (failed_now ≡ failed)
+IsRefusedOf left failed failed_now TooLong = IsTooLong left × (failed_now ≡ failed)
+IsRefusedOf left failed failed_now InputFailed = failed < failed_now
+IsRefusedOf left failed failed_now NoRoom = IsWithinLimit left × (failed_now ≡ failed)
+IsRefusedOf left failed failed_now OutputFailed = ⊥

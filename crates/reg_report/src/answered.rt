@@ -1,20 +1,15 @@
-//! From the bytes of a history to the bytes of its report.
-ghost use Rattle.std.specs.Prelude.{◌≡◌, ◌<◌, flat_map, length, true, Err, IfOk, IfErr};
-ghost use Rattle.history_text.specs.declared.limits.TheConstants.{MAX_INPUT};
-ghost use Rattle.reg_report.specs.Answer.{IsAnswerText, IsRefused};
+//! From the arena of a history to the bytes of its report.
+ghost use Rattle.std.specs.Prelude.{◌≡◌, true, IfOk};
 ghost use Rattle.reg_report.specs.FoundText.{IsReportText};
 
 use crate::find::find;
 use crate::first::report_of_first;
 use crate::found_text::{ReportText, whole_text};
 use crate::outcome::Outcome;
-use crate::reading::arena_of;
-use crate::refusal::Refusal;
 use crate::written::text;
 use reg_arena::Arena;
 use reg_pieces::{Gate, Settings};
 use std::alloc::{AllocError, Global};
-use std::random::RandomSource;
 use std::thread::Threads;
 
 /// The text of the report of the first register that isn't atomic.
@@ -37,13 +32,11 @@ fn text_of_first<T: Threads + Sync, G: Gate + Sync>(
     })
 }
 
-/// The text of the report of an accepted history that the settings ask for, from its arena and its input, which is
-/// dropped on the way.
-fn text_by<T: Threads + Sync, G: Gate + Sync>(
+/// The text of the report of an accepted history that the settings ask for, from its arena, which is dropped on the way.
+pub(crate) fn text_by<T: Threads + Sync, G: Gate + Sync>(
     rt: &T,
     alloc: Global,
     arena: Arena,
-    input: Vec<u8>,
     settings: Settings,
     gate: &G,
 ) -> Result<ReportText, AllocError>
@@ -53,25 +46,6 @@ fn text_by<T: Threads + Sync, G: Gate + Sync>(
         text_of_first(rt, alloc, &arena, settings, gate)
     } else {
         let (findings, operations) = find(rt, alloc, &arena, settings, gate)?;
-        whole_text(rt, alloc, arena, input, findings, operations)
+        whole_text(rt, alloc, arena, findings, operations)
     }
-}
-
-/// The text of the report that [`check`](crate::check) gives.
-///
-/// # Errors
-/// As of [`check`](crate::check).
-pub(crate) fn answer<T: Threads + RandomSource + Sync, G: Gate + Sync>(
-    rt: &T,
-    alloc: Global,
-    input: Vec<u8>,
-    settings: Settings,
-    gate: &G,
-) -> Result<ReportText, Refusal>
-    ensures ok { IfOk result (λ text. IsAnswerText settings.first input.items (flat_map (λ part. part.items) text.parts.items) text.outcome) }
-    ensures err { IfErr result (IsRefused settings.first input.items) }
-    ensures long { MAX_INPUT < length input.items → result ≡ Err Refusal.TooLong }
-{
-    let arena = arena_of(rt, alloc, input.as_slice())?;
-    Ok(text_by(rt, alloc, arena, input, settings, gate)?)
 }

@@ -10,6 +10,8 @@ use crate::history::history_report_in_parts;
 use crate::reading::arena_of;
 use crate::refusal::Refusal;
 use crate::report::Report;
+use crate::slice::SliceSource;
+use history_text::MAX_INPUT;
 use reg_arena::Arena;
 use reg_pieces::{Gate, Settings};
 use std::alloc::{AllocError, Global};
@@ -51,6 +53,9 @@ pub fn check<R: Threads + RandomSource + Sync, G: Gate + Sync>(
     ensures err { IfErr result (IsRefused settings.first input.now) }
     ensures long { MAX_INPUT < length input.now → result ≡ Err Refusal.TooLong }
 {
-    let arena = arena_of(rt, alloc, input)?;
+    if input.len() > MAX_INPUT {
+        return Err(Refusal::TooLong);
+    }
+    let arena = arena_of(rt, alloc, &mut SliceSource::new(input))?;
     Ok(report_by(rt, alloc, &arena, settings, gate)?)
 }

@@ -100,7 +100,6 @@ fn summary_beside_drop<T: Threads + Sync>(
     report: &Report,
     arena: Arena,
     findings: Vec<Finding>,
-    input: Vec<u8>,
 ) -> Result<Vec<u8>, AllocError>
     ensures { IfOk result (λ line. line.items ≡ compact_text (summary_json report.now)) }
 {
@@ -109,18 +108,16 @@ fn summary_beside_drop<T: Threads + Sync>(
         || -> Result<Vec<u8>, AllocError>
             ensures { IfOk result (λ line. line.items ≡ compact_text (summary_json report.entry.now)) }
         { summary_line(alloc, report) },
-        move || drop((arena, findings, input)),
+        move || drop((arena, findings)),
     );
     line
 }
 
-/// The text of the whole report, from what is found of all registers and the number of calls, or want of memory. The
-/// input is taken along to be dropped with the arena.
+/// The text of the whole report, from what is found of all registers and the number of calls, or want of memory.
 pub(crate) fn whole_text<T: Threads + Sync>(
     rt: &T,
     alloc: Global,
     arena: Arena,
-    input: Vec<u8>,
     findings: Vec<Finding>,
     operations: u32,
 ) -> Result<ReportText, AllocError>
@@ -137,7 +134,7 @@ pub(crate) fn whole_text<T: Threads + Sync>(
         atomic: order.is_some(),
         order,
     };
-    let mut line = summary_beside_drop(rt, alloc, &summary, arena, findings, input)?;
+    let mut line = summary_beside_drop(rt, alloc, &summary, arena, findings)?;
     line.push(b'\n')?;
     parts.push(line)?;
     Ok(ReportText {

@@ -7,11 +7,12 @@
 //! workers there are, and how they take turns, changes no report. Sources and sinks are handed on from `byte_ends`.
 //! [`laws`] says why the whole history is atomic exactly if each of its registers is, and that a history has one report.
 //!
-//! To read, from the input on: `pulled`; `answered`, which asks all others for the report's bytes, as `checked` does for its
-//! values, and `alone` without threads; below them `reading`, which makes the arena, and `find`, which has `reg_pieces` do
-//! the work and `tally` count the calls; `findings`, which puts what is done together, with `levels`, and `one_by_one`,
-//! where one thread does all; `found_text`, which writes each register's line as soon as it is made, or `history`, which
-//! makes the report's values. If the first register that isn't atomic is all that is asked for, `first` has `reg_pieces`
+//! To read, from the input on: `pulled` and `intake`, where the bytes come in; `reading`, which has their lines read and makes
+//! the arena; `answered`, which has the report made as bytes, as `checked` does as values, from a slice as a source (`slice`),
+//! and `alone` without threads; below them `find`, which has `reg_pieces` do the work and `tally` count the calls; `findings`,
+//! which puts what is done together, with `levels`, and `one_by_one`, where one thread does all; `found_text`, which writes
+//! each register's line as soon as it is made, or `history`, which makes the report's values. If the first register that
+//! isn't atomic is all that is asked for, `first` has `reg_pieces`
 //! look for it. `register` makes the line of one register, with `fault_lines` and `order_lines`, and `merged` the order of
 //! all, with `by_point`. Then come `report` with `lists`, `send` and `written`, and `pushed`, `outcome` and `whole` at last.
 //! `refusal` and `wording` say why there is no report, and `told` asks the arena for what its laws say.
@@ -27,6 +28,7 @@ mod findings;
 mod first;
 mod found_text;
 mod history;
+mod intake;
 pub mod laws;
 mod levels;
 mod lists;
@@ -41,6 +43,7 @@ mod refusal;
 mod register;
 mod report;
 mod send;
+mod slice;
 mod tally;
 mod told;
 mod whole;

@@ -1,50 +1,86 @@
-//! All the bytes of a source.
-ghost use Rattle.std.specs.Prelude.{◌≡◌, ◌-◌, ◌++◌, ◌^◌, ◌<◌, ◌≤◌, ◌↔◌, length, Err, IsTrue, IfOk, IfErr};
-ghost use Rattle.reg_report.specs.Ends.{IsAll, IsTooLong, IsWithinLimit};
-ghost use Rattle.reg_report.specs.Run.{IsOfPull};
+//! The bytes of a source, a piece at a time, and how many they are.
+ghost use Rattle.std.specs.Prelude.{◌≡◌, ◌-◌, ◌^◌, ◌<◌, ◌≤◌, ℕ, List, true, false, length, take, IfOk, IfErr};
+ghost use Rattle.history_text.specs.declared.limits.TheConstants.{MAX_INPUT};
+ghost use Rattle.reg_report.specs.Pulled.{Gives, IsFurther, StopsAt, nothing};
 
 use crate::refusal::Refusal;
 use byte_ends::Source;
 use history_text::MAX_INPUT;
-use std::alloc::Global;
 
-/// How many bytes are asked for at once. They lie on the stack, of which a caller may have little.
-const PIECE: usize = 16_384;
+/// How many bytes are pulled at once. They lie on the stack, of which a caller may have little.
+pub(crate) const PIECE: usize = 16_384;
 
-/// Whether all the bytes so far are kept, if they were before these.
-fn keep(kept: bool, all: &mut Vec<u8>, bytes: &[u8]) -> bool
-    ensures kept { IsTrue result → IsTrue kept × (all.new.items ≡ all.old.items ++ bytes.now) }
-{
-    kept && all.extend_from_slice(bytes).is_ok()
+/// How many bytes were pulled, and whether the source has no more.
+#[derive(Clone, Copy)]
+pub(crate) struct Pulled {
+    total: usize,
+    is_ended: bool,
 }
 
-/// All the bytes that the source has left, if they are within the limit of an input. If memory for them is
-/// refused, the rest is pulled and dropped, so that too long an input is known as such.
-///
-/// # Errors
-/// `InputFailed` if a pull failed, `TooLong` if there are more bytes than the limit, else `NoRoom`.
-pub fn pull_all<S: Source>(alloc: Global, source: &mut S) -> Result<Vec<u8>, Refusal>
-    requires { S.failed source.old < 2 ^ 64 - 1 }
-    ensures all { IfOk result (λ bytes. IsAll (S.left source.old) bytes.items × (length bytes.items ≤ MAX_INPUT)) }
-    ensures too_long { result ≡ Err Refusal.TooLong → IsTooLong (S.left source.old) }
-    ensures no_room { result ≡ Err Refusal.NoRoom → IsWithinLimit (S.left source.old) }
-    ensures failed { (result ≡ Err Refusal.InputFailed) ↔ (S.failed source.old < S.failed source.new) }
-    ensures others { IfErr result IsOfPull }
-{
-    let mut piece = [0u8; PIECE];
-    let mut all = Vec::new(alloc);
-    let mut kept = true;
-    let mut total = 0;
-    loop {
-        match source.pull(&mut piece) {
-            Err(_) => return Err(Refusal::InputFailed),
-            Ok(0) if kept => return Ok(all),
-            Ok(0) => return Err(Refusal::NoRoom),
-            Ok(count) if count > MAX_INPUT - total => return Err(Refusal::TooLong),
+impl Pulled {
+    /// No bytes, of a source that may have some.
+    pub(crate) fn nothing() -> Self
+        ensures { result ≡ nothing }
+    {
+        Pulled {
+            total: 0,
+            is_ended: false,
+        }
+    }
+
+    /// Whether the source has no more.
+    pub(crate) fn is_ended(self) -> bool
+        ensures { result ≡ self.is_ended }
+    {
+        self.is_ended
+    }
+
+    /// Pulls the next bytes to the front of a piece, and says how many they are. None is the end.
+    ///
+    /// # Errors
+    /// `InputFailed` if the pull failed, and `TooLong` if there are more bytes than the limit of an input.
+    pub(crate) fn pull<S: Source>(
+        &mut self,
+        source: &mut S,
+        piece: &mut [u8],
+    ) -> Result<usize, Refusal>
+        requires within { self.old.total ≤ MAX_INPUT }
+        requires not_ended { self.old.is_ended ≡ false }
+        requires room { 0 < length piece.old }
+        requires failures { S.failed source.old < 2 ^ 64 - 1 }
+        ensures bound { IfOk result (λ count. count ≤ length piece.new) }
+        ensures ok { IfOk result (λ count. Gives (S.left source.old) (S.left source.new) (S.failed source.old) (S.failed source.new) self.old self.new (take count piece.new)) }
+        ensures further { IfOk result (λ _. IsFurther self.old self.new) }
+        ensures err { IfErr result (StopsAt (S.left source.old) (S.left source.new) (S.failed source.old) (S.failed source.new) self.old) }
+    {
+        match source.pull(piece) {
+            Err(_) => Err(Refusal::InputFailed),
+            Ok(count) if count > MAX_INPUT - self.total => Err(Refusal::TooLong),
             Ok(count) => {
-                total += count;
-                kept = keep(kept, &mut all, &piece[..count]);
+                self.total += count;
+                self.is_ended = count == 0;
+                Ok(count)
             }
         }
+    }
+
+    /// Pulls all that the source has left and drops it, so that too long an input is known as such.
+    ///
+    /// # Errors
+    /// As of `pull`.
+    // Inlined, its piece would lie on the caller's stack for good.
+    #[inline(never)]
+    pub(crate) fn drop_rest<S: Source>(&mut self, source: &mut S) -> Result<(), Refusal>
+        requires within { self.old.total ≤ MAX_INPUT }
+        requires failures { S.failed source.old < 2 ^ 64 - 1 }
+        ensures ok { IfOk result (λ _. (bytes : List ℕ) × Gives (S.left source.old) (S.left source.new) (S.failed source.old) (S.failed source.new) self.old self.new bytes) }
+        ensures end { IfOk result (λ _. self.new.is_ended ≡ true) }
+        ensures err { IfErr result (StopsAt (S.left source.old) (S.left source.new) (S.failed source.old) (S.failed source.new) self.old) }
+    {
+        let mut piece = [0u8; PIECE];
+        while !self.is_ended {
+            self.pull(source, &mut piece)?;
+        }
+        Ok(())
     }
 }

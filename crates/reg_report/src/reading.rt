@@ -1,173 +1,248 @@
-//! From the bytes of a history to its arena: while the lines of one chunk are taken in, those of the next are found, read and numbered.
-ghost use Rattle.std.specs.Prelude.{◌≡◌, ◌≤◌, ◌<◌, Bool, List, flat_map, length, Err, IfOk, IfErr};
-ghost use Rattle.std.specs.Thread.{IsSync};
+//! From the bytes of a source to the arena of their history: while the lines of one block are taken in, those of the next are
+//! pulled, read and numbered.
+ghost use Rattle.std.specs.Prelude.{◌≡◌, ◌≢◌, ◌+◌, ◌-◌, ◌^◌, ◌<◌, ◌≤◌, ◌↔◌, ℕ, Bool, List, [], Option, Some, false, flat_map, length, Err, IfOk, IfErr, IfSome};
 ghost use Rattle.history_text.specs.declared.limits.TheConstants.{MAX_INPUT};
-ghost use Rattle.history_text.specs.Lines.{IsPlace};
-ghost use Rattle.history_text.specs.Reading.{history_lines};
-ghost use Rattle.history_model.specs.Refusals.{IsBuildError, Line};
-ghost use Rattle.reg_arena.specs.Built.{IsBuilt, IsBuiltWith};
-ghost use Rattle.reg_arena.specs.Numbered.{ArePartsNumbered, lines_of};
-ghost use Rattle.reg_report.specs.Answer.{IsArenaOf, IsRefused};
-ghost use Rattle.reg_report.specs.Underway.{IsChunk, IsUnderway};
+ghost use Rattle.history_model.specs.History.{History};
+ghost use Rattle.reg_arena.specs.Numbered.{ArePartsNumbered};
+ghost use Rattle.reg_report.specs.Answer.{IsArenaOf};
+ghost use Rattle.reg_report.specs.Ends.{IsAll};
+ghost use Rattle.reg_report.specs.Intake.{FitsLimit, IsNext, IsReadOf};
+ghost use Rattle.reg_report.specs.Pulled.{GetsNoMore, IsFurther, nothing};
+ghost use Rattle.reg_report.specs.Underway.{AreNumberedBehind, MayChange, IsRefusedOf, IsStopped, IsUnderway, IsWithLines, lines_in};
 
+use crate::intake::Intake;
 use crate::refusal::Refusal;
+use byte_ends::Source;
 use history_model::BuildError;
-use history_text::{MAX_INPUT, Place, next_lines, read_spans};
+use history_text::{MAX_EVENTS, MAX_INPUT};
 use reg_arena::{Arena, HashKey, NumberedLines, Numbering};
 use std::alloc::{AllocError, Global};
 use std::random::RandomSource;
-use std::thread::{self, Threads};
+use std::thread::{Threads, join_mut};
 
-/// How many lines are found and read while as many are taken in: so many that threads started for them cost little, and so
-/// few that the lines which wait take little memory.
-const CHUNK: usize = 32_768;
+/// How many bytes a block has: enough that threads started for it cost little, and so few that its lines take little memory.
+const BLOCK: usize = 1_572_864;
 
-/// The bytes of the shortest event, as `{"process":1,"event":"crash"}` with its line feed. The arena gets room for as many
-/// events as the input could have, since to count its lines would cost more: room that no event fills is never touched.
+/// The bytes of the shortest event, as `{"process":1,"event":"crash"}` with its line feed.
 const SHORTEST_EVENT: usize = 30;
 
-/// The lines of one chunk, which were read and numbered, where the next chunk begins, and the numbers of the registers up to there.
+/// What the reading side keeps from turn to turn: the numbers of the registers so far, and the lines that were taken in last,
+/// which it drops, so that the thread which builds the arena needn't.
 #[derive(Drop)]
-struct Chunk {
-    lines: Vec<NumberedLines>,
-    behind: Place,
+struct Reader {
+    alloc: Global,
     numbering: Numbering,
-}
-
-impl Chunk {
-    /// Finds the lines of the chunk at a place, has threads read them, and numbers their registers.
-    fn read<R: Threads + Sync>(
-        rt: &R,
-        alloc: Global,
-        input: &[u8],
-        place: Place,
-        numbering: Numbering,
-    ) -> Result<Self, AllocError>
-        requires limit { length input.now ≤ MAX_INPUT }
-        requires place { IsPlace input.now place }
-        ensures { IfOk result (IsChunk input.now place numbering) }
-    {
-        let mut numbering = numbering;
-        let (spans, behind) = next_lines(alloc, input, place, CHUNK)?;
-        let parts = read_spans(rt, alloc, input, &spans)?;
-        let lines = numbering.number_parts(alloc, parts)?;
-        Ok(Chunk {
-            lines,
-            behind,
-            numbering,
-        })
-    }
-}
-
-/// An arena of the lines so far, and the chunk behind them, which was read and isn't taken in yet.
-#[derive(Drop)]
-struct Underway {
-    arena: Arena,
-    ahead: Chunk,
-    /// The lines that were taken in last, which are left to the next turn's reader to drop.
     spent: Vec<NumberedLines>,
 }
 
-impl Underway {
-    /// Takes in the chunk that was read, and meanwhile has other threads read the next one.
-    ///
-    /// If both fail, the error is that of taking in, since its line stands before those that are read.
-    fn turn<R: Threads + Sync>(
-        self,
-        rt: &R,
-        alloc: Global,
-        input: &[u8],
-    ) -> Result<Self, BuildError>
-        requires limit { length input.now ≤ MAX_INPUT }
-        requires underway { IsUnderway input.now self }
-        ensures ok { IfOk result (IsUnderway input.now) }
-        ensures err { IfErr result (IsBuildError (history_lines input.now)) }
-        ensures further { IfOk result (λ state. self.ahead.behind.from < length input.now → self.ahead.behind.from < state.ahead.behind.from) }
+impl Reader {
+    /// Reads and numbers the lines that are held.
+    fn read<T: Threads + Sync>(
+        &mut self,
+        rt: &T,
+        intake: &mut Intake,
+    ) -> Result<Vec<NumberedLines>, AllocError>
+        requires { intake.old.lines_before + length intake.old.held.items ≤ MAX_INPUT }
+        ensures read { IfOk result (λ parts. IsReadOf intake.old intake.new (lines_in parts.items)) }
+        ensures numbered { IfOk result (λ parts. AreNumberedBehind self.old.numbering self.new.numbering parts.items) }
+        ensures pulled { intake.new.pulled ≡ intake.old.pulled }
     {
-        let Underway {
-            arena,
-            ahead,
-            spent,
-        } = self;
-        let Chunk {
-            lines,
-            behind,
-            numbering,
-        } = ahead;
-        let parts = lines.as_slice();
-        let (read, taken) = thread::join(
-            rt,
-            move || -> Result<Chunk, AllocError>
-                requires { IsSync R.row × (length input.now ≤ MAX_INPUT) × IsPlace input.now behind }
-                ensures { IfOk result (IsChunk input.entry.now behind numbering) }
-            {
-                drop(spent);
-                Chunk::read(rt, alloc, input, behind, numbering)
-            },
-            move || -> Result<Arena, BuildError>
-                requires { ArePartsNumbered arena.names parts.now }
-                ensures { (before : List Line) → IsBuilt before arena → IsBuiltWith before (flat_map lines_of parts.entry.now) result }
-            { arena.with_lines(alloc, parts) },
-        );
-        let arena = taken?;
-        let ahead = read?;
-        Ok(Underway {
-            arena,
-            ahead,
-            spent: lines,
-        })
+        let parts = intake.read(rt, self.alloc)?;
+        self.numbering.number_parts(self.alloc, parts)
+    }
+
+    /// Pulls, reads and numbers the next lines.
+    ///
+    /// # Errors
+    /// `InputFailed`, `TooLong` or `NoRoom`.
+    fn next<T: Threads + Sync, S: Source>(
+        &mut self,
+        rt: &T,
+        source: &mut S,
+        intake: &mut Intake,
+    ) -> Result<Vec<NumberedLines>, Refusal>
+        requires fits { FitsLimit intake.old }
+        requires failures { S.failed source.old < 2 ^ 64 - 1 }
+        ensures read { IfOk result (λ parts. IsNext (S.left source.old) (S.left source.new) (S.failed source.old) (S.failed source.new) intake.old intake.new (lines_in parts.items)) }
+        ensures numbered { IfOk result (λ parts. AreNumberedBehind self.old.numbering self.new.numbering parts.items) }
+        ensures further { IfOk result (λ _. intake.old.pulled.is_ended ≡ false → IsFurther intake.old.pulled intake.new.pulled) }
+        ensures err { IfErr result (GetsNoMore (S.left source.old) (S.left source.new) (S.failed source.old) (S.failed source.new) intake.old.pulled intake.new.pulled) }
+    {
+        self.spent.clear();
+        let enough = intake.held().len() + BLOCK;
+        intake.fill(source, enough)?;
+        Ok(self.read(rt, intake)?)
     }
 }
 
-/// The arena of the history in the input, or the refusal of its first faulty line.
+/// An arena of the lines so far, and the lines that come next, which are read and numbered.
+#[derive(Drop)]
+struct Underway {
+    arena: Arena,
+    ahead: Vec<NumberedLines>,
+}
+
+/// The arena with more lines. It is taken out of its place, since `join_mut` only lends its closures what they use.
+fn take_in(
+    alloc: Global,
+    arena: &mut Option<Arena>,
+    parts: &[NumberedLines],
+) -> Result<Arena, BuildError>
+    requires { (built : History) × (arena.old ≡ Some built) × ArePartsNumbered built.names parts.now }
+    ensures { IsWithLines arena.old (lines_in parts.now) result }
+{
+    match arena.take() {
+        Some(arena) => arena.with_lines(alloc, parts),
+        None => unreachable!(),
+    }
+}
+
+impl Underway {
+    /// Has a thread take in the lines that were read, and meanwhile pulls, reads and numbers the next ones.
+    fn take_in_and_read<T: Threads + Sync, S: Source>(
+        self,
+        rt: &T,
+        source: &mut S,
+        intake: &mut Intake,
+        reader: &mut Reader,
+    ) -> (
+        Result<Arena, BuildError>,
+        Result<Vec<NumberedLines>, Refusal>,
+    )
+        requires names { ArePartsNumbered self.arena.names self.ahead.items }
+        requires fits { FitsLimit intake.old }
+        requires failures { S.failed source.old < 2 ^ 64 - 1 }
+        ensures taken { IsWithLines (Some self.arena) (lines_in self.ahead.items) result.0 }
+        ensures read { IfOk result.1 (λ parts. IsNext (S.left source.old) (S.left source.new) (S.failed source.old) (S.failed source.new) intake.old intake.new (lines_in parts.items)) }
+        ensures numbered { IfOk result.1 (λ parts. AreNumberedBehind reader.old.numbering reader.new.numbering parts.items) }
+        ensures further { IfOk result.1 (λ _. intake.old.pulled.is_ended ≡ false → IsFurther intake.old.pulled intake.new.pulled) }
+        ensures err { IfErr result.1 (GetsNoMore (S.left source.old) (S.left source.new) (S.failed source.old) (S.failed source.new) intake.old.pulled intake.new.pulled) }
+    {
+        let Underway { arena, ahead } = self;
+        let alloc = reader.alloc;
+        let mut arena = Some(arena);
+        let made = join_mut(
+            rt,
+            &mut || take_in(alloc, &mut arena, &ahead),
+            &mut ||
+                requires { FitsLimit intake.now × (S.failed source.now < 2 ^ 64 - 1) }
+            { reader.next(rt, source, intake) },
+        );
+        reader.spent = ahead;
+        made
+    }
+
+    /// Takes in the lines that were read, and has the next ones read.
+    ///
+    /// # Errors
+    /// `InputFailed`, `TooLong` or `NoRoom` if there are no next ones, else `At` if a line is refused.
+    fn turn<T: Threads + Sync, S: Source>(
+        self,
+        rt: &T,
+        source: &mut S,
+        intake: &mut Intake,
+        reader: &mut Reader,
+    ) -> Result<Self, Refusal>
+        requires names { ArePartsNumbered self.arena.names self.ahead.items }
+        requires fits { FitsLimit intake.old }
+        requires failures { S.failed source.old < 2 ^ 64 - 1 }
+        ensures ok { IfOk result (λ after. (left : Option (List ℕ)) (failed : ℕ) → IsUnderway left (S.left source.old) failed (S.failed source.old) intake.old reader.old self → IsUnderway left (S.left source.new) failed (S.failed source.new) intake.new reader.new after) }
+        ensures further { IfOk result (λ _. intake.old.pulled.is_ended ≡ false → IsFurther intake.old.pulled intake.new.pulled) }
+        ensures err { IfErr result (λ refusal. (left : Option (List ℕ)) (failed : ℕ) → IsUnderway left (S.left source.old) failed (S.failed source.old) intake.old reader.old self → IsStopped left (S.left source.new) failed (S.failed source.new) intake.new.pulled refusal) }
+    {
+        let (taken, next) = self.take_in_and_read(rt, source, intake, reader);
+        let ahead = next?;
+        let arena = taken?;
+        Ok(Underway { arena, ahead })
+    }
+}
+
+/// How many bytes are held before the first lines are read. If the system gives no random bytes, that is all of them: the
+/// key of the hashes is a digest of them then.
+fn first_block<T: RandomSource>(rt: &T) -> usize {
+    match rt.fill_bytes(&mut [0]) {
+        Ok(()) => BLOCK,
+        Err(_) => MAX_INPUT,
+    }
+}
+
+/// For how many events an arena gets room: as many as the bytes that are held could say, if the source has no more, else as
+/// many as a history may have. Room that no event fills is never touched.
+fn room_for(intake: &Intake) -> usize {
+    if intake.is_ended() {
+        intake.held().len() / SHORTEST_EVENT + 1
+    } else {
+        MAX_EVENTS
+    }
+}
+
+/// The arena of the history in what the source gives.
 ///
 /// # Errors
-/// `Refused` if the history isn't well formed, and `Memory` if memory was refused; what was made is dropped then.
-fn read_arena<R: Threads + RandomSource + Sync>(
-    rt: &R,
+/// `At` for the first faulty line, `NoRoom`, and `InputFailed` or `TooLong` if pulling stopped first.
+fn read_arena<T: Threads + RandomSource + Sync, S: Source>(
+    rt: &T,
     alloc: Global,
-    input: &[u8],
-) -> Result<Arena, BuildError>
-    requires { length input.now ≤ MAX_INPUT }
-    ensures ok { IfOk result (IsArenaOf input.now) }
-    ensures err { IfErr result (λ e. IsBuildError (history_lines input.now) e) }
+    source: &mut S,
+    intake: &mut Intake,
+) -> Result<Arena, Refusal>
+    requires held { intake.old.held.items ≡ [] }
+    requires before { intake.old.lines_before ≡ 0 }
+    requires pulled { intake.old.pulled ≡ nothing }
+    requires failures { S.failed source.old < 2 ^ 64 - 1 }
+    ensures ok { IfOk result (λ arena. (bytes : List ℕ) × IsAll (S.left source.old) bytes × IsArenaOf bytes arena) }
+    ensures unfailed { IfOk result (λ _. S.failed source.new ≡ S.failed source.old) }
+    ensures err { IfErr result (IsStopped (S.left source.old) (S.left source.new) (S.failed source.old) (S.failed source.new) intake.new.pulled) }
 {
-    let room = input.len() / SHORTEST_EVENT + 1;
-    let key = HashKey::drawn(rt, input);
-    let arena = Arena::empty(alloc, key, room)?;
-    let numbering = Numbering::new(alloc, key);
-    let ahead = Chunk::read(rt, alloc, input, Place::first(), numbering)?;
-    let mut underway = Underway {
-        arena,
-        ahead,
+    intake.fill(source, first_block(rt))?;
+    let key = HashKey::drawn(rt, intake.held());
+    let arena = Arena::empty(alloc, key, room_for(intake))?;
+    let mut reader = Reader {
+        alloc,
+        numbering: Numbering::new(alloc, key),
         spent: Vec::new(alloc),
     };
-    while !underway.ahead.behind.is_end(input) {
-        underway = underway.turn(rt, alloc, input)?;
+    let ahead = reader.read(rt, intake)?;
+    let mut underway = Underway { arena, ahead };
+    while !intake.is_ended() {
+        underway = underway.turn(rt, source, intake, &mut reader)?;
     }
-    let Underway {
-        arena,
-        ahead,
-        spent: _,
-    } = underway;
-    arena.with_lines(alloc, &ahead.lines)
+    let Underway { arena, ahead } = underway;
+    Ok(arena.with_lines(alloc, &ahead)?)
 }
 
-/// The arena of the history in the input, or why there is none.
+/// The refusal of all that the source gives, from the one that was met first. If that is of a line or the want of memory, the
+/// rest is pulled and dropped, so that too long an input and a failure are known as such.
+fn refusal_of_all<S: Source>(source: &mut S, intake: &mut Intake, first: Refusal) -> Refusal
+    requires { MayChange first → (intake.old.pulled.total ≤ MAX_INPUT) × (S.failed source.old < 2 ^ 64 - 1) }
+    ensures { (left : Option (List ℕ)) (failed : ℕ) → IsStopped left (S.left source.old) failed (S.failed source.old) intake.old.pulled first → IsRefusedOf left failed (S.failed source.new) result }
+{
+    match first {
+        Refusal::TooLong | Refusal::InputFailed | Refusal::OutputFailed => first,
+        Refusal::At(_) | Refusal::NoRoom => match intake.drop_rest(source) {
+            Ok(()) => first,
+            Err(refusal) => refusal,
+        },
+    }
+}
+
+/// The arena of the history in all the bytes that the source has left, or why there is none.
 ///
 /// # Errors
-/// As of [`check`](crate::check).
-pub(crate) fn arena_of<R: Threads + RandomSource + Sync>(
-    rt: &R,
+/// As of [`run`](crate::run).
+pub(crate) fn arena_of<T: Threads + RandomSource + Sync, S: Source>(
+    rt: &T,
     alloc: Global,
-    input: &[u8],
+    source: &mut S,
 ) -> Result<Arena, Refusal>
-    ensures ok { IfOk result (IsArenaOf input.now) }
-    ensures err { (first : Bool) → IfErr result (IsRefused first input.now) }
-    ensures long { MAX_INPUT < length input.now → result ≡ Err Refusal.TooLong }
+    requires { S.failed source.old < 2 ^ 64 - 1 }
+    ensures ok { IfOk result (λ arena. (bytes : List ℕ) × IsAll (S.left source.old) bytes × IsArenaOf bytes arena) }
+    ensures unfailed { IfOk result (λ _. S.failed source.new ≡ S.failed source.old) }
+    ensures err { IfErr result (IsRefusedOf (S.left source.old) (S.failed source.old) (S.failed source.new)) }
 {
-    if input.len() > MAX_INPUT {
-        return Err(Refusal::TooLong);
+    let mut intake = Intake::new(alloc);
+    match read_arena(rt, alloc, source, &mut intake) {
+        Ok(arena) => Ok(arena),
+        Err(first) => Err(refusal_of_all(source, &mut intake, first)),
     }
-    Ok(read_arena(rt, alloc, input)?)
 }

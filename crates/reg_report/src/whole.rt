@@ -3,10 +3,10 @@ ghost use Rattle.std.specs.Prelude.{◌≡◌, ◌≢◌, ◌⊎◌, ◌-◌, �
 ghost use Rattle.history_text.specs.declared.limits.TheConstants.{MAX_INPUT};
 ghost use Rattle.reg_report.specs.Run.{IsOfInput, IsRefusedWhole, Reports, ReportsBeginning, TellsAtomic};
 
-use crate::answered::answer;
+use crate::answered::text_by;
 use crate::outcome::Outcome;
-use crate::pulled::pull_all;
 use crate::pushed::deliver;
+use crate::reading::arena_of;
 use crate::refusal::Refusal;
 use byte_ends::{Sink, Source};
 use reg_pieces::{Gate, Settings};
@@ -53,8 +53,8 @@ pub fn run<T: Threads + RandomSource + Sync, R: Source, W: Sink, G: Gate + Sync>
     ensures beginning { result ≡ Err Refusal.OutputFailed → ReportsBeginning settings.first (R.left source.old) (W.taken sink.old) (W.taken sink.new) }
     ensures nothing { IfErr result (λ refusal. refusal ≢ Refusal.OutputFailed → sink.new ≡ sink.old) }
 {
-    let input = pull_all(alloc, source)?;
-    let text = answer(rt, alloc, input, settings, gate)?;
+    let arena = arena_of(rt, alloc, source)?;
+    let text = text_by(rt, alloc, arena, settings, gate)?;
     match deliver(sink, &text.parts) {
         Ok(()) => Ok(text.outcome),
         Err(_) => Err(Refusal::OutputFailed),

@@ -1,12 +1,11 @@
-use Rattle.std.proofs.Common.{◌-◌, length}
+-- The arena, the lines read ahead and what is held are all that was pulled, and each turn leaves less to pull.
 use Rattle.reg_report.specs.Underway.{IsUnderway}
+use Rattle.reg_report.proofs.Pulling.{left_to_pull}
 use Rattle.reg_report.proofs.reading.read_arena.Given as goal
 
--- the arena, the chunk read ahead and what is left are the input
 abbrev pub invariant-loop-underway : goal.invariant-loop-underway
-invariant-loop-underway g l = record {
-  underway : IsUnderway l.fn.input l.underway;
-}
+invariant-loop-underway g l =
+    IsUnderway (g.S.Source.left l.fn.source) (g.S.Source.left l.source) (g.S.Source.failed l.fn.source) (g.S.Source.failed l.source) l.intake l.reader l.underway
 
 abbrev pub decreases-loop-underway : goal.decreases-loop-underway
-decreases-loop-underway g l = length l.fn.input - l.underway.ahead.behind.from
+decreases-loop-underway g l = left_to_pull l.intake.pulled

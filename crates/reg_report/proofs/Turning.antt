@@ -1,0 +1,135 @@
+-- The lines of a source, turn by turn: what is known when some are taken in while the next are read, and when none are left.
+use Rattle.std.proofs.Common.{◌≡◌, ℕ, true, List, [], ◌++◌, length, Option, Ok, Err, refl, sym, ap, subst, ◌∙◌, arith, append_assoc, append-nil, length-append}
+use Rattle.history_text.specs.Reading.{history_lines}
+use Rattle.history_model.specs.History.{History, history_of}
+use Rattle.history_model.specs.Refusals.{Line, IsBuildError, IsRefusal, IsWellFormed, events_of}
+use Rattle.history_model.specs.declared.refusal.BuildError.{BuildError}
+use Rattle.history_model.specs.declared.refusal.BuildError.TheVariants.{Refused, Memory}
+use Rattle.reg_arena.specs.Built.{IsBuilt, IsBuiltWith}
+use Rattle.reg_arena.specs.Numbered.{names_with}
+use Rattle.reg_arena.proofs.Numbered.{names-lines}
+use Rattle.reg_report.proofs.Pulling.{gives-more, gives-none, stops-after}
+use Rattle.reg_report.specs.Answer.{IsArenaOf}
+use Rattle.reg_report.specs.Ends.{IsAll}
+use Rattle.reg_report.specs.Intake.{IsHeld, IsNext, IsReadOf, MayCome, lines_behind}
+use Rattle.reg_report.specs.Pulled.{Gives, GetsNoMore, nothing}
+use Rattle.reg_report.specs.Refusals.{of_build}
+use Rattle.reg_report.specs.Underway.{AreNumberedBehind, IsStopped, IsReadSoFar, IsUnderway, lines_in}
+use Rattle.reg_report.specs.declared.intake.Intake.{Intake}
+use Rattle.reg_report.specs.declared.pulled.Pulled.{Pulled}
+use Rattle.reg_report.specs.declared.reading.Reader.{Reader}
+use Rattle.reg_report.specs.declared.reading.Underway.{Underway}
+use Rattle.reg_report.specs.declared.refusal.Refusal.{Refusal}
+use Rattle.reg_report.specs.declared.refusal.Refusal.TheVariants.{At, TooLong, InputFailed, NoRoom, OutputFailed}
+
+-- what was pulled and held is read
+pub next-of : (left now : Option (List ℕ)) (failed failed_now : ℕ) (old middle new : Intake) (bytes : List ℕ) (read : List Line) → IsHeld left now failed failed_now old middle bytes → IsReadOf middle new read → IsNext left now failed failed_now old new read
+next-of left now failed failed_now old middle new bytes read held was_read = record {
+  bytes = bytes;
+  given = subst (λ pulled. Gives left now failed failed_now old.pulled pulled bytes) (sym was_read.pulled) held.given;
+  lines = λ more may_come. was_read.lines more (subst (λ (pulled : Pulled). MayCome pulled.is_ended more) was_read.pulled may_come)
+      ∙ ap (λ count. lines_behind count (middle.held.items ++ more)) held.before
+      ∙ ap (λ xs. lines_behind old.lines_before (xs ++ more)) held.held
+      ∙ ap (lines_behind old.lines_before) (append_assoc old.held.items bytes more);
+  end = λ ended. was_read.end (subst (λ (pulled : Pulled). pulled.is_ended ≡ true) was_read.pulled ended);
+  room = (let room = was_read.room in let before = held.before in let longer = ap length held.held in let joined = length-append old.held.items bytes in omega arith);
+}
+
+-- nothing is taken in before the first pull
+pub none-read : (left : Option (List ℕ)) (failed : ℕ) (intake : Intake) → intake.held.items ≡ [] → intake.lines_before ≡ 0 → intake.pulled ≡ nothing → IsReadSoFar left left failed failed [] [] intake
+none-read left failed intake held before pulled = record {
+  given = subst (λ new. Gives left left failed failed nothing new []) (sym pulled) (gives-none left failed nothing (omega arith));
+  lines = λ more may_come. ap (λ count. lines_behind count (intake.held.items ++ more)) before ∙ ap (λ xs. lines_behind 0 (xs ++ more)) held;
+  end = λ ended. held;
+  room = (let none = ap length held in omega (arith, before, none));
+}
+
+module _ (left mid now : Option (List ℕ)) (failed failed_mid failed_now : ℕ) (bytes : List ℕ) (read : List Line) (old new : Intake) (taken : IsReadSoFar left mid failed failed_mid bytes read old) where
+  -- what a turn gives and reads is taken in
+  pub read-further : (later : List Line) → (next : IsNext mid now failed_mid failed_now old new later) → IsReadSoFar left now failed failed_now (bytes ++ next.bytes) (read ++ later) new
+  read-further later next = record {
+    given = gives-more left mid now failed failed_mid failed_now nothing old.pulled bytes taken.given new.pulled next.bytes next.given;
+    lines = λ more may_come.
+        append_assoc read later (lines_behind new.lines_before (new.held.items ++ more))
+        ∙ ap (λ lines. read ++ lines) (next.lines more may_come)
+        ∙ taken.lines (next.bytes ++ more) (λ ended. let none = next.given.none_behind ended in ap (λ xs. xs ++ more) none.0 ∙ may_come none.1)
+        ∙ ap history_lines (sym (append_assoc bytes next.bytes more));
+    end = next.end;
+    room = (let room = taken.room in let further = next.room in let counted = next.given.counted in omega arith);
+  }
+
+  -- why there is no next turn
+  pub stopped-by-next : (refusal : Refusal) → GetsNoMore mid now failed_mid failed_now old.pulled new.pulled refusal → IsStopped left now failed failed_now new.pulled refusal
+  stopped-by-next (At r) stops = absurd stops
+  stopped-by-next TooLong stops = stops-after left mid now failed failed_mid failed_now nothing old.pulled bytes taken.given TooLong stops
+  stopped-by-next InputFailed stops = stops-after left mid now failed failed_mid failed_now nothing old.pulled bytes taken.given InputFailed stops
+  stopped-by-next NoRoom stops = (bytes ++ stops.0, gives-more left mid now failed failed_mid failed_now nothing old.pulled bytes taken.given new.pulled stops.0 stops.1)
+  stopped-by-next OutputFailed stops = absurd stops
+
+-- what refuses the lines that were read, whatever follows them, refuses the input, whatever may come
+pub stopped-by-build : (left now : Option (List ℕ)) (failed failed_now : ℕ) (bytes : List ℕ) (read : List Line) (intake : Intake) → IsReadSoFar left now failed failed_now bytes read intake
+    → (e : BuildError) → ((after : List Line) → IsBuildError (read ++ after) e) → IsStopped left now failed failed_now intake.pulled (of_build e)
+stopped-by-build left now failed failed_now bytes read intake taken (Refused r) refused =
+    (bytes, taken.given, λ more may_come. subst (λ lines. IsRefusal lines r) (taken.lines more may_come) (refused (lines_behind intake.lines_before (intake.held.items ++ more))))
+stopped-by-build left now failed failed_now bytes read intake taken Memory refused = (bytes, taken.given)
+
+module _ (left mid now : Option (List ℕ)) (failed failed_mid failed_now : ℕ) (old new : Intake) (reader : Reader) (state : Underway) (underway : IsUnderway left mid failed failed_mid old reader state) where
+  abbrev pub ahead : List Line
+  ahead = lines_in state.ahead.items
+
+  -- the names up to the lines read ahead are those of the arena that has taken them in
+  names-behind : (h : History) → IsBuilt (underway.before ++ ahead) h → reader.numbering ≡ h.names
+  names-behind h built = underway.numbered.names_after ∙ (ap (λ (g : History). names_with g.names ahead) underway.built.is ∙ (sym (names-lines underway.before ahead) ∙ ap (λ (g : History). g.names) (sym built.is)))
+
+  -- the lines read ahead are taken in, and the next ones are read
+  pub turned : (reader_after : Reader) (after : Underway) → IsBuilt (underway.before ++ ahead) after.arena → IsNext mid now failed_mid failed_now old new (lines_in after.ahead.items)
+      → AreNumberedBehind reader.numbering reader_after.numbering after.ahead.items → IsUnderway left now failed failed_now new reader_after after
+  turned reader_after after built next numbered = record {
+    before = underway.before ++ ahead;
+    built = built;
+    numbered = subst (λ names. AreNumberedBehind names reader_after.numbering after.ahead.items) (names-behind after.arena built) numbered;
+    bytes = underway.bytes ++ next.bytes;
+    so_far = read-further left mid now failed failed_mid failed_now underway.bytes (underway.before ++ ahead) old new underway.so_far (lines_in after.ahead.items) next;
+  }
+
+  -- a faulty line among those read ahead refuses the input
+  pub turn-refused : (later : List Line) → IsNext mid now failed_mid failed_now old new later → (e : BuildError) → IsBuiltWith underway.before ahead (Err e) → IsStopped left now failed failed_now new.pulled (of_build e)
+  turn-refused later next e refused =
+      stopped-by-build left now failed failed_now (underway.bytes ++ next.bytes) ((underway.before ++ ahead) ++ later) new
+      (read-further left mid now failed failed_mid failed_now underway.bytes (underway.before ++ ahead) old new underway.so_far later next) e
+      (λ after. subst (λ lines. IsBuildError lines e) (sym (append_assoc (underway.before ++ ahead) later after)) (refused (later ++ after)))
+
+-- the first lines are read, and an arena is made
+pub first-turn : (left now : Option (List ℕ)) (failed failed_now : ℕ) (old middle new : Intake) (reader : Reader) (state : Underway) (bytes : List ℕ) (names : List (List ℕ))
+    → IsReadSoFar left left failed failed [] [] old → IsHeld left now failed failed_now old middle bytes → IsReadOf middle new (lines_in state.ahead.items)
+    → IsBuilt [] state.arena → state.arena.names ≡ names → AreNumberedBehind names reader.numbering state.ahead.items → IsUnderway left now failed failed_now new reader state
+first-turn left now failed failed_now old middle new reader state bytes names none held read built no_names numbered =
+    let next = next-of left now failed failed_now old middle new bytes (lines_in state.ahead.items) held read in
+    record {
+      before = [];
+      built = built;
+      numbered = subst (λ before. AreNumberedBehind before reader.numbering state.ahead.items) (sym no_names) numbered;
+      bytes = next.bytes;
+      so_far = read-further left left now failed failed failed_now [] [] old new none (lines_in state.ahead.items) next;
+    }
+
+-- the last lines are taken in
+module _ (left now : Option (List ℕ)) (failed failed_now : ℕ) (intake : Intake) (reader : Reader) (state : Underway) (underway : IsUnderway left now failed failed_now intake reader state) (ended : intake.pulled.is_ended ≡ true) where
+  all-ahead : underway.before ++ lines_in state.ahead.items ≡ history_lines underway.bytes
+  all-ahead =
+      let read = underway.before ++ lines_in state.ahead.items in
+      sym (append-nil read)
+      ∙ ap (λ xs. read ++ lines_behind intake.lines_before (xs ++ [])) (sym (underway.so_far.end ended))
+      ∙ underway.so_far.lines [] (λ _. refl)
+      ∙ ap history_lines (append-nil underway.bytes)
+
+  pub ended-ok : (h : History) → IsBuiltWith underway.before (lines_in state.ahead.items) (Ok h) → (bytes : List ℕ) × IsAll left bytes × IsArenaOf bytes h
+  ended-ok h built = (
+    underway.bytes,
+    underway.so_far.given.ended refl ended,
+    record {
+      within = (let counted = underway.so_far.given.counted in let within = underway.so_far.given.within in omega arith);
+      well_formed = subst IsWellFormed all-ahead built.well_formed;
+      is = built.is ∙ ap (λ lines. history_of (events_of lines)) all-ahead;
+    },
+  )
