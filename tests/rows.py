@@ -12,7 +12,7 @@ INVERSION = "p1 W x 1; p1 ok; p1 W x 2; p2 R x; p2 = 2; p2 R x; p2 = 1; p1 ok"
 MERGED = "p1 R x; p2 R y; p3 W x 1; p4 W y 2; p1 = 1; p2 = 2; p3 ok; p4 ok"
 WRITTEN_TWICE = "p1 W x 5; p1 ok; p1 W x 5"
 TWO_REGISTERS = INVERSION + "; p1 W y 1; p1 ok; p2 W y 2; p2 ok; p3 R y; p3 = 2; p3 R y; p3 = 1"
-BLOCK = b"\n" * 2_000_000  # blank lines, more than the program reads at once
+BLOCK = b"\n" * 3_000_000  # blank lines, more than the program reads at once
 BAD_WORDS = b"""error: invalid value '17' for '--workers <N>': 17 is not in 1..=16
 
 For more information, try '--help'.

@@ -1,14 +1,16 @@
 -- The spans of lines, found by one walk from the left, are those of the definitions, and what they hold is what the definitions read.
-use Rattle.std.proofs.Common.{◌≡◌, ℕ, ◌+◌, ◌-◌, List, [], ◌∷◌, ◌++◌, length, map, take, drop, Bool, true, false, cond, refl, sym, ap, ◌∙◌, arith, append_assoc}
-use Rattle.std.specs.Prelude.{if◌then◌else◌, slice_range, filter, sum_by, not}
+use Rattle.std.proofs.Common.{◌≡◌, ℕ, ◌+◌, ◌-◌, List, [], ◌∷◌, ◌++◌, length, map, take, drop, Bool, true, false, cond, refl, sym, ap, ap₂, ◌∙◌, arith, append_assoc}
+use Rattle.std.specs.Prelude.{All, if◌then◌else◌, slice_range, filter, sum_by, not}
 use Rattle.std.specs.List.{enumerate_from, join_with_byte}
-use Rattle.std.proofs.Math.Seq.{take-append_seam, drop-append-add}
-use Rattle.std.proofs.lemmas.List.{length-append, drop-drop, append-nil}
+use Rattle.std.proofs.Math.Seq.{drop-append-add, drop-length, take-append_seam}
+use Rattle.std.proofs.lemmas.List.{append-nil, drop-append-le, drop-drop, length-append, length-drop, map-append, take-append-le}
+use Rattle.std.proofs.lemmas.List.Elements.{All-head, All-tail}
 use Rattle.std.proofs.lemmas.List.Sums.{sum_by-append}
 use Rattle.std.proofs.lemmas.List.Splits.{join_with_byte-slice_split}
 use Rattle.history_text.specs.declared.lines.Span.{Span}
-use Rattle.history_text.specs.Lines.{lines, is_blank, width, line_start, span_of, spans_at, line_spans}
-use Rattle.history_text.specs.Reading.{line_reading, reading_of, history_lines}
+use Rattle.history_text.specs.declared.lines.WholeLines.{WholeLines}
+use Rattle.history_text.specs.Lines.{AreWhole, IsWithin, lines, is_blank, width, line_start, span_of, spans_at, line_spans}
+use Rattle.history_text.specs.Reading.{AreReadWhole, line_reading, reading_of, history_lines}
 
 -- the lines that are not blank, numbered from `n`
 abbrev pub kept : ℕ → List (List ℕ) → List (ℕ × List ℕ)
@@ -82,3 +84,37 @@ pub read-spans : (input : List ℕ) → map (reading_of input) (line_spans input
 read-spans input =
     ap (map (reading_of input)) (sym (numbered-spans input))
     ∙ reads-from line_reading input 1 0 (lines input) (sym (join_with_byte-slice_split 10 input))
+
+-- bytes behind a line change nothing of what is read there
+reads-before : (bytes more : List ℕ) (spans : List Span) → All (IsWithin bytes) spans → map (reading_of bytes) spans ≡ map (reading_of (bytes ++ more)) spans
+reads-before bytes more [] within = refl
+reads-before bytes more (s ∷ ss) within =
+    let here = All-head (IsWithin bytes) s ss within in
+    let order = here.0 in let inside = here.1 in let left = length-drop s.from bytes in
+    let same : slice_range bytes s.from s.to ≡ slice_range (bytes ++ more) s.from s.to =
+    sym (take-append-le (s.to - s.from) (drop s.from bytes) more (omega arith)) ∙ ap (take (s.to - s.from)) (sym (drop-append-le s.from bytes more (omega arith))) in
+    ap₂ (λ x xs. x ∷ xs) (ap (line_reading s.line) same) (reads-before bytes more ss (All-tail (IsWithin bytes) s ss within))
+
+-- what is read at the spans of whole lines, and what is left, whatever may come
+pub read-whole : (bytes : List ℕ) (first : ℕ) (is_ended : Bool) (whole : WholeLines) → AreWhole bytes first is_ended whole → All (IsWithin bytes) whole.spans.items → AreReadWhole bytes first is_ended whole
+read-whole bytes first is_ended whole are within = record {
+  readings = λ more may_come.
+      let all = bytes ++ more in
+      let spans : List Span = whole.spans.items in
+      let line : ℕ = whole.next_line in
+      let from : ℕ = whole.byte_count in
+      let rest = drop from bytes ++ more in
+      let cut : drop from all ≡ rest = drop-append-le from bytes more are.within in
+      ap₂ ◌++◌ (reads-before bytes more spans within) (sym (reads-from line_reading all line from (lines rest) (cut ∙ sym (join_with_byte-slice_split 10 rest))))
+      ∙ sym (map-append (reading_of all) spans (spans_at line from (lines rest)))
+      ∙ ap (map (reading_of all)) (are.spans more may_come)
+      ∙ reads-from line_reading all first 0 (lines all) (sym (join_with_byte-slice_split 10 all));
+}
+
+-- where no more may come, the spans are those of all lines
+pub all-spans : (bytes : List ℕ) (whole : WholeLines) → AreWhole bytes 1 true whole → whole.spans.items ≡ line_spans bytes
+all-spans bytes whole are =
+    let nothing : drop whole.byte_count bytes ≡ [] = ap (λ j. drop j bytes) (are.end refl) ∙ drop-length bytes in
+    sym (append-nil whole.spans.items)
+    ∙ ap (λ xs. whole.spans.items ++ spans_at whole.next_line whole.byte_count (lines (xs ++ []))) (sym nothing)
+    ∙ are.spans [] (λ ended. refl) ∙ ap (λ xs. spans_at 1 0 (lines xs)) (append-nil bytes) ∙ numbered-spans bytes

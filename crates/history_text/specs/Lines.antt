@@ -1,8 +1,8 @@
 -- The lines of an input, and where they stand. The form of lines is this project's profile.
-use Rattle.std.specs.Prelude.{ℕ, ◌+◌, ◌-◌, ◌==◌, ◌||◌, ◌≤◌, ◌++◌, ◌∷◌, [], List, length, map, take, drop, filter, sum_by, Bool, not, if◌then◌else◌}
+use Rattle.std.specs.Prelude.{◌≡◌, ℕ, ◌+◌, ◌-◌, ◌==◌, ◌||◌, ◌≤◌, ◌++◌, ◌∷◌, [], List, length, map, take, drop, filter, sum_by, Bool, true, not, if◌then◌else◌}
 use Rattle.std.specs.List.{slice_split, list_all, enumerate_from}
 use Rattle.history_text.specs.declared.lines.Span.{Span}
-use Rattle.history_text.specs.declared.lines.Place.{Place}
+use Rattle.history_text.specs.declared.lines.WholeLines.{WholeLines}
 
 -- the byte that ends a line
 abbrev pub is_line_feed : ℕ → Bool
@@ -20,9 +20,13 @@ lines input = slice_split is_line_feed input
 abbrev pub is_blank : List ℕ → Bool
 is_blank line = list_all is_space line
 
--- the lines that are not blank, each with its number; numbers begin at 1, and blank lines count
+-- the lines that are not blank, each with its number, where the first line has number `n`; blank lines count
+abbrev pub numbered_from : ℕ → List ℕ → List (ℕ × List ℕ)
+numbered_from n bytes = filter (λ l. not (is_blank l.1)) (enumerate_from n (lines bytes))
+
+-- those of an input, whose numbers begin at 1
 abbrev pub numbered_lines : List ℕ → List (ℕ × List ℕ)
-numbered_lines input = filter (λ l. not (is_blank l.1)) (enumerate_from 1 (lines input))
+numbered_lines input = numbered_from 1 input
 
 -- the bytes that a line takes up, with its line feed
 abbrev pub width : List ℕ → ℕ
@@ -50,10 +54,16 @@ spans_at n from [] = []
 spans_at n from (l ∷ ls) =
     (if is_blank l then [] else record { line = n; from = from; to = from + length l } ∷ []) ++ spans_at (n + 1) (from + length l + 1) ls
 
--- where the lines that are not blank stand, from a place on
-abbrev pub spans_from : List ℕ → Place → List Span
-spans_from input place = spans_at place.line place.from (lines (drop place.from input))
+-- what may still come behind some bytes: nothing, if the input ends with them
+abbrev pub MayCome : Bool → List ℕ → Type 0
+MayCome is_ended more = is_ended ≡ true → more ≡ []
 
--- a place is within the input or at its end, and no more lines than bytes are before it
-abbrev pub IsPlace : List ℕ → Place → Type 0
-IsPlace input place = (place.from ≤ length input) × (place.line ≤ place.from + 1)
+-- the whole lines at the front of the bytes, of which the first has number `first`: whatever may come, the lines of all are these and those of what is left
+pub record AreWhole (bytes : List ℕ) (first : ℕ) (is_ended : Bool) (whole : WholeLines) : Type 0 where
+  pub spans : (more : List ℕ) → MayCome is_ended more
+      → whole.spans.items ++ spans_at whole.next_line whole.byte_count (lines (drop whole.byte_count bytes ++ more)) ≡ spans_at first 0 (lines (bytes ++ more))
+  pub one_left : lines (drop whole.byte_count bytes) ≡ drop whole.byte_count bytes ∷ []
+  pub end : is_ended ≡ true → whole.byte_count ≡ length bytes
+  pub within : whole.byte_count ≤ length bytes
+  pub next : whole.next_line + 1 ≡ first + length (lines bytes)
+  pub few : whole.next_line ≤ first + whole.byte_count

@@ -2,8 +2,8 @@
 //! lowest-numbered fault, comes out.
 //!
 //! What the floor above may rely on: [`lines_of`] says where exactly the lines that are not blank stand, in
-//! order and with their numbers, and [`next_lines`] says the same of a few lines at a time. [`read_spans`] reads
-//! any of these lines: for each it gives its one event, or the lowest-numbered fault that applies to it. Several
+//! order and with their numbers, and [`whole_lines`] says the same of bytes behind which more may come. [`read_spans`]
+//! reads any of these lines: for each it gives its one event, or the lowest-numbered fault that applies to it. Several
 //! threads read them, each a part of the lines at a time.
 //! [`read_lines`] reads all lines and joins the parts, and [`read_lines_alone`] reads the same by one thread.
 //! Nothing here knows how events follow one another; that is the floor above.
@@ -32,6 +32,6 @@ pub use event::{Kind, LineEvent, OpKind, ReplyParts, Val};
 pub use fault::{LineFault, LineKind};
 pub use limits::{MAX_EVENTS, MAX_INPUT, MAX_LINE, MAX_NAME};
 pub use line::{LineError, read_line};
-pub use lines::{Place, Span, lines_of, next_lines};
+pub use lines::{Span, WholeLines, lines_of, whole_lines};
 pub use name::Name;
 pub use read::{read_lines, read_lines_alone, read_spans};

@@ -24,8 +24,7 @@ mod FoundLines
 pub mod Pulling
 mod Pushing
 mod Answering
-mod Behind
-mod Holding
+mod WholeRead
 mod Passing
 mod Turning
 mod Refusing

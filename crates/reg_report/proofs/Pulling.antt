@@ -73,10 +73,10 @@ module _ (left mid now : Option (List ℕ)) (failed failed_mid failed_now : ℕ)
   stops-after NoRoom stops = stops
   stops-after OutputFailed stops = stops
 
-  -- so nothing more is held
-  pub holds-after : (new : Pulled) (refusal : Refusal) → StopsAt mid now failed_mid failed_now middle refusal → GetsNoMore left now failed failed_now old new refusal
-  holds-after new (At r) stops = stops
-  holds-after new TooLong stops = stops-after TooLong stops
-  holds-after new InputFailed stops = stops-after InputFailed stops
-  holds-after new NoRoom stops = absurd stops
-  holds-after new OutputFailed stops = stops
+  -- so no more is got
+  pub gets-no-more : (new : Pulled) (refusal : Refusal) → StopsAt mid now failed_mid failed_now middle refusal → GetsNoMore left now failed failed_now old new refusal
+  gets-no-more new (At r) stops = stops
+  gets-no-more new TooLong stops = stops-after TooLong stops
+  gets-no-more new InputFailed stops = stops-after InputFailed stops
+  gets-no-more new NoRoom stops = absurd stops
+  gets-no-more new OutputFailed stops = stops

@@ -29,15 +29,15 @@ stops left now failed failed_now NoRoom s = absurd s
 stops left now failed failed_now OutputFailed s = absurd s
 
 -- a refusal of a line or the want of memory may be another one
-pub opens : (refusal : Refusal) → ((r : LineRefusal) × (refusal ≡ At r)) ⊎ (refusal ≡ NoRoom) → MayChange refusal
-opens refusal (inl at) = subst MayChange (sym at.1) tt
-opens refusal (inr e) = subst MayChange (sym e) tt
+pub may-change : (refusal : Refusal) → ((r : LineRefusal) × (refusal ≡ At r)) ⊎ (refusal ≡ NoRoom) → MayChange refusal
+may-change refusal (inl at) = subst MayChange (sym at.1) tt
+may-change refusal (inr e) = subst MayChange (sym e) tt
 
 -- and no other
-pub closes : (refusal : Refusal) → (refusal ≡ TooLong) ⊎ ((refusal ≡ InputFailed) ⊎ (refusal ≡ OutputFailed)) → MayChange refusal → ⊥
-closes refusal (inl e) may_change = subst MayChange e may_change
-closes refusal (inr (inl e)) may_change = subst MayChange e may_change
-closes refusal (inr (inr e)) may_change = subst MayChange e may_change
+pub may-not-change : (refusal : Refusal) → (refusal ≡ TooLong) ⊎ ((refusal ≡ InputFailed) ⊎ (refusal ≡ OutputFailed)) → MayChange refusal → ⊥
+may-not-change refusal (inl e) may_change = subst MayChange e may_change
+may-not-change refusal (inr (inl e)) may_change = subst MayChange e may_change
+may-not-change refusal (inr (inr e)) may_change = subst MayChange e may_change
 
 -- a refusal for which no more is pulled
 pub refused-now : (left now : Option (List ℕ)) (failed failed_now : ℕ) (pulled : Pulled) (refusal : Refusal) → (MayChange refusal → ⊥) → IsStopped left now failed failed_now pulled refusal → IsRefusedOf left failed failed_now refusal

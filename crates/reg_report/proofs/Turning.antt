@@ -1,6 +1,7 @@
 -- The lines of a source, turn by turn: what is known when some are taken in while the next are read, and when none are left.
-use Rattle.std.proofs.Common.{◌≡◌, ℕ, true, List, [], ◌++◌, length, Option, Ok, Err, refl, sym, ap, subst, ◌∙◌, arith, append_assoc, append-nil, length-append}
-use Rattle.history_text.specs.Reading.{history_lines}
+use Rattle.std.proofs.Common.{◌≡◌, ℕ, ◌+◌, ◌≤◌, true, List, [], ◌++◌, length, Option, Ok, Err, refl, sym, ap, subst, ◌∙◌, arith, append_assoc, append-nil, length-append}
+use Rattle.history_text.specs.Lines.{MayCome}
+use Rattle.history_text.specs.Reading.{history_lines, lines_from}
 use Rattle.history_model.specs.History.{History, history_of}
 use Rattle.history_model.specs.Refusals.{Line, IsBuildError, IsRefusal, IsWellFormed, events_of}
 use Rattle.history_model.specs.declared.refusal.BuildError.{BuildError}
@@ -11,7 +12,7 @@ use Rattle.reg_arena.proofs.Numbered.{names-lines}
 use Rattle.reg_report.proofs.Pulling.{gives-more, gives-none, stops-after}
 use Rattle.reg_report.specs.Answer.{IsArenaOf}
 use Rattle.reg_report.specs.Ends.{IsAll}
-use Rattle.reg_report.specs.Intake.{IsHeld, IsNext, IsReadOf, MayCome, lines_behind}
+use Rattle.reg_report.specs.Intake.{IsHeld, IsReadOf}
 use Rattle.reg_report.specs.Pulled.{Gives, GetsNoMore, nothing}
 use Rattle.reg_report.specs.Refusals.{of_build}
 use Rattle.reg_report.specs.Underway.{AreNumberedBehind, IsStopped, IsReadSoFar, IsUnderway, lines_in}
@@ -22,26 +23,34 @@ use Rattle.reg_report.specs.declared.reading.Underway.{Underway}
 use Rattle.reg_report.specs.declared.refusal.Refusal.{Refusal}
 use Rattle.reg_report.specs.declared.refusal.Refusal.TheVariants.{At, TooLong, InputFailed, NoRoom, OutputFailed}
 
+-- a turn of pulling and reading: the source gave some bytes, and the lines of what was held and of these are the lines that were read and those of what is held now
+pub record IsNext (left now : Option (List ℕ)) (failed failed_now : ℕ) (old new : Intake) (read : List Line) : Type 0 where
+  pub bytes : List ℕ
+  pub given : Gives left now failed failed_now old.pulled new.pulled bytes
+  pub lines : (more : List ℕ) → MayCome new.pulled.is_ended more → read ++ lines_from new.next_line (new.held.items ++ more) ≡ lines_from old.next_line (old.held.items ++ (bytes ++ more))
+  pub end : new.pulled.is_ended ≡ true → new.held.items ≡ []
+  pub room : new.next_line + length new.held.items ≤ old.next_line + length old.held.items + length bytes
+
 -- what was pulled and held is read
 pub next-of : (left now : Option (List ℕ)) (failed failed_now : ℕ) (old middle new : Intake) (bytes : List ℕ) (read : List Line) → IsHeld left now failed failed_now old middle bytes → IsReadOf middle new read → IsNext left now failed failed_now old new read
 next-of left now failed failed_now old middle new bytes read held was_read = record {
   bytes = bytes;
   given = subst (λ pulled. Gives left now failed failed_now old.pulled pulled bytes) (sym was_read.pulled) held.given;
   lines = λ more may_come. was_read.lines more (subst (λ (pulled : Pulled). MayCome pulled.is_ended more) was_read.pulled may_come)
-      ∙ ap (λ count. lines_behind count (middle.held.items ++ more)) held.before
-      ∙ ap (λ xs. lines_behind old.lines_before (xs ++ more)) held.held
-      ∙ ap (lines_behind old.lines_before) (append_assoc old.held.items bytes more);
+      ∙ ap (λ n. lines_from n (middle.held.items ++ more)) held.line
+      ∙ ap (λ xs. lines_from old.next_line (xs ++ more)) held.held
+      ∙ ap (lines_from old.next_line) (append_assoc old.held.items bytes more);
   end = λ ended. was_read.end (subst (λ (pulled : Pulled). pulled.is_ended ≡ true) was_read.pulled ended);
-  room = (let room = was_read.room in let before = held.before in let longer = ap length held.held in let joined = length-append old.held.items bytes in omega arith);
+  room = (let room = was_read.room in let line = held.line in let longer = ap length held.held in let joined = length-append old.held.items bytes in omega arith);
 }
 
 -- nothing is taken in before the first pull
-pub none-read : (left : Option (List ℕ)) (failed : ℕ) (intake : Intake) → intake.held.items ≡ [] → intake.lines_before ≡ 0 → intake.pulled ≡ nothing → IsReadSoFar left left failed failed [] [] intake
-none-read left failed intake held before pulled = record {
+pub none-read : (left : Option (List ℕ)) (failed : ℕ) (intake : Intake) → intake.held.items ≡ [] → intake.next_line ≡ 1 → intake.pulled ≡ nothing → IsReadSoFar left left failed failed [] [] intake
+none-read left failed intake held line pulled = record {
   given = subst (λ new. Gives left left failed failed nothing new []) (sym pulled) (gives-none left failed nothing (omega arith));
-  lines = λ more may_come. ap (λ count. lines_behind count (intake.held.items ++ more)) before ∙ ap (λ xs. lines_behind 0 (xs ++ more)) held;
+  lines = λ more may_come. ap (λ n. lines_from n (intake.held.items ++ more)) line ∙ ap (λ xs. lines_from 1 (xs ++ more)) held;
   end = λ ended. held;
-  room = (let none = ap length held in omega (arith, before, none));
+  room = (let none = ap length held in omega (arith, line, none));
 }
 
 module _ (left mid now : Option (List ℕ)) (failed failed_mid failed_now : ℕ) (bytes : List ℕ) (read : List Line) (old new : Intake) (taken : IsReadSoFar left mid failed failed_mid bytes read old) where
@@ -50,7 +59,7 @@ module _ (left mid now : Option (List ℕ)) (failed failed_mid failed_now : ℕ)
   read-further later next = record {
     given = gives-more left mid now failed failed_mid failed_now nothing old.pulled bytes taken.given new.pulled next.bytes next.given;
     lines = λ more may_come.
-        append_assoc read later (lines_behind new.lines_before (new.held.items ++ more))
+        append_assoc read later (lines_from new.next_line (new.held.items ++ more))
         ∙ ap (λ lines. read ++ lines) (next.lines more may_come)
         ∙ taken.lines (next.bytes ++ more) (λ ended. let none = next.given.none_behind ended in ap (λ xs. xs ++ more) none.0 ∙ may_come none.1)
         ∙ ap history_lines (sym (append_assoc bytes next.bytes more));
@@ -70,7 +79,7 @@ module _ (left mid now : Option (List ℕ)) (failed failed_mid failed_now : ℕ)
 pub stopped-by-build : (left now : Option (List ℕ)) (failed failed_now : ℕ) (bytes : List ℕ) (read : List Line) (intake : Intake) → IsReadSoFar left now failed failed_now bytes read intake
     → (e : BuildError) → ((after : List Line) → IsBuildError (read ++ after) e) → IsStopped left now failed failed_now intake.pulled (of_build e)
 stopped-by-build left now failed failed_now bytes read intake taken (Refused r) refused =
-    (bytes, taken.given, λ more may_come. subst (λ lines. IsRefusal lines r) (taken.lines more may_come) (refused (lines_behind intake.lines_before (intake.held.items ++ more))))
+    (bytes, taken.given, λ more may_come. subst (λ lines. IsRefusal lines r) (taken.lines more may_come) (refused (lines_from intake.next_line (intake.held.items ++ more))))
 stopped-by-build left now failed failed_now bytes read intake taken Memory refused = (bytes, taken.given)
 
 module _ (left mid now : Option (List ℕ)) (failed failed_mid failed_now : ℕ) (old new : Intake) (reader : Reader) (state : Underway) (underway : IsUnderway left mid failed failed_mid old reader state) where
@@ -119,7 +128,7 @@ module _ (left now : Option (List ℕ)) (failed failed_now : ℕ) (intake : Inta
   all-ahead =
       let read = underway.before ++ lines_in state.ahead.items in
       sym (append-nil read)
-      ∙ ap (λ xs. read ++ lines_behind intake.lines_before (xs ++ [])) (sym (underway.so_far.end ended))
+      ∙ ap (λ xs. read ++ lines_from intake.next_line (xs ++ [])) (sym (underway.so_far.end ended))
       ∙ underway.so_far.lines [] (λ _. refl)
       ∙ ap history_lines (append-nil underway.bytes)
 

@@ -1,7 +1,8 @@
 -- The reading of a source turn by turn: what is built, what was read ahead, and what is held.
 use Rattle.std.specs.Prelude.{◌≡◌, ◌+◌, ◌<◌, ◌≤◌, ◌++◌, ℕ, List, [], true, flat_map, length, Option, Some, Result}
 use Rattle.history_text.specs.declared.limits.TheConstants.{MAX_INPUT}
-use Rattle.history_text.specs.Reading.{history_lines}
+use Rattle.history_text.specs.Lines.{MayCome}
+use Rattle.history_text.specs.Reading.{history_lines, lines_from}
 use Rattle.history_model.specs.History.{History}
 use Rattle.history_model.specs.Refusals.{Line, IsRefusal}
 use Rattle.history_model.specs.declared.refusal.BuildError.{BuildError}
@@ -9,7 +10,6 @@ use Rattle.reg_arena.specs.Built.{IsBuilt, IsBuiltWith}
 use Rattle.reg_arena.specs.Numbered.{ArePartsNumbered, lines_of, names_with}
 use Rattle.reg_arena.specs.declared.numbering.NumberedLines.{NumberedLines}
 use Rattle.reg_report.specs.Ends.{IsAll, IsTooLong, IsWithinLimit}
-use Rattle.reg_report.specs.Intake.{MayCome, lines_behind}
 use Rattle.reg_report.specs.Pulled.{Exceeds, Gives, nothing}
 use Rattle.reg_report.specs.declared.intake.Intake.{Intake}
 use Rattle.reg_report.specs.declared.pulled.Pulled.{Pulled}
@@ -34,9 +34,9 @@ pub record IsWithLines (arena : Option History) (lines : List Line) (result : Re
 -- the source gave these bytes since nothing was pulled, and whatever may come, their lines are those that were read and those of what is held
 pub record IsReadSoFar (left now : Option (List ℕ)) (failed failed_now : ℕ) (bytes : List ℕ) (read : List Line) (intake : Intake) : Type 0 where
   pub given : Gives left now failed failed_now nothing intake.pulled bytes
-  pub lines : (more : List ℕ) → MayCome intake.pulled.is_ended more → read ++ lines_behind intake.lines_before (intake.held.items ++ more) ≡ history_lines (bytes ++ more)
+  pub lines : (more : List ℕ) → MayCome intake.pulled.is_ended more → read ++ lines_from intake.next_line (intake.held.items ++ more) ≡ history_lines (bytes ++ more)
   pub end : intake.pulled.is_ended ≡ true → intake.held.items ≡ []
-  pub room : intake.lines_before + length intake.held.items ≤ intake.pulled.total
+  pub room : intake.next_line + length intake.held.items ≤ intake.pulled.total + 1
 
 -- the arena is built of some lines, and those that were read are these and the ones that were read ahead
 pub record IsUnderway (left now : Option (List ℕ)) (failed failed_now : ℕ) (intake : Intake) (reader : Reader) (state : Underway) : Type 0 where

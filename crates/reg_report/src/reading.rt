@@ -1,13 +1,13 @@
 //! From the bytes of a source to the arena of their history: while the lines of one block are taken in, those of the next are
-//! pulled, read and numbered.
-ghost use Rattle.std.specs.Prelude.{◌≡◌, ◌≢◌, ◌+◌, ◌-◌, ◌^◌, ◌<◌, ◌≤◌, ◌↔◌, ℕ, Bool, List, [], Option, Some, false, flat_map, length, Err, IfOk, IfErr, IfSome};
+//! read and numbered.
+ghost use Rattle.std.specs.Prelude.{◌≡◌, ◌+◌, ◌-◌, ◌^◌, ◌<◌, ◌≤◌, ℕ, List, [], Option, Some, false, length, IfOk, IfErr};
 ghost use Rattle.history_text.specs.declared.limits.TheConstants.{MAX_INPUT};
 ghost use Rattle.history_model.specs.History.{History};
 ghost use Rattle.reg_arena.specs.Numbered.{ArePartsNumbered};
 ghost use Rattle.reg_report.specs.Answer.{IsArenaOf};
 ghost use Rattle.reg_report.specs.Ends.{IsAll};
-ghost use Rattle.reg_report.specs.Intake.{FitsLimit, IsNext, IsReadOf};
-ghost use Rattle.reg_report.specs.Pulled.{GetsNoMore, IsFurther, nothing};
+ghost use Rattle.reg_report.specs.Intake.{FitsLimit, IsReadOf};
+ghost use Rattle.reg_report.specs.Pulled.{IsFurther, nothing};
 ghost use Rattle.reg_report.specs.Underway.{AreNumberedBehind, MayChange, IsRefusedOf, IsStopped, IsUnderway, IsWithLines, lines_in};
 
 use crate::intake::Intake;
@@ -20,8 +20,9 @@ use std::alloc::{AllocError, Global};
 use std::random::RandomSource;
 use std::thread::{Threads, join_mut};
 
-/// How many bytes a block has: enough that threads started for it cost little, and so few that its lines take little memory.
-const BLOCK: usize = 1_572_864;
+/// How many bytes a block has: so many that its lines are read by the time those before them are taken in, even if the thread
+/// that reads them starts late, and so few that they take little memory.
+const BLOCK: usize = 2_621_440;
 
 /// The bytes of the shortest event, as `{"process":1,"event":"crash"}` with its line feed.
 const SHORTEST_EVENT: usize = 30;
@@ -36,42 +37,20 @@ struct Reader {
 }
 
 impl Reader {
-    /// Reads and numbers the lines that are held.
+    /// Drops the lines that were taken in last, and reads and numbers the whole lines that are held.
     fn read<T: Threads + Sync>(
         &mut self,
         rt: &T,
         intake: &mut Intake,
     ) -> Result<Vec<NumberedLines>, AllocError>
-        requires { intake.old.lines_before + length intake.old.held.items ≤ MAX_INPUT }
+        requires { intake.old.next_line + length intake.old.held.items ≤ MAX_INPUT + 1 }
         ensures read { IfOk result (λ parts. IsReadOf intake.old intake.new (lines_in parts.items)) }
         ensures numbered { IfOk result (λ parts. AreNumberedBehind self.old.numbering self.new.numbering parts.items) }
         ensures pulled { intake.new.pulled ≡ intake.old.pulled }
     {
+        self.spent.clear();
         let parts = intake.read(rt, self.alloc)?;
         self.numbering.number_parts(self.alloc, parts)
-    }
-
-    /// Pulls, reads and numbers the next lines.
-    ///
-    /// # Errors
-    /// `InputFailed`, `TooLong` or `NoRoom`.
-    fn next<T: Threads + Sync, S: Source>(
-        &mut self,
-        rt: &T,
-        source: &mut S,
-        intake: &mut Intake,
-    ) -> Result<Vec<NumberedLines>, Refusal>
-        requires fits { FitsLimit intake.old }
-        requires failures { S.failed source.old < 2 ^ 64 - 1 }
-        ensures read { IfOk result (λ parts. IsNext (S.left source.old) (S.left source.new) (S.failed source.old) (S.failed source.new) intake.old intake.new (lines_in parts.items)) }
-        ensures numbered { IfOk result (λ parts. AreNumberedBehind self.old.numbering self.new.numbering parts.items) }
-        ensures further { IfOk result (λ _. intake.old.pulled.is_ended ≡ false → IsFurther intake.old.pulled intake.new.pulled) }
-        ensures err { IfErr result (GetsNoMore (S.left source.old) (S.left source.new) (S.failed source.old) (S.failed source.new) intake.old.pulled intake.new.pulled) }
-    {
-        self.spent.clear();
-        let enough = intake.held().len() + BLOCK;
-        intake.fill(source, enough)?;
-        Ok(self.read(rt, intake)?)
     }
 }
 
@@ -98,44 +77,41 @@ fn take_in(
 }
 
 impl Underway {
-    /// Has a thread take in the lines that were read, and meanwhile pulls, reads and numbers the next ones.
-    fn take_in_and_read<T: Threads + Sync, S: Source>(
+    /// Has a thread read the lines that are held, and meanwhile takes in those that were read before.
+    fn read_and_take_in<T: Threads + Sync>(
         self,
         rt: &T,
-        source: &mut S,
         intake: &mut Intake,
         reader: &mut Reader,
     ) -> (
+        Result<Vec<NumberedLines>, AllocError>,
         Result<Arena, BuildError>,
-        Result<Vec<NumberedLines>, Refusal>,
     )
         requires names { ArePartsNumbered self.arena.names self.ahead.items }
-        requires fits { FitsLimit intake.old }
-        requires failures { S.failed source.old < 2 ^ 64 - 1 }
-        ensures taken { IsWithLines (Some self.arena) (lines_in self.ahead.items) result.0 }
-        ensures read { IfOk result.1 (λ parts. IsNext (S.left source.old) (S.left source.new) (S.failed source.old) (S.failed source.new) intake.old intake.new (lines_in parts.items)) }
-        ensures numbered { IfOk result.1 (λ parts. AreNumberedBehind reader.old.numbering reader.new.numbering parts.items) }
-        ensures further { IfOk result.1 (λ _. intake.old.pulled.is_ended ≡ false → IsFurther intake.old.pulled intake.new.pulled) }
-        ensures err { IfErr result.1 (GetsNoMore (S.left source.old) (S.left source.new) (S.failed source.old) (S.failed source.new) intake.old.pulled intake.new.pulled) }
+        requires room { intake.old.next_line + length intake.old.held.items ≤ MAX_INPUT + 1 }
+        ensures read { IfOk result.0 (λ parts. IsReadOf intake.old intake.new (lines_in parts.items)) }
+        ensures numbered { IfOk result.0 (λ parts. AreNumberedBehind reader.old.numbering reader.new.numbering parts.items) }
+        ensures pulled { intake.new.pulled ≡ intake.old.pulled }
+        ensures taken { IsWithLines (Some self.arena) (lines_in self.ahead.items) result.1 }
     {
         let Underway { arena, ahead } = self;
         let alloc = reader.alloc;
         let mut arena = Some(arena);
         let made = join_mut(
             rt,
-            &mut || take_in(alloc, &mut arena, &ahead),
             &mut ||
-                requires { FitsLimit intake.now × (S.failed source.now < 2 ^ 64 - 1) }
-            { reader.next(rt, source, intake) },
+                requires { intake.now.next_line + length intake.now.held.items ≤ MAX_INPUT + 1 }
+            { reader.read(rt, intake) },
+            &mut || take_in(alloc, &mut arena, &ahead),
         );
         reader.spent = ahead;
         made
     }
 
-    /// Takes in the lines that were read, and has the next ones read.
+    /// Pulls the next bytes, and has their lines read while those that were read are taken in.
     ///
     /// # Errors
-    /// `InputFailed`, `TooLong` or `NoRoom` if there are no next ones, else `At` if a line is refused.
+    /// `InputFailed` or `TooLong` if pulling stopped, else `NoRoom` if memory was refused, else `At` for a refused line.
     fn turn<T: Threads + Sync, S: Source>(
         self,
         rt: &T,
@@ -150,8 +126,10 @@ impl Underway {
         ensures further { IfOk result (λ _. intake.old.pulled.is_ended ≡ false → IsFurther intake.old.pulled intake.new.pulled) }
         ensures err { IfErr result (λ refusal. (left : Option (List ℕ)) (failed : ℕ) → IsUnderway left (S.left source.old) failed (S.failed source.old) intake.old reader.old self → IsStopped left (S.left source.new) failed (S.failed source.new) intake.new.pulled refusal) }
     {
-        let (taken, next) = self.take_in_and_read(rt, source, intake, reader);
-        let ahead = next?;
+        let enough = intake.held().len() + BLOCK;
+        intake.fill(source, enough)?;
+        let (read, taken) = self.read_and_take_in(rt, intake, reader);
+        let ahead = read?;
         let arena = taken?;
         Ok(Underway { arena, ahead })
     }
@@ -187,7 +165,7 @@ fn read_arena<T: Threads + RandomSource + Sync, S: Source>(
     intake: &mut Intake,
 ) -> Result<Arena, Refusal>
     requires held { intake.old.held.items ≡ [] }
-    requires before { intake.old.lines_before ≡ 0 }
+    requires line { intake.old.next_line ≡ 1 }
     requires pulled { intake.old.pulled ≡ nothing }
     requires failures { S.failed source.old < 2 ^ 64 - 1 }
     ensures ok { IfOk result (λ arena. (bytes : List ℕ) × IsAll (S.left source.old) bytes × IsArenaOf bytes arena) }

@@ -67,23 +67,37 @@ fn lines_of_inputs(rt: HostRuntime) -> Result<(), Fail> {
     Ok(())
 }
 
-// The first two lines, the next two, and whether the input ends behind each.
-fn twice_two_lines(rt: &(impl Abort + Sync), alloc: Global, bytes: &[u8]) -> Result<String, Fail> {
-    assert!(rt; bytes.len() <= MAX_INPUT);
+// The whole lines, if the first has number 7, and where the next one begins.
+fn shown_whole(
+    rt: &(impl Abort + Sync),
+    alloc: Global,
+    bytes: &[u8],
+    is_ended: bool,
+) -> Result<String, Fail> {
+    assert!(rt; bytes.len() <= 1_000);
     let mut shown = String::new(alloc);
-    let (first, between) = next_lines(alloc, bytes, Place::first(), 2)?;
-    show_spans(&mut shown, &first)?;
-    write!(shown, "{} ", between.is_end(bytes))?;
-    let (second, end) = next_lines(alloc, bytes, between, 2)?;
-    show_spans(&mut shown, &second)?;
-    write!(shown, "{}", end.is_end(bytes))?;
+    let whole = whole_lines(alloc, bytes, 7, is_ended)?;
+    show_spans(&mut shown, &whole.spans)?;
+    write!(shown, "{}:{}", whole.next_line, whole.byte_count)?;
     Ok(shown)
 }
 
 #[test]
-fn lines_two_at_a_time(rt: HostRuntime) -> Result<(), Fail> {
-    let got = twice_two_lines(&rt, rt.alloc(), b"a\n\nb\nc".as_slice())?;
-    assert_eq!(rt; got.as_str(), "1:0-1 false 3:3-4 4:5-6 true");
+fn whole_lines_of_bytes(rt: HostRuntime) -> Result<(), Fail> {
+    let alloc = rt.alloc();
+    for (text, is_ended, want) in [
+        ("", false, "7:0"),
+        ("", true, "7:0"),
+        ("a", false, "7:0"),
+        ("a", true, "7:0-1 7:1"),
+        ("a\n", false, "7:0-1 8:2"),
+        ("a\n", true, "7:0-1 8:2"),
+        ("a\n\nb\nc", false, "7:0-1 9:3-4 10:5"),
+        ("a\n\nb\nc", true, "7:0-1 9:3-4 10:5-6 10:6"),
+    ] {
+        let got = shown_whole(&rt, alloc, text.as_bytes(), is_ended)?;
+        assert_eq!(rt; got.as_str(), want, "{text} {is_ended}");
+    }
     Ok(())
 }
 

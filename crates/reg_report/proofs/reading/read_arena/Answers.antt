@@ -17,7 +17,7 @@ returns-in_err-ahead-clause-err g c =
     let held = c.in_ok-fill.ensures.ok in
     passed-on (IsStopped (g.S.Source.left c.args.source.now) (g.S.Source.left c.fill.new.source) (g.S.Source.failed c.args.source.now) (g.S.Source.failed c.fill.new.source) c.read.new.intake.pulled)
     NoRoom c.from_residual-in_err-ahead.result c.from_residual-in_err-ahead.ensures.1
-    (stopped-by-next _ _ _ _ _ _ _ _ old c.read.new.intake (none-read _ _ old c.requires.held c.requires.before c.requires.pulled) NoRoom
+    (stopped-by-next _ _ _ _ _ _ _ _ old c.read.new.intake (none-read _ _ old c.requires.held c.requires.line c.requires.pulled) NoRoom
     (held.0, subst (λ pulled. Gives (g.S.Source.left c.args.source.now) (g.S.Source.left c.fill.new.source) (g.S.Source.failed c.args.source.now) (g.S.Source.failed c.fill.new.source) old.pulled pulled held.0) (sym c.read.ensures.pulled) held.1.given))
 
 pub loop-underway-init : goal.loop-underway-init
@@ -25,7 +25,7 @@ loop-underway-init g c =
     let old = c.args.intake.now in
     let held = c.in_ok-fill.ensures.ok in
     first-turn _ _ _ _ old c.fill.new.self c.read.new.intake c.read.new.self _ held.0 _
-    (none-read _ _ old c.requires.held c.requires.before c.requires.pulled) held.1 c.in_ok-ahead.ensures.read c.in_ok-arena.ensures.built (c.in_ok-arena.ensures.names ∙ sym c.new.ensures) c.in_ok-ahead.ensures.numbered
+    (none-read _ _ old c.requires.held c.requires.line c.requires.pulled) held.1 c.in_ok-ahead.ensures.read c.in_ok-arena.ensures.built (c.in_ok-arena.ensures.names ∙ sym c.new.ensures) c.in_ok-ahead.ensures.numbered
 
 pub returns-in_err-underway-clause-err : goal.returns-in_err-underway-clause-err
 returns-in_err-underway-clause-err g c =
