@@ -4,8 +4,8 @@
     examples/recorder.py | bin/regcheck
 
 The store is a dictionary behind a lock, so the history is atomic. Put the store under test in its place: what
-times out there is `TimeoutError` here, and what surely did nothing is `ConnectionRefusedError`. If regkit is
-installed, the line with `sys.path` isn't needed."""
+times out there is `TimeoutError` here, and what surely did nothing is `ConnectionRefusedError`. The line with
+`sys.path` is for the repository. With a release, say `export PYTHONPATH=$(command -v regkit)` first."""
 import pathlib
 import random
 import sys

@@ -30,7 +30,7 @@ typedef struct regcheck_answer {
 } regcheck_answer;
 
 /* Checks the history of `input_length` bytes at `input`, and puts its report at the beginning of the `out_length` bytes at
-   `out`. It says what came of it in `*answer`. The bytes at `out` behind the report stay as they were, and all of them do if
+   `out`. It says what came of it in `*answer`. The bytes at `out` after the report stay as they were, and all of them do if
    there is no report or no room for all of it.
 
    No pointer may be null, even for a length of 0. `out` and `*answer` may overlap neither each other nor the input. The call

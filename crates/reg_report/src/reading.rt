@@ -24,7 +24,8 @@ use std::thread::{Threads, join_mut};
 /// that reads them starts late, and so few that they take little memory.
 const BLOCK: usize = 2_621_440;
 
-/// The bytes of the shortest event, as `{"process":1,"event":"crash"}` with its line feed.
+/// The fewest bytes of an event, as of `{"process":1,"event":"crash"}` with its line feed. A fail may have one less, but its
+/// call has many more.
 const SHORTEST_EVENT: usize = 30;
 
 /// What the reading side keeps from turn to turn: the numbers of the registers so far, and the lines that were taken in last,

@@ -63,7 +63,7 @@ pub struct RegReport {
     pub points: Option<Lines>,
 }
 
-/// The lines of the registers, or of the first that isn't atomic alone, and the summary.
+/// The lines of the registers, or of only the first that isn't atomic, and the summary.
 #[derive(Drop)]
 pub struct Report {
     pub regs: Registers,

@@ -29,7 +29,7 @@ workers_rule = number_rule (codes "workers") MAX_WORKERS (codes "4")
 abbrev pub cut_rule : Rule
 cut_rule = number_rule (codes "cut") MAX_CUT (codes "4096")
 
--- a flag that asks for the first register that isn't atomic alone
+-- a flag that asks for only the first register that isn't atomic
 abbrev pub first_rule : Rule
 first_rule = record (new_rule (codes "first")) { long = Some (codes "first"); action = Some SetTrue }
 

@@ -28,14 +28,14 @@ const CUT: &str =
     "Most reads of a worker's piece, 1 to 1048576; the report is the same with any number";
 
 const FIRST: &str =
-    "Reports the first register that isn't atomic alone, if there is one, and no order";
+    "Reports only the first register that isn't atomic, if there is one, and no order";
 
 const STATUSES: &str = "The report goes to standard output. Exit status:
   0  the history is atomic
   1  it isn't
   2  the history is refused: it isn't well formed, or too long
   3  the command line is refused, or it asked for this help or the version
-  4  the history couldn't be read, the report couldn't be written, or memory was refused";
+  4  the history couldn't be read, the report couldn't be written, or memory or a thread was refused";
 
 /// What the words ask for.
 #[derive(Drop)]
@@ -105,7 +105,7 @@ fn file<'a>(alloc: Global) -> Arg<'a>
     Arg::new(alloc, "file").value_name("FILE").help(FILE)
 }
 
-/// The flag that asks for the first register that isn't atomic alone.
+/// The flag that asks for only the first register that isn't atomic.
 fn first<'a>(alloc: Global) -> Arg<'a>
     ensures rule { rule_of result ≡ first_rule }
     ensures local { result.global ≡ false }

@@ -1,4 +1,4 @@
-//! Runs that ask for the first register that isn't atomic alone.
+//! Runs that ask for only the first register that isn't atomic.
 use crate::histories::{expect_report, first_settings};
 use crate::rows::Report;
 use crate::workers::expect_past_each;

@@ -16,7 +16,7 @@ pub(crate) fn settings(workers: u32, cut: u32) -> Result<Settings, Fail> {
     Ok(Settings::new(workers, cut, false).ok_or("a number beyond its limit")?)
 }
 
-// The same, of a run that asks for the first register that isn't atomic alone.
+// The same, of a run that asks for only the first register that isn't atomic.
 pub(crate) fn first_settings(workers: u32, cut: u32) -> Result<Settings, Fail> {
     Ok(Settings::new(workers, cut, true).ok_or("a number beyond its limit")?)
 }

@@ -3,7 +3,7 @@
 //! They are a crate of their own, so that `reg_report` isn't proved once more with them.
 //!
 //! Read it in this order: `rows`, the histories with their answers; `histories`, what is answered to each; `messages`, what is
-//! said of lines of other numbers; `ends`, where little comes at a time or something fails; `workers`, where several work
+//! said of lines of other numbers; `failing_ends`, where little comes at a time or something fails; `workers`, where several work
 //! at once; `first`, where the first register that isn't atomic is all that is asked for; `fails`, where calls fail and
 //! processes crash.
 #![tactic(auto)]
