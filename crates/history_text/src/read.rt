@@ -13,7 +13,7 @@ use std::alloc::{AllocError, Global};
 use std::sync::atomic::{AtomicBool, Ordering};
 use std::thread::Threads;
 
-/// How many lines one thread reads into one list: so few that what takes them in can soon give their memory back.
+/// How many lines one thread reads into one list: so many that a block has only a few lists, and so few that several threads share a block.
 const PART: usize = 8_192;
 
 /// The event of each line that is not blank, or its lowest-numbered fault, in order. Their line numbers ascend.

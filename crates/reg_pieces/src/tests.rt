@@ -118,7 +118,7 @@ fn count_of_pieces_in_parts(rt: HostRuntime) -> Result<(), Fail> {
     expect_count_in_parts(&rt, &arena)
 }
 
-// The settings of a run that asks for the first register that isn't atomic alone.
+// The settings of a run, if the first register that isn't atomic is all that is asked for.
 fn first_settings(workers: u32, cut: u32) -> Result<Settings, Fail> {
     Ok(Settings::new(workers, cut, true).ok_or("a number beyond its limit")?)
 }
