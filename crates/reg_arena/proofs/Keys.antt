@@ -5,10 +5,6 @@ use Rattle.std.specs.List.{position, position_or_len, list_any}
 use Rattle.std.proofs.lemmas.Bool.{ltb-true, ltb-false, eqb-true, eqb-false}
 use Rattle.std.proofs.lemmas.List.Folds.{position_or_len_push}
 
-pub place-map : {S X : Type 0} (f : S → X) (p : X → Bool) (ks : List S) → position_or_len p (map f ks) ≡ position_or_len (λ k. p (f k)) ks
-place-map f p [] = refl
-place-map f p (k ∷ ks) = ap (λ n. cond (not (p (f k))) (1 + n) 0) (place-map f p ks)
-
 pub place-within : {X : Type 0} (p : X → Bool) (xs : List X) → position_or_len p xs ≤ length xs
 place-within p [] = omega arith
 place-within p (x ∷ xs) = go (p x) (place-within p xs)
@@ -42,15 +38,6 @@ any-past p (x ∷ xs) h = go (p x) h (any-past p xs)
 
 pub added-last : {X : Type 0} (p : X → Bool) (xs : List X) (x : X) → position_or_len p xs ≡ length xs → (if list_any p xs then xs else xs ++ x ∷ []) ≡ xs ++ x ∷ []
 added-last p xs x h = ap (λ b. if b then xs else xs ++ x ∷ []) (any-past p xs h)
-
-pub map-push : {S X : Type 0} (f : S → X) (ks : List S) (k : S) → map f (ks ++ k ∷ []) ≡ map f ks ++ f k ∷ []
-map-push f [] k = refl
-map-push f (x ∷ ks) k = ap (λ ys. f x ∷ ys) (map-push f ks k)
-
-pub map-get : {S X : Type 0} (f : S → X) (ks : List S) (i : ℕ) (k : S) → get_or (map f ks) i (f k) ≡ f (get_or ks i k)
-map-get f [] i k = refl
-map-get f (x ∷ ks) zero k = refl
-map-get f (x ∷ ks) (suc i) k = map-get f ks i k
 
 -- ---- the place of a key by a test, where there is one
 

@@ -23,15 +23,15 @@ pub struct NumberedLines {
 /// The names of the registers that were called so far, each with its number. Contracts see it as these names.
 #[derive(Drop)]
 pub struct Numbering {
-    names: IndexSet<String, Seeded>,
+    names: IndexSet<Name, Seeded>,
 }
 
 impl Model for Numbering {
-    ghost use Rattle.std.specs.Prelude.{ℕ, List, map, string_bytes};
+    ghost use Rattle.std.specs.Prelude.{ℕ, List};
 
     ghost Value = { List (List ℕ) };
 
-    ghost view = { λ n. map string_bytes n.names.keys };
+    ghost view = { λ n. n.names.keys };
 }
 
 impl Numbering {
@@ -105,12 +105,11 @@ impl Numbering {
         ensures number { IfOk result (λ n. n ≡ position_or_len (bytes_eq name.now) self.old) }
         ensures names { OnOk result (self.new ≡ with_name self.old (Some name.now)) }
     {
-        match self.names.get_index_of(name.as_str()) {
+        match self.names.get_index_of(name) {
             Some(number) => Ok(number),
             None => {
                 let number = self.names.len();
-                let text = String::from_str(alloc, name.as_str())?;
-                self.names.insert(text)?;
+                self.names.insert(Name::new(alloc, name.as_str())?)?;
                 Ok(number)
             }
         }
