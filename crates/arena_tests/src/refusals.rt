@@ -1,7 +1,7 @@
 //! Histories that aren't well formed: the first faulty line, and the lowest number that applies there.
 use crate::short::lines;
 use history_model::{BuildError, LineRefusal, Reason};
-use history_text::{Kind, LineEvent, LineFault, Name, ReplyParts, Val};
+use history_text::{Kind, LineEvent, LineFault, Name, OptionalName, ReplyParts, Val};
 use reg_arena::Arena;
 use std::alloc::{AllocError, Global};
 use std::process::Abort;
@@ -120,7 +120,7 @@ fn read_event(
     } else {
         Kind::Reply(ReplyParts {
             op: None,
-            register: None,
+            register: OptionalName::none(),
             value: Some(Val::Null),
         })
     };

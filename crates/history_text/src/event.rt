@@ -1,5 +1,6 @@
 //! What a line of a history says: one event.
 use crate::name::Name;
+use crate::optional_name::OptionalName;
 
 /// A value of a register.
 #[derive(Clone, Copy, Debug, PartialEq, Eq)]
@@ -38,7 +39,7 @@ pub struct ReplyParts {
     /// The kind of the operation.
     pub op: Option<OpKind>,
     /// The register of the operation.
-    pub register: Option<Name>,
+    pub register: OptionalName,
     /// The value of the operation. A `null` in the line is `Some(Null)`.
     pub value: Option<Val>,
 }

@@ -15,6 +15,7 @@ use crate::event::{EventWord, Kind, LineEvent, OpKind, ReplyParts, Val};
 use crate::flat_members::{Found, flat_object};
 use crate::limits::MAX_NAME;
 use crate::name::Name;
+use crate::optional_name::OptionalName;
 use std::alloc::{AllocError, Global};
 
 /// The event of a flat line. `None` tells nothing of the line.
@@ -103,12 +104,12 @@ fn parts(alloc: Global, found: Found<'_>) -> Result<Option<ReplyParts>, AllocErr
     ensures { IfOk result (λ o. IfSome o (λ parts. (ms : Members) → Holds ms found.entry
         → parts_form (object ms) ≡ Ok parts)) }
 {
-    let mut register = None;
+    let mut register = OptionalName::none();
     if let Some(text) = found.register {
         if !is_name(text) {
             return Ok(None);
         }
-        register = Some(Name::new(alloc, text)?);
+        register = OptionalName::new(alloc, text)?;
     }
     Ok(Some(ReplyParts {
         op: found.op,

@@ -8,7 +8,7 @@
 //! [`read_lines`] reads all lines and joins the parts, and [`read_lines_alone`] reads the same by one thread.
 //! Nothing here knows how events follow one another; that is the floor above.
 //!
-//! Read it in this order: `limits`; `name`, `event` and `fault`, which say what a line can mean;
+//! Read it in this order: `limits`; `name`, `optional_name`, `event` and `fault`, which say what a line can mean;
 //! `members`, `refused` and `line`, which read one line; `scan`, `flat_members` and `flat_line`, which read
 //! a line of the common form faster; `lines` and `read`, which read them all.
 #![tactic(auto)]
@@ -22,6 +22,7 @@ mod line;
 mod lines;
 mod members;
 mod name;
+mod optional_name;
 mod read;
 mod refused;
 mod scan;
@@ -34,4 +35,5 @@ pub use limits::{MAX_EVENTS, MAX_INPUT, MAX_LINE, MAX_NAME};
 pub use line::{LineError, read_line};
 pub use lines::{Span, WholeLines, lines_of, whole_lines};
 pub use name::Name;
+pub use optional_name::OptionalName;
 pub use read::{read_lines, read_lines_alone, read_spans};

@@ -13,6 +13,7 @@ use crate::flat_line::flat_event;
 use crate::limits::MAX_LINE;
 use crate::members;
 use crate::name::Name;
+use crate::optional_name::OptionalName;
 use crate::refused::Refused;
 use serde_json::Value;
 use std::alloc::Global;
@@ -119,8 +120,8 @@ fn parts(alloc: Global, value: &Value) -> Result<ReplyParts, Refused>
     let text = members::reply_register(value).ok_or(LineKind::BadRegister)?;
     let replied = members::reply_value(value).ok_or(LineKind::BadValue)?;
     let register = match text {
-        None => None,
-        Some(text) => Some(Name::new(alloc, text)?),
+        None => OptionalName::none(),
+        Some(text) => OptionalName::new(alloc, text)?,
     };
     Ok(ReplyParts {
         op,

@@ -42,7 +42,7 @@ fn register_agrees(parts: &ReplyParts, names: &Names, register: RegId) -> bool
     requires { register.0 < length names.now }
     ensures { (name : List ℕ) → slice_get names.now register.0 ≡ Some name → result ≡ agrees bytes_eq parts.now.register name }
 {
-    match &parts.register {
+    match parts.register.get() {
         None => true,
         Some(said) => said.as_str() == names.get(register.0),
     }

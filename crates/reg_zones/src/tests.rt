@@ -2,7 +2,7 @@ ghost use Rattle.std.specs.Prelude.{◌<◌, length};
 
 use super::*;
 use history_model::{BuildError, EvId, Oper, RegId};
-use history_text::{Kind, LineEvent, LineFault, Name, ReplyParts, Val};
+use history_text::{Kind, LineEvent, LineFault, Name, OptionalName, ReplyParts, Val};
 use reg_arena::Arena;
 use std::alloc::{AllocError, Global};
 use std::process::Abort;
@@ -153,7 +153,7 @@ fn reply(value: Option<Val>) -> Kind {
 fn parts(value: Option<Val>) -> ReplyParts {
     ReplyParts {
         op: None,
-        register: None,
+        register: OptionalName::none(),
         value,
     }
 }

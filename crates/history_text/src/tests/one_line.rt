@@ -370,7 +370,7 @@ fn told_fail(told: &mut String, parts: &ReplyParts) -> Result<(), Fail> {
         Some(OpKind::ReadOp) => write!(told, " of a read")?,
         Some(OpKind::WriteOp) => write!(told, " of a write")?,
     }
-    if let Some(name) = &parts.register {
+    if let Some(name) = parts.register.get() {
         write!(told, " of {}", name.as_str())?;
     }
     match parts.value {
