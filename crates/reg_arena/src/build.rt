@@ -28,6 +28,14 @@ use history_model::{BuildError, EvId, Event, LineRefusal, Reason, RegId, What};
 use history_text::{Kind, LineEvent, LineFault, MAX_EVENTS, Name, OpKind, ReplyParts, Val};
 use std::alloc::{AllocError, Global};
 
+/// What a call says.
+#[derive(Clone, Copy)]
+struct CallParts<'a> {
+    name: &'a Name,
+    kind: OpKind,
+    value: Option<Val>,
+}
+
 /// The refusal of a line.
 fn refused(line: u32, reason: Reason) -> LineRefusal
     ensures { result ≡ record { line = line; reason = reason } }
@@ -119,10 +127,21 @@ impl Arena {
         ensures { (es : List ALineEvent) → AreAccepted es → self.old ≡ history_of es → IsStep es event.now (step_result self.new result) }
     {
         match &event.kind {
-            Kind::CallRead(name) => self.call(alloc, event, name, number, OpKind::ReadOp, None),
+            Kind::CallRead(name) => {
+                let parts = CallParts {
+                    name,
+                    kind: OpKind::ReadOp,
+                    value: None,
+                };
+                self.call(alloc, event, parts, number)
+            }
             Kind::CallWrite(name, n) => {
-                let value = Some(Val::Int(*n));
-                self.call(alloc, event, name, number, OpKind::WriteOp, value)
+                let parts = CallParts {
+                    name,
+                    kind: OpKind::WriteOp,
+                    value: Some(Val::Int(*n)),
+                };
+                self.call(alloc, event, parts, number)
             }
             Kind::Reply(parts) => self.reply(event, parts),
             Kind::Fail(parts) => self.fail(event, parts),
@@ -135,22 +154,20 @@ impl Arena {
         &mut self,
         alloc: Global,
         event: &LineEvent,
-        name: &Name,
+        parts: CallParts<'_>,
         number: usize,
-        kind: OpKind,
-        value: Option<Val>,
     ) -> Result<(), BuildError>
-        requires asked { asked_by event.now.kind ≡ Some (record { register = name.now; kind = kind; value = value }) }
-        requires number { number ≡ position_or_len (bytes_eq name.now) self.old.names }
+        requires asked { asked_by event.now.kind ≡ Some (record { register = parts.name.now; kind = parts.kind; value = parts.value }) }
+        requires number { number ≡ position_or_len (bytes_eq parts.name.now) self.old.names }
         ensures { (es : List ALineEvent) → AreAccepted es → self.old ≡ history_of es → IsStep es event.now (step_result self.new result) }
     {
         // The arena's invariant is known once a field is used.
         let _ = &self.names;
         let number = self.known(number);
-        let last = self.last_with(number, value);
+        let last = self.last_with(number, parts.value);
         match self.call_refusal(event, last) {
             Some(refusal) => Err(BuildError::Refused(refusal)),
-            None => Ok(self.add_call(alloc, event, name, number, kind, value, last)?),
+            None => Ok(self.add_call(alloc, event, parts, number, last)?),
         }
     }
 
@@ -360,15 +377,13 @@ impl Arena {
         &mut self,
         alloc: Global,
         event: &LineEvent,
-        name: &Name,
+        parts: CallParts<'_>,
         number: Option<u32>,
-        kind: OpKind,
-        value: Option<Val>,
         last: Option<EvId>,
     ) -> Result<(), AllocError>
-        requires asked { asked_by event.now.kind ≡ Some (record { register = name.now; kind = kind; value = value }) }
-        requires number { IsNumber self.old.names name.now number }
-        requires last { IsLastWith self.old.events number value last }
+        requires asked { asked_by event.now.kind ≡ Some (record { register = parts.name.now; kind = parts.kind; value = parts.value }) }
+        requires number { IsNumber self.old.names parts.name.now number }
+        requires last { IsLastWith self.old.events number parts.value last }
         requires taken { IsTaken self.old event.now }
         ensures { OnOkAfter self.old event.now (step_result self.new result) }
     {
@@ -378,8 +393,8 @@ impl Arena {
             line: event.line,
             process: event.process,
             register: Some(RegId(number.unwrap_or(count))),
-            what: What::Call(kind),
-            value,
+            what: What::Call(parts.kind),
+            value: parts.value,
         };
         match self.lists.append(event, id, last) {
             Ok(()) => {}
@@ -390,7 +405,7 @@ impl Arena {
         }
         match number {
             Some(_) => Ok(()),
-            None => match self.names.push(alloc, name) {
+            None => match self.names.push(alloc, parts.name) {
                 Ok(()) => Ok(()),
                 Err(error) => {
                     forget(&mut self.names, &mut self.lists);

@@ -7,7 +7,7 @@ ghost use Rattle.history_model.specs.declared.event.What.TheVariants.{Crash};
 ghost use Rattle.reg_arena.specs.Rows.{with_calls};
 ghost use Rattle.reg_arena.specs.declared.optional.TheConstants.{NO_NUMBER};
 
-use crate::joins::{join_process, join_register, join_value};
+use crate::joins::{Joined, join_process, join_register, join_value};
 use crate::list_ends::{Ends, Entry};
 use crate::processes::Processes;
 use crate::rows::Rows;
@@ -88,10 +88,8 @@ impl EventLists {
             &mut self.rows,
             &mut self.values,
             &mut self.entries,
-            event,
             found,
-            id,
-            call,
+            Joined { event, id, call },
         )?;
         let call = join_call(&mut self.rows, event.what, call);
         self.rows.push(event, call, number)?;

@@ -107,33 +107,40 @@ pub(crate) fn whole(value: Val) -> Option<i64>
     }
 }
 
-/// Joins event `id`, whose call is the event `call`, to the list of its register and value, if it has a value.
+/// An event that joins its lists, with the event of its call.
+#[derive(Clone, Copy)]
+pub(crate) struct Joined {
+    pub(crate) event: Event,
+    pub(crate) id: EvId,
+    pub(crate) call: EvId,
+}
+
+/// Joins an event to the list of its register and value, if it has a value.
 ///
 /// `number` is the number of that list's entry, if there is one already. Gives back the number of its entry.
 pub(crate) fn join_value(
     rows: &mut Rows,
     values: &mut IndexSet<(u32, Option<i64>), Seeded>,
     entries: &mut Vec<Entry>,
-    event: Event,
     number: Option<u32>,
-    id: EvId,
-    call: EvId,
+    joined: Joined,
 ) -> Result<Option<u32>, AllocError>
-    requires number { number ≡ event_number values.old.keys event }
+    requires number { number ≡ event_number values.old.keys joined.event }
     requires within { (k : ℕ × AVal) (e : Ends) → value_ends values.old.keys entries.old.items k ≡ Some e → e.last.0 < length rows.old.events }
     requires column { length rows.old.in_value ≡ length rows.old.events }
     requires numbered { length values.old.keys ≡ length entries.old.items }
     requires room { length entries.old.items < 2 ^ 32 }
-    requires bound { id.0 < NO_NUMBER }
-    ensures joined { OnOk result (IsJoinedBy (by_value event) id (item_at rows.old.in_value) (item_at (rows.new.in_value ++ None ∷ [])) (value_ends values.old.keys entries.old.items) (value_ends values.new.keys entries.new.items)) }
-    ensures entered { OnOk result (IsEnteredBy (by_value event) event id call (value_entry values.old.keys entries.old.items) (value_entry values.new.keys entries.new.items)) }
+    requires bound { joined.id.0 < NO_NUMBER }
+    ensures joined { OnOk result (IsJoinedBy (by_value joined.event) joined.id (item_at rows.old.in_value) (item_at (rows.new.in_value ++ None ∷ [])) (value_ends values.old.keys entries.old.items) (value_ends values.new.keys entries.new.items)) }
+    ensures entered { OnOk result (IsEnteredBy (by_value joined.event) joined.event joined.id joined.call (value_entry values.old.keys entries.old.items) (value_entry values.new.keys entries.new.items)) }
     ensures numbered { OnOk result (length values.new.keys ≡ length entries.new.items) }
     ensures few { length entries.new.items ≤ length entries.old.items + 1 }
-    ensures number { IfOk result (λ n. n ≡ event_number values.new.keys event) }
+    ensures number { IfOk result (λ n. n ≡ event_number values.new.keys joined.event) }
     ensures kept { OnOk result ((q : ℕ × AVal) (n : ℕ) → value_number values.old.keys q ≡ Some n → value_number values.new.keys q ≡ Some n) }
     ensures others { OnOk result (rows.new ≡ with_in_value rows.old rows.new.in_value) }
     ensures count { OnOk result (length rows.new.in_value ≡ length rows.old.in_value) }
 {
+    let Joined { event, id, call } = joined;
     match (number, event.value, event.register) {
         (Some(number), _, _) => {
             let entry = entries[number as usize];
