@@ -15,8 +15,8 @@ use reg_pieces::{Gate, Pieces, Settings, do_pieces, plan_in_parts};
 use std::alloc::{AllocError, Global};
 use std::thread::{Threads, join};
 
-/// What is found of all registers, and how many calls there are: workers do the pieces of the plan, and meanwhile another
-/// thread counts the calls. One worker has nobody to share with, and takes one register after another without a plan, if
+/// What is found of all registers, and how many operations there are: workers do the pieces of the plan, and meanwhile another
+/// thread counts the calls that didn't fail. One worker has nobody to share with, and takes one register after another without a plan, if
 /// there is no gate to pass.
 pub(crate) fn find<R: Threads + Sync, G: Gate + Sync>(
     rt: &R,
