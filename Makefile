@@ -1,6 +1,6 @@
 # make: prove and build bin/regcheck. make run: run it on a shipped example, or on FILE=...
 # make try: the same at once, unproved and with checks at run time; for a first look.
-# make test: `rt ci`, which proves all; then, by the programs that it built, the examples, hostile runs, and the tests of regkit.
+# make test: `rt ci`, which proves all that this machine hasn't proved yet; then the examples, hostile runs and tests of regkit.
 # make fuzz: compare the program with the reference on spoiled histories for SECONDS=...
 # make library: bin/libregcheck.a, bin/libregcheck.so and bin/regcheck.pc, to call the checker from C and other languages.
 # make embed-test: compare the library with the program from C, Python, Go and Rust, on COUNT=... histories; under valgrind too.
@@ -29,8 +29,8 @@ DOCUMENTS = $(DESTDIR)$(PREFIX)/share/doc/regcheck
 
 all: bin/regcheck
 
-# `rt run` proves every crate, builds the program and leaves it in out/; its stored input keeps it from waiting for ours.
-# What it says goes to a log in bin/, and a line for each crate to standard error.
+# `rt run` proves the program's crate and those below it, builds the program and leaves it in out/; its stored input keeps it
+# from waiting for ours. What it says goes to a log in bin/, and a line for each crate to standard error.
 bin/regcheck: $(SOURCES) crates.txt
 	cd crates/regcheck && $(CURDIR)/packaging/prove $(CURDIR)/bin/regcheck.log rt run < stdin
 	cp crates/regcheck/out/regcheck bin/regcheck
@@ -72,7 +72,7 @@ try:
 	@echo 'Nothing is proved in this run: see make run.' >&2
 	@cd crates/regcheck && rt try < $(abspath $(FILE)); status=$$?; test $$status -le 1
 
-# What the gate built is what is tested. The scripts print only differences, but for a seed and some counts.
+# What `rt ci` built is what is tested. The scripts print only differences, but for a seed and some counts.
 test:
 	@docs/list_edits | diff docs/edits.md -
 	rt ci
@@ -134,7 +134,7 @@ install-library: library
 	ln -sf $(SONAME) $(DESTDIR)$(PREFIX)/lib/libregcheck.so
 	install -D -m 644 -t $(DESTDIR)$(PREFIX)/lib/pkgconfig bin/regcheck.pc
 
-# What the gate proved in an earlier run on this machine it takes from there, without the object.
+# What an earlier run on this machine proved, `rt ci` takes from there, without the object.
 crates/regcheck/out/regcheck.o: | bin/regcheck
 	cd crates/regcheck && $(CURDIR)/packaging/prove $(CURDIR)/bin/object.log rt run < stdin
 

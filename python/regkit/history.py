@@ -2,12 +2,20 @@
 from typing import Callable, Dict, Iterable, List, Optional
 
 from regkit import lines
+from regkit.quoting import quoted
 
 TELL_EVERY = 8192  # events between two calls of a watcher
 
 
 class NotAHistory(ValueError):
     """The bytes aren't a history that the checker accepts."""
+
+
+class NoRegister(ValueError):
+    """A register was asked for that the history doesn't have."""
+
+    def __init__(self, name: str) -> None:
+        super().__init__(f"no register has the name {quoted(name)}")
 
 
 class Operation:
@@ -63,6 +71,11 @@ class History:
     def operation(self, register: str, line: int) -> Operation:
         """The operation of a line that a report names; 0 is the register's initial write."""
         return self.by_line[line] if line else initial_write(register)
+
+    def must_have(self, register: str) -> None:
+        """Raises NoRegister if no call is of the register."""
+        if register not in self.registers:
+            raise NoRegister(register)
 
 
 def read_history(data: bytes, watch: Optional[Callable[[int], None]] = None) -> History:

@@ -17,10 +17,10 @@ from regkit.drawing import svg, text
 from regkit.drawing.figure import PAGE_WIDTH, RIGHT, gutter_of
 from regkit.drawing.lanes import MOST_LANES
 from regkit.drawing.marks import Marks, marks_of_fault, overlapped_writes
-from regkit.drawing.page import Asked, NoRegister
+from regkit.drawing.page import Asked
 from regkit.drawing.scene import Register, Scene, fitted, strips
 from regkit.drawing.windows import count_left_out, windows_around
-from regkit.history import History, read_history
+from regkit.history import History, NoRegister, read_history
 from regkit.report import read_report
 
 from .events import Line, crash, fail, gave, read, reply, run, write
@@ -451,7 +451,7 @@ class Command(unittest.TestCase):
                 ([str(refused), *out], 2, "line 1: reply without an open call"),
                 ([str(self.history), str(other), *out], 2, "the report isn't of this history"),
                 ([str(self.history), str(self.history), *out], 2, "summary"),
-                ([str(self.history), "--register", "y", *out], 2, "no register 'y'"),
+                ([str(self.history), "--register", "y", *out], 3, 'no register has the name "y"'),
                 ([str(self.history)], 3, "-o"), (["-", "-", *out], 3, "standard input"),
                 ([str(self.history), "--most", "0", *out], 3, "--most"),
                 ([str(self.folder / "none.jsonl"), *out], 4, "none.jsonl")]:

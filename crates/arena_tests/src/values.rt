@@ -29,7 +29,7 @@ const EVENTS: [(u32, Option<Oper>, Option<u32>, Option<u32>); 5] = [
     (6, None, Some(7), Some(8)),
 ];
 
-/// A value of this history's register, its write, the last call and the first reply.
+/// A value of the register of `FAILED`, its write, the last call and the first reply.
 const FAILED_VALUES: [(Val, Option<Oper>, Option<u32>, Option<u32>); 4] = [
     (Val::Null, Some(Oper::Initial(RegId(0))), Some(0), Some(1)),
     (Val::Int(5), None, Some(4), Some(3)),

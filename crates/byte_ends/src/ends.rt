@@ -53,7 +53,7 @@ pub trait Sink {
         ensures bytes { WriteAppends (taken self.old) (taken self.new) result bytes.now }
         ensures failures { Counts (failed self.old) (failed self.new) result };
 
-    /// Sees the bytes off that it has taken.
+    /// Passes on what it may still hold of the bytes that it has taken.
     ///
     /// # Errors
     /// `IoFail` if that failed; then the failures are one more.

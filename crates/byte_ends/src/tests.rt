@@ -290,7 +290,7 @@ impl Write for &mut TakesNothing {
     }
 }
 
-// A write that takes nothing isn't tried again, after an earlier failure neither.
+// A write that takes nothing isn't tried again, not even after an earlier failure.
 #[test]
 fn writes_of_nothing(rt: HostRuntime) -> Result<(), Fail> {
     let mut end = TakesNothing { writes: 0 };

@@ -49,8 +49,8 @@ fn usual_registers(kind: Kind, events: u32) -> u32
 }
 
 impl Settings {
-    /// Settings with what is left out chosen for the kind. Each number is moved to its bounds: at most [`MOST`], at
-    /// least 1, and an inversion takes 2 processes.
+    /// Settings with what is left out chosen for the kind. There are at most [`MOST`] events. The processes and the registers are
+    /// moved to the range from 1 to [`MOST`], and an inversion has at least 2 processes.
     pub fn new(
         kind: Kind,
         events: u32,

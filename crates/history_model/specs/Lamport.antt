@@ -8,7 +8,7 @@ use Rattle.history_model.specs.Operations.{Operation, Precedes, Overlaps, IsWrit
 abbrev pub HasSingleWriter : List Operation → Type 0
 HasSingleWriter ops = (v w : Operation) (p q : ℕ) → In v ops → In w ops → IsWrite v → IsWrite w → v.process ≡ Some p → w.process ≡ Some q → p ≡ q
 
--- w is the old write of r: of the writes that precede r, the initial one among them, the one of greatest call
+-- w is the old write of r: of the writes that precede r, the initial one among them, the one called last
 pub record IsOldWrite (ops : List Operation) (r w : Operation) : Type 0 where
   pub within : In w ops
   pub write : IsWrite w

@@ -10,7 +10,7 @@ ghost use Rattle.history_model.specs.Lamport.{HasSingleWriter};
 ghost use Rattle.history_model.specs.Operations.{IsCompleted, IsHistory, IsWrite, Operation, Precedes, initial_write, of_register, operations};
 ghost use Rattle.history_model.specs.Naming.{IsEventIn, IsEventOf, IsNamed, IsOper, belongs_at, name_of};
 
-/// The operations of each register of an accepted history satisfy the facts on which the laws above stand.
+/// The operations of each register of an accepted history satisfy the facts on which all other laws stand, here and in the crates above.
 pub fn accepted_is_history()
     ensures { (h : History) → IsRecorded h → (r : ℕ) → IsHistory (of_register r (operations h)) }
 {}

@@ -23,11 +23,11 @@ pub enum OpKind {
 /// The word by which a line says what happened.
 #[derive(Clone, Copy, Debug, PartialEq, Eq)]
 pub(crate) enum EventWord {
-    /// An operation begins.
+    /// A call.
     Call,
-    /// The open operation of the process ends, and has taken effect.
+    /// The open call of the process ends, and has taken effect.
     Reply,
-    /// The open operation of the process ends, and had no effect.
+    /// The open call of the process ends, and had no effect.
     Fail,
     /// The process does nothing more.
     Crash,

@@ -2,8 +2,8 @@
 //!
 //! An object is flat here if it has one to five members, in any order, each with a name that the
 //! format knows and with a plain value of that member: a number, a word, a string or null. Spaces may
-//! stand wherever JSON allows them, except before a colon: hardly a writer puts them there, and to look
-//! for them costs each line. As in `members`, the last of equal names counts.
+//! stand wherever JSON allows them, except before a colon: hardly any writer puts them there, and looking
+//! for them would cost time on every line. As in `members`, the last of equal names counts.
 //!
 //! Each function gives what it read and the text behind that. `None` tells nothing of the text.
 ghost use Rattle.std.specs.Prelude.{◌≤◌, IfSome};

@@ -1,7 +1,7 @@
 //! One line: its event, or the lowest-numbered fault that applies to it.
 //!
 //! `flat_line` reads the common form of a line with no tree. Every other line, and each one that has a
-//! fault, is read as a JSON value here. Faults are looked for by ascending number, so the first that is
+//! fault, is read as a JSON value here, if it isn't too long. Faults are looked for by ascending number, so the first that is
 //! found is the lowest-numbered.
 ghost use Rattle.serde_json.specs.View.{view};
 ghost use Rattle.history_text.specs.Reading.{call_kind, parts_form, kind_of, event_of, line_form, line_reading};

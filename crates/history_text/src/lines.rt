@@ -4,6 +4,7 @@ ghost use Rattle.history_text.specs.Lines.{AreWhole, IsWithin, line_spans, is_bl
 ghost use Rattle.history_text.specs.Reading.{AreReadWhole, history_lines, reading_of};
 
 use crate::limits::MAX_INPUT;
+use crate::scan::is_space;
 use memchr::memchr;
 use std::alloc::{AllocError, Global};
 
@@ -94,7 +95,5 @@ fn add(spans: &mut Vec<Span>, bytes: &[u8], span: Span) -> Result<(), AllocError
 fn is_blank(bytes: &[u8]) -> bool
     ensures { result ≡ is_blank_line bytes.now }
 {
-    bytes
-        .iter()
-        .all(|byte| *byte == b' ' || *byte == b'\t' || *byte == b'\r')
+    bytes.iter().all(|byte| is_space(*byte))
 }

@@ -41,7 +41,7 @@ pub(crate) fn after<'a>(text: &'a [u8], front: &[u8]) -> Option<&'a [u8]>
 
 /// Whether the byte is a space, a tab or a carriage return. JSON's fourth, the line feed, ends a line.
 #[inline(always)]
-fn is_space(byte: u8) -> bool
+pub(crate) fn is_space(byte: u8) -> bool
     ensures { result ≡ is_space_byte byte }
 {
     byte == b' ' || byte == b'\t' || byte == b'\r'

@@ -1,7 +1,7 @@
 //! A board of numbered jobs that threads draw, each number once, and of the lowest number that any of them flagged.
 //!
-//! What the floor above may rely on: [`Board::open`] gives a board and its one seat. Seats are [`split`](Board::split) and [`joined`](Board::join), and who
-//! has one may step: [`draw`](Board::draw) gives a number that no seat drew before, [`flag`](Board::flag) marks a drawn number, and
+//! What the floor above may rely on: [`Board::open`] gives a board and its one seat. Seats are [`split`](Board::split) and [`joined`](Board::join), and whoever
+//! holds one may step: [`draw`](Board::draw) gives a number that no seat drew before, [`flag`](Board::flag) marks a drawn number, and
 //! [`look`](Board::look) gives a flagged one, or the number of jobs. Once all seats are one again, [`close`](Board::close) gives the lowest flagged number,
 //! and what that seat drew is each number below a bound, once: all numbers, if a draw has given `None`.
 //!

@@ -231,7 +231,7 @@ module _ (h : History) (rec : IsRecorded h) where
   pub write-initial : (r : RegId) → r.0 < length h.names → IsWriteOf h r.0 Null (Some (Initial r))
   write-initial r l = (initial_write r.0, initial-named h r l, initial-member r.0 l, refl)
 
-  -- ---- the greatest call and the first reply, by the entry
+  -- ---- the last call and the first reply, by the entry
 
   module _ (k : ℕ × Val) (calls : List (Option EvId)) (at : (i : ℕ) (e : Event) → slice_get h.events i ≡ Some e → IsColumnCall h.events i e (item_at calls i)) where
     -- the call of an event that belongs to an operation
@@ -242,7 +242,7 @@ module _ (h : History) (rec : IsRecorded h) where
         go None q y = absurd (false≢true (sym y ∙ has))
         go (Some c) q y = (c, q, call-of_event i c.0 e o x y.1)
 
-    -- the read with the greatest call
+    -- the read called last
     read-member : (c : EvId) → IsLastRead h.events calls k (Some c) → (o : Operation) × IsMember h k.0 k.1 o × (o.call ≡ c.0 + 2)
     read-member c l =
         let e = event-by by_read l.0.0 k l.0.1 in

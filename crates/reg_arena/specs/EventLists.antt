@@ -209,7 +209,7 @@ pub record IsAppendable (events : List Event) (e : Event) (c : EvId) : Type 0 wh
   pub call : (e.what ≡ Crash → ⊥) → IsCallAt (events ++ e ∷ []) (length events) c.0
   pub same : is_a_fail e.what ≡ true → key_at by_value events c.0 ≡ by_value e
 
--- the greatest call of the completed reads of a register and value
+-- the last call of the completed reads of a register and value
 abbrev pub IsLastRead : List Event → List (Option EvId) → ℕ × Val → Option EvId → Type 0
 IsLastRead events calls k None = (i : ℕ) → key_at by_read events i ≡ Some k → ⊥
 IsLastRead events calls k (Some c) = ((i : ℕ) × (key_at by_read events i ≡ Some k) × (item_at calls i ≡ Some c)) × ((i : ℕ) (d : EvId) → key_at by_read events i ≡ Some k → item_at calls i ≡ Some d → d.0 ≤ c.0)
@@ -231,7 +231,7 @@ abbrev pub initial_call : Val → Option ℕ
 initial_call Null = Some 0
 initial_call (Int n) = None
 
--- the greatest call by an entry; the initial write is called at 0
+-- the last call by an entry; the initial write is called at 0
 abbrev pub last_time : Val → Option Entry → Option ℕ
 last_time v y = option_or (option_map (λ id. id.0 + 2) (option_and_then (λ y. later (write_kept y.write) y.last_read) y)) (initial_call v)
 

@@ -91,7 +91,7 @@ impl Arena {
         Ok(self)
     }
 
-    /// The arena with the events of more lines behind the others, or the refusal of the first faulty one of these.
+    /// Takes in the events of more lines behind the others, or gives the refusal of the first faulty one of these.
     fn add_lines(&mut self, alloc: Global, part: &NumberedLines) -> Result<(), BuildError>
         requires { AreNumbered self.old.names (lines_of part.now) part.now.numbers.items }
         ensures built { (before : List Line) → IsBuilt before self.old → IsBuiltWith before (lines_of part.now) (step_result self.new result) }
@@ -121,7 +121,7 @@ impl Arena {
         })
     }
 
-    /// The arena with the event of a line behind the others, or the event's refusal. The number is that of the register that it calls.
+    /// Takes in the event of a line behind the others, or gives its refusal. The number is that of the register that it calls.
     fn step(&mut self, alloc: Global, event: &LineEvent, number: usize) -> Result<(), BuildError>
         requires { IsNumbered self.old.names (name_called (Ok event.now)) number }
         ensures { (es : List ALineEvent) → AreAccepted es → self.old ≡ history_of es → IsStep es event.now (step_result self.new result) }

@@ -28,7 +28,8 @@ impl HashKey {
         }
     }
 
-    /// A digest of all events. It reads the process, kind, name and value of each, so a change to any of them almost surely changes the key.
+    /// A digest of all events. It reads the process, the kind and the value of each, and the name that a call gives, so a change to any of them almost surely
+    /// changes the key. What else a reply or a fail says only repeats its call.
     pub fn digest(lines: &[Result<LineEvent, LineFault>]) -> Self {
         let mut state = DefaultHasher::new();
         for line in lines {
@@ -60,7 +61,7 @@ fn random_word(rt: &impl RandomSource) -> io::Result<u64> {
     Ok(u64::from_le_bytes(bytes))
 }
 
-/// Reads which kind it is, and then its name and its value, so that no two that differ in these are read alike.
+/// Reads which kind it is, then the name of a call, and then the value, so that no two that differ in these are read alike.
 fn read(kind: &Kind, state: &mut DefaultHasher) {
     match kind {
         Kind::CallRead(name) => {

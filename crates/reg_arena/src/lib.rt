@@ -4,7 +4,8 @@
 //! accepted events. An arena that begins as [`Arena::empty`] and takes in more lines by [`Arena::with_lines`] promises the same, whatever the key of its
 //! hashes; a [`Numbering`] first gives these lines the numbers of their registers. Each walk of the arena is the filter of the one list of events,
 //! ascending: by register, by process, and by register and value. Operations, their times and their order are those of the definitions in
-//! `history_model`, whose laws say what holds of them. All calls but these take no memory and always answer.
+//! `history_model`, whose laws say what holds of them. All calls but these take no memory and always answer. No floor above calls [`Arena::first_of_process`],
+//! [`Arena::first_with_value`], [`Arena::next_with_value`] or [`Arena::write_of`].
 //!
 //! Read it in this order: `hash_key` and `seeded`, which make the hashes; `optional`, `packed_event` and `rows`, which keep the events; `list_ends`, `processes`, `joins`,
 //! `event_lists` and `entries`, the lists that run through them; `numbering`, which numbers the registers of lines, and `names`; `arena`, `called` and

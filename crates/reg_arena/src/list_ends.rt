@@ -82,7 +82,7 @@ pub(crate) struct Entry {
     pub(crate) write: Write,
     /// The first reply of the list.
     pub(crate) first_reply: Option<EvId>,
-    /// The greatest call of a read that has its reply in the list.
+    /// The last call of a read that has its reply in the list.
     pub(crate) last_read: Option<EvId>,
 }
 
@@ -117,7 +117,7 @@ impl Entry {
         }
     }
 
-    /// The greatest call of the write, if it didn't fail, and of the completed reads.
+    /// The last call of the write, if it didn't fail, and of the completed reads.
     pub(crate) fn last_call(self) -> Option<EvId>
         ensures { result ≡ later (write_kept self.write) self.last_read }
     {
@@ -135,7 +135,7 @@ fn reply_with(first: Option<EvId>, what: What, id: EvId) -> Option<EvId>
     }
 }
 
-/// The greatest call of the completed reads of a list after an event with this call.
+/// The last call of the completed reads of a list after an event with this call.
 fn read_with(last: Option<EvId>, what: What, call: EvId) -> Option<EvId>
     ensures { result ≡ read_with last what call }
 {

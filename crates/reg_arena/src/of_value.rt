@@ -74,7 +74,7 @@ impl Arena {
     }
 }
 
-/// The greatest call by a value's entry; the initial write is called at 0.
+/// The last call by a value's entry; the initial write is called at 0.
 fn last_time(value: Val, entry: Option<Entry>) -> Option<u32>
     requires { (y : AnEntry) → entry ≡ Some y → HasTimes y }
     ensures { result ≡ last_time value entry }

@@ -1,5 +1,5 @@
-//! What is kept of each event: the event, and beside it what leads to others. Nearly all of it lies in one row, so that who looks at an event touches one
-//! place of memory, and not one in each of five columns. Only the links of the registers lie apart: a walk finds the events ahead by them alone, and can
+//! What is kept of each event: the event, and beside it what leads to others. Nearly all of it lies in one row, so that looking
+//! at an event touches one place in memory. Only the links of the registers lie apart: a walk finds the events ahead by them alone, and can
 //! have their rows fetched before it needs them.
 ghost use Rattle.std.specs.Prelude.{◌≡◌, ◌<◌, length, set, slice_get, Some, None, IfSome, IfOk, OnOk};
 ghost use Rattle.history_model.specs.declared.ids.EvId.{EvId as AnEvId};

@@ -1,4 +1,4 @@
--- The first bad read of a part is that of its cuts, and that of the whole is the breaking read of least call.
+-- The first bad read of a part is that of its cuts, and that of the whole is the breaking read called first.
 use Rattle.std.proofs.Common.{◌≡◌, ℕ, zero, suc, ◌<◌, ◌≤◌, ◌&&◌, not, Bool, true, false, List, [], ◌∷◌, length, slice_get, Option, Some, None, inl, inr, refl, sym, ap, subst, ◌∙◌, arith}
 use Rattle.std.specs.Option.{option_or}
 use Rattle.std.proofs.lemmas.Bool.{cases_order}

@@ -19,7 +19,7 @@ Keeps Regular ops r = KeepsRegular ops r
 abbrev pub IsAtLevel : Level → List Operation → Type 0
 IsAtLevel level ops = (r : Operation) → In r ops → IsCompletedRead r → Keeps level ops r
 
--- of the completed reads that break the level, the one of least call
+-- of the completed reads that break the level, the one called first
 pub record IsFirstBadRead (level : Level) (ops : List Operation) (r : Operation) : Type 0 where
   pub within : In r ops
   pub read : IsCompletedRead r

@@ -87,7 +87,7 @@ fn bad_line(
     }
 }
 
-// The reads of the register, and the least line that breaks safe and regular; `several writers` for those.
+// How many reads the register has, and the lines of the first reads that break safe and regular; or that it has several writers.
 fn verdict_on(rt: &impl Abort, alloc: Global, arena: &Arena) -> Result<String, Fail> {
     let count = count(alloc, arena, 0)?;
     if !single_writer(arena, RegId(0)) {

@@ -20,7 +20,7 @@ pub struct Worked {
     pub seat: Seat,
     /// The pieces that it did, each with its number, in the order in which it drew them.
     pub done: Vec<(u64, Piece)>,
-    /// Whether memory was refused: then a piece that it drew may not be done.
+    /// Whether memory was refused: then the piece that it drew last isn't among those done.
     pub refused: bool,
 }
 

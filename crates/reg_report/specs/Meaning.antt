@@ -35,7 +35,7 @@ is_pending o = not o.completed
 
 -- ---- a level
 
--- Whether a register keeps a level, and of the reads that break it the line of the one of least call. The level is defined for a single writer (Lamport, On Interprocess Communication, Part II, 1986).
+-- Whether a register keeps a level, and of the reads that break it the line of the one called first. The level is defined for a single writer (Lamport, On Interprocess Communication, Part II, 1986).
 abbrev pub IsVerdict : Level → List Operation → Verdict → Option ℕ → Type 0
 IsVerdict level ops Yes line = HasSingleWriter ops × IsAtLevel level ops × (line ≡ None)
 IsVerdict level ops No line = HasSingleWriter ops × ((r : Operation) × IsFirstBadRead level ops r × (line ≡ Some r.line))

@@ -113,7 +113,7 @@ fn summary_beside_drop<T: Threads + Sync>(
     line
 }
 
-/// The text of the whole report, from what is found of all registers and the number of calls, or want of memory.
+/// The text of the whole report, from what is found of all registers and the number of operations, or want of memory.
 pub(crate) fn whole_text<T: Threads + Sync>(
     rt: &T,
     alloc: Global,

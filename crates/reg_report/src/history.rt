@@ -141,7 +141,7 @@ fn report_of(arena: &Arena, regs: Vec<RegReport>, order: Option<Lines>, operatio
     }
 }
 
-/// The report of a history, from what is found of its registers and the number of its calls, or want of memory.
+/// The report of a history, from what is found of its registers and the number of its operations, or want of memory.
 pub(crate) fn history_report(
     alloc: Global,
     arena: &Arena,

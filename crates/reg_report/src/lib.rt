@@ -1,7 +1,7 @@
 //! From the bytes of a history to the bytes of its report.
 //!
 //! What the floor above may rely on: [`run`] pulls all the bytes of a source, and the bytes that it pushes into a sink are
-//! the report of their history, or it answers the one refusal and pushes nothing. [`check`] gives the report's values, and
+//! the report of their history; or it answers a refusal, and has pushed nothing, or a beginning if it is the sink that failed. [`check`] gives the report's values, and
 //! so does [`check_alone`] without threads; [`text`] gives their bytes; [`merge`] lists the operations of all registers in
 //! one legal order. [`plan`] and [`work`], handed on from `reg_pieces`, are the pieces of work and one worker; how many
 //! workers there are, and how they take turns, changes no report. Sources and sinks are handed on from `byte_ends`.

@@ -62,7 +62,7 @@ fn findings_of(alloc: Global, arena: &Arena, tallies: &[Tally]) -> Result<Vec<Fi
     Ok(findings)
 }
 
-/// What is found of all registers, and how many calls there are.
+/// What is found of all registers, and how many operations there are.
 ///
 /// The thread judges a register and finds its levels before it goes on to the next one. So its events are likely still at
 /// hand, and nothing is kept of it but what was found.

@@ -38,11 +38,11 @@ pub enum FaultLines {
 #[derive(Drop)]
 pub struct RegReport {
     pub register: Name,
-    /// The number of write calls, pending ones too; the initial write isn't one.
+    /// The number of writes, pending ones too. The initial write isn't counted, nor is a call that failed.
     pub writes: u32,
-    /// The number of read calls, pending ones too.
+    /// The number of reads, pending ones too, but without calls that failed.
     pub reads: u32,
-    /// The number of calls without a reply.
+    /// How many of these writes and reads are pending.
     pub pending: u32,
     pub safe: Verdict,
     pub regular: Verdict,
@@ -67,7 +67,7 @@ pub struct RegReport {
 #[derive(Drop)]
 pub struct Report {
     pub regs: Registers,
-    /// The number of calls.
+    /// The number of operations: the calls that didn't fail.
     pub operations: u32,
     /// The number of registers.
     pub registers: u32,

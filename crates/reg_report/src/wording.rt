@@ -1,4 +1,5 @@
-//! What a refusal says to a person.
+//! A refusal as one line for a person. The words stand beside each reason: in history_text's `fault.rt`, in history_model's
+//! `refusal.rt`, and in `refusal.rt` here.
 use crate::refusal::Refusal;
 use std::alloc::{AllocError, Global};
 

@@ -21,7 +21,7 @@ clear_more ops n clear here v w c lt b = elim (cases_lt (low_end ops w.value) n)
 pub first_found : (ops : List Operation) (v w : Operation) (n : ℕ) → IsClearBelow ops n → IsConflict ops v w → low_end ops v.value < low_end ops w.value → low_end ops w.value ≡ n → IsFirstConflict ops v w
 first_found ops v w n clear c lt e = record { conflict = c; order = lt; first = subst (IsClearBelow ops) (sym e) clear }
 
--- the operation with the least reply of a kept write's cluster is completed
+-- the operation that replies first in a kept write's cluster is completed
 pub first_completed : (ops : List Operation) (v a : Operation) → IsHistory ops → IsKept ops v → HasFirstReply ops v.value a → IsCompleted a
 first_completed ops v a y k f = elim (cases_Bool a.completed) [
   | inl d ↦ d

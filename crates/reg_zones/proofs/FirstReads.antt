@@ -15,7 +15,7 @@ use Rattle.reg_zones.specs.Sweep.{AreWritten, IsUnwrittenAt, IsEarlyAt, IsEarlyF
 use Rattle.reg_zones.proofs.Registers.{cases_process, event-key}
 use Rattle.reg_zones.proofs.Walks.{IsWalk, IsPassed, walk-more}
 
--- of the early reads that are called behind a walk, the one of least call, with its write; or there is none
+-- of the early reads that are called behind a walk, the one called first, with its write; or there is none
 abbrev pub IsEarlySoFar : History → ℕ → Option (Oper × Oper) → Option EvId → Type 0
 IsEarlySoFar h r None next = IsWalk h.events r (λ i. IsEarlyAt (of_register r (operations h)) (i + 2) None) next
 IsEarlySoFar h r (Some pair) next = IsEarlyFound (of_register r (operations h)) (Some pair)

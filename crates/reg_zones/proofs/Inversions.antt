@@ -121,7 +121,7 @@ module _ (ops : List Operation) (y : IsHistory ops) (turns : TakeTurns ops) (reg
     ]
   ]
 
-  -- the operation of least reply in the second cluster and the one of greatest call in the first are an inversion
+  -- the operation that replies first in the second cluster and the one called last in the first are an inversion
   pub inverted : (v w c d : Operation) → IsConflict ops v w → low_end ops v.value < low_end ops w.value → HasFirstReply ops w.value d → HasLastCall ops v.value c → IsInversion ops d c
   inverted v w c d f lt fd lc =
       let other = f.other in

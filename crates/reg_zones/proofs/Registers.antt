@@ -164,7 +164,7 @@ module _ (h : History) (r : ℕ) (y : IsKnown h r) where
             absurd (elim a.2 [ inl q ↦ omega (arith, q) | inr q ↦ omega (arith, q.1) ])
       ]
 
-  -- the operation of the least reply in a kept write's cluster
+  -- the operation that replies first in a kept write's cluster
   pub first_replied : (w : Operation) → IsKept (of_register r (operations h)) w → (a : Operation) × HasFirstReply (of_register r (operations h)) w.value a × IsCompleted a
   first_replied w k =
       let ops = of_register r (operations h) in
@@ -172,7 +172,7 @@ module _ (h : History) (r : ℕ) (y : IsKnown h r) where
       let x : HasFirstReply ops w.value f.0 = record { member = f.1; least = f.2 } in
       (f.0, x, first_completed ops w f.0 y.history k x)
 
-  -- and that of the greatest call
+  -- and the one called last
   pub last_called : (w : Operation) → IsKept (of_register r (operations h)) w → (a : Operation) × HasLastCall (of_register r (operations h)) w.value a
   last_called w k =
       let ops = of_register r (operations h) in

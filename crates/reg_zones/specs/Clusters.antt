@@ -45,11 +45,11 @@ abbrev pub greatest : List ℕ → ℕ
 greatest [] = 0
 greatest (n ∷ ns) = max n (greatest ns)
 
--- the least reply of the cluster of a value
+-- the first reply of the cluster of a value
 abbrev pub first_reply : List Operation → Option Val → ℕ
 first_reply ops v = least (map (λ a. a.reply) (cluster ops v))
 
--- its greatest call
+-- its last call
 abbrev pub last_call : List Operation → Option Val → ℕ
 last_call ops v = greatest (map (λ a. a.call) (cluster ops v))
 
@@ -61,12 +61,12 @@ low_end ops v = min (first_reply ops v) (last_call ops v)
 abbrev pub IsForward : List Operation → Option Val → Type 0
 IsForward ops v = first_reply ops v < last_call ops v
 
--- the operation of the cluster of a value that has its least reply
+-- the operation of the cluster of a value that replies first
 pub record HasFirstReply (ops : List Operation) (v : Option Val) (a : Operation) : Type 0 where
   pub member : IsInCluster ops v a
   pub least : a.reply ≡ first_reply ops v
 
--- and the one that has its greatest call
+-- and the one called last
 pub record HasLastCall (ops : List Operation) (v : Option Val) (a : Operation) : Type 0 where
   pub member : IsInCluster ops v a
   pub greatest : a.call ≡ last_call ops v

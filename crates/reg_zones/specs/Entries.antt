@@ -35,7 +35,7 @@ abbrev pub IsListedAt : List Operation → ℕ → Option Entry → Type 0
 IsListedAt ops n None = (a : Operation) → IsListed ops a → a.call ≡ n → ⊥
 IsListedAt ops n (Some x) = (a : Operation) × IsListed ops a × (a.call ≡ n) × (x ≡ entry_of ops a)
 
--- the operations in their order, each with the greatest call up to it; n is that of those before
+-- the operations in their order, each with the last call up to it; n is that of those before
 abbrev pub entries_placed : ℕ → List Entry → List Placed
 entries_placed n [] = []
 entries_placed n (x ∷ entries) = record { oper = x.oper; point = max n x.call } ∷ entries_placed (max n x.call) entries

@@ -29,12 +29,12 @@ pub record HasNoFault (ops : List Operation) : Type 0 where
 
 -- ---- the first fault of each kind, where no earlier kind applies
 
--- of the unwritten reads, the one of least call
+-- of the unwritten reads, the one called first
 pub record IsFirstUnwritten (ops : List Operation) (r : Operation) : Type 0 where
   pub fault : IsUnwritten ops r
   pub first : (q : Operation) → IsUnwritten ops q → r.call ≤ q.call
 
--- where no read is unwritten: of the early reads, the one of least call, with its write
+-- where no read is unwritten: of the early reads, the one called first, with its write
 pub record IsFirstEarly (ops : List Operation) (r w : Operation) : Type 0 where
   pub written : (q : Operation) → IsUnwritten ops q → ⊥
   pub fault : IsEarly ops r w
@@ -46,7 +46,7 @@ pub record IsConflictFault (ops : List Operation) (v w : Operation) : Type 0 whe
   pub in_time : (q u : Operation) → IsEarly ops q u → ⊥
   pub conflict : IsFirstConflict ops v w
 
--- a, of the least reply in v's cluster, precedes b, of the greatest call in w's
+-- a, which replies first in v's cluster, precedes b, which is called last in w's
 pub record IsWitness (ops : List Operation) (v w a b : Operation) : Type 0 where
   pub reply : HasFirstReply ops v.value a
   pub call : HasLastCall ops w.value b

@@ -29,12 +29,12 @@ pub record PlacedOperation : Type 0 where
   pub operation : Operation
   pub point : ℕ
 
--- the operations of an order after others of which the greatest call is n
+-- the operations of an order after others of which the last call is n
 abbrev pub placed_from : ℕ → List Operation → List PlacedOperation
 placed_from n [] = []
 placed_from n (a ∷ order) = record { operation = a; point = max n a.call } ∷ placed_from (max n a.call) order
 
--- each operation of an order with its point: the greatest call among the operations up to it, itself among them
+-- each operation of an order with its point: the last call among the operations up to it, itself among them
 abbrev pub placed : List Operation → List PlacedOperation
 placed order = placed_from 0 order
 

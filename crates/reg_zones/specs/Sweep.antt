@@ -137,7 +137,7 @@ conflict_in (Conflict first second) = Some (first, second)
 
 -- ---- what the whole pass finds
 
--- of the early reads, the one of least call, with its write; or there is none
+-- of the early reads, the one called first, with its write; or there is none
 abbrev pub IsEarlyFound : List Operation → Option (Oper × Oper) → Type 0
 IsEarlyFound ops None = AreInTime ops
 IsEarlyFound ops (Some pair) = (r : Operation) × (w : Operation) × IsEarly ops r w × ((q u : Operation) → IsEarly ops q u → r.call ≤ q.call) × (name_of r ≡ pair.0) × (name_of w ≡ pair.1)

@@ -8,7 +8,7 @@ ghost use Rattle.reg_zones.specs.Ahead.{IsAhead};
 use crate::register::Register;
 use history_model::{EvId, Oper};
 
-/// The two events that a walk comes to next, each with the operation that it belongs to, if it does to one, and the event after them.
+/// The two events that a walk comes to next, each with the operation that it belongs to, if it belongs to one, and the event after them.
 #[derive(Clone, Copy)]
 pub(crate) struct Ahead {
     pub(crate) next: Option<EvId>,

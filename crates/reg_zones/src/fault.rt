@@ -26,8 +26,8 @@ pub enum Fault {
     /// The writes of two clusters whose zones conflict, the one with the earlier low end first. Of all such pairs it is
     /// the one whose second low end comes first.
     ///
-    /// In `first` an operation of the first cluster precedes one of the second: the one that replies first, and that of
-    /// greatest call. In `second` one of the second cluster precedes one of the first, likewise.
+    /// In `first` an operation of the first cluster precedes one of the second: the one that replies first, and the
+    /// one called last. In `second` one of the second cluster precedes one of the first, likewise.
     Zones {
         writes: (Oper, Oper),
         first: (Oper, Oper),

@@ -6,7 +6,7 @@ use crate::fault::Fault;
 use history_model::Oper;
 
 /// Two operations of a conflict, the first preceding the second: the one that replies first in the second write's cluster, and
-/// that of greatest call in the first write's. `None` of other faults.
+/// the one called last in the first write's. `None` of other faults.
 ///
 /// If the register has a single writer and is regular, they are a new-old inversion, and every fault has one
 /// ([`laws::inversions_decide`](crate::laws::inversions_decide)). It takes no memory and always answers.

@@ -89,7 +89,7 @@ const ROWS: [(&str, &str, &str); 24] = [
         "unwritten 2",
     ),
     (
-        "the unwritten read of least call, which replies last",
+        "the unwritten read called first, which replies last",
         "1 R; 2 R; 2 = 8; 1 = 9",
         "unwritten 1",
     ),
@@ -99,7 +99,7 @@ const ROWS: [(&str, &str, &str); 24] = [
         "early 1 3",
     ),
     (
-        "the early read of least call, which replies last",
+        "the early read called first, which replies last",
         "1 R; 2 R; 2 = 5; 1 = 5; 3 W 5; 3 ok",
         "early 1 5",
     ),

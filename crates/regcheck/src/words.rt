@@ -25,7 +25,7 @@ const STANDARD_INPUT: &str = "-";
 const WORKERS: &str = "Workers, 1 to 16; the report is the same with any number";
 
 const CUT: &str =
-    "Most reads of a worker's piece, 1 to 1048576; the report is the same with any number";
+    "How many reads of a register a worker takes at once, 1 to 1048576; the report is the same with any number";
 
 const FIRST: &str =
     "Reports only the first register that isn't atomic, if there is one, and no order";

@@ -1,8 +1,8 @@
 //! The checker for programs in C, and for languages that call C: one function on bytes. It starts no thread, opens no file
 //! and keeps nothing between calls.
 //!
-//! What a C program may rely on: [`regcheck_report`] says of the history in its input what `regcheck` would say, and puts
-//! the same report if it is told to. `library/regcheck.h` declares it.
+//! What a C program may rely on: [`regcheck_report`] says of the history in its input what `regcheck` would say, and writes
+//! the same report if there is room for all of it. `library/regcheck.h` declares it.
 //!
 //! Read it in this order: `status`, which numbers the endings; `answer`, what a call says; `place`, where the report goes.
 #![tactic(auto)]

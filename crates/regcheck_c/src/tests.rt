@@ -2,7 +2,7 @@
 use super::*;
 use std::test::Fail;
 
-// A room in which no report here fits to the brim, and what it holds before a call.
+// Room for more bytes than any report here has, and what it holds before a call.
 const ROOM: usize = 512;
 
 const BEFORE: u8 = b'?';

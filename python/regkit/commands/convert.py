@@ -22,7 +22,7 @@ examples:
 
 A conversion never adds a precedence that the source doesn't have. It drops one only at a tie of time stamps
 or by --clock-error, which can hide a fault and never makes one up. docs/recipes.md describes the forms, and
-how to set up a workload.
+how to set up a workload: it is in the repository, and in share/doc/regcheck of a release.
 
 exit status:
   0  converted

@@ -7,7 +7,7 @@ from typing import Optional, Union
 from regkit.checker import NoChecker, judge
 from regkit.draw import page_of, without_collection
 from regkit.drawing.page import Asked
-from regkit.history import read_history
+from regkit.history import NoRegister, read_history
 from regkit.inputs import TooLong, read_input, shown_name
 from regkit.progress import Progress
 from regkit.report import read_report
@@ -25,7 +25,7 @@ history it shows windows around what matters, and says what is left out.
 
 exit status:
   0  the page was written, whatever it says
-  2  regcheck refused the history, or the report isn't of this history
+  2  regcheck refused the history, or the report visibly isn't of it (`regkit verify` checks every claim)
   3  the command line is wrong
   4  a file couldn't be read or written, or regcheck wasn't found
 """
@@ -59,6 +59,8 @@ def run(arguments: argparse.Namespace) -> int:
         return draw(arguments)
     except NoChecker as error:
         return fail(FAILED, str(error))
+    except NoRegister as error:
+        return fail(COMMAND_LINE, f"{shown_name(arguments.history)}: {error}")
     except (TooLong, ValueError) as error:
         return fail(REFUSED, f"{shown_name(arguments.history)}: {error}")
 

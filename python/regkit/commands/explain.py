@@ -8,7 +8,7 @@ from regkit.advice import advice
 from regkit.checker import NoChecker, judge
 from regkit.colour import CHOICES, painter
 from regkit.explanation import NotOfHistory, Wishes, explain
-from regkit.history import History, NotAHistory, read_history
+from regkit.history import History, NoRegister, NotAHistory, read_history
 from regkit.inputs import MOST_BYTES, STANDARD_INPUT, TooLong, read_input, shown_name
 from regkit.judging import failure_of, many_objects
 from regkit.options import count
@@ -39,7 +39,7 @@ before it that can't be explained, are left out of these lines.
 exit status:
   0  linearizable: there is nothing to explain
   1  not linearizable, and explained
-  2  the history is refused, or the report isn't of this history
+  2  the history is refused, or the report visibly isn't of it (`regkit verify` checks every claim)
   3  wrong command line
   4  input, memory, output or regcheck failed
 """
@@ -90,8 +90,8 @@ def labelled_history(arguments: argparse.Namespace, data: bytes, progress: Progr
     """The history, with the source's own values if there is a map."""
     progress.step(f"{plain(shown_name(arguments.history))}: reading", data.count(b"\n"))
     history = read_history(data, progress.reach)
-    if arguments.register is not None and arguments.register not in history.registers:
-        raise Stop(COMMAND_LINE, f"no register has the name {quoted(arguments.register)}")
+    if arguments.register is not None:
+        history.must_have(arguments.register)
     if arguments.map is not None:
         put_labels(history, read_input(arguments.map, None))
     return history
@@ -134,6 +134,8 @@ def answer_to(arguments: argparse.Namespace) -> Tuple[int, str]:
             return explained(arguments, progress)
     except TooLong as error:
         raise Stop(REFUSED, f"refused: {error}", advice(b"", str(error))) from error
+    except NoRegister as error:
+        raise Stop(COMMAND_LINE, str(error)) from error
     except (NotAHistory, NotAMap, NotOfHistory) as error:
         raise Stop(REFUSED, str(error)) from error
     except OSError as error:

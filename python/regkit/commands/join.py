@@ -15,7 +15,8 @@ HELP = "join the reports of the parts of a split history into the report of the 
 EPILOG = """\
 DIR is a folder that regkit split made, in which every part was checked: part-NNN.report, part-NNN.err and
 part-NNN.status are beside part-NNN.jsonl. The report is, byte for byte, the one that one run of regcheck over
-the whole history would write. docs/scale.md says more.
+the whole history would write. docs/scale.md says more: it is in the repository, and in share/doc/regcheck of
+a release.
 
 examples:
   regkit join parts > history.report

@@ -20,7 +20,7 @@ HELP = "split a history of any size into parts that can be checked apart"
 EPILOG = """\
 Each part has whole registers, and is a history again. A history is atomic exactly if each of its registers
 is, so the parts answer for the whole: run regcheck on each of them, then regkit join DIR. docs/scale.md says
-more.
+more. docs/ and engines/ are in the repository, and in share/doc/regcheck of a release.
 
 examples:
   regkit split history.jsonl parts --parts 8

@@ -20,10 +20,6 @@ STRIPES = ('<svg class="defs" aria-hidden="true"><defs><pattern id="stripes" wid
            '</pattern></defs></svg>')
 
 
-class NoRegister(ValueError):
-    """A register was asked for that the history doesn't have."""
-
-
 class Asked(NamedTuple):
     """What to show."""
 
@@ -45,8 +41,7 @@ def chosen_rows(history: History, report: Report, asked: Asked) -> List[Row]:
     rows: List[Row] = [by_name.get(register, {"register": register}) for register in history.registers]
     if asked.registers:
         for register in asked.registers:
-            if register not in history.registers:
-                raise NoRegister(f"the history has no register {register!r}")
+            history.must_have(register)
         return [row for row in rows if row["register"] in asked.registers]
     return (report.faulty or rows)[:asked.most]
 
