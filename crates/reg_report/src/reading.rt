@@ -2,6 +2,7 @@
 //! read and numbered.
 ghost use Rattle.std.specs.Prelude.{◌≡◌, ◌+◌, ◌-◌, ◌^◌, ◌<◌, ◌≤◌, ℕ, List, [], Option, Some, false, length, IfOk, IfErr};
 ghost use Rattle.history_text.specs.declared.limits.TheConstants.{MAX_INPUT};
+ghost use Rattle.reg_report.specs.declared.reading.TheConstants.{BLOCK};
 ghost use Rattle.history_model.specs.History.{History};
 ghost use Rattle.reg_arena.specs.Numbered.{ArePartsNumbered};
 ghost use Rattle.reg_report.specs.Answer.{IsArenaOf};
@@ -15,14 +16,19 @@ use crate::refusal::Refusal;
 use byte_ends::Source;
 use history_model::BuildError;
 use history_text::{MAX_EVENTS, MAX_INPUT};
+use rayon::current_num_threads;
 use reg_arena::{Arena, HashKey, NumberedLines, Numbering};
 use std::alloc::{AllocError, Global};
 use std::random::RandomSource;
 use std::thread::{Threads, join_mut};
 
-/// How many bytes a block has: so many that its lines are read by the time those before them are taken in, even if the thread
-/// that reads them starts late, and so few that they take little memory.
+/// How many bytes a block has if several processors share the work: so many that its lines are read by the time those before
+/// them are taken in, even if the thread that reads them starts late, and so few that they take little memory.
 const BLOCK: usize = 2_621_440;
+
+/// How many bytes a block has on one processor: so few that its lines are still in the processor's cache when they are taken
+/// in.
+const SMALL_BLOCK: usize = 262_144;
 
 /// The fewest bytes of an event, as of `{"process":1,"event":"crash"}` with its line feed. A fail may have one less, but its
 /// call has many more.
@@ -33,6 +39,8 @@ const SHORTEST_EVENT: usize = 30;
 #[derive(Drop)]
 struct Reader {
     alloc: Global,
+    /// Whether there is one processor alone, so that a thread more would gain nothing.
+    is_alone: bool,
     numbering: Numbering,
     spent: Vec<NumberedLines>,
 }
@@ -78,7 +86,8 @@ fn take_in(
 }
 
 impl Underway {
-    /// Has a thread read the lines that are held, and meanwhile takes in those that were read before.
+    /// Has a thread read the lines that are held, and meanwhile takes in those that were read before. On one processor it does
+    /// one after the other.
     fn read_and_take_in<T: Threads + Sync>(
         self,
         rt: &T,
@@ -98,6 +107,12 @@ impl Underway {
         let Underway { arena, ahead } = self;
         let alloc = reader.alloc;
         let mut arena = Some(arena);
+        if reader.is_alone {
+            let taken = take_in(alloc, &mut arena, &ahead);
+            let read = reader.read(rt, intake);
+            reader.spent = ahead;
+            return (read, taken);
+        }
         let made = join_mut(
             rt,
             &mut ||
@@ -127,7 +142,7 @@ impl Underway {
         ensures further { IfOk result (λ _. intake.old.pulled.is_ended ≡ false → IsFurther intake.old.pulled intake.new.pulled) }
         ensures err { IfErr result (λ refusal. (left : Option (List ℕ)) (failed : ℕ) → IsUnderway left (S.left source.old) failed (S.failed source.old) intake.old reader.old self → IsStopped left (S.left source.new) failed (S.failed source.new) intake.new.pulled refusal) }
     {
-        let enough = intake.held().len() + BLOCK;
+        let enough = intake.held().len() + block(reader.is_alone);
         intake.fill(source, enough)?;
         let (read, taken) = self.read_and_take_in(rt, intake, reader);
         let ahead = read?;
@@ -136,11 +151,18 @@ impl Underway {
     }
 }
 
+/// How many bytes a block has.
+fn block(is_alone: bool) -> usize
+    ensures { (0 < result) × (result ≤ BLOCK) }
+{
+    if is_alone { SMALL_BLOCK } else { BLOCK }
+}
+
 /// How many bytes are held before the first lines are read. If the system gives no random bytes, that is all of them: the
 /// key of the hashes is a digest of them then.
-fn first_block<T: RandomSource>(rt: &T) -> usize {
+fn first_block<T: RandomSource>(rt: &T, is_alone: bool) -> usize {
     match rt.fill_bytes(&mut [0]) {
-        Ok(()) => BLOCK,
+        Ok(()) => block(is_alone),
         Err(_) => MAX_INPUT,
     }
 }
@@ -173,11 +195,13 @@ fn read_arena<T: Threads + RandomSource + Sync, S: Source>(
     ensures unfailed { IfOk result (λ _. S.failed source.new ≡ S.failed source.old) }
     ensures err { IfErr result (IsStopped (S.left source.old) (S.left source.new) (S.failed source.old) (S.failed source.new) intake.new.pulled) }
 {
-    intake.fill(source, first_block(rt))?;
+    let is_alone = current_num_threads(rt) == 1;
+    intake.fill(source, first_block(rt, is_alone))?;
     let key = HashKey::drawn(rt, intake.held());
     let arena = Arena::empty(alloc, key, room_for(intake))?;
     let mut reader = Reader {
         alloc,
+        is_alone,
         numbering: Numbering::new(alloc, key),
         spent: Vec::new(alloc),
     };
