@@ -48,10 +48,6 @@ faulty-push : (done : List (ℕ × Piece)) (n : ℕ) (p : Piece) → faulty_numb
 faulty-push [] n p = append-nil (number_where (is_faulty p) n)
 faulty-push (d ∷ done) n p = ap (λ ns. number_where (is_faulty d.1) d.0 ++ ns) (faulty-push done n p) ∙ sym (append_assoc (number_where (is_faulty d.1) d.0) (faulty_numbers done) (number_where (is_faulty p) n))
 
-no-flags : (first : Bool) (flagged : List ℕ) → Flags first [] flagged flagged
-no-flags true flagged = sym (append-nil flagged)
-no-flags false flagged = refl
-
 -- ---- what was skipped
 
 skipped-more : (seen now n : ℕ) (p : Piece) (old new : List (ℕ × Piece)) → now ≤ seen → new ≡ old ++ (n, p) ∷ [] → (p ≡ Skipped → now < n) → AreSkippedAbove seen old → AreSkippedAbove now new
@@ -59,9 +55,6 @@ skipped-more seen now n p old new l e here before i d at s = elim (push-cases ol
   | inl k ↦ let b = before i d k s in omega (arith, b, l)
   | inr k ↦ subst (λ m. now < m) (ap (λ (x : ℕ × Piece). x.0) k.1) (here (ap (λ (x : ℕ × Piece). x.1) k.1 ∙ s))
 ]
-
-skipped-lower : (seen now : ℕ) (done : List (ℕ × Piece)) → now ≤ seen → AreSkippedAbove seen done → AreSkippedAbove now done
-skipped-lower seen now done l before i d at s = let b = before i d at s in omega (arith, b, l)
 
 -- ---- a worker
 
