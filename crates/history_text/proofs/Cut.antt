@@ -100,16 +100,6 @@ pub record ArePassed (bytes : List ℕ) (first : ℕ) (found : List Span) (line 
   pub counted : line + length (lines (drop from bytes)) ≡ first + length (lines bytes)
   pub few : line ≤ first + from
 
--- nothing was passed yet
-pub passed-none : (bytes : List ℕ) (first : ℕ) → ArePassed bytes first [] first 0
-passed-none bytes first = record {
-  spans = λ more. refl;
-  inside = All-nil (IsWithin bytes);
-  within = omega arith;
-  counted = refl;
-  few = omega arith;
-}
-
 -- a line more is within the bytes
 inside-more : (bytes : List ℕ) (found : List Span) (blank : Bool) (span : Span) → All (IsWithin bytes) found → IsWithin bytes span → All (IsWithin bytes) (found ++ kept_span blank span)
 inside-more bytes found true span all one = All-append (IsWithin bytes) found [] all (All-nil (IsWithin bytes))

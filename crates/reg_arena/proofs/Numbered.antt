@@ -99,9 +99,3 @@ parts-at names (x ∷ parts) (suc i) part at all = parts-at names parts i part a
 
 -- ---- the number of a name that is called
 
--- it is known if it is less than the count of the names
-pub known-number : (names : List (List ℕ)) (name : List ℕ) (n : ℕ) → n ≡ position_or_len (bytes_eq name) names → n < length names → IsNumber names name (Some n)
-known-number names name n e l = (sym e, l)
-
-pub new-number : (names : List (List ℕ)) (name : List ℕ) (n : ℕ) → n ≡ position_or_len (bytes_eq name) names → (n < length names → ⊥) → IsNumber names name None
-new-number names name n e l = omega (arith, e, l, place-within (bytes_eq name) names)

@@ -13,20 +13,6 @@ pub record IsCutting (cut r len from : ℕ) (old new : List Task) : Type 0 where
   pub within : from ≤ len
   pub goes_on : (more : List Task) → AreCuts cut r from len more → AreCuts cut r 0 len (so_far ++ more)
 
-pub cutting-starts : (cut r len : ℕ) (tasks : List Task) → IsCutting cut r len 0 tasks tasks
-cutting-starts cut r len tasks = record { so_far = []; added = sym (append-nil tasks); within = omega arith; goes_on = λ more m. m }
-
-pub cutting-goes-on : (cut r len from : ℕ) (old tasks new : List Task) → from < len → IsCutting cut r len from old tasks → new ≡ tasks ++ Reads (record { 0 = r }) from (from + min (len - from) cut) ∷ []
-    → IsCutting cut r len (from + min (len - from) cut) old new
-cutting-goes-on cut r len from old tasks new l c e =
-    let t = Reads (record { 0 = r }) from (from + min (len - from) cut) in
-    record {
-      so_far = c.so_far ++ t ∷ [];
-      added = e ∙ (ap (λ ts. ts ++ t ∷ []) c.added ∙ append_assoc old c.so_far (t ∷ []));
-      within = omega arith;
-      goes_on = λ more m. subst (AreCuts cut r 0 len) (sym (append_assoc c.so_far (t ∷ []) more)) (c.goes_on (t ∷ more) (l, refl, m));
-    }
-
 pub cutting-ends : (cut r len : ℕ) (old new : List Task) → IsCutting cut r len len old new → (cuts : List Task) × AreCuts cut r 0 len cuts × (new ≡ old ++ cuts)
 cutting-ends cut r len old new c = (c.so_far, subst (AreCuts cut r 0 len) (append-nil c.so_far) (c.goes_on [] refl), c.added)
 

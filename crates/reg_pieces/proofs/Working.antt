@@ -48,10 +48,6 @@ faulty-push : (done : List (ℕ × Piece)) (n : ℕ) (p : Piece) → faulty_numb
 faulty-push [] n p = append-nil (number_where (is_faulty p) n)
 faulty-push (d ∷ done) n p = ap (λ ns. number_where (is_faulty d.1) d.0 ++ ns) (faulty-push done n p) ∙ sym (append_assoc (number_where (is_faulty d.1) d.0) (faulty_numbers done) (number_where (is_faulty p) n))
 
-no-flags : (first : Bool) (flagged : List ℕ) → Flags first [] flagged flagged
-no-flags true flagged = sym (append-nil flagged)
-no-flags false flagged = refl
-
 -- ---- what was skipped
 
 skipped-more : (seen now n : ℕ) (p : Piece) (old new : List (ℕ × Piece)) → now ≤ seen → new ≡ old ++ (n, p) ∷ [] → (p ≡ Skipped → now < n) → AreSkippedAbove seen old → AreSkippedAbove now new
@@ -59,9 +55,6 @@ skipped-more seen now n p old new l e here before i d at s = elim (push-cases ol
   | inl k ↦ let b = before i d k s in omega (arith, b, l)
   | inr k ↦ subst (λ m. now < m) (ap (λ (x : ℕ × Piece). x.0) k.1) (here (ap (λ (x : ℕ × Piece). x.1) k.1 ∙ s))
 ]
-
-skipped-lower : (seen now : ℕ) (done : List (ℕ × Piece)) → now ≤ seen → AreSkippedAbove seen done → AreSkippedAbove now done
-skipped-lower seen now done l before i d at s = let b = before i d at s in omega (arith, b, l)
 
 -- ---- a worker
 
@@ -74,17 +67,6 @@ pub record IsWorking (h : History) (plan : PlanShown) (given seat : SeatValue) (
   pub drawn : seat.view.drawn ≡ given.view.drawn ++ numbers_of done
   pub pieces : ArePieces h plan.tasks done
   pub skipped : AreSkippedAbove seat.view.seen done
-
-pub working-starts : (h : History) (plan : PlanShown) (given : SeatValue) → IsWorking h plan given given []
-working-starts h plan given = record {
-  here = refl;
-  weight = refl;
-  jobs = refl;
-  flagged = no-flags plan.first given.view.flagged;
-  drawn = sym (append-nil given.view.drawn);
-  pieces = λ i d e. absurd (cc e);
-  skipped = λ i d e. absurd (cc e);
-}
 
 module _ (h : History) (plan : PlanShown) (given seat drawn : SeatValue) (n : ℕ) (old new : List (ℕ × Piece)) (w : IsWorking h plan given seat old) (here : drawn.board ≡ seat.board) (view : drawn.view ≡ with_drawn seat.view n) where
   weight-drawn : drawn.view.weight ≡ given.view.weight
@@ -134,29 +116,3 @@ module _ (h : History) (plan : PlanShown) (given seat drawn : SeatValue) (n : �
         pieces = one-piece-more h plan.tasks n old new piece w.pieces;
         skipped = skipped-more seat.view.seen after.view.seen n a.piece old new (omega (arith, k.seen, seen-drawn)) a.added a.skipped w.skipped;
       }
-
-  -- memory was refused
-  pub worked-refused : (worked : Worked) → worked.refused ≡ true → worked.done.items ≡ old → KeepsSeat drawn worked.seat → worked.seat.view.flagged ≡ drawn.view.flagged → HasWorked h plan given worked
-  worked-refused worked r same k f = record {
-    board = k.board ∙ (here ∙ w.here);
-    weight = k.weight ∙ weight-drawn;
-    jobs = k.jobs ∙ jobs-drawn;
-    flagged = subst (λ (xs : List (ℕ × Piece)). Flags plan.first xs given.view.flagged worked.seat.view.flagged) (sym same) (subst (Flags plan.first old given.view.flagged) (sym f) flagged-drawn);
-    drawn = inr (r, (n, k.drawn ∙ (drawn-before ∙ ap (λ (xs : List (ℕ × Piece)). (given.view.drawn ++ numbers_of xs) ++ n ∷ []) (sym same))));
-    exhausted = λ e. absurd (false≢true (sym e ∙ r));
-    pieces = subst (ArePieces h plan.tasks) (sym same) w.pieces;
-    skipped = subst (AreSkippedAbove worked.seat.view.seen) (sym same) (skipped-lower seat.view.seen worked.seat.view.seen old (omega (arith, k.seen, seen-drawn)) w.skipped);
-  }
-
--- no number is left
-pub worked-ends : (h : History) (plan : PlanShown) (given seat : SeatValue) (worked : Worked) → IsWorking h plan given seat worked.done.items → worked.refused ≡ false → worked.seat.board ≡ seat.board → worked.seat.view ≡ with_exhausted seat.view → HasWorked h plan given worked
-worked-ends h plan given seat worked w r here view = record {
-  board = here ∙ w.here;
-  weight = ap (λ v. v.weight) view ∙ w.weight;
-  jobs = ap (λ v. v.jobs) view ∙ w.jobs;
-  flagged = subst (Flags plan.first worked.done.items given.view.flagged) (sym (ap (λ v. v.flagged) view)) w.flagged;
-  drawn = inl (ap (λ v. v.drawn) view ∙ w.drawn);
-  exhausted = λ e. ap (λ v. v.exhausted) view;
-  pieces = w.pieces;
-  skipped = subst (λ s. AreSkippedAbove s worked.done.items) (sym (ap (λ v. v.seen) view)) w.skipped;
-}

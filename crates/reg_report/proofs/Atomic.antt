@@ -54,9 +54,6 @@ module _ (h : History) (t : IsTold h) (r : ℕ) (order : List Placed) (x : IsOrd
     ),
   )
 
-pub fault-atomicity : (h : History) (ops : List Operation) (fault : Fault) (lines : FaultLines) → IsJudged ops (Faulty fault) → ShowsFault h fault lines → IsAtomicity h ops false (Some lines) None None
-fault-atomicity h ops fault lines j s = (j.0, refl, refl, (lines, (fault, j.1, s), refl))
-
 -- ---- all registers
 
 pub one-order-more : (h : History) (n : ℕ) (orders : List (List Placed)) (order : List Placed) → AreFirstOrders h n orders → IsOrder (register_of h n) order → AreFirstOrders h (n + 1) (orders ++ order ∷ [])

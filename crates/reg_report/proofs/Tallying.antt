@@ -84,9 +84,6 @@ skip h r n t q c = record {
 pub counting-skips : (h : History) (n : ℕ) (ts : List Tally) (e : Event) → AreCounting h n ts → slice_get h.events n ≡ Some e → begins_at h.events n e ≡ false → AreCounting h (n + 1) ts
 counting-skips h n ts e c at other = record { count = c.count; each = λ r t q. skip h r n t (left-other h r n e at other) (c.each r t q) }
 
-writes-shown : (o : Operation) → writes (op_shown o).kind ≡ is_write o
-writes-shown o = refl
-
 pending-shown : (o : Operation) → is_none (op_shown o).reply ≡ is_pending o
 pending-shown o = go o.completed
   where

@@ -21,9 +21,6 @@ module _ (h : History) (r : ℕ) (y : IsKnown h r) (i : ℕ) (o : Operation) (op
   is : o ≡ a
   is = same h r y i o op b a k (inl e)
 
-  pub not_called : (op.call ≡ i + 2 → ⊥) → ⊥
-  not_called q = q (ap (λ (x : Op). x.call) b.shown ∙ (ap (λ (x : Operation). x.call) is ∙ e))
-
   pub not_write : op.kind ≡ WriteOp → ⊥
   not_write q = false≢true (sym d.read ∙ (ap (λ (x : Operation). is_write x) (sym is) ∙ ap writes (ap (λ (x : Op). x.kind) (sym b.shown) ∙ q)))
 
