@@ -12,9 +12,7 @@ use Rattle.history_model.specs.Events.{Asked, asked_by}
 use Rattle.history_model.specs.History.{register_names}
 use Rattle.history_model.specs.Refusals.{Line, events_of}
 use Rattle.history_model.proofs.Numbers.{is-In, place-in, place-out, names-known, names-new, names-replied}
-use Rattle.reg_arena.proofs.Keys.{place-within}
 use Rattle.reg_arena.specs.Numbered.{AreNumbered, ArePartsNumbered, IsNumbered, lines_of, name_called, names_with, with_name}
-use Rattle.reg_arena.specs.Step.{IsNumber}
 use Rattle.reg_arena.specs.declared.numbering.NumberedLines.{NumberedLines}
 
 -- ---- one name

@@ -32,9 +32,3 @@ zip-at R [] ys i x h at = absurd (cc (at))
 zip-at R (z ∷ xs) [] i x h at = elim h [ ]
 zip-at R (z ∷ xs) (y ∷ ys) zero x h at = let q : z ≡ x = cc (at) in (y, refl, subst (λ w. R w y) q h.0)
 zip-at R (z ∷ xs) (y ∷ ys) (suc i) x h at = zip-at R xs ys i x h.1 at
-
-pub at-zip : {A B : Type 0} (R : A → B → Type 0) (xs : List A) (ys : List B) (i : ℕ) (y : B) → AllZip R xs ys → slice_get ys i ≡ Some y → (x : A) × (slice_get xs i ≡ Some x) × R x y
-at-zip R xs [] i y h at = absurd (cc (at))
-at-zip R [] (z ∷ ys) i y h at = elim h [ ]
-at-zip R (x ∷ xs) (z ∷ ys) zero y h at = let q : z ≡ y = cc (at) in (x, refl, subst (λ w. R x w) q h.0)
-at-zip R (x ∷ xs) (z ∷ ys) (suc i) y h at = at-zip R xs ys i y h.1 at

@@ -142,7 +142,8 @@ impl Underway {
         ensures further { IfOk result (λ _. intake.old.pulled.is_ended ≡ false → IsFurther intake.old.pulled intake.new.pulled) }
         ensures err { IfErr result (λ refusal. (left : Option (List ℕ)) (failed : ℕ) → IsUnderway left (S.left source.old) failed (S.failed source.old) intake.old reader.old self → IsStopped left (S.left source.new) failed (S.failed source.new) intake.new.pulled refusal) }
     {
-        let enough = intake.held().len() + block(reader.is_alone);
+        let held = intake.held().len();
+        let enough = held + block(reader.is_alone, held);
         intake.fill(source, enough)?;
         let (read, taken) = self.read_and_take_in(rt, intake, reader);
         let ahead = read?;
@@ -151,18 +152,23 @@ impl Underway {
     }
 }
 
-/// How many bytes a block has.
-fn block(is_alone: bool) -> usize
+/// How many bytes a block has, by whether there is one processor alone and how many bytes are held. If a line is longer than
+/// a small block, the rest of it comes in large ones, since all of it is looked through each time.
+fn block(is_alone: bool, held: usize) -> usize
     ensures { (0 < result) × (result ≤ BLOCK) }
 {
-    if is_alone { SMALL_BLOCK } else { BLOCK }
+    if is_alone && held < SMALL_BLOCK {
+        SMALL_BLOCK
+    } else {
+        BLOCK
+    }
 }
 
 /// How many bytes are held before the first lines are read. If the system gives no random bytes, that is all of them: the
 /// key of the hashes is a digest of them then.
 fn first_block<T: RandomSource>(rt: &T, is_alone: bool) -> usize {
     match rt.fill_bytes(&mut [0]) {
-        Ok(()) => block(is_alone),
+        Ok(()) => block(is_alone, 0),
         Err(_) => MAX_INPUT,
     }
 }
