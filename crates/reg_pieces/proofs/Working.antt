@@ -1,18 +1,17 @@
 -- What a worker has drawn, done, flagged and seen so far.
-use Rattle.std.proofs.Common.{◌≡◌, ℕ, zero, suc, ◌<◌, ◌≤◌, Bool, true, false, List, [], ◌∷◌, ◌++◌, length, slice_get, Some, inl, inr, refl, sym, ap, subst, ◌∙◌, arith, append_assoc, append-nil}
+use Rattle.std.proofs.Common.{◌≡◌, ℕ, zero, suc, ◌<◌, ◌≤◌, true, false, List, [], ◌∷◌, ◌++◌, length, slice_get, Some, inl, inr, refl, sym, ap, subst, ◌∙◌, arith, append_assoc, append-nil}
 use Rattle.std.proofs.lemmas.Bool.{false≢true}
 use Rattle.job_board.specs.Numbers.{times}
 use Rattle.job_board.specs.declared.view.View.{View}
 use Rattle.job_board.proofs.Lacking.{lacking, lacks_less}
-use Rattle.job_board.specs.Seats.{SeatValue, with_drawn, with_exhausted}
+use Rattle.job_board.specs.Seats.{SeatValue, with_drawn}
 use Rattle.history_model.specs.History.{History}
 use Rattle.reg_pieces.specs.Judged.{is_faulty}
 use Rattle.reg_pieces.specs.Plan.{IsFirstPlan, IsPieceOf, IsPlan, IsSomePlan, PlanShown}
-use Rattle.reg_pieces.specs.Work.{AddsPiece, AddsRegister, ArePieces, AreSkippedAbove, Flags, HasWorked, KeepsSeat, faulty_numbers, number_where, numbers_of}
+use Rattle.reg_pieces.specs.Work.{AddsPiece, AddsRegister, ArePieces, AreSkippedAbove, Flags, KeepsSeat, faulty_numbers, number_where, numbers_of}
 use Rattle.reg_pieces.specs.declared.piece.Piece.{Piece}
 use Rattle.reg_pieces.specs.declared.piece.Piece.TheVariants.{Skipped}
 use Rattle.reg_pieces.specs.declared.tasks.Task.{Task}
-use Rattle.reg_pieces.specs.declared.worker.Worked.{Worked}
 use Rattle.reg_pieces.proofs.Fitness.{not-skipped}
 use Rattle.reg_pieces.proofs.Pushed.{push-cases}
 use Rattle.reg_pieces.proofs.Putting.{numbers-more, one-piece-more}
