@@ -96,4 +96,3 @@ parts-at names (x ∷ parts) zero part at all = let same : x ≡ part = cc in (s
 parts-at names (x ∷ parts) (suc i) part at all = parts-at names parts i part at all
 
 -- ---- the number of a name that is called
-

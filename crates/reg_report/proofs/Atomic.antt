@@ -5,19 +5,17 @@ use Rattle.std.proofs.lemmas.List.{length_push}
 use Rattle.std.proofs.lemmas.List.Concat.{flat_map-append}
 use Rattle.history_model.specs.Lists.{In}
 use Rattle.history_model.specs.History.{History}
-use Rattle.history_model.specs.Operations.{Operation, operations, register_of}
+use Rattle.history_model.specs.Operations.{operations, register_of}
 use Rattle.reg_zones.specs.Order.{PlacedOperation, IsOrder, placed, operations_of}
-use Rattle.reg_zones.specs.declared.fault.Fault.{Fault}
 use Rattle.reg_zones.specs.declared.placed.Placed.{Placed}
 use Rattle.history_model.proofs.Lists.{In-map}
 use Rattle.reg_pieces.specs.Judged.{IsJudged}
 use Rattle.reg_report.specs.Lines.{HaveCalls, HavePoints, call_line, point_line, lines_by}
-use Rattle.reg_report.specs.Meaning.{IsAtomicity, IsWholeAtomicity, ShowsFault}
+use Rattle.reg_report.specs.Meaning.{IsAtomicity, IsWholeAtomicity}
 use Rattle.reg_report.specs.Merged.{AreFirstOrders, AreGathered, IsMergedAnswer}
 use Rattle.reg_report.specs.Registers.{IsSomeNotAtomic}
 use Rattle.reg_report.specs.Told.{IsTold}
-use Rattle.reg_pieces.specs.declared.judgement.Judgement.TheVariants.{Order, Faulty}
-use Rattle.reg_report.specs.declared.report.FaultLines.{FaultLines}
+use Rattle.reg_pieces.specs.declared.judgement.Judgement.TheVariants.{Order}
 use Rattle.reg_pieces.proofs.Pushed.{push-cases}
 use Rattle.reg_report.proofs.OrderLines.{calls-lines, points-lines, calls-there, points-there, placed-inside}
 use Rattle.reg_report.proofs.Locality.{each}
