@@ -1,7 +1,8 @@
 //! One walk over a register's events that looks for a fault, as `pass` does, and lists the operations as it goes.
 //!
 //! Each event is met once for both. Callers that want the fault alone use `pass`, which takes no memory.
-ghost use Rattle.std.specs.Prelude.{◌≤◌, IfOk, MatchResult};
+ghost use Rattle.std.specs.Prelude.{◌≡◌, ◌≤◌, IfOk, OnOk, MatchResult};
+ghost use Rattle.history_model.specs.Walking.{IsOnWalk};
 ghost use Rattle.reg_zones.specs.Entries.{IsListing};
 ghost use Rattle.reg_zones.specs.Faults.{IsFault};
 ghost use Rattle.reg_zones.specs.Register.{operations_of};
@@ -13,31 +14,52 @@ use crate::fault::Fault;
 use crate::pass::{Compared, Found, compare_at, initial_cluster, initial_forward};
 use crate::reads::early_at;
 use crate::register::Register;
+use history_model::EvId;
 use std::alloc::{AllocError, Global};
 
-/// For how many operations a walk asks for room before it begins, at most.
-const MANY: usize = 64;
+/// How many events a walk looks at beforehand, to ask for the room of their operations at once.
+const STRETCH: usize = 64;
 
-/// About how many operations a walk of the register lists, to ask for their room at once: the initial write, and those that
-/// the register's events begin, up to `MANY`.
+/// How many operations begin with the register's next `STRETCH` events.
 ///
-/// With many registers the rows of these events lie far apart. A step here does so little that the processor fetches several
-/// rows at a time, and the walk, which does more at each event, then finds them at hand.
-fn room_for(register: Register<'_>) -> usize
-    ensures { (1 ≤ result) × (result ≤ MANY) }
+/// The rows of a register's events lie far apart. A step here does so little that the processor fetches several rows at a
+/// time, and the walk, which does more at each event, then finds them at hand.
+fn room_for(register: Register<'_>, from: Option<EvId>) -> usize
+    requires { IsOnWalk register.arena.now.events register.id.0 from }
+    ensures { result ≤ STRETCH }
 {
-    let mut room = 1;
-    let mut next = register.arena.first_of_register(register.id);
+    let mut room = 0;
+    let mut left = STRETCH;
+    let mut next = from;
     while let Some(id) = next {
-        if room == MANY {
+        if left == 0 {
             return room;
         }
+        left -= 1;
         if register.arena.begins(id) {
             room += 1;
         }
         next = register.arena.next_in_register(id);
     }
     room
+}
+
+/// Asks for the room of the next stretch's operations if no event is left of this one. Gives back how many events are left
+/// behind the event at hand.
+fn next_left(
+    register: Register<'_>,
+    next: Option<EvId>,
+    left: usize,
+    entries: &mut Vec<Entry>,
+) -> Result<usize, AllocError>
+    requires { IsOnWalk register.arena.now.events register.id.0 next }
+    ensures { OnOk result (entries.new.items ≡ entries.old.items) }
+{
+    if left > 0 {
+        return Ok(left - 1);
+    }
+    entries.reserve(room_for(register, next))?;
+    Ok(STRETCH - 1)
 }
 
 /// What a walk found of early reads and of zones, with the kept writes and the completed reads, each once, by call; or the
@@ -51,12 +73,15 @@ pub(crate) fn found_and_listed(
         (λ fault. IsFault (operations_of register.entry) fault)) }
 {
     let initial = initial_cluster(register);
-    let mut entries = Vec::with_capacity(alloc, room_for(register))?;
+    let first = register.arena.first_of_register(register.id);
+    let mut entries = Vec::with_capacity(alloc, room_for(register, first) + 1)?;
     entries.push(initial_entry(register, initial))?;
     let mut early = None;
     let mut clusters = Compared::Clear(initial_forward(register, initial));
     let mut ahead = Ahead::of(register);
+    let mut left = STRETCH;
     while let Some(id) = ahead.next {
+        left = next_left(register, ahead.next, left, &mut entries)?;
         let further = ahead.further(register);
         let met = register.meet(id, ahead.oper);
         match early_at(register, met, id) {

@@ -61,7 +61,8 @@ loop-ahead-preserved c =
     let next = c.further-further.result.next in
     let after = c.further-further.ensures.next id c.in-Some.is in
     let early_so_far = subst (IsEarlySoFar h r c.loop-ahead.early) c.in-Some.is c.loop-ahead.invariant.early in
-    let listed_so_far = subst (IsListingSoFar h.events r ops c.loop-ahead.entries.items) c.in-Some.is c.loop-ahead.invariant.listing in
+    let entries = c.next_left.new.entries.items in
+    let listed_so_far = subst (IsListingSoFar h.events r ops entries) c.in-Some.is (subst (λ (xs : List Entry). IsListingSoFar h.events r ops xs c.loop-ahead.ahead.next) (sym c.in_ok-left.ensures) c.loop-ahead.invariant.listing) in
     record {
       ahead = c.further-further.ensures.ahead;
       walk = met-more c.loop-ahead.invariant.walk c.in-Some.is _ c.in-Ok.ensures.written after;
@@ -72,10 +73,10 @@ loop-ahead-preserved c =
             let pushed = w.in_ok-push-2.ensures in
             let items = ap (λ (v : Vec Entry Global). v.items) w.entries-is ∙ pushed.items in
             subst (λ (xs : List Entry). IsListingSoFar h.events r ops xs next) (sym items)
-            (listing-push h r y c.loop-ahead.entries.items w.in-Some-listed_at.entry id next w.in-Some-listed_at.ensures listed_so_far after)
+            (listing-push h r y entries w.in-Some-listed_at.entry id next w.in-Some-listed_at.ensures listed_so_far after)
         | in_default-listed_at w ↦
             subst (λ (v : Vec Entry Global). IsListingSoFar h.events r ops v.items next) (sym w.entries-is)
-            (listing-skip h r y c.loop-ahead.entries.items id next w.in_default-listed_at.ensures listed_so_far after)
+            (listing-skip h r y entries id next w.in_default-listed_at.ensures listed_so_far after)
       ];
     }
 

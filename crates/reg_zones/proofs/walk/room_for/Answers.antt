@@ -1,14 +1,11 @@
 use Rattle.std.proofs.Common.{◌<◌, arith, sym, subst}
 use Rattle.history_model.specs.Walking.{IsOnWalk, walk_left}
-use Rattle.history_model.proofs.Walking.{walk-ends, walk-first, walk-next, walk-within}
+use Rattle.history_model.proofs.Walking.{walk-ends, walk-next, walk-within}
 use Rattle.reg_zones.proofs.walk.room_for.Goals as goal
 use Rattle.reg_zones.proofs.walk.room_for.Goals.{then-begins, else-begins}
 
 pub loop-next-init : goal.loop-next-init
-loop-next-init c = record {
-  on = walk-first c.args.register.id.0 c.args.register.arena.now.events c.first_of_register-next.result c.first_of_register-next.ensures;
-  bound = (omega arith, omega arith);
-}
+loop-next-init c = record { on = c.requires; bound = omega arith }
 
 pub begins-requires : goal.begins-requires
 begins-requires c =
@@ -17,7 +14,7 @@ begins-requires c =
     walk-within r es c.in-Some.id (subst (IsOnWalk es r) c.in-Some.is c.loop-next.invariant.on)
 
 pub overflow_add-room : goal.overflow_add-room
-overflow_add-room c = omega (arith, c.loop-next.invariant.bound.1)
+overflow_add-room c = omega (arith, c.loop-next.invariant.bound)
 
 pub next_in_register-next-requires : goal.next_in_register-next-requires
 next_in_register-next-requires c =
@@ -40,10 +37,10 @@ loop-next-preserved c =
     record {
       on = walk-next r es c.in-Some.id c.next_in_register-next.result on c.next_in_register-next.ensures.next;
       bound = elim c.if-begins.branch [
-        | then-begins w ↦ (omega (arith, w.room-is), omega (arith, w.room-is, c.loop-next.invariant.bound.1, c.if-room-eq-MANY.false))
-        | else-begins w ↦ (omega (arith, w.room-is, c.loop-next.invariant.bound.0), omega (arith, w.room-is, c.loop-next.invariant.bound.1))
+        | then-begins w ↦ omega (arith, w.room-is, c.loop-next.invariant.bound)
+        | else-begins w ↦ omega (arith, w.room-is, c.loop-next.invariant.bound)
       ];
     }
 
 pub returns : goal.returns
-returns c = c.loop-next.invariant.bound
+returns c = omega (arith, c.loop-next.invariant.bound)

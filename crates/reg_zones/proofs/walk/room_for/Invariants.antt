@@ -1,11 +1,11 @@
-use Rattle.std.proofs.Common.{◌≤◌}
+use Rattle.std.proofs.Common.{◌+◌, ◌≤◌}
 use Rattle.history_model.specs.Walking.{IsOnWalk, walk_left}
 use Rattle.reg_zones.proofs.walk.room_for.Given as goal
 
 abbrev pub invariant-loop-next : goal.invariant-loop-next
 invariant-loop-next l = record {
   on : IsOnWalk l.register.arena.now.events l.register.id.0 l.next;
-  bound : (1 ≤ l.room) × (l.room ≤ 64);
+  bound : l.room + l.left ≤ 64;
 }
 
 abbrev pub decreases-loop-next : goal.decreases-loop-next
