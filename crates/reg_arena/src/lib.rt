@@ -9,7 +9,7 @@
 //!
 //! Read it in this order: `hash_key` and `seeded`, which make the hashes; `optional`, `packed_event` and `rows`, which keep the events; `list_ends`, `processes`, `joins`,
 //! `event_lists` and `entries`, the lists that run through them; `numbering`, which numbers the registers of lines, and `names`; `arena`, `called` and
-//! `of_value`, which answer; `agrees`, `standing` and `build`.
+//! `of_value`, which answer; `agrees`, `standing`, `stretch` and `build`.
 #![tactic(auto)]
 
 mod agrees;
@@ -30,6 +30,7 @@ mod processes;
 mod rows;
 mod seeded;
 mod standing;
+mod stretch;
 
 pub use arena::Arena;
 pub use hash_key::HashKey;
