@@ -1,8 +1,10 @@
 mod Fields
+mod Following
 mod Joined
 mod InParts
 mod Tallying
 mod Naming
+mod MergedLines
 mod MergedOrder
 mod Restrict
 mod Locality

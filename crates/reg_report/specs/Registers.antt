@@ -6,6 +6,7 @@ use Rattle.history_model.specs.Legal.{IsAtomic}
 use Rattle.reg_pieces.specs.Judged.{IsJudged}
 use Rattle.reg_zones.specs.declared.placed.Placed.{Placed}
 use Rattle.reg_report.specs.Levels.{AreLevels}
+use Rattle.reg_report.specs.Lines.{call_line, lines_by}
 use Rattle.reg_report.specs.Meaning.{IsRegisterReport, calls_of}
 use Rattle.reg_report.specs.Merged.{AreGathered, IsMergedAnswer}
 use Rattle.reg_report.specs.Tally.{IsTally}
@@ -51,3 +52,7 @@ AreGatheredIfAtomic h None = IsSomeNotAtomic h
 abbrev pub IsMergedIfAtomic : History → Option (Vec Placed Global) → Type 0
 IsMergedIfAtomic h (Some merged) = IsMergedAnswer h merged.items
 IsMergedIfAtomic h None = IsSomeNotAtomic h
+
+-- the lines of the merged order
+abbrev pub AreMergedLines : History → List ℕ → Type 0
+AreMergedLines h lines = (merged : List Placed) × IsMergedAnswer h merged × (lines ≡ lines_by (call_line h.events) merged)

@@ -8,7 +8,8 @@ ghost use Rattle.reg_report.specs.Registers.{AreFindings, AreGatheredIfAtomic, A
 use crate::findings::Finding;
 use crate::lists::{Lines, Registers};
 use crate::merged::merge_gathered;
-use crate::order_lines::{order_lines, order_lines_in_parts};
+use crate::merged_lines::merged_lines_in_parts;
+use crate::order_lines::order_lines;
 use crate::register::register_report;
 use crate::report::{RegReport, Report};
 use crate::told::told;
@@ -108,7 +109,7 @@ fn whole_order(
     }
 }
 
-/// The same lines. One thread merges the orders, and then several find the lines.
+/// The same lines, found by several threads.
 pub(crate) fn whole_order_in_parts(
     rt: &(impl Threads + Sync),
     alloc: Global,
@@ -119,9 +120,9 @@ pub(crate) fn whole_order_in_parts(
     ensures { IfOk result (λ order. IsWholeAtomicity arena.now (is_some order) order) }
 {
     told(arena);
-    match merged_order(alloc, arena, findings)? {
+    match orders_of(alloc, arena, findings)? {
         None => Ok(None),
-        Some(merged) => Ok(Some(order_lines_in_parts(rt, alloc, arena, &merged)?)),
+        Some(operations) => Ok(Some(merged_lines_in_parts(rt, alloc, arena, &operations)?)),
     }
 }
 

@@ -14,7 +14,7 @@
 //! each register's line as soon as it is made, or `history`, which makes the report's values. If the first register that
 //! isn't atomic is all that is asked for, `first` has `reg_pieces`
 //! look for it. `register` makes the line of one register, with `fault_lines` and `order_lines`, and `merged` the order of
-//! all, with `by_point`. Then come `report` with `lists`, `send` and `written`, and `pushed`, `outcome` and `whole` at last.
+//! all, with `by_point`; `merged_lines` finds that order's lines by several threads. Then come `report` with `lists`, `send` and `written`, and `pushed`, `outcome` and `whole` at last.
 //! `refusal` and `wording` say why there is no report, and `told` asks the arena for what its laws say.
 #![tactic(auto)]
 
@@ -33,6 +33,7 @@ pub mod laws;
 mod levels;
 mod lists;
 mod merged;
+mod merged_lines;
 mod one_by_one;
 mod order_lines;
 mod outcome;

@@ -69,7 +69,7 @@ fn lines_in_parts(
 }
 
 /// Parts one behind the other, with room for as many lines as `count`.
-fn joined(alloc: Global, parts: &[Lines], count: usize) -> Result<Lines, AllocError>
+pub(crate) fn joined(alloc: Global, parts: &[Lines], count: usize) -> Result<Lines, AllocError>
     ensures { IfOk result (λ lines. lines ≡ flat_map (λ part. part) parts.now) }
 {
     let mut lines = Vec::with_capacity(alloc, count)?;

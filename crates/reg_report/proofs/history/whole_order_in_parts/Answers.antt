@@ -1,20 +1,19 @@
-use Rattle.std.proofs.Common.{rules, ap, sym, subst, ◌∙◌}
-use Rattle.reg_report.specs.Lines.{HaveCalls, call_line, lines_by}
-use Rattle.reg_report.specs.Registers.{IsMergedIfAtomic}
-use Rattle.reg_report.proofs.Atomic.{merged-calls, whole-atomic, whole-not-atomic}
+use Rattle.std.proofs.Common.{rules, List, length, sym, subst}
+use Rattle.reg_zones.specs.declared.placed.Placed.{Placed}
+use Rattle.reg_report.specs.Merged.{AreGathered}
+use Rattle.reg_report.specs.Registers.{AreGatheredIfAtomic}
+use Rattle.reg_report.proofs.Atomic.{whole-atomic, whole-not-atomic}
 use Rattle.reg_report.proofs.history.whole_order_in_parts.Goals as goal
 
-pub order_lines_in_parts-requires : goal.order_lines_in_parts-requires
-order_lines_in_parts-requires g c =
+pub merged_lines_in_parts-requires : goal.merged_lines_in_parts-requires
+merged_lines_in_parts-requires g c =
     let h = c.args.arena.now in
-    let merged = subst (IsMergedIfAtomic h) c.in-Some.is c.in_ok-merged_order.ensures in
-    (search rules, subst (HaveCalls h) (sym c.deref.ensures.value) (merged-calls h c.told.ensures c.in-Some.merged.items merged))
+    (search rules, subst (λ (ops : List Placed). AreGathered h (length h.names) ops) (sym c.deref.ensures.value) (subst (AreGatheredIfAtomic h) c.in-Some.is c.in_ok-orders_of.ensures))
 
 pub returns-in-None : goal.returns-in-None
-returns-in-None g c = let h = c.args.arena.now in whole-not-atomic h c.told.ensures (subst (IsMergedIfAtomic h) c.in-None.is c.in_ok-merged_order.ensures)
+returns-in-None g c = let h = c.args.arena.now in whole-not-atomic h c.told.ensures (subst (AreGatheredIfAtomic h) c.in-None.is c.in_ok-orders_of.ensures)
 
-pub returns-in_ok-order_lines_in_parts-in-Some : goal.returns-in_ok-order_lines_in_parts-in-Some
-returns-in_ok-order_lines_in_parts-in-Some g c =
-    let h = c.args.arena.now in
-    let merged = subst (IsMergedIfAtomic h) c.in-Some.is c.in_ok-merged_order.ensures in
-    whole-atomic h c.told.ensures c.in-Some.merged.items c.in_ok-order_lines_in_parts-in-Some.field-0 merged (c.in_ok-order_lines_in_parts-in-Some.ensures ∙ ap (lines_by (call_line h.events)) c.deref.ensures.value)
+pub returns-in_ok-merged_lines_in_parts-in-Some : goal.returns-in_ok-merged_lines_in_parts-in-Some
+returns-in_ok-merged_lines_in_parts-in-Some g c =
+    let merged = c.in_ok-merged_lines_in_parts-in-Some.ensures in
+    whole-atomic c.args.arena.now c.told.ensures merged.0 c.in_ok-merged_lines_in_parts-in-Some.field-0 merged.1 merged.2
