@@ -9,7 +9,8 @@ use Rattle.history_model.specs.declared.event.Event.{Event}
 use Rattle.reg_arena.specs.declared.list_ends.Ends.{Ends}
 use Rattle.history_model.specs.Operations.{is_a_call, is_a_reply, kind_in, writes}
 use Rattle.history_model.specs.Walking.{IsLeastFrom, IsFirstOf, key_at, by_value}
-use Rattle.reg_arena.specs.EventLists.{IsThreaded, IsJoinedBy, item_at, by_write, by_reply, by_read}
+use Rattle.reg_arena.specs.EventLists.{IsThreaded, IsJoinedBy, by_write, by_reply, by_read}
+use Rattle.reg_arena.specs.Tables.{item_at}
 use Rattle.reg_arena.proofs.Threading.{IsPushed, threaded-alone, threaded-joined}
 use Rattle.history_model.proofs.Lists.{slice_get-push, slice_get-push_other}
 

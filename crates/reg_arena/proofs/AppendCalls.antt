@@ -12,7 +12,8 @@ use Rattle.history_model.specs.declared.event.What.TheVariants.{Call, Reply, Fai
 use Rattle.history_model.specs.Operations.{next_of, has_failed, begins, is_a_call, is_a_reply, is_a_fail}
 use Rattle.history_model.specs.Walking.{key_at, by_process}
 use Rattle.history_model.specs.Naming.{begins_at}
-use Rattle.reg_arena.specs.EventLists.{IsCall, IsCallAt, calls_with, item_at}
+use Rattle.reg_arena.specs.EventLists.{IsCall, IsCallAt, calls_with}
+use Rattle.reg_arena.specs.Tables.{item_at}
 use Rattle.history_model.proofs.Belonging.{drop-get, next-some, next-none}
 use Rattle.history_model.proofs.Lists.{slice_get-push, slice_get-push_other, option_or-none}
 use Rattle.reg_arena.proofs.Append.{key-within}

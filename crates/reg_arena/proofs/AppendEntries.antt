@@ -17,7 +17,8 @@ use Rattle.reg_arena.specs.declared.list_ends.Write.TheVariants.{Unwritten, Writ
 use Rattle.history_model.specs.Operations.{next_of, has_failed, begins, is_a_call, is_a_reply, is_a_fail, kind_in, number_in, writes}
 use Rattle.history_model.specs.Walking.{IsFirstOf, key_at, by_value}
 use Rattle.history_model.specs.Naming.{begins_at}
-use Rattle.reg_arena.specs.EventLists.{IsEnteredBy, IsCallOf, IsAppendable, IsLastRead, IsEntry, item_at, calls_with, by_write, by_reply, by_read, later, write_called, write_kept, write_with, reply_with, read_with, with_call, with_fail, entry_alone, entry_with, entry_after, end_of}
+use Rattle.reg_arena.specs.EventLists.{IsEnteredBy, IsCallOf, IsAppendable, IsLastRead, IsEntry, calls_with, by_write, by_reply, by_read, later, write_called, write_kept, write_with, reply_with, read_with, with_call, with_fail, entry_alone, entry_with, entry_after, end_of}
+use Rattle.reg_arena.specs.Tables.{item_at}
 use Rattle.history_model.proofs.Lists.{slice_get-push, slice_get-push_other}
 use Rattle.reg_arena.proofs.Append.{first-other, first-with, key-along, key-back, key-keep, key-within, read-said, read-value, reply-said, reply-value, write-call, write-value}
 use Rattle.reg_arena.proofs.AppendCalls.{AreCallsAfter, call-before, begins-failed, begins-unfailed, begins-other, call-no_reply, call_at-keep, calls-after, event_id, fail-no_call}

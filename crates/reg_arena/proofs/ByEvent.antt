@@ -18,7 +18,8 @@ use Rattle.history_model.specs.Naming.{begins_at, belongs_at}
 use Rattle.reg_arena.specs.Step.{IsLastWith}
 use Rattle.history_model.specs.declared.ids.EvId.{EvId}
 use Rattle.history_model.specs.declared.ids.RegId.{RegId}
-use Rattle.reg_arena.specs.EventLists.{AreEventLists, IsAlike, IsCallAt, IsCallOf, IsKeptWrite, IsLastOf, by_write, item_at, event_number, value_entry, value_number, write_called, write_kept}
+use Rattle.reg_arena.specs.EventLists.{AreEventLists, IsAlike, IsCallAt, IsCallOf, IsKeptWrite, IsLastOf, by_write, event_number, value_entry, value_number, write_called, write_kept}
+use Rattle.reg_arena.specs.Tables.{item_at}
 use Rattle.reg_arena.proofs.Append.{key-along, write-call, write-value}
 use Rattle.reg_arena.proofs.ByValue.{key-by, key-none, key-parts, key-register}
 use Rattle.reg_arena.proofs.Values.{number-within as within-keys, entry-is}
@@ -29,39 +30,39 @@ then_then f g None = refl
 then_then f g (Some a) = refl
 
 -- the number beside an event is that of its key
-pub number-of : (t : EventLists) → AreEventLists t → (i : ℕ) (o : Option ℕ) → i < length t.rows.events → slice_get t.rows.numbers i ≡ Some o → option_and_then (value_number t.values.keys) (key_at by_value t.rows.events i) ≡ o
+pub number-of : (t : EventLists) → AreEventLists t → (i : ℕ) (o : Option ℕ) → i < length t.rows.events → slice_get t.rows.numbers i ≡ Some o → option_and_then (value_number t.pairs) (key_at by_value t.rows.events i) ≡ o
 number-of t a i o l h =
     let e = slice_get_inside t.rows.events i l in
     let at = e.1 in
     let n = a.numbers i e.0 at in
-    let q : option_and_then (value_number t.values.keys) (by_value e.0) ≡ o = cc (n, h) in
-    ap (λ (x : Option Event). option_and_then (value_number t.values.keys) (option_and_then by_value x)) at ∙ q
+    let q : option_and_then (value_number t.pairs) (by_value e.0) ≡ o = cc (n, h) in
+    ap (λ (x : Option Event). option_and_then (value_number t.pairs) (option_and_then by_value x)) at ∙ q
 
-pub entry-of : (t : EventLists) → AreEventLists t → (i : ℕ) (o : Option ℕ) → i < length t.rows.events → slice_get t.rows.numbers i ≡ Some o → option_and_then (value_entry t.values.keys t.entries.items) (key_at by_value t.rows.events i) ≡ option_and_then (slice_get t.entries.items) o
-entry-of t a i o l h = then_then (value_number t.values.keys) (slice_get t.entries.items) (key_at by_value t.rows.events i) ∙ ap (option_and_then (slice_get t.entries.items)) (number-of t a i o l h)
+pub entry-of : (t : EventLists) → AreEventLists t → (i : ℕ) (o : Option ℕ) → i < length t.rows.events → slice_get t.rows.numbers i ≡ Some o → option_and_then (value_entry t.pairs t.entries.items) (key_at by_value t.rows.events i) ≡ option_and_then (slice_get t.entries.items) o
+entry-of t a i o l h = then_then (value_number t.pairs) (slice_get t.entries.items) (key_at by_value t.rows.events i) ∙ ap (option_and_then (slice_get t.entries.items)) (number-of t a i o l h)
 
 pub number-within : (t : EventLists) → AreEventLists t → (i n : ℕ) → i < length t.rows.events → slice_get t.rows.numbers i ≡ Some (Some n) → n < length t.entries.items
 number-within t a i n l h = go (key_at by_value t.rows.events i) (number-of t a i (Some n) l h)
   where
-    go : (k : Option (ℕ × Val)) → option_and_then (value_number t.values.keys) k ≡ Some n → n < length t.entries.items
+    go : (k : Option (ℕ × Val)) → option_and_then (value_number t.pairs) k ≡ Some n → n < length t.entries.items
     go None q = absurd (cc (q))
-    go (Some k) q = let w = within-keys t.values.keys k n q in omega (arith, w, a.numbered)
+    go (Some k) q = let w = within-keys t.pairs k n q in omega (arith, w, a.numbered)
 
 -- where no event has the register and value of an event, they have no number
-pub number-absent : (t : EventLists) → AreEventLists t → (e : Event) → IsAlike t.rows.events e None → None ≡ event_number t.values.keys e
+pub number-absent : (t : EventLists) → AreEventLists t → (e : Event) → IsAlike t.rows.events e None → None ≡ event_number t.pairs e
 number-absent t a e none = go (by_value e) refl
   where
-    absent : (k : ℕ × Val) → by_value e ≡ Some k → (o : Option ℕ) → value_number t.values.keys k ≡ o → None ≡ o
+    absent : (k : ℕ × Val) → by_value e ≡ Some k → (o : Option ℕ) → value_number t.pairs k ≡ o → None ≡ o
     absent k q None h = refl
     absent k q (Some n) h =
-        let w = within-keys t.values.keys k n h in
+        let w = within-keys t.pairs k n h in
         let y = slice_get_inside t.entries.items n (omega (arith, w, a.numbered)) in
-        let i = a.values.last k y.0.ends (ap (option_map (λ (y : Entry). y.ends)) (entry-is t.values.keys t.entries.items k n y.0 h y.1)) in
+        let i = a.values.last k y.0.ends (ap (option_map (λ (y : Entry). y.ends)) (entry-is t.pairs t.entries.items k n y.0 h y.1)) in
         absurd (none k q y.0.ends.last.0 i.0)
 
-    go : (o : Option (ℕ × Val)) → by_value e ≡ o → None ≡ option_and_then (value_number t.values.keys) o
+    go : (o : Option (ℕ × Val)) → by_value e ≡ o → None ≡ option_and_then (value_number t.pairs) o
     go None q = refl
-    go (Some k) q = absent k q (value_number t.values.keys k) refl
+    go (Some k) q = absent k q (value_number t.pairs k) refl
 
 -- ---- an event of the same register and value
 
@@ -104,7 +105,7 @@ call-begins (Reply kind) b h = absurd (false≢true h)
 call-begins (Fail kind) b h = refl
 call-begins Crash b h = refl
 
-pub kept-write : (t : EventLists) → AreEventLists t → (k : ℕ × Val) (y : Entry) → value_entry t.values.keys t.entries.items k ≡ Some y → IsKeptWrite t.rows.events k (write_kept y.write)
+pub kept-write : (t : EventLists) → AreEventLists t → (k : ℕ × Val) (y : Entry) → value_entry t.pairs t.entries.items k ≡ Some y → IsKeptWrite t.rows.events k (write_kept y.write)
 kept-write t a k y h = go y.write (a.entries k y h).write (a.entries k y h).kept
   where
     es : List Event
@@ -132,7 +133,7 @@ kept-write t a k y h = go y.write (a.entries k y h).write (a.entries k y h).kept
         begun id e None f.1 at (ap (item_at t.rows.calls) (sym same) ∙ kept w refl)
 
 -- a register and value without an entry have no write
-pub kept-none : (t : EventLists) → AreEventLists t → (k : ℕ × Val) → value_entry t.values.keys t.entries.items k ≡ None → IsKeptWrite t.rows.events k None
+pub kept-none : (t : EventLists) → AreEventLists t → (k : ℕ × Val) → value_entry t.pairs t.entries.items k ≡ None → IsKeptWrite t.rows.events k None
 kept-none t a k h = λ w e f at. absurd (a.values.none k (ap (option_map (λ (y : Entry). y.ends)) h) w.0 (key-along by_write by_value t.rows.events k (λ e. write-value e k) w.0 f.1))
 
 -- ---- the column of calls

@@ -1,7 +1,8 @@
 -- How an event joins the list of its process or its register, by the ends of the lists.
 use Rattle.std.proofs.Common.{◌≡◌, ℕ, ◌<◌, List, [], ◌∷◌, ◌++◌, length, set, slice_get, Option, Some, None, inl, inr, ap, sym, subst, ◌∙◌}
 use Rattle.std.proofs.lemmas.Bool.{cases_eq}
-use Rattle.reg_arena.specs.EventLists.{IsJoined, IsSetAt, item_at}
+use Rattle.reg_arena.specs.EventLists.{IsJoined}
+use Rattle.reg_arena.specs.Tables.{IsSetAt, item_at}
 use Rattle.reg_arena.specs.declared.list_ends.Ends.{Ends}
 use Rattle.history_model.specs.declared.ids.EvId.{EvId}
 use Rattle.history_model.proofs.Lists.{slice_get-push, slice_get-push_other, slice_get-set, slice_get-set_other}

@@ -1,5 +1,5 @@
 -- The elements of an index set (not the key of the hashes): the place of one, and one key more.
-use Rattle.std.proofs.Common.{◌≡◌, ℕ, suc, ◌+◌, ◌<◌, ◌≤◌, cond, nat_lt, eqb, not, slice_get, Bool, true, false, ◌||◌, List, [], ◌∷◌, ◌++◌, length, Some, None, refl, sym, ap, ◌∙◌, arith, length-append}
+use Rattle.std.proofs.Common.{◌≡◌, ℕ, zero, suc, ◌+◌, ◌<◌, ◌≤◌, cond, nat_lt, eqb, not, slice_get, Bool, true, false, ◌||◌, List, [], ◌∷◌, ◌++◌, length, Some, None, refl, sym, ap, ◌∙◌, arith, length-append}
 use Rattle.std.specs.Prelude.{if◌then◌else◌}
 use Rattle.std.specs.List.{position, position_or_len, list_any}
 use Rattle.std.proofs.lemmas.Bool.{ltb-true, ltb-false, eqb-true, eqb-false}
@@ -38,6 +38,17 @@ any-past p (x ∷ xs) h = go (p x) h (any-past p xs)
 
 pub added-last : {X : Type 0} (p : X → Bool) (xs : List X) (x : X) → position_or_len p xs ≡ length xs → (if list_any p xs then xs else xs ++ x ∷ []) ≡ xs ++ x ∷ []
 added-last p xs x h = ap (λ b. if b then xs else xs ++ x ∷ []) (any-past p xs h)
+
+-- a key that no place has stands nowhere
+pub place-never : {X : Type 0} (p : X → Bool) (xs : List X) (n : ℕ) (x : X) → position_or_len p xs ≡ length xs → slice_get xs n ≡ Some x → p x ≡ true → ⊥
+place-never p [] n x h at is = cc (at)
+place-never {X} p (y ∷ xs) n x h at is = go (p y) refl h n at (λ m rest there. place-never p xs m x rest there is)
+  where
+    go : (b : Bool) → p y ≡ b → cond (not b) (1 + position_or_len p xs) 0 ≡ length (y ∷ xs) → (m : ℕ) → slice_get (y ∷ xs) m ≡ Some x
+        → ((m : ℕ) → position_or_len p xs ≡ length xs → slice_get xs m ≡ Some x → ⊥) → ⊥
+    go true q h m at below = absurd (omega (arith, h))
+    go false q h zero at below = let same : y ≡ x = cc (at) in absurd (let same_test = ap p same in cc (q, is, same_test))
+    go false q h (suc m) at below = below m (omega (arith, h)) at
 
 -- ---- the place of a key by a test, where there is one
 

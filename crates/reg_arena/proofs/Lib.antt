@@ -5,6 +5,9 @@ pub mod Joining
 pub mod Keys
 pub mod Numbered
 pub mod Values
+mod Searching
+mod Entering
+mod Pairing
 pub mod Append
 pub mod AppendCalls
 pub mod AppendEntries

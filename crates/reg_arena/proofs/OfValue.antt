@@ -13,7 +13,8 @@ use Rattle.history_model.specs.Operations.{Operation, calls, operations, is_a_ca
 use Rattle.history_model.specs.Walking.{IsFirstOf, key_at, by_process, by_register, by_value}
 use Rattle.history_model.specs.Naming.{IsNamed, IsEventOf, IsEventIn, IsOperOf, begins_at, belongs_at, name_by}
 use Rattle.history_model.specs.OfValue.{IsMember, IsWriteOf, IsLastCall, IsFirstReply}
-use Rattle.reg_arena.specs.EventLists.{IsCallAt, IsCallOf as IsColumnCall, IsKeptWrite, IsLastRead, item_at, by_write, by_reply, by_read, initial_call, later}
+use Rattle.reg_arena.specs.EventLists.{IsCallAt, IsCallOf as IsColumnCall, IsKeptWrite, IsLastRead, by_write, by_reply, by_read, initial_call, later}
+use Rattle.reg_arena.specs.Tables.{item_at}
 use Rattle.history_model.specs.declared.ids.EvId.{EvId}
 use Rattle.history_model.specs.declared.ids.RegId.{RegId}
 use Rattle.history_model.specs.declared.ids.Oper.TheVariants.{Initial, Called}

@@ -43,7 +43,7 @@ later-fits (Some a) (Some b) f g id h = go (nat_lt a.0 b.0) h
     go false h = f id h
 
 -- the times of an entry fit
-pub has-times : (t : EventLists) → AreEventLists t → (k : ℕ × Val) (y : Entry) → value_entry t.values.keys t.entries.items k ≡ Some y → HasTimes y
+pub has-times : (t : EventLists) → AreEventLists t → (k : ℕ × Val) (y : Entry) → value_entry t.pairs t.entries.items k ≡ Some y → HasTimes y
 has-times t a k y q =
     let e = a.entries k y q in
     record {
@@ -62,13 +62,13 @@ has-times t a k y q =
         omega (arith, w, o, a.room)
 
 module _ (names : List (List ℕ)) (t : EventLists) (a : AreEventLists t) (rec : IsRecorded (record { names = names; events = t.rows.events })) where
-  no-event : (k : ℕ × Val) → value_entry t.values.keys t.entries.items k ≡ None → (i : ℕ) → key_at by_value t.rows.events i ≡ Some k → ⊥
+  no-event : (k : ℕ × Val) → value_entry t.pairs t.entries.items k ≡ None → (i : ℕ) → key_at by_value t.rows.events i ≡ Some k → ⊥
   no-event k q i h = a.values.none k (ap (option_map (λ (y : Entry). y.ends)) q) i h
 
-  pub last-time : (k : ℕ × Val) → k.0 < length names → IsLastCall (record { names = names; events = t.rows.events }) k.0 k.1 (last_time k.1 (value_entry t.values.keys t.entries.items k))
-  last-time k l = go (value_entry t.values.keys t.entries.items k) refl
+  pub last-time : (k : ℕ × Val) → k.0 < length names → IsLastCall (record { names = names; events = t.rows.events }) k.0 k.1 (last_time k.1 (value_entry t.pairs t.entries.items k))
+  last-time k l = go (value_entry t.pairs t.entries.items k) refl
     where
-      go : (o : Option Entry) → value_entry t.values.keys t.entries.items k ≡ o → IsLastCall (record { names = names; events = t.rows.events }) k.0 k.1 (last_time k.1 (value_entry t.values.keys t.entries.items k))
+      go : (o : Option Entry) → value_entry t.pairs t.entries.items k ≡ o → IsLastCall (record { names = names; events = t.rows.events }) k.0 k.1 (last_time k.1 (value_entry t.pairs t.entries.items k))
       go (Some y) q =
           subst (λ o. IsLastCall (record { names = names; events = t.rows.events }) k.0 k.1 (last_time k.1 o)) (sym q)
           (last-call_is (record { names = names; events = t.rows.events }) rec k t.rows.calls a.calls (write_kept y.write) y.last_read l (kept-write t a k y q) (a.entries k y q).read)
@@ -76,17 +76,17 @@ module _ (names : List (List ℕ)) (t : EventLists) (a : AreEventLists t) (rec :
           subst (λ o. IsLastCall (record { names = names; events = t.rows.events }) k.0 k.1 (last_time k.1 o)) (sym q)
           (last-call_is (record { names = names; events = t.rows.events }) rec k t.rows.calls a.calls None None l (kept-none t a k q) (λ i x. no-event k q i (key-along by_read by_value t.rows.events k (λ e. read-value e k) i x)))
 
-  pub first-time : (k : ℕ × Val) → k.0 < length names → IsFirstReply (record { names = names; events = t.rows.events }) k.0 k.1 (reply_time k.1 (value_entry t.values.keys t.entries.items k))
-  first-time k l = go k.1 refl (value_entry t.values.keys t.entries.items k) refl
+  pub first-time : (k : ℕ × Val) → k.0 < length names → IsFirstReply (record { names = names; events = t.rows.events }) k.0 k.1 (reply_time k.1 (value_entry t.pairs t.entries.items k))
+  first-time k l = go k.1 refl (value_entry t.pairs t.entries.items k) refl
     where
-      go : (v : Val) → k.1 ≡ v → (o : Option Entry) → value_entry t.values.keys t.entries.items k ≡ o → IsFirstReply (record { names = names; events = t.rows.events }) k.0 k.1 (reply_time k.1 (value_entry t.values.keys t.entries.items k))
+      go : (v : Val) → k.1 ≡ v → (o : Option Entry) → value_entry t.pairs t.entries.items k ≡ o → IsFirstReply (record { names = names; events = t.rows.events }) k.0 k.1 (reply_time k.1 (value_entry t.pairs t.entries.items k))
       go Null w o q =
-          subst (λ v. IsFirstReply (record { names = names; events = t.rows.events }) k.0 k.1 (reply_time v (value_entry t.values.keys t.entries.items k))) (sym w) (first-reply_null (record { names = names; events = t.rows.events }) rec k w l)
+          subst (λ v. IsFirstReply (record { names = names; events = t.rows.events }) k.0 k.1 (reply_time v (value_entry t.pairs t.entries.items k))) (sym w) (first-reply_null (record { names = names; events = t.rows.events }) rec k w l)
       go (Int n) w None q =
-          subst (λ v. IsFirstReply (record { names = names; events = t.rows.events }) k.0 k.1 (reply_time v (value_entry t.values.keys t.entries.items k))) (sym w)
+          subst (λ v. IsFirstReply (record { names = names; events = t.rows.events }) k.0 k.1 (reply_time v (value_entry t.pairs t.entries.items k))) (sym w)
           (subst (λ o. IsFirstReply (record { names = names; events = t.rows.events }) k.0 k.1 (reply_time (Int n) o)) (sym q) (first-reply_none (record { names = names; events = t.rows.events }) rec k (no-event k q) (λ z. null-int n (sym w ∙ z))))
       go (Int n) w (Some y) q =
-          subst (λ v. IsFirstReply (record { names = names; events = t.rows.events }) k.0 k.1 (reply_time v (value_entry t.values.keys t.entries.items k))) (sym w)
+          subst (λ v. IsFirstReply (record { names = names; events = t.rows.events }) k.0 k.1 (reply_time v (value_entry t.pairs t.entries.items k))) (sym w)
           (subst (λ o. IsFirstReply (record { names = names; events = t.rows.events }) k.0 k.1 (reply_time (Int n) o)) (sym q) (first-reply_entry (record { names = names; events = t.rows.events }) rec k y.first_reply (λ z. null-int n (sym w ∙ z)) (a.entries k y q).reply))
 
 -- the register of an event with a value has a name
@@ -121,26 +121,26 @@ key-there h rec i e v at has none = go (asked_for (take i rec.events) line.0) re
 -- ---- by an event
 
 module _ (names : List (List ℕ)) (t : EventLists) (a : AreEventLists t) (rec : IsRecorded (record { names = names; events = t.rows.events })) (i : ℕ) where
-  pub times-there : (o : Option Entry) → o ≡ option_and_then (value_entry t.values.keys t.entries.items) (key_at by_value t.rows.events i) → (y : Entry) → o ≡ Some y → HasTimes y
+  pub times-there : (o : Option Entry) → o ≡ option_and_then (value_entry t.pairs t.entries.items) (key_at by_value t.rows.events i) → (y : Entry) → o ≡ Some y → HasTimes y
   times-there o q y h = go (key_at by_value t.rows.events i) refl
     where
       go : (k : Option (ℕ × Val)) → key_at by_value t.rows.events i ≡ k → HasTimes y
-      go None w = absurd (let z = ap (option_and_then (value_entry t.values.keys t.entries.items)) w in cc (q, z, h))
-      go (Some k) w = has-times t a k y (sym (q ∙ ap (option_and_then (value_entry t.values.keys t.entries.items)) w) ∙ h)
+      go None w = absurd (let z = ap (option_and_then (value_entry t.pairs t.entries.items)) w in cc (q, z, h))
+      go (Some k) w = has-times t a k y (sym (q ∙ ap (option_and_then (value_entry t.pairs t.entries.items)) w) ∙ h)
 
   module _ (e : Event) (v : Val) (at : slice_get t.rows.events i ≡ Some e) (has : e.value ≡ Some v) (k : ℕ × Val) (h : key_at by_value t.rows.events i ≡ Some k) where
-    entry-there : (o : Option Entry) → o ≡ option_and_then (value_entry t.values.keys t.entries.items) (key_at by_value t.rows.events i) → o ≡ value_entry t.values.keys t.entries.items k
-    entry-there o q = q ∙ ap (option_and_then (value_entry t.values.keys t.entries.items)) h
+    entry-there : (o : Option Entry) → o ≡ option_and_then (value_entry t.pairs t.entries.items) (key_at by_value t.rows.events i) → o ≡ value_entry t.pairs t.entries.items k
+    entry-there o q = q ∙ ap (option_and_then (value_entry t.pairs t.entries.items)) h
 
     known : k.0 < length names
     known = key-known (record { names = names; events = t.rows.events }) rec i k h
 
-    pub last-of_event : (o : Option Entry) (r : Option ℕ) → o ≡ option_and_then (value_entry t.values.keys t.entries.items) (key_at by_value t.rows.events i) → r ≡ last_time v o → IsLastCall (record { names = names; events = t.rows.events }) k.0 k.1 r
+    pub last-of_event : (o : Option Entry) (r : Option ℕ) → o ≡ option_and_then (value_entry t.pairs t.entries.items) (key_at by_value t.rows.events i) → r ≡ last_time v o → IsLastCall (record { names = names; events = t.rows.events }) k.0 k.1 r
     last-of_event o r q w =
-        let is : r ≡ last_time k.1 (value_entry t.values.keys t.entries.items k) = w ∙ (ap (last_time v) (entry-there o q) ∙ ap (λ v. last_time v (value_entry t.values.keys t.entries.items k)) (key-of t.rows.events i e v k at has h).1) in
+        let is : r ≡ last_time k.1 (value_entry t.pairs t.entries.items k) = w ∙ (ap (last_time v) (entry-there o q) ∙ ap (λ v. last_time v (value_entry t.pairs t.entries.items k)) (key-of t.rows.events i e v k at has h).1) in
         subst (IsLastCall (record { names = names; events = t.rows.events }) k.0 k.1) (sym is) (last-time names t a rec k known)
 
-    pub first-of_event : (o : Option Entry) (r : Option ℕ) → o ≡ option_and_then (value_entry t.values.keys t.entries.items) (key_at by_value t.rows.events i) → r ≡ reply_time v o → IsFirstReply (record { names = names; events = t.rows.events }) k.0 k.1 r
+    pub first-of_event : (o : Option Entry) (r : Option ℕ) → o ≡ option_and_then (value_entry t.pairs t.entries.items) (key_at by_value t.rows.events i) → r ≡ reply_time v o → IsFirstReply (record { names = names; events = t.rows.events }) k.0 k.1 r
     first-of_event o r q w =
-        let is : r ≡ reply_time k.1 (value_entry t.values.keys t.entries.items k) = w ∙ (ap (reply_time v) (entry-there o q) ∙ ap (λ v. reply_time v (value_entry t.values.keys t.entries.items k)) (key-of t.rows.events i e v k at has h).1) in
+        let is : r ≡ reply_time k.1 (value_entry t.pairs t.entries.items k) = w ∙ (ap (reply_time v) (entry-there o q) ∙ ap (λ v. reply_time v (value_entry t.pairs t.entries.items k)) (key-of t.rows.events i e v k at has h).1) in
         subst (IsFirstReply (record { names = names; events = t.rows.events }) k.0 k.1) (sym is) (first-time names t a rec k known)

@@ -4,8 +4,7 @@ use Rattle.std.proofs.lemmas.Bool.{false≢true, eqb-true, eq-eqb, and_parts}
 use Rattle.std.specs.Cmp.{int_cmp_total, tied_itself}
 use Rattle.std.proofs.lemmas.Option.{slice_get_within}
 use Rattle.std.proofs.Common.{Ordering}
-use Rattle.std.specs.Prelude.{if◌then◌else◌}
-use Rattle.std.specs.List.{list_any, position}
+use Rattle.std.specs.List.{position}
 use Rattle.std.specs.Ordering.{int_eq, is_eq}
 use Rattle.std.specs.declared.cmp.Ordering.TheVariants.{Less, Equal, Greater}
 use Rattle.std.specs.Option.{option_eq}
@@ -17,8 +16,10 @@ use Rattle.history_model.specs.declared.event.Event.{Event}
 use Rattle.reg_arena.specs.declared.list_ends.Ends.{Ends}
 use Rattle.reg_arena.specs.declared.list_ends.Entry.{Entry}
 use Rattle.history_model.specs.Walking.{by_value}
-use Rattle.reg_arena.specs.EventLists.{IsJoined, IsEntered, whole, key_eq, event_number, item_at, value_number, value_entry, value_ends, entry_alone, entry_with, entry_after}
-use Rattle.reg_arena.proofs.Keys.{added-last, place-none, place-some, position-at, position-new, position-kept, position-absent}
+use Rattle.reg_arena.specs.EventLists.{IsJoined, IsEntered, whole, event_number, value_number, value_entry, value_ends, entry_alone, entry_with, entry_after}
+use Rattle.reg_arena.specs.Pairs.{key_eq}
+use Rattle.reg_arena.specs.Tables.{item_at}
+use Rattle.reg_arena.proofs.Keys.{place-some, position-at, position-new, position-kept, position-absent}
 use Rattle.reg_arena.proofs.Columns.{item-push_none, item-written, item-written_other}
 use Rattle.history_model.proofs.Lists.{slice_get-push, slice_get-push_other, slice_get-set, slice_get-set_other}
 
@@ -48,7 +49,7 @@ option_itself (Some x) = ap is_eq (tied_itself int_cmp_total x)
 abbrev key_of : ℕ × Val → ℕ × Option ℤ
 key_of k = (k.0, whole k.1)
 
-key_same : (a b : ℕ × Option ℤ) → key_eq a b ≡ true → a ≡ b
+pub key_same : (a b : ℕ × Option ℤ) → key_eq a b ≡ true → a ≡ b
 key_same a b h =
     let w = and_parts (nat_eq a.0 b.0) (option_eq int_eq a.1 b.1) h in
     let m : a.0 ≡ b.0 = eqb-true _ _ w.0 in
@@ -56,7 +57,7 @@ key_same a b h =
     let pair : (a.0, a.1) ≡ (b.0, b.1) = cc in
     pair
 
-key_itself : (a : ℕ × Option ℤ) → key_eq a a ≡ true
+pub key_itself : (a : ℕ × Option ℤ) → key_eq a a ≡ true
 key_itself a = ap (λ b. b && option_eq int_eq a.1 a.1) (eq-eqb a.0 a.0 refl) ∙ option_itself a.1
 
 -- equal keys are of equal registers and values
@@ -197,10 +198,6 @@ module _ (keys : List (ℕ × Option ℤ)) (entries : List Entry) (k : ℕ × Va
         joined-entered k e n call (value_entry keys entries) (value_entry (keys ++ (k.0, whole k.1) ∷ []) (entries ++ entry_alone e n call ∷ [])) (item_at links) (item_at new_links) (entered-new column none)
         (λ none i. ap (λ (xs : List (Option EvId)). item_at xs i) items ∙ item-push_none links i)
         (λ z some. absurd (cc (was, some)))
-
--- what an insert of a new key leaves
-pub keys-added : (keys : List (ℕ × Option ℤ)) (k : ℕ × Val) (w : Option ℤ) → w ≡ whole k.1 → value_number keys k ≡ None → (if list_any (key_eq (k.0, w)) keys then keys else keys ++ (k.0, w) ∷ []) ≡ keys ++ (k.0, whole k.1) ∷ []
-keys-added keys k w q none = ap (λ w. if list_any (key_eq (k.0, w)) keys then keys else keys ++ (k.0, w) ∷ []) q ∙ added-last (key_eq (key_of k)) keys (key_of k) (place-none (key_eq (key_of k)) keys (sym none))
 
 -- what a look-up told
 pub number-is : (keys : List (ℕ × Option ℤ)) (r : ℕ) (v : Val) (w : Option ℤ) (o : Option ℕ) → w ≡ whole v → o ≡ position (key_eq (r, w)) keys → value_number keys (r, v) ≡ o

@@ -1,9 +1,8 @@
 -- The threaded lists of an arena: each family is the filter of the one list of events, ascending.
-use Rattle.std.specs.Prelude.{◌≡◌, ℕ, ◌+◌, ◌<◌, ◌≤◌, ◌⊎◌, ◌&&◌, not, Bool, true, false, nat_lt, nat_eq, cond, ℤ, List, [], ◌∷◌, ◌++◌, length, set, slice_get, Option, Some, None, option_map, option_and_then}
+use Rattle.std.specs.Prelude.{◌≡◌, ℕ, ◌+◌, ◌<◌, ◌≤◌, ◌⊎◌, ◌&&◌, not, true, false, nat_lt, nat_eq, cond, ℤ, List, [], ◌∷◌, ◌++◌, length, set, slice_get, Option, Some, None, option_map, option_and_then}
 use Rattle.history_text.specs.declared.limits.TheConstants.{MAX_EVENTS}
 use Rattle.std.specs.List.{position}
-use Rattle.std.specs.Ordering.{int_eq}
-use Rattle.std.specs.Option.{option_eq, option_or}
+use Rattle.std.specs.Option.{option_or}
 use Rattle.indexmap.specs.IndexMap.{get}
 use Rattle.history_text.specs.declared.event.Val.{Val}
 use Rattle.history_text.specs.declared.event.Val.TheVariants.{Null, Int}
@@ -18,16 +17,14 @@ use Rattle.reg_arena.specs.declared.list_ends.Entry.{Entry}
 use Rattle.reg_arena.specs.declared.list_ends.Write.{Write}
 use Rattle.reg_arena.specs.declared.list_ends.Write.TheVariants.{Unwritten, Written, Failed}
 use Rattle.history_model.specs.Operations.{is_a_call, is_a_fail, is_a_reply, kind_in, writes}
+use Rattle.reg_arena.specs.Pairs.{key_eq}
+use Rattle.reg_arena.specs.Tables.{item_at}
 use Rattle.reg_arena.specs.declared.processes.Processes.{Processes}
 use Rattle.reg_arena.specs.declared.event_lists.EventLists.{EventLists}
 use Rattle.history_model.specs.Walking.{IsLeastFrom, IsFirstOf, key_at, by_register, by_process, by_value}
 use Rattle.history_model.specs.Naming.{begins_at, belongs_at}
 
 -- ---- one family of lists
-
--- what stands at a place of a column, if something does
-abbrev pub item_at : {A : Type 0} → List (Option A) → ℕ → Option A
-item_at column i = option_and_then (λ o. o) (slice_get column i)
 
 -- One family. `key`: the key of the event at a place; `link`: the link there; `ends`: the ends of the list of a key.
 pub record IsThreaded {K : Type 0} (key : ℕ → Option K) (link : ℕ → Option EvId) (ends : K → Option Ends) : Type 0 where
@@ -62,19 +59,11 @@ end_of (Some register) = register.0 + 1
 abbrev pub process_ends : Processes → ℕ → Option Ends
 process_ends t p = cond (nat_lt p t.table_limit) (item_at t.table.items p) (get nat_eq t.others p)
 
--- one key has new ends, and the others those that they had
-pub record IsSetAt (k : ℕ) (e : Ends) (ends new_ends : ℕ → Option Ends) : Type 0 where
-  pub one : new_ends k ≡ Some e
-  pub others : (q : ℕ) → (q ≡ k) ⊎ ((q ≡ k → ⊥) × (new_ends q ≡ ends q))
-
 -- ---- values and their entries
 
 abbrev pub whole : Val → Option ℤ
 whole Null = None
 whole (Int n) = Some n
-
-abbrev pub key_eq : ℕ × Option ℤ → ℕ × Option ℤ → Bool
-key_eq a b = nat_eq a.0 b.0 && option_eq int_eq a.1 b.1
 
 -- the number of the entry of a register and value: its place among the keys
 abbrev pub value_number : List (ℕ × Option ℤ) → ℕ × Val → Option ℕ
@@ -252,13 +241,13 @@ pub record HasTimes (y : Entry) : Type 0 where
 pub record AreEventLists (t : EventLists) : Type 0 where
   pub registers : IsThreaded (key_at by_register t.rows.events) (item_at t.rows.in_register) (slice_get t.registers.items)
   pub processes : IsThreaded (key_at by_process t.rows.events) (item_at t.rows.in_process) (process_ends t.processes)
-  pub values : IsThreaded (key_at by_value t.rows.events) (item_at t.rows.in_value) (value_ends t.values.keys t.entries.items)
+  pub values : IsThreaded (key_at by_value t.rows.events) (item_at t.rows.in_value) (value_ends t.pairs t.entries.items)
   -- each event's call
   pub calls : (i : ℕ) (e : Event) → slice_get t.rows.events i ≡ Some e → IsCallOf t.rows.events i e (item_at t.rows.calls i)
   -- each value's entry, and the number of each event's
-  pub entries : (k : ℕ × Val) (y : Entry) → value_entry t.values.keys t.entries.items k ≡ Some y → IsEntry t.rows.events t.rows.calls k y
-  pub numbered : length t.values.keys ≡ length t.entries.items
-  pub numbers : (i : ℕ) (e : Event) → slice_get t.rows.events i ≡ Some e → slice_get t.rows.numbers i ≡ Some (event_number t.values.keys e)
+  pub entries : (k : ℕ × Val) (y : Entry) → value_entry t.pairs t.entries.items k ≡ Some y → IsEntry t.rows.events t.rows.calls k y
+  pub numbered : length t.pairs ≡ length t.entries.items
+  pub numbers : (i : ℕ) (e : Event) → slice_get t.rows.events i ≡ Some e → slice_get t.rows.numbers i ≡ Some (event_number t.pairs e)
   -- the columns are as long as the list of events
   pub register_column : length t.rows.in_register ≡ length t.rows.events
   pub process_column : length t.rows.in_process ≡ length t.rows.events

@@ -1,5 +1,7 @@
 pub mod Optional
 pub mod Rows
+pub mod Tables
+pub mod Pairs
 pub mod EventLists
 pub mod Step
 pub mod Built

@@ -16,11 +16,10 @@ impl EventLists {
     /// The entry of a register and value, by one look-up.
     pub(crate) fn entry(&self, register: RegId, value: Val) -> Option<Entry>
         requires { AreEventLists self.now }
-        ensures { result ≡ value_entry self.now.values.keys self.now.entries.items (register.0, value) }
+        ensures { result ≡ value_entry self.now.pairs self.now.entries.items (register.0, value) }
     {
-        let key = (register.0, whole(value));
-        match self.values.get_index_of(&key) {
-            Some(number) => Some(self.entries[number]),
+        match self.pairs.number(register.0, whole(value)) {
+            Some(number) => Some(self.entries[number as usize]),
             None => None,
         }
     }
@@ -29,7 +28,7 @@ impl EventLists {
     pub(crate) fn number_of(&self, alike: Option<EvId>) -> Option<u32>
         requires lists { AreEventLists self.now }
         requires within { (j : AnEvId) → alike ≡ Some j → j.0 < length self.now.rows.events }
-        ensures { (e : AnEvent) → IsAlike self.now.rows.events e alike → result ≡ event_number self.now.values.keys e }
+        ensures { (e : AnEvent) → IsAlike self.now.rows.events e alike → result ≡ event_number self.now.pairs e }
     {
         match alike {
             Some(id) => self.rows.number(id),
@@ -41,7 +40,7 @@ impl EventLists {
     pub(crate) fn entry_of(&self, id: EvId) -> Option<Entry>
         requires lists { AreEventLists self.now }
         requires within { id.0 < length self.now.rows.events }
-        ensures { result ≡ option_and_then (value_entry self.now.values.keys self.now.entries.items) (key_at by_value self.now.rows.events id.0) }
+        ensures { result ≡ option_and_then (value_entry self.now.pairs self.now.entries.items) (key_at by_value self.now.rows.events id.0) }
     {
         match self.rows.number(id) {
             Some(number) => Some(self.entries[number as usize]),

@@ -9,11 +9,11 @@ ghost use Rattle.reg_arena.specs.declared.optional.TheConstants.{NO_NUMBER};
 
 use crate::joins::{Joined, join_process, join_register, join_value};
 use crate::list_ends::{Ends, Entry};
+use crate::pairs::Pairs;
 use crate::processes::Processes;
 use crate::rows::Rows;
 use crate::seeded::Seeded;
 use history_model::{EvId, Event, What};
-use indexmap::IndexSet;
 use std::alloc::{AllocError, Global};
 
 /// The events of a history in their order, with their links, and the ends of their lists.
@@ -25,8 +25,8 @@ pub(crate) struct EventLists {
     /// speaks of it; `alike` looks whether it fits.
     pub(crate) guesses: Vec<EvId>,
     pub(crate) processes: Processes,
-    /// The registers and values that events have; the place of each is the number of its entry.
-    pub(crate) values: IndexSet<(u32, Option<i64>), Seeded>,
+    /// The registers and values that events have; the number of each is that of its entry.
+    pub(crate) pairs: Pairs,
     pub(crate) entries: Vec<Entry>,
 }
 
@@ -42,7 +42,7 @@ impl EventLists {
             registers: Vec::new(alloc),
             guesses: Vec::new(alloc),
             processes: Processes::new(alloc, count, hasher),
-            values: IndexSet::with_hasher(alloc, hasher),
+            pairs: Pairs::new(alloc, hasher),
             entries: Vec::new(alloc),
         })
     }
@@ -57,7 +57,7 @@ impl EventLists {
         self.registers.clear();
         self.guesses.clear();
         self.processes.clear();
-        self.values.clear();
+        self.pairs.clear();
         self.entries.clear();
     }
 
@@ -68,7 +68,7 @@ impl EventLists {
         ensures rows { self.new.rows ≡ self.old.rows }
         ensures registers { self.new.registers.items ≡ self.old.registers.items }
     {
-        self.values.reserve(count)?;
+        self.pairs.reserve(count)?;
         self.entries.reserve(count)
     }
 
@@ -97,7 +97,7 @@ impl EventLists {
         join_process(&mut self.rows, &mut self.processes, event.process, id)?;
         let number = join_value(
             &mut self.rows,
-            &mut self.values,
+            &mut self.pairs,
             &mut self.entries,
             found,
             Joined { event, id, call },

@@ -1,7 +1,8 @@
 //! How an event joins one list of each family, before it has a row: the last event of the list gets its link.
 ghost use Rattle.std.specs.Prelude.{◌≡◌, ◌<◌, ◌≤◌, ◌^◌, ◌+◌, ◌++◌, ◌∷◌, [], ℕ, length, slice_get, max, Some, None, option_map, OnOk, IfOk};
 ghost use Rattle.history_text.specs.declared.event.Val.{Val as AVal};
-ghost use Rattle.reg_arena.specs.EventLists.{IsJoined, IsJoinedBy, IsEnteredBy, end_of, event_number, item_at, process_ends, value_ends, value_entry, value_number, whole};
+ghost use Rattle.reg_arena.specs.EventLists.{IsJoined, IsJoinedBy, IsEnteredBy, end_of, event_number, process_ends, value_ends, value_entry, value_number, whole};
+ghost use Rattle.reg_arena.specs.Tables.{item_at};
 ghost use Rattle.history_model.specs.Operations.{number_in};
 ghost use Rattle.history_model.specs.Walking.{by_value};
 ghost use Rattle.reg_arena.specs.Rows.{with_in_process, with_in_register, with_in_value};
@@ -9,12 +10,11 @@ ghost use Rattle.reg_arena.specs.declared.optional.TheConstants.{NO_NUMBER};
 ghost use Rattle.reg_arena.specs.declared.list_ends.Ends.{Ends};
 
 use crate::list_ends::{Ends, Entry};
+use crate::pairs::Pairs;
 use crate::processes::Processes;
 use crate::rows::Rows;
-use crate::seeded::Seeded;
 use history_model::{EvId, Event, RegId};
 use history_text::Val;
-use indexmap::IndexSet;
 use std::alloc::AllocError;
 
 /// Joins event `id` to the list of its process.
@@ -120,23 +120,23 @@ pub(crate) struct Joined {
 /// `number` is the number of that list's entry, if there is one already. Gives back the number of its entry.
 pub(crate) fn join_value(
     rows: &mut Rows,
-    values: &mut IndexSet<(u32, Option<i64>), Seeded>,
+    pairs: &mut Pairs,
     entries: &mut Vec<Entry>,
     number: Option<u32>,
     joined: Joined,
 ) -> Result<Option<u32>, AllocError>
-    requires number { number ≡ event_number values.old.keys joined.event }
-    requires within { (k : ℕ × AVal) (e : Ends) → value_ends values.old.keys entries.old.items k ≡ Some e → e.last.0 < length rows.old.events }
+    requires number { number ≡ event_number pairs.old joined.event }
+    requires within { (k : ℕ × AVal) (e : Ends) → value_ends pairs.old entries.old.items k ≡ Some e → e.last.0 < length rows.old.events }
     requires column { length rows.old.in_value ≡ length rows.old.events }
-    requires numbered { length values.old.keys ≡ length entries.old.items }
+    requires numbered { length pairs.old ≡ length entries.old.items }
     requires room { length entries.old.items < 2 ^ 32 }
     requires bound { joined.id.0 < NO_NUMBER }
-    ensures joined { OnOk result (IsJoinedBy (by_value joined.event) joined.id (item_at rows.old.in_value) (item_at (rows.new.in_value ++ None ∷ [])) (value_ends values.old.keys entries.old.items) (value_ends values.new.keys entries.new.items)) }
-    ensures entered { OnOk result (IsEnteredBy (by_value joined.event) joined.event joined.id joined.call (value_entry values.old.keys entries.old.items) (value_entry values.new.keys entries.new.items)) }
-    ensures numbered { OnOk result (length values.new.keys ≡ length entries.new.items) }
+    ensures joined { OnOk result (IsJoinedBy (by_value joined.event) joined.id (item_at rows.old.in_value) (item_at (rows.new.in_value ++ None ∷ [])) (value_ends pairs.old entries.old.items) (value_ends pairs.new entries.new.items)) }
+    ensures entered { OnOk result (IsEnteredBy (by_value joined.event) joined.event joined.id joined.call (value_entry pairs.old entries.old.items) (value_entry pairs.new entries.new.items)) }
+    ensures numbered { OnOk result (length pairs.new ≡ length entries.new.items) }
     ensures few { length entries.new.items ≤ length entries.old.items + 1 }
-    ensures number { IfOk result (λ n. n ≡ event_number values.new.keys joined.event) }
-    ensures kept { OnOk result ((q : ℕ × AVal) (n : ℕ) → value_number values.old.keys q ≡ Some n → value_number values.new.keys q ≡ Some n) }
+    ensures number { IfOk result (λ n. n ≡ event_number pairs.new joined.event) }
+    ensures kept { OnOk result ((q : ℕ × AVal) (n : ℕ) → value_number pairs.old q ≡ Some n → value_number pairs.new q ≡ Some n) }
     ensures others { OnOk result (rows.new ≡ with_in_value rows.old rows.new.in_value) }
     ensures count { OnOk result (length rows.new.in_value ≡ length rows.old.in_value) }
 {
@@ -150,7 +150,7 @@ pub(crate) fn join_value(
         }
         (None, Some(value), Some(register)) => {
             let number = entries.len() as u32;
-            values.insert((register.0, whole(value)))?;
+            pairs.add(register.0, whole(value))?;
             entries.push(Entry::new(event, id, call))?;
             Ok(Some(number))
         }

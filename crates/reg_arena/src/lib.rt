@@ -7,13 +7,14 @@
 //! `history_model`, whose laws say what holds of them. All calls but these take no memory and always answer. No floor above calls [`Arena::first_of_process`],
 //! [`Arena::first_with_value`], [`Arena::next_with_value`] or [`Arena::write_of`].
 //!
-//! Read it in this order: `hash_key` and `seeded`, which make the hashes; `optional`, `packed_event` and `rows`, which keep the events; `list_ends`, `processes`, `joins`,
-//! `event_lists` and `entries`, the lists that run through them; `numbering`, which numbers the registers of lines, and `names`; `arena`, `called` and
-//! `of_value`, which answer; `agrees`, `standing`, `stretch` and `build`.
+//! Read it in this order: `hash_key` and `seeded`, which make the hashes; `optional`, `packed_event` and `rows`, which keep the events; `ascent` and `pairs`,
+//! which number the pairs of a register and a value; `list_ends`, `processes`, `joins`, `event_lists` and `entries`, the lists that run through the events;
+//! `numbering`, which numbers the registers of lines, and `names`; `arena`, `called` and `of_value`, which answer; `agrees`, `standing`, `stretch` and `build`.
 #![tactic(auto)]
 
 mod agrees;
 mod arena;
+mod ascent;
 mod build;
 mod called;
 mod entries;
@@ -26,6 +27,7 @@ mod numbering;
 mod of_value;
 mod optional;
 mod packed_event;
+mod pairs;
 mod processes;
 mod rows;
 mod seeded;

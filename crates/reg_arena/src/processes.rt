@@ -1,6 +1,7 @@
 //! The ends of the processes' lists: those of small numbers stand in a table, and the others in a map.
 ghost use Rattle.std.specs.Prelude.{◌≡◌, ◌<◌, ◌^◌, ℕ, None, OnOk};
-ghost use Rattle.reg_arena.specs.EventLists.{IsSetAt, process_ends, item_at};
+ghost use Rattle.reg_arena.specs.EventLists.{process_ends};
+ghost use Rattle.reg_arena.specs.Tables.{IsSetAt, item_at};
 
 use crate::list_ends::Ends;
 use crate::seeded::Seeded;
@@ -66,14 +67,18 @@ impl Processes {
     }
 }
 
-/// Sets the ends at one place of a table, which grows as far as that place if it is shorter.
-fn set_in_table(table: &mut Vec<Option<Ends>>, place: usize, ends: Ends) -> Result<(), AllocError>
+/// Sets the item at one place of a table, which grows as far as that place if it is shorter.
+pub(crate) fn set_in_table<T: Copy>(
+    table: &mut Vec<Option<T>>,
+    place: usize,
+    item: T,
+) -> Result<(), AllocError>
     requires { place < 2 ^ 32 }
-    ensures { OnOk result (IsSetAt place ends (item_at table.old.items) (item_at table.new.items)) }
+    ensures { OnOk result (IsSetAt place item (item_at table.old.items) (item_at table.new.items)) }
 {
     if table.len() <= place {
         table.resize(place + 1, None)?;
     }
-    table[place] = Some(ends);
+    table[place] = Some(item);
     Ok(())
 }

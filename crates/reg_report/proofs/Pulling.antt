@@ -73,10 +73,18 @@ module _ (left mid now : Option (List ℕ)) (failed failed_mid failed_now : ℕ)
   stops-after NoRoom stops = stops
   stops-after OutputFailed stops = stops
 
-  -- so no more is got
-  pub gets-no-more : (new : Pulled) (refusal : Refusal) → StopsAt mid now failed_mid failed_now middle refusal → GetsNoMore left now failed failed_now old new refusal
-  gets-no-more new (At r) stops = stops
-  gets-no-more new TooLong stops = stops-after TooLong stops
-  gets-no-more new InputFailed stops = stops-after InputFailed stops
-  gets-no-more new NoRoom stops = absurd stops
-  gets-no-more new OutputFailed stops = stops
+  -- what keeps more from being got does so from the first on
+  pub no-more-after : (new : Pulled) (refusal : Refusal) → GetsNoMore mid now failed_mid failed_now middle new refusal → GetsNoMore left now failed failed_now old new refusal
+  no-more-after new (At r) stops = stops
+  no-more-after new TooLong stops = stops-after TooLong stops
+  no-more-after new InputFailed stops = stops-after InputFailed stops
+  no-more-after new NoRoom stops = (bytes ++ stops.0, gives-more new stops.0 stops.1)
+  no-more-after new OutputFailed stops = stops
+
+-- what stops a pull keeps more from being got
+pub no-more : (left now : Option (List ℕ)) (failed failed_now : ℕ) (old new : Pulled) (refusal : Refusal) → StopsAt left now failed failed_now old refusal → GetsNoMore left now failed failed_now old new refusal
+no-more left now failed failed_now old new (At r) stops = stops
+no-more left now failed failed_now old new TooLong stops = stops
+no-more left now failed failed_now old new InputFailed stops = stops
+no-more left now failed failed_now old new NoRoom stops = absurd stops
+no-more left now failed failed_now old new OutputFailed stops = stops

@@ -35,7 +35,7 @@ StopsAt left now failed failed_now old InputFailed = failed < failed_now
 StopsAt left now failed failed_now old NoRoom = ⊥
 StopsAt left now failed failed_now old OutputFailed = ⊥
 
--- why no more is got: nothing more is pulled, or memory was refused for some of what was
+-- why no more is got: nothing more is pulled, or memory for more was refused
 abbrev pub GetsNoMore : Option (List ℕ) → Option (List ℕ) → ℕ → ℕ → Pulled → Pulled → Refusal → Type 0
 GetsNoMore left now failed failed_now old new (At r) = ⊥
 GetsNoMore left now failed failed_now old new TooLong = Exceeds left now failed failed_now old

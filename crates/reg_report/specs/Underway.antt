@@ -1,4 +1,4 @@
--- The reading of a source turn by turn: what is built, what was read ahead, and what is held.
+-- The reading of a source turn by turn: what is built, what was read ahead and numbered or not, and what is held.
 use Rattle.std.specs.Prelude.{◌≡◌, ◌+◌, ◌<◌, ◌≤◌, ◌++◌, ℕ, List, [], true, flat_map, length, Option, Some, Result}
 use Rattle.history_text.specs.declared.limits.TheConstants.{MAX_INPUT}
 use Rattle.history_text.specs.Lines.{MayCome}
@@ -10,6 +10,7 @@ use Rattle.reg_arena.specs.Built.{IsBuilt, IsBuiltWith}
 use Rattle.reg_arena.specs.Numbered.{ArePartsNumbered, lines_of, names_with}
 use Rattle.reg_arena.specs.declared.numbering.NumberedLines.{NumberedLines}
 use Rattle.reg_report.specs.Ends.{IsAll, IsTooLong, IsWithinLimit}
+use Rattle.reg_report.specs.Intake.{IsReadOf}
 use Rattle.reg_report.specs.Pulled.{Exceeds, Gives, nothing}
 use Rattle.reg_report.specs.declared.intake.Intake.{Intake}
 use Rattle.reg_report.specs.declared.pulled.Pulled.{Pulled}
@@ -27,6 +28,20 @@ pub record AreNumberedBehind (names after : List (List ℕ)) (parts : List Numbe
   pub numbers : ArePartsNumbered names parts
   pub names_after : after ≡ names_with names (lines_in parts)
 
+-- the lines that were read and have no numbers yet
+abbrev pub waiting : Reader → List Line
+waiting reader = flat_map (λ part. part.items) reader.unnumbered.items
+
+-- the whole lines that were held are read, and those that were waiting and these are the ones that were numbered and the ones that wait now
+pub record IsReadOn (old new : Intake) (reader reader_after : Reader) (numbered : List Line) : Type 0 where
+  pub later : List Line
+  pub read : IsReadOf old new later
+  pub all : numbered ++ waiting reader_after ≡ waiting reader ++ later
+
+-- the source has no more, and nothing is held
+abbrev pub IsLast : Intake → Type 0
+IsLast intake = (intake.pulled.is_ended ≡ true) × (intake.held ≡ [])
+
 -- what came of taking more lines into an arena that is there
 pub record IsWithLines (arena : Option History) (lines : List Line) (result : Result History BuildError) : Type 0 where
   pub whole : (built : History) (before : List Line) → arena ≡ Some built → IsBuilt before built → IsBuiltWith before lines result
@@ -34,17 +49,17 @@ pub record IsWithLines (arena : Option History) (lines : List Line) (result : Re
 -- the source gave these bytes since nothing was pulled, and whatever may come, their lines are those that were read and those of what is held
 pub record IsReadSoFar (left now : Option (List ℕ)) (failed failed_now : ℕ) (bytes : List ℕ) (read : List Line) (intake : Intake) : Type 0 where
   pub given : Gives left now failed failed_now nothing intake.pulled bytes
-  pub lines : (more : List ℕ) → MayCome intake.pulled.is_ended more → read ++ lines_from intake.next_line (intake.held.items ++ more) ≡ history_lines (bytes ++ more)
-  pub end : intake.pulled.is_ended ≡ true → intake.held.items ≡ []
-  pub room : intake.next_line + length intake.held.items ≤ intake.pulled.total + 1
+  pub lines : (more : List ℕ) → MayCome intake.pulled.is_ended more → read ++ lines_from intake.next_line (intake.held ++ more) ≡ history_lines (bytes ++ more)
+  pub end : intake.pulled.is_ended ≡ true → intake.held ≡ []
+  pub room : intake.next_line + length intake.held ≤ intake.pulled.total + 1
 
--- the arena is built of some lines, and those that were read are these and the ones that were read ahead
+-- the arena is built of some lines, and those that were read are these, the ones that were numbered behind them and the ones that wait for it
 pub record IsUnderway (left now : Option (List ℕ)) (failed failed_now : ℕ) (intake : Intake) (reader : Reader) (state : Underway) : Type 0 where
   pub before : List Line
   pub built : IsBuilt before state.arena
   pub numbered : AreNumberedBehind state.arena.names reader.numbering state.ahead.items
   pub bytes : List ℕ
-  pub so_far : IsReadSoFar left now failed failed_now bytes (before ++ lines_in state.ahead.items) intake
+  pub so_far : IsReadSoFar left now failed failed_now bytes (before ++ (lines_in state.ahead.items ++ waiting reader)) intake
 
 -- why no arena is built of what the source gives: of the line that is refused, whatever may come
 abbrev pub IsStopped : Option (List ℕ) → Option (List ℕ) → ℕ → ℕ → Pulled → Refusal → Type 0

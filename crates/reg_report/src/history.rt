@@ -59,6 +59,17 @@ fn register_reports_in_parts(
         .collect::<Result<Vec<RegReport>, AllocError>>(rt, alloc)?
 }
 
+/// For how many operations the orders of all registers need room.
+fn room_for_orders(findings: &[Finding]) -> usize {
+    let mut room: usize = 0;
+    for finding in findings {
+        if let Judgement::Order(order) = &finding.judged {
+            room = room.saturating_add(order.as_slice().len());
+        }
+    }
+    room
+}
+
 /// The orders of all registers, one behind the other, or nothing if one of them has a fault.
 fn orders_of(
     alloc: Global,
@@ -68,7 +79,7 @@ fn orders_of(
     requires { AreFindings arena.now findings.now }
     ensures { IfOk result (AreGatheredIfAtomic arena.now) }
 {
-    let mut operations = Vec::new(alloc);
+    let mut operations = Vec::with_capacity(alloc, room_for_orders(findings))?;
     for finding in findings {
         match &finding.judged {
             Judgement::Order(order) => operations.extend_from_slice(order.as_slice())?,

@@ -1,12 +1,13 @@
 //! The bytes that were pulled and whose lines aren't read yet.
 //!
 //! While the source may have more, what stands behind the last line feed is held back, since it may go on.
-ghost use Rattle.std.specs.Prelude.{◌≡◌, ◌+◌, ◌-◌, ◌^◌, ◌<◌, ◌≤◌, ℕ, List, [], true, false, drop, flat_map, length, IfOk, IfErr};
+ghost use Rattle.std.specs.Prelude.{◌≡◌, ◌+◌, ◌-◌, ◌^◌, ◌<◌, ◌≤◌, ℕ, List, [], true, false, flat_map, length, IfOk, IfErr};
 ghost use Rattle.history_text.specs.declared.limits.TheConstants.{MAX_INPUT};
 ghost use Rattle.reg_report.specs.Intake.{IsHeld, IsReadOf};
 ghost use Rattle.reg_report.specs.Pulled.{Gives, GetsNoMore, IsFurther, StopsAt, nothing};
 
-use crate::pulled::{PIECE, Pulled};
+use crate::held::Held;
+use crate::pulled::Pulled;
 use crate::refusal::Refusal;
 use byte_ends::Source;
 use history_text::{LineEvent, LineFault, read_spans, whole_lines};
@@ -16,7 +17,7 @@ use std::thread::Threads;
 /// The bytes that are held, behind those whose lines were read.
 #[derive(Drop)]
 pub(crate) struct Intake {
-    held: Vec<u8>,
+    held: Held,
     /// The number of the line at the front of what is held.
     next_line: u32,
     pulled: Pulled,
@@ -25,12 +26,12 @@ pub(crate) struct Intake {
 impl Intake {
     /// Nothing, before the first pull.
     pub(crate) fn new(alloc: Global) -> Self
-        ensures held { result.held.items ≡ [] }
+        ensures held { result.held ≡ [] }
         ensures line { result.next_line ≡ 1 }
         ensures pulled { result.pulled ≡ nothing }
     {
         Intake {
-            held: Vec::new(alloc),
+            held: Held::new(alloc),
             next_line: 1,
             pulled: Pulled::nothing(),
         }
@@ -38,9 +39,9 @@ impl Intake {
 
     /// The bytes that are held.
     pub(crate) fn held(&self) -> &[u8]
-        ensures { result.now ≡ self.now.held.items }
+        ensures { result.now ≡ self.now.held }
     {
-        self.held.as_slice()
+        self.held.bytes()
     }
 
     /// Whether the source has no more.
@@ -54,20 +55,16 @@ impl Intake {
     ///
     /// # Errors
     /// `InputFailed` if a pull failed, `TooLong` if there are more bytes than the limit of an input, and `NoRoom` if memory for
-    /// some was refused; those of that pull are lost then.
-    // Inlined, its piece would lie on the caller's stack for good.
-    #[inline(never)]
+    /// a pull was refused.
     pub(crate) fn fill<S: Source>(&mut self, source: &mut S, enough: usize) -> Result<(), Refusal>
         requires within { self.old.pulled.total ≤ MAX_INPUT }
         requires failures { S.failed source.old < 2 ^ 64 - 1 }
         ensures ok { IfOk result (λ _. (bytes : List ℕ) × IsHeld (S.left source.old) (S.left source.new) (S.failed source.old) (S.failed source.new) self.old self.new bytes) }
-        ensures further { IfOk result (λ _. self.old.pulled.is_ended ≡ false → length self.old.held.items < enough → IsFurther self.old.pulled self.new.pulled) }
+        ensures further { IfOk result (λ _. self.old.pulled.is_ended ≡ false → length self.old.held < enough → IsFurther self.old.pulled self.new.pulled) }
         ensures err { IfErr result (GetsNoMore (S.left source.old) (S.left source.new) (S.failed source.old) (S.failed source.new) self.old.pulled self.new.pulled) }
     {
-        let mut piece = [0u8; PIECE];
-        while !self.pulled.is_ended() && self.held.len() < enough {
-            let count = self.pulled.pull(source, &mut piece)?;
-            self.held.extend_from_slice(&piece[..count])?;
+        while !self.pulled.is_ended() && self.held().len() < enough {
+            self.held.pull(&mut self.pulled, source)?;
         }
         Ok(())
     }
@@ -96,26 +93,14 @@ impl Intake {
         rt: &T,
         alloc: Global,
     ) -> Result<Vec<Vec<Result<LineEvent, LineFault>>>, AllocError>
-        requires { self.old.next_line + length self.old.held.items ≤ MAX_INPUT + 1 }
+        requires { self.old.next_line + length self.old.held ≤ MAX_INPUT + 1 }
         ensures read { IfOk result (λ parts. IsReadOf self.old self.new (flat_map (λ part. part.items) parts.items)) }
         ensures pulled { self.new.pulled ≡ self.old.pulled }
     {
-        let whole = whole_lines(alloc, &self.held, self.next_line, self.is_ended())?;
-        let parts = read_spans(rt, alloc, &self.held, &whole.spans)?;
+        let whole = whole_lines(alloc, self.held(), self.next_line, self.is_ended())?;
+        let parts = read_spans(rt, alloc, self.held(), &whole.spans)?;
         self.next_line = whole.next_line;
-        self.forget(whole.byte_count);
+        self.held.forget(whole.byte_count);
         Ok(parts)
-    }
-
-    /// Forgets so many bytes at the front.
-    fn forget(&mut self, count: usize)
-        requires { count ≤ length self.old.held.items }
-        ensures held { self.new.held.items ≡ drop count self.old.held.items }
-        ensures line { self.new.next_line ≡ self.old.next_line }
-        ensures pulled { self.new.pulled ≡ self.old.pulled }
-    {
-        let left = self.held.len() - count;
-        self.held.copy_within(count.., 0);
-        self.held.truncate(left);
     }
 }

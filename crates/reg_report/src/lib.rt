@@ -7,8 +7,8 @@
 //! workers there are, and how they take turns, changes no report. Sources and sinks are handed on from `byte_ends`.
 //! [`laws`] says why the whole history is atomic exactly if each of its registers is, and that a history has one report.
 //!
-//! To read, from the input on: `pulled` and `intake`, where the bytes come in; `reading`, which has their lines read and makes
-//! the arena; `answered`, which has the report made as bytes, as `checked` does as values, from a slice as a source (`slice`),
+//! To read, from the input on: `pulled`, `held` and `intake`, where the bytes come in; `reading`, which has their lines read and
+//! makes the arena; `answered`, which has the report made as bytes, as `checked` does as values, from a slice as a source (`slice`),
 //! and `alone` without threads; below them `find`, which has `reg_pieces` do the work and `tally` count the calls; `findings`,
 //! which puts what is done together, with `levels`, and `one_by_one`, where one thread does all; `found_text`, which writes
 //! each register's line as soon as it is made, or `history`, which makes the report's values. If the first register that
@@ -27,6 +27,7 @@ mod find;
 mod findings;
 mod first;
 mod found_text;
+mod held;
 mod history;
 mod intake;
 pub mod laws;

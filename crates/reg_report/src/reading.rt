@@ -1,24 +1,25 @@
 //! From the bytes of a source to the arena of their history: while the lines of one block are taken in, those of the next are
-//! read and numbered.
-ghost use Rattle.std.specs.Prelude.{◌≡◌, ◌+◌, ◌-◌, ◌^◌, ◌<◌, ◌≤◌, ℕ, List, [], Option, Some, false, length, IfOk, IfErr};
+//! numbered, and those behind them are read.
+ghost use Rattle.std.specs.Prelude.{◌≡◌, ◌+◌, ◌-◌, ◌^◌, ◌<◌, ◌≤◌, ℕ, List, [], Option, Some, true, false, length, IfOk, IfErr};
 ghost use Rattle.history_text.specs.declared.limits.TheConstants.{MAX_INPUT};
 ghost use Rattle.reg_report.specs.declared.reading.TheConstants.{BLOCK};
 ghost use Rattle.history_model.specs.History.{History};
 ghost use Rattle.reg_arena.specs.Numbered.{ArePartsNumbered};
 ghost use Rattle.reg_report.specs.Answer.{IsArenaOf};
 ghost use Rattle.reg_report.specs.Ends.{IsAll};
-ghost use Rattle.reg_report.specs.Intake.{FitsLimit, IsReadOf};
+ghost use Rattle.reg_report.specs.Intake.{FitsLimit};
 ghost use Rattle.reg_report.specs.Pulled.{IsFurther, nothing};
-ghost use Rattle.reg_report.specs.Underway.{AreNumberedBehind, MayChange, IsRefusedOf, IsStopped, IsUnderway, IsWithLines, lines_in};
+ghost use Rattle.reg_report.specs.Underway.{AreNumberedBehind, MayChange, IsLast, IsReadOn, IsRefusedOf, IsStopped, IsUnderway, IsWithLines, lines_in, waiting};
 
 use crate::intake::Intake;
 use crate::refusal::Refusal;
 use byte_ends::Source;
 use history_model::BuildError;
-use history_text::{MAX_EVENTS, MAX_INPUT};
+use history_text::{LineEvent, LineFault, MAX_EVENTS, MAX_INPUT};
 use rayon::current_num_threads;
 use reg_arena::{Arena, HashKey, NumberedLines, Numbering};
 use std::alloc::{AllocError, Global};
+use std::mem::replace;
 use std::random::RandomSource;
 use std::thread::{Threads, join_mut};
 
@@ -34,36 +35,93 @@ const SMALL_BLOCK: usize = 262_144;
 /// call has many more.
 const SHORTEST_EVENT: usize = 30;
 
-/// What the reading side keeps from turn to turn: the numbers of the registers so far, and the lines that were taken in last,
-/// which it drops, so that the thread which builds the arena needn't.
+/// What the reading side keeps from turn to turn.
 #[derive(Drop)]
 struct Reader {
     alloc: Global,
     /// Whether there is one processor alone, so that a thread more would gain nothing.
     is_alone: bool,
+    /// The numbers of the registers so far.
     numbering: Numbering,
+    /// The lines that were read last, in parts. They have no numbers yet.
+    unnumbered: Vec<Vec<Result<LineEvent, LineFault>>>,
+    /// The lines that were taken in last. They are dropped here, so that the thread which builds the arena needn't.
     spent: Vec<NumberedLines>,
 }
 
 impl Reader {
-    /// Drops the lines that were taken in last, and reads and numbers the whole lines that are held.
-    fn read<T: Threads + Sync>(
+    /// Nothing is read, and no register has a number. The key is that of the names' hashes.
+    fn new(alloc: Global, is_alone: bool, key: HashKey) -> Self
+        ensures none { result.unnumbered.items ≡ [] }
+        ensures names { result.numbering ≡ [] }
+    {
+        Reader {
+            alloc,
+            is_alone,
+            numbering: Numbering::new(alloc, key),
+            unnumbered: Vec::new(alloc),
+            spent: Vec::new(alloc),
+        }
+    }
+
+    /// Drops the lines that were taken in last, and numbers those that were read.
+    fn number(&mut self) -> Result<Vec<NumberedLines>, AllocError>
+        ensures lines { IfOk result (λ parts. lines_in parts.items ≡ waiting self.old) }
+        ensures numbered { IfOk result (λ parts. AreNumberedBehind self.old.numbering self.new.numbering parts.items) }
+        ensures none { self.new.unnumbered.items ≡ [] }
+    {
+        self.spent.clear();
+        let parts = replace(&mut self.unnumbered, Vec::new(self.alloc));
+        self.numbering.number_parts(self.alloc, parts)
+    }
+
+    /// Reads the whole lines that are held, and numbers all that were read.
+    fn read_and_number<T: Threads + Sync>(
         &mut self,
         rt: &T,
         intake: &mut Intake,
     ) -> Result<Vec<NumberedLines>, AllocError>
-        requires { intake.old.next_line + length intake.old.held.items ≤ MAX_INPUT + 1 }
-        ensures read { IfOk result (λ parts. IsReadOf intake.old intake.new (lines_in parts.items)) }
+        requires { intake.old.next_line + length intake.old.held ≤ MAX_INPUT + 1 }
+        ensures read { IfOk result (λ parts. IsReadOn intake.old intake.new self.old self.new (lines_in parts.items)) }
         ensures numbered { IfOk result (λ parts. AreNumberedBehind self.old.numbering self.new.numbering parts.items) }
+        ensures none { IfOk result (λ _. self.new.unnumbered.items ≡ []) }
         ensures pulled { intake.new.pulled ≡ intake.old.pulled }
     {
-        self.spent.clear();
-        let parts = intake.read(rt, self.alloc)?;
-        self.numbering.number_parts(self.alloc, parts)
+        let mut parts = intake.read(rt, self.alloc)?;
+        self.unnumbered.append(&mut parts)?;
+        self.number()
+    }
+
+    /// Has another thread number the lines that were read, and meanwhile reads the whole lines that are held. On one processor,
+    /// or if nothing is held, it numbers what it reads at once.
+    fn read_on<T: Threads + Sync>(
+        &mut self,
+        rt: &T,
+        intake: &mut Intake,
+    ) -> Result<Vec<NumberedLines>, AllocError>
+        requires { intake.old.next_line + length intake.old.held ≤ MAX_INPUT + 1 }
+        ensures read { IfOk result (λ parts. IsReadOn intake.old intake.new self.old self.new (lines_in parts.items)) }
+        ensures numbered { IfOk result (λ parts. AreNumberedBehind self.old.numbering self.new.numbering parts.items) }
+        ensures none { IfOk result (λ _. intake.old.held ≡ [] → self.new.unnumbered.items ≡ []) }
+        ensures pulled { intake.new.pulled ≡ intake.old.pulled }
+    {
+        if self.is_alone || intake.held().is_empty() {
+            return self.read_and_number(rt, intake);
+        }
+        let alloc = self.alloc;
+        let (numbered, read) = join_mut(
+            rt,
+            &mut || self.number(),
+            &mut ||
+                requires { intake.now.next_line + length intake.now.held ≤ MAX_INPUT + 1 }
+            { intake.read(rt, alloc) },
+        );
+        self.unnumbered = read?;
+        numbered
     }
 }
 
-/// An arena of the lines so far, and the lines that come next, which are read and numbered.
+/// An arena of the lines so far, and the lines that come next, which are numbered.
 #[derive(Drop)]
 struct Underway {
     arena: Arena,
@@ -86,8 +144,8 @@ fn take_in(
 }
 
 impl Underway {
-    /// Has a thread read the lines that are held, and meanwhile takes in those that were read before. On one processor it does
-    /// one after the other.
+    /// Has another thread read on, and meanwhile takes in the lines that have numbers. On one processor it does one after the
+    /// other.
     fn read_and_take_in<T: Threads + Sync>(
         self,
         rt: &T,
@@ -98,9 +156,10 @@ impl Underway {
         Result<Arena, BuildError>,
     )
         requires names { ArePartsNumbered self.arena.names self.ahead.items }
-        requires room { intake.old.next_line + length intake.old.held.items ≤ MAX_INPUT + 1 }
-        ensures read { IfOk result.0 (λ parts. IsReadOf intake.old intake.new (lines_in parts.items)) }
+        requires room { intake.old.next_line + length intake.old.held ≤ MAX_INPUT + 1 }
+        ensures read { IfOk result.0 (λ parts. IsReadOn intake.old intake.new reader.old reader.new (lines_in parts.items)) }
         ensures numbered { IfOk result.0 (λ parts. AreNumberedBehind reader.old.numbering reader.new.numbering parts.items) }
+        ensures none { IfOk result.0 (λ _. intake.old.held ≡ [] → reader.new.unnumbered.items ≡ []) }
         ensures pulled { intake.new.pulled ≡ intake.old.pulled }
         ensures taken { IsWithLines (Some self.arena) (lines_in self.ahead.items) result.1 }
     {
@@ -109,22 +168,22 @@ impl Underway {
         let mut arena = Some(arena);
         if reader.is_alone {
             let taken = take_in(alloc, &mut arena, &ahead);
-            let read = reader.read(rt, intake);
+            let read = reader.read_on(rt, intake);
             reader.spent = ahead;
             return (read, taken);
         }
         let made = join_mut(
             rt,
             &mut ||
-                requires { intake.now.next_line + length intake.now.held.items ≤ MAX_INPUT + 1 }
-            { reader.read(rt, intake) },
+                requires { intake.now.next_line + length intake.now.held ≤ MAX_INPUT + 1 }
+            { reader.read_on(rt, intake) },
             &mut || take_in(alloc, &mut arena, &ahead),
         );
         reader.spent = ahead;
         made
     }
 
-    /// Pulls the next bytes, and has their lines read while those that were read are taken in.
+    /// Pulls the next bytes, and has their lines read while those that were read before are numbered and taken in.
     ///
     /// # Errors
     /// `InputFailed` or `TooLong` if pulling stopped, else `NoRoom` if memory was refused, else `At` for a refused line.
@@ -140,6 +199,7 @@ impl Underway {
         requires failures { S.failed source.old < 2 ^ 64 - 1 }
         ensures ok { IfOk result (λ after. (left : Option (List ℕ)) (failed : ℕ) → IsUnderway left (S.left source.old) failed (S.failed source.old) intake.old reader.old self → IsUnderway left (S.left source.new) failed (S.failed source.new) intake.new reader.new after) }
         ensures further { IfOk result (λ _. intake.old.pulled.is_ended ≡ false → IsFurther intake.old.pulled intake.new.pulled) }
+        ensures last { IfOk result (λ _. IsLast intake.old → (intake.new.pulled.is_ended ≡ true) × (reader.new.unnumbered.items ≡ [])) }
         ensures err { IfErr result (λ refusal. (left : Option (List ℕ)) (failed : ℕ) → IsUnderway left (S.left source.old) failed (S.failed source.old) intake.old reader.old self → IsStopped left (S.left source.new) failed (S.failed source.new) intake.new.pulled refusal) }
     {
         let held = intake.held().len();
@@ -193,7 +253,7 @@ fn read_arena<T: Threads + RandomSource + Sync, S: Source>(
     source: &mut S,
     intake: &mut Intake,
 ) -> Result<Arena, Refusal>
-    requires held { intake.old.held.items ≡ [] }
+    requires held { intake.old.held ≡ [] }
     requires line { intake.old.next_line ≡ 1 }
     requires pulled { intake.old.pulled ≡ nothing }
     requires failures { S.failed source.old < 2 ^ 64 - 1 }
@@ -205,15 +265,10 @@ fn read_arena<T: Threads + RandomSource + Sync, S: Source>(
     intake.fill(source, first_block(rt, is_alone))?;
     let key = HashKey::drawn(rt, intake.held());
     let arena = Arena::empty(alloc, key, room_for(intake))?;
-    let mut reader = Reader {
-        alloc,
-        is_alone,
-        numbering: Numbering::new(alloc, key),
-        spent: Vec::new(alloc),
-    };
-    let ahead = reader.read(rt, intake)?;
+    let mut reader = Reader::new(alloc, is_alone, key);
+    let ahead = reader.read_and_number(rt, intake)?;
     let mut underway = Underway { arena, ahead };
-    while !intake.is_ended() {
+    while !intake.is_ended() || !reader.unnumbered.is_empty() {
         underway = underway.turn(rt, source, intake, &mut reader)?;
     }
     let Underway { arena, ahead } = underway;

@@ -49,9 +49,9 @@ returns-clause-lists c =
     let value = c.join_value.new.rows in
     let own = c.join_call-call.new.rows in
     let all = c.in_ok-push.ensures ∙ row-appended before register process value own r p v e c.args.call c.join_call-call.result c.in_ok-number.number c.join_call-call.ensures.others c.join_call-call.ensures.calls in
-    let none : (k : ℕ × Val) → value_entry c.args.self.now.values.keys c.args.self.now.entries.items k ≡ None → (i : ℕ) → key_at by_value es i ≡ Some k → ⊥ =
+    let none : (k : ℕ × Val) → value_entry c.args.self.now.pairs c.args.self.now.entries.items k ≡ None → (i : ℕ) → key_at by_value es i ≡ Some k → ⊥ =
     λ k h i q. t.values.none k (ap (option_map (λ (y : Entry). y.ends)) h) i q in
-    let no_number : (k : ℕ × Val) → value_number c.args.self.now.values.keys k ≡ None → (i : ℕ) → key_at by_value es i ≡ Some k → ⊥ =
+    let no_number : (k : ℕ × Val) → value_number c.args.self.now.pairs k ≡ None → (i : ℕ) → key_at by_value es i ≡ Some k → ⊥ =
     λ k h i q. none k (ap (option_and_then (slice_get c.args.self.now.entries.items)) h) i q in
     rw all (record {
       registers = family by_register es e n before.in_register (register.in_register ++ None ∷ []) _ _ at t.register_column t.registers c.in_ok-join_register.ensures.joined;
@@ -60,7 +60,7 @@ returns-clause-lists c =
       calls = calls-push es e n before.calls c.args.call at t.call_column c.requires.call t.calls;
       entries = entries-push es e n before.calls c.args.call at t.call_column c.requires.call _ _ none t.entries c.in_ok-number.ensures.entered;
       numbered = c.in_ok-number.ensures.numbered;
-      numbers = numbers-push es e before.numbers c.in_ok-number.number (value_number c.args.self.now.values.keys) (value_number c.join_value.new.values.keys) t.number_column t.numbers no_number c.in_ok-number.ensures.kept c.in_ok-number.ensures.number;
+      numbers = numbers-push es e before.numbers c.in_ok-number.number (value_number c.args.self.now.pairs) (value_number c.join_value.new.pairs) t.number_column t.numbers no_number c.in_ok-number.ensures.kept c.in_ok-number.ensures.number;
       register_column = omega (arith, length-append es (e ∷ []), length-append register.in_register (None ∷ []), c.in_ok-join_register.ensures.count, t.register_column);
       process_column = omega (arith, length-append es (e ∷ []), length-append process.in_process (None ∷ []), c.in_ok-join_process.ensures.count, ap length (process-register before register process value own r p v), t.process_column);
       value_column = omega (arith, length-append es (e ∷ []), length-append value.in_value (None ∷ []), c.in_ok-number.ensures.count, ap length (value-process before register process value own r p v), t.value_column);

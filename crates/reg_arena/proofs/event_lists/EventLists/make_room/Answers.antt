@@ -4,7 +4,7 @@ use Rattle.reg_arena.proofs.event_lists.EventLists.make_room.Goals as goal
 pub returns-in_err-reserve-clause-lists : goal.returns-in_err-reserve-clause-lists
 returns-in_err-reserve-clause-lists c =
     let t = c.requires in
-    let keys = c.in_err-reserve.ensures.keys in
+    let keys = c.reserve.ensures in
     record {
       registers = t.registers;
       processes = t.processes;
@@ -26,7 +26,7 @@ returns-in_err-reserve-clause-lists c =
 pub returns-clause-lists : goal.returns-clause-lists
 returns-clause-lists c =
     let t = c.requires in
-    let keys = c.in_ok-reserve.ensures.keys in
+    let keys = c.reserve.ensures in
     let items = c.reserve-2.ensures.items in
     record {
       registers = t.registers;

@@ -1,13 +1,13 @@
 -- What was pulled, what was read of it, and what taking in gave meanwhile.
-use Rattle.std.proofs.Common.{Option, List, ℕ, refl, sym, subst}
-use Rattle.std.specs.Prelude.{IfOk}
+use Rattle.std.proofs.Common.{◌≡◌, Option, List, [], ◌++◌, ℕ, refl, sym, subst, ap₂, ◌∙◌}
+use Rattle.std.specs.Prelude.{IfOk, true}
 use Rattle.reg_arena.specs.Built.{IsBuiltWith}
 use Rattle.reg_report.proofs.Passing.{passed-on}
 use Rattle.reg_report.proofs.Turning.{next-of, stopped-by-next, turn-refused, turned}
-use Rattle.reg_report.specs.Intake.{IsReadOf}
 use Rattle.reg_report.specs.Pulled.{Gives}
 use Rattle.reg_report.specs.Refusals.{of_build}
-use Rattle.reg_report.specs.Underway.{AreNumberedBehind, IsStopped, IsUnderway, lines_in}
+use Rattle.reg_report.specs.Underway.{AreNumberedBehind, IsReadOn, IsStopped, IsUnderway, lines_in}
+use Rattle.reg_report.specs.declared.pulled.Pulled.{Pulled}
 use Rattle.reg_report.specs.declared.refusal.Refusal.TheVariants.{NoRoom}
 use Rattle.reg_report.proofs.reading.Underway.turn.Goals as goal
 
@@ -38,12 +38,11 @@ returns-in_err-arena-clause-err g c =
     let new = c.read_and_take_in-read.new.intake in
     let held = c.in_ok-fill.ensures.ok in
     let lines = lines_in c.args.self.ahead.items in
-    let later = lines_in c.in_ok-ahead.ahead.items in
-    let read = subst (λ r. IfOk r (λ parts. IsReadOf c.fill.new.self new (lines_in parts.items))) c.in_ok-ahead.was c.read_and_take_in-read.ensures.read in
+    let read = subst (λ r. IfOk r (λ parts. IsReadOn c.fill.new.self new c.args.reader.now c.read_and_take_in-read.new.reader (lines_in parts.items))) c.in_ok-ahead.was c.read_and_take_in-read.ensures.read in
     passed-on (λ refusal. (left : Option (List ℕ)) (failed : ℕ) → IsUnderway left (g.S.Source.left c.args.source.now) failed (g.S.Source.failed c.args.source.now) old c.args.reader.now c.args.self
     → IsStopped left (g.S.Source.left c.fill.new.source) failed (g.S.Source.failed c.fill.new.source) new.pulled refusal)
     (of_build e) c.from_residual-in_err-arena.result c.from_residual-in_err-arena.ensures.1
-    (λ left failed underway. turn-refused left _ _ failed _ _ old new c.args.reader.now c.args.self underway later (next-of _ _ _ _ old c.fill.new.self new held.0 later held.1 read) e
+    (λ left failed underway. turn-refused left _ failed _ old c.args.reader.now c.args.self underway _ _ new read.later (next-of _ _ _ _ old c.fill.new.self new held.0 read.later held.1 read.read) e
     (subst (IsBuiltWith underway.before lines) c.in_err-arena.was (c.read_and_take_in-read.ensures.taken.whole c.args.self.arena underway.before refl underway.built)))
 
 pub returns-clause-ok : goal.returns-clause-ok
@@ -52,8 +51,17 @@ returns-clause-ok g c = λ left failed underway.
     let new = c.read_and_take_in-read.new.intake in
     let held = c.in_ok-fill.ensures.ok in
     let lines = lines_in c.args.self.ahead.items in
-    let read = subst (λ r. IfOk r (λ parts. IsReadOf c.fill.new.self new (lines_in parts.items))) c.in_ok-ahead.was c.read_and_take_in-read.ensures.read in
+    let read = subst (λ r. IfOk r (λ parts. IsReadOn c.fill.new.self new c.args.reader.now c.read_and_take_in-read.new.reader (lines_in parts.items))) c.in_ok-ahead.was c.read_and_take_in-read.ensures.read in
     let numbered = subst (λ r. IfOk r (λ parts. AreNumberedBehind c.args.reader.now.numbering c.read_and_take_in-read.new.reader.numbering parts.items)) c.in_ok-ahead.was c.read_and_take_in-read.ensures.numbered in
-    turned left _ _ failed _ _ old new c.args.reader.now c.args.self underway c.read_and_take_in-read.new.reader _
+    turned left _ failed _ old c.args.reader.now c.args.self underway _ _ new read.later (next-of _ _ _ _ old c.fill.new.self new held.0 read.later held.1 read.read) c.read_and_take_in-read.new.reader _
     (subst (IsBuiltWith underway.before lines) c.in_ok-arena.was (c.read_and_take_in-read.ensures.taken.whole c.args.self.arena underway.before refl underway.built))
-    (next-of _ _ _ _ old c.fill.new.self new held.0 _ held.1 read) numbered
+    read.all numbered
+
+pub returns-clause-last : goal.returns-clause-last
+returns-clause-last g c = λ last.
+    let held = c.in_ok-fill.ensures.ok in
+    let behind = held.1.given.none_behind last.0 in
+    let none = subst (λ r. IfOk r (λ _. c.fill.new.self.held ≡ [] → c.read_and_take_in-read.new.reader.unnumbered.items ≡ [])) c.in_ok-ahead.was c.read_and_take_in-read.ensures.none in (
+      subst (λ (pulled : Pulled). pulled.is_ended ≡ true) (sym c.read_and_take_in-read.ensures.pulled) behind.1,
+      none (held.1.held ∙ ap₂ (λ (xs ys : List ℕ). xs ++ ys) last.1 behind.0),
+    )
