@@ -1,7 +1,8 @@
 """Random histories of a few operations, for tests: a small store is run at random, and its clients recorded.
 
 A history is a function of its seed. Some stores are sound and others lie now and then, so that there are
-atomic histories and faults of each kind. Some lines are odd, and some wrong, so that each refusal comes up.
+atomic histories and faults of each kind. Mostly the values that are written ascend, as from a counter. Some
+lines are odd, and some wrong, so that each refusal comes up.
 """
 import json
 import random
@@ -108,6 +109,17 @@ class Store:
         self.lines.append({"process": process, "event": "crash"})
 
 
+def reorder(chance: random.Random, lines: List[Line]) -> None:
+    """Mostly leaves the values as they are: those of a register's writes ascend. Else they descend, or stand in no order."""
+    order = chance.choice(["ascending", "ascending", "descending", "none"])
+    for line in lines:
+        value = line.get("value")
+        if value is not None and order == "descending":
+            line["value"] = -value
+        elif value is not None and order == "none":
+            line["value"] = value * 37 % 101
+
+
 # What may stand in a member of a wrong line; most of it is of no form, some is a form of another member.
 WRONG: Dict[str, List[Any]] = {
     "process": [None, -1, 1.0, 1e0, "1", 4294967296, 4294967295, True, [], 0],
@@ -183,6 +195,7 @@ def random_history(seed: int, fails: bool = True) -> bytes:
         if len(store.lines) < events:
             store.step()
     lines = store.lines
+    reorder(random.Random(f"order {seed}"), lines)
     wrong = bool(lines) and chance.random() < 0.3
     if wrong:
         for _ in range(chance.choice([1, 1, 2])):
