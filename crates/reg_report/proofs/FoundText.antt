@@ -74,12 +74,12 @@ module _ (h : History) where
         (whole.0, lines-of h findings whole.0 a whole.1, ap (flat_map (λ (text : Vec ℕ Global). text.items)) got.2 ∙ whole.2)
     texts-made size findings each (Err e) pos a is got = tt
 
--- the summary's line behind the parts of the registers' lines
-pub summary-behind : (parts new : List (Vec ℕ Global)) (last : Vec ℕ Global) (report : Report) (line : List ℕ)
-    → new ≡ parts ++ last ∷ [] → bytes-of parts ≡ registers_text report.regs → last.items ≡ line ++ 10 ∷ [] → line ≡ compact_text (summary_json report)
-    → bytes-of new ≡ report_text report
-summary-behind parts new last report line pushed lines fed is =
-    ap bytes-of pushed
-    ∙ (flat_map-append (λ (part : Vec ℕ Global). part.items) parts (last ∷ [])
-    ∙ (ap (λ l. l ++ bytes-of (last ∷ [])) lines
-    ∙ ap (λ l. registers_text report.regs ++ l) (append-nil last.items ∙ (fed ∙ ap (λ l. l ++ 10 ∷ []) is))))
+-- the summary's parts behind those of the registers' lines
+pub summary-behind : (parts more all : List (Vec ℕ Global)) (report : Report)
+    → all ≡ parts ++ more → bytes-of parts ≡ registers_text report.regs → bytes-of more ≡ line_text (summary_json report)
+    → bytes-of all ≡ report_text report
+summary-behind parts more all report joined lines summary =
+    ap bytes-of joined
+    ∙ (flat_map-append (λ (part : Vec ℕ Global). part.items) parts more
+    ∙ (ap (λ l. l ++ bytes-of more) lines
+    ∙ ap (λ l. registers_text report.regs ++ l) summary))

@@ -18,6 +18,7 @@ mod Atomic
 mod Counting
 mod Found
 mod FoundText
+mod SummaryText
 mod OneReport
 mod Cutting
 mod Assembly

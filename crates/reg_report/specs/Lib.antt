@@ -14,6 +14,7 @@ pub mod Atomicity
 pub mod Registers
 pub mod Answer
 pub mod FoundText
+pub mod SummaryText
 pub mod Ends
 pub mod Run
 pub mod Cuts

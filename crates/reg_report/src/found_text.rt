@@ -2,12 +2,11 @@
 //! at once, so that no line is kept as values.
 ghost use Rattle.std.specs.Prelude.{◌≡◌, All, false, flat_map, length, is_some, IfOk};
 ghost use Rattle.std.specs.Thread.{IsSync};
-ghost use Rattle.serde_json.specs.Written.{compact_text};
 ghost use Rattle.history_model.specs.Operations.{calls};
 ghost use Rattle.reg_report.specs.FoundText.{IsLinesText, IsReportText, IsTextOf};
 ghost use Rattle.reg_report.specs.Meaning.{IsWholeAtomicity};
 ghost use Rattle.reg_report.specs.Registers.{AreFindings, IsFinding};
-ghost use Rattle.reg_report.specs.Text.{summary_json};
+ghost use Rattle.reg_report.specs.Text.{line_text, summary_json};
 
 use crate::findings::Finding;
 use crate::history::whole_order_in_parts;
@@ -15,7 +14,8 @@ use crate::lists::{Lines, Registers};
 use crate::outcome::Outcome;
 use crate::register::register_report;
 use crate::report::Report;
-use crate::written::{put_line, register_line, summary_line};
+use crate::summary_text::summary_text;
+use crate::written::{put_line, register_line};
 use rayon::prelude::*;
 use reg_arena::Arena;
 use std::alloc::{AllocError, Global};
@@ -93,24 +93,26 @@ fn order_and_lines<T: Threads + Sync>(
     Ok((order?, lines?))
 }
 
-/// The last line of a report, made while another thread drops what the report came from, which takes a while.
+/// The last line of a report and its line feed in parts, made while another thread drops what the report came from, which
+/// takes a while.
 fn summary_beside_drop<T: Threads + Sync>(
     rt: &T,
     alloc: Global,
     report: &Report,
     arena: Arena,
     findings: Vec<Finding>,
-) -> Result<Vec<u8>, AllocError>
-    ensures { IfOk result (λ line. line.items ≡ compact_text (summary_json report.now)) }
+) -> Result<Vec<Vec<u8>>, AllocError>
+    ensures { IfOk result (λ parts. flat_map (λ part. part.items) parts.items ≡ line_text (summary_json report.now)) }
 {
-    let (line, ()) = join(
+    let (parts, ()) = join(
         rt,
-        || -> Result<Vec<u8>, AllocError>
-            ensures { IfOk result (λ line. line.items ≡ compact_text (summary_json report.entry.now)) }
-        { summary_line(alloc, report) },
+        || -> Result<Vec<Vec<u8>>, AllocError>
+            requires { IsSync T.row }
+            ensures { IfOk result (λ parts. flat_map (λ part. part.items) parts.items ≡ line_text (summary_json report.entry.now)) }
+        { summary_text(rt, alloc, report) },
         move || drop((arena, findings)),
     );
-    line
+    parts
 }
 
 /// The text of the whole report, from what is found of all registers and the number of operations, or want of memory.
@@ -134,9 +136,7 @@ pub(crate) fn whole_text<T: Threads + Sync>(
         atomic: order.is_some(),
         order,
     };
-    let mut line = summary_beside_drop(rt, alloc, &summary, arena, findings)?;
-    line.push(b'\n')?;
-    parts.push(line)?;
+    parts.append(&mut summary_beside_drop(rt, alloc, &summary, arena, findings)?)?;
     Ok(ReportText {
         parts,
         outcome: Outcome::of(&summary),

@@ -4,11 +4,14 @@ ghost use Rattle.std.specs.Prelude.{◌≡◌, ◌-◌, ◌^◌, ◌<◌, ◌≤
 ghost use Rattle.history_text.specs.declared.limits.TheConstants.{MAX_INPUT};
 ghost use Rattle.reg_report.specs.Pulled.{Gives, GetsNoMore, IsFurther};
 
-use crate::pulled::{PIECE, Pulled};
+use crate::pulled::Pulled;
 use crate::refusal::Refusal;
 use byte_ends::Source;
 use std::alloc::Global;
 use std::marker::Model;
+
+/// How many bytes are pulled at once: as many as a pipe of Linux holds.
+const PIECE: usize = 65_536;
 
 /// The bytes at the front of a buffer. Those behind them mean nothing.
 #[derive(Drop)]

@@ -11,9 +11,8 @@
 //! makes the arena; `answered`, which has the report made as bytes, as `checked` does as values, from a slice as a source (`slice`),
 //! and `alone` without threads; below them `find`, which has `reg_pieces` do the work and `tally` count the calls; `findings`,
 //! which puts what is done together, with `levels`, and `one_by_one`, where one thread does all; `found_text`, which writes
-//! each register's line as soon as it is made, or `history`, which makes the report's values. If the first register that
-//! isn't atomic is all that is asked for, `first` has `reg_pieces`
-//! look for it. `register` makes the line of one register, with `fault_lines` and `order_lines`, and `merged` the order of
+//! each register's line as soon as it is made, with `summary_text` for the last line, or `history`, which makes the report's
+//! values. If the first register that isn't atomic is all that is asked for, `first` has `reg_pieces` look for it. `register` makes the line of one register, with `fault_lines` and `order_lines`, and `merged` the order of
 //! all, with `by_point`; `merged_lines` finds that order's lines by several threads. Then come `report` with `lists`, `send` and `written`, and `pushed`, `outcome` and `whole` at last.
 //! `refusal` and `wording` say why there is no report, and `told` asks the arena for what its laws say.
 #![tactic(auto)]
@@ -46,6 +45,7 @@ mod register;
 mod report;
 mod send;
 mod slice;
+mod summary_text;
 mod tally;
 mod told;
 mod whole;

@@ -24,6 +24,6 @@ returns g c =
         named = c.register_count.ensures.count;
         atomic = subst (λ atomic. IsWholeAtomicity h atomic c.in_ok-order.order) (sym c.is_some.ensures) c.in_ok-order.ensures.order;
       },
-      summary-behind c.in_ok-order.parts.items c.push-2.new.self.items c.push.new.self report c.in_ok-line.line.items c.in_ok-push-2.ensures.items lines.2 c.in_ok-push.ensures.items c.in_ok-line.ensures,
+      summary-behind c.in_ok-order.parts.items c.in_ok-summary_beside_drop.field-0.items c.append.new.self.items report c.in_ok-append.ensures.items lines.2 c.in_ok-summary_beside_drop.ensures,
       c.of.ensures,
     )
