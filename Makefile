@@ -134,7 +134,7 @@ install-library: library
 	ln -sf $(SONAME) $(DESTDIR)$(PREFIX)/lib/libregcheck.so
 	install -D -m 644 -t $(DESTDIR)$(PREFIX)/lib/pkgconfig bin/regcheck.pc
 
-# What an earlier run on this machine proved, `rt ci` takes from there, without the object.
+# Where `rt ci` takes from the machine what an earlier run proved, it may leave no object.
 crates/regcheck/out/regcheck.o: | bin/regcheck
 	cd crates/regcheck && $(CURDIR)/packaging/prove $(CURDIR)/bin/object.log rt run < stdin
 

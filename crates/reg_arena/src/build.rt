@@ -98,7 +98,6 @@ impl Arena {
         ensures names { OnOk result (self.new.names ≡ names_with self.old.names (lines_of part.now)) }
     {
         for (place, line) in part.lines.iter().enumerate() {
-            self.make_room(part, place)?;
             // The arena's invariant is known once a field is used.
             let _ = &self.names;
             match line {
@@ -173,7 +172,7 @@ impl Arena {
     }
 
     /// A register's number, if the register was called before.
-    pub(crate) fn known(&self, number: usize) -> Option<u32>
+    fn known(&self, number: usize) -> Option<u32>
         ensures { (name : List ℕ) → number ≡ position_or_len (bytes_eq name) self.now.names → IsNumber self.now.names name result }
     {
         if number < self.names.len() {
@@ -353,7 +352,7 @@ impl Arena {
     }
 
     /// The last event of a register and value, which may be new.
-    pub(crate) fn last_with(&self, number: Option<u32>, value: Option<Val>) -> Option<EvId>
+    fn last_with(&self, number: Option<u32>, value: Option<Val>) -> Option<EvId>
         ensures { IsLastWith self.now.events number value result }
     {
         match number {

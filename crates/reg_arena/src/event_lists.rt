@@ -61,17 +61,6 @@ impl EventLists {
         self.entries.clear();
     }
 
-    /// Makes room for so many more pairs of a register and a value.
-    pub(crate) fn make_room(&mut self, count: usize) -> Result<(), AllocError>
-        requires { AreEventLists self.old }
-        ensures lists { AreEventLists self.new }
-        ensures rows { self.new.rows ≡ self.old.rows }
-        ensures registers { self.new.registers.items ≡ self.old.registers.items }
-    {
-        self.pairs.reserve(count)?;
-        self.entries.reserve(count)
-    }
-
     /// Appends an event with the event of its call, and joins it to its lists. `alike` is an event of the same register and value, if there is one.
     ///
     /// A crash has no call, and `call` is then not read. A fail takes the call that it ends from the operations.

@@ -9,7 +9,7 @@
 //!
 //! Read it in this order: `hash_key` and `seeded`, which make the hashes; `optional`, `packed_event` and `rows`, which keep the events; `ascent` and `pairs`,
 //! which number the pairs of a register and a value; `list_ends`, `processes`, `joins`, `event_lists` and `entries`, the lists that run through the events;
-//! `numbering`, which numbers the registers of lines, and `names`; `arena`, `called` and `of_value`, which answer; `agrees`, `standing`, `stretch` and `build`.
+//! `numbering`, which numbers the registers of lines, and `names`; `arena`, `called` and `of_value`, which answer; `agrees`, `standing` and `build`.
 #![tactic(auto)]
 
 mod agrees;
@@ -32,7 +32,6 @@ mod processes;
 mod rows;
 mod seeded;
 mod standing;
-mod stretch;
 
 pub use arena::Arena;
 pub use hash_key::HashKey;

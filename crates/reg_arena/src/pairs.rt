@@ -57,13 +57,6 @@ impl Pairs {
         self.table.clear();
     }
 
-    /// Makes room for so many more pairs.
-    pub(crate) fn reserve(&mut self, count: usize) -> Result<(), AllocError>
-        ensures { self.new ≡ self.old }
-    {
-        self.pairs.reserve(count)
-    }
-
     /// The number of a pair: its place.
     pub(crate) fn number(&self, register: u32, value: Option<i64>) -> Option<u32>
         ensures { result ≡ position (key_eq (register, value)) self.now }

@@ -1,11 +1,10 @@
 -- The arena is the history of the lines before and of those so far, none of which is faulty.
-use Rattle.std.proofs.Common.{◌≡◌, ◌≤◌, ◌++◌, List, suc, ◌+◌, drop, length, slice_get, take, Some, Ok, Err, refl, sym, ap, subst, ◌∙◌, arith}
+use Rattle.std.proofs.Common.{◌≡◌, ◌≤◌, ◌++◌, List, suc, ◌+◌, drop, length, slice_get, Some, Ok, Err, refl, sym, ap, subst, ◌∙◌, arith}
 use Rattle.std.proofs.lemmas.List.{append-nil, drop_all, take_all}
 use Rattle.std.proofs.lemmas.Option.{slice_get_read, slice_get_within}
 use Rattle.history_model.specs.History.{History}
 use Rattle.history_model.specs.Refusals.{Line}
 use Rattle.reg_arena.specs.Built.{IsBuilt}
-use Rattle.history_model.specs.declared.refusal.BuildError.TheVariants.{Memory}
 use Rattle.reg_arena.specs.Numbered.{AreNumbered, IsNumbered, lines_of, name_called, names_with, with_name}
 use Rattle.reg_arena.proofs.Numbered.{names-at, names-step, number-read, numbered-at}
 use Rattle.reg_arena.proofs.Reading.{part-more, part-event-refused, part-line-refused, error-passed}
@@ -13,10 +12,6 @@ use Rattle.reg_arena.proofs.arena.Arena.add_lines.Goals as goal
 
 pub loop-place-init : goal.loop-place-init
 loop-place-init c = record { built = λ before built. subst (λ xs. IsBuilt xs c.args.self.now) (sym (append-nil before)) built; numbered = c.requires; names = refl }
-
-pub returns-in_err-make_room-clause-built : goal.returns-in_err-make_room-clause-built
-returns-in_err-make_room-clause-built c = λ before built.
-    error-passed before (lines_of c.args.part.now) c.make_room.new.self c.from_residual.result Memory c.from_residual.ensures.1 (λ after. tt)
 
 pub returns-in-Err-clause-built : goal.returns-in-Err-clause-built
 returns-in-Err-clause-built c = λ before built after.
@@ -42,8 +37,7 @@ step-requires c =
     let read = slice_get_read c.deref-line-items.result.now _ n c.line-item.result refl c.loop-place-test.true c.line-item.is ∙ ap Some c.in-Ok.is in
     let at = subst (λ (xs : List Line). slice_get xs n ≡ Some (Ok c.in-Ok.event)) c.deref-line-items.ensures.value read in
     let here = numbered-at c.loop-place.self.names (lines_of c.args.part.now) numbers n (Ok c.in-Ok.event) at c.loop-place.invariant.numbered in
-    subst (λ (h : History). IsNumbered h.names (name_called (Ok c.in-Ok.event)) c.index.result.now) (sym c.make_room.ensures)
-    (subst (IsNumbered c.loop-place.self.names (name_called (Ok c.in-Ok.event))) (number-read numbers n here.0 c.index.result.now here.1 c.index.ensures) here.2)
+    subst (IsNumbered c.loop-place.self.names (name_called (Ok c.in-Ok.event))) (number-read numbers n here.0 c.index.result.now here.1 c.index.ensures) here.2
 
 pub returns-in_err-step-in-Ok-clause-built : goal.returns-in_err-step-in-Ok-clause-built
 returns-in_err-step-in-Ok-clause-built c = λ before built.
@@ -51,30 +45,28 @@ returns-in_err-step-in-Ok-clause-built c = λ before built.
     let n = c.loop-place.place in
     let read = slice_get_read c.deref-line-items.result.now _ n c.line-item.result refl c.loop-place-test.true c.line-item.is ∙ ap Some c.in-Ok.is in
     let at = subst (λ (xs : List Line). slice_get xs n ≡ Some (Ok c.in-Ok.event)) c.deref-line-items.ensures.value read in
-    let so_far = subst (IsBuilt (before ++ take n lines)) (sym c.make_room.ensures) (c.loop-place.invariant.built before built) in
-    error-passed before lines c.step.new.self c.from_residual-in_err-step-in-Ok.result c.in_err-step-in-Ok.field-0.0 c.from_residual-in_err-step-in-Ok.ensures.1
-    (part-event-refused before lines n c.make_room.new.self so_far c.in-Ok.event c.in_err-step-in-Ok.field-0.0 at (c.in_err-step-in-Ok.ensures _ so_far.accepted so_far.is))
+    let so_far = c.loop-place.invariant.built before built in
+    error-passed before lines c.step.new.self c.from_residual.result c.in_err-step-in-Ok.field-0.0 c.from_residual.ensures.1
+    (part-event-refused before lines n c.loop-place.self so_far c.in-Ok.event c.in_err-step-in-Ok.field-0.0 at (c.in_err-step-in-Ok.ensures _ so_far.accepted so_far.is))
 
 pub loop-place-preserved : goal.loop-place-preserved
 loop-place-preserved c =
     let lines = lines_of c.args.part.now in
     let n = c.loop-place.place in
-    let roomy = c.make_room.new.self in
-    let names = roomy.names in
+    let names = c.loop-place.self.names in
     let numbers = c.args.part.now.numbers.items in
     let so_far = c.loop-place.invariant in
-    let still = sym c.make_room.ensures in
     let read = slice_get_read c.deref-line-items.result.now _ n c.line-item.result refl c.loop-place-test.true c.line-item.is ∙ ap Some c.in-Ok.is in
     let at = subst (λ (xs : List Line). slice_get xs n ≡ Some (Ok c.in-Ok.event)) c.deref-line-items.ensures.value read in
     let next : suc n ≡ n + 1 = omega arith in
-    let left = (numbered-at names lines numbers n (Ok c.in-Ok.event) at (subst (λ (h : History). AreNumbered h.names (drop n lines) (drop n numbers)) still so_far.numbered)).3 in
+    let left = (numbered-at names lines numbers n (Ok c.in-Ok.event) at so_far.numbered).3 in
     let recorded = c.self.invariant.2 in
     let is = sym c.self.view_is ∙ recorded.is in
     let one_more = ap (λ (h : History). h.names) (c.in_ok-step-in-Ok.ensures recorded.events recorded.accepted is).1 ∙ (names-step recorded.events c.in-Ok.event ∙ ap (λ (h : History). with_name h.names (name_called (Ok c.in-Ok.event))) (sym is)) in
     record {
-      built = λ before built. let front = subst (IsBuilt (before ++ take n lines)) still (so_far.built before built) in part-more before lines n roomy front c.in-Ok.event c.step.new.self at (c.in_ok-step-in-Ok.ensures _ front.accepted front.is);
+      built = λ before built. let front = so_far.built before built in part-more before lines n c.loop-place.self front c.in-Ok.event c.step.new.self at (c.in_ok-step-in-Ok.ensures _ front.accepted front.is);
       numbered = subst (λ m. AreNumbered c.step.new.self.names (drop m lines) (drop m numbers)) next (subst (λ ns. AreNumbered ns (drop (suc n) lines) (drop (suc n) numbers)) (sym one_more) left);
-      names = ap (λ m. names_with c.step.new.self.names (drop m lines)) (sym next) ∙ (ap (λ ns. names_with ns (drop (suc n) lines)) one_more ∙ (sym (names-at names lines n (Ok c.in-Ok.event) at) ∙ (ap (λ (h : History). names_with h.names (drop n lines)) (sym still) ∙ so_far.names)));
+      names = ap (λ m. names_with c.step.new.self.names (drop m lines)) (sym next) ∙ (ap (λ ns. names_with ns (drop (suc n) lines)) one_more ∙ (sym (names-at names lines n (Ok c.in-Ok.event) at) ∙ so_far.names));
     }
 
 pub returns-clause-built : goal.returns-clause-built
