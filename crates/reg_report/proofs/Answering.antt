@@ -9,11 +9,12 @@ use Rattle.history_model.specs.History.{History}
 use Rattle.history_model.specs.Refusals.{Line, IsBuildError}
 use Rattle.history_model.specs.declared.refusal.BuildError.{BuildError}
 use Rattle.history_model.specs.declared.refusal.BuildError.TheVariants.{Refused, Memory}
-use Rattle.reg_report.specs.Answer.{IsAnswer, IsAnswerToLines, IsArenaOf, IsRefused}
+use Rattle.reg_intake.specs.Arena.{IsArenaOf}
+use Rattle.reg_report.specs.Answer.{IsAnswer, IsAnswerToLines, IsRefused}
 use Rattle.reg_report.specs.First.{IsReportBy}
-use Rattle.reg_report.specs.Refusals.{of_build}
-use Rattle.reg_report.specs.declared.refusal.Refusal.{Refusal}
-use Rattle.reg_report.specs.declared.refusal.Refusal.TheVariants.{NoRoom, TooLong}
+use Rattle.reg_intake.specs.Refusals.{of_build}
+use Rattle.reg_intake.specs.declared.refusal.Refusal.{Refusal}
+use Rattle.reg_intake.specs.declared.refusal.Refusal.TheVariants.{NoRoom, TooLong}
 use Rattle.reg_report.specs.declared.report.Report.{Report}
 
 pub answer-within : (first : Bool) (input : List ℕ) (answer : Result Report Refusal) → length input ≤ MAX_INPUT → IsAnswerToLines first (history_lines input) answer → IsAnswer first input answer

@@ -16,7 +16,7 @@ use Rattle.reg_report.specs.Meaning.{IsRegisterReport, IsWholeAtomicity}
 use Rattle.reg_report.specs.Run.{IsOutcome}
 use Rattle.reg_report.specs.Told.{IsTold}
 use Rattle.reg_report.specs.declared.outcome.Outcome.TheVariants.{Atomic, NotAtomic}
-use Rattle.reg_report.specs.declared.refusal.Refusal.TheVariants.{TooLong}
+use Rattle.reg_intake.specs.declared.refusal.Refusal.TheVariants.{TooLong}
 use Rattle.reg_report.specs.declared.report.RegReport.{RegReport}
 use Rattle.reg_report.specs.declared.report.Report.{Report}
 use Rattle.reg_report.proofs.Locality.{each, nothing_atomic}

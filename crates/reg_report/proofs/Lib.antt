@@ -24,10 +24,5 @@ mod Cutting
 mod Assembly
 mod ListedLevels
 mod FoundLines
-pub mod Pulling
 mod Pushing
 mod Answering
-mod WholeRead
-mod Passing
-mod Turning
-mod Refusing

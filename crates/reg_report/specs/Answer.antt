@@ -1,16 +1,16 @@
 -- The answer to an input.
-use Rattle.std.specs.Prelude.{◌≡◌, ◌⊎◌, ◌≤◌, ℕ, List, Bool, length, nat_lt, cond, MatchBool, Result, Ok, Err}
+use Rattle.std.specs.Prelude.{◌≡◌, ◌⊎◌, ℕ, List, Bool, length, nat_lt, cond, MatchBool, Result, Ok, Err}
 use Rattle.history_text.specs.declared.limits.TheConstants.{MAX_INPUT}
 use Rattle.history_text.specs.Reading.{history_lines}
 use Rattle.history_model.specs.Refusals.{Line, IsRefusal, IsWellFormed, events_of}
-use Rattle.history_model.specs.History.{History, history_of}
+use Rattle.history_model.specs.History.{history_of}
 use Rattle.reg_report.specs.First.{IsReportBy}
 use Rattle.reg_report.specs.Text.{report_text}
 use Rattle.reg_report.specs.declared.report.Report.{Report}
 use Rattle.reg_report.specs.declared.outcome.Outcome.{Outcome}
 use Rattle.reg_report.specs.declared.outcome.Outcome.TheVariants.{Atomic, NotAtomic}
-use Rattle.reg_report.specs.declared.refusal.Refusal.{Refusal}
-use Rattle.reg_report.specs.declared.refusal.Refusal.TheVariants.{At, TooLong, InputFailed, NoRoom, OutputFailed}
+use Rattle.reg_intake.specs.declared.refusal.Refusal.{Refusal}
+use Rattle.reg_intake.specs.declared.refusal.Refusal.TheVariants.{At, TooLong, InputFailed, NoRoom, OutputFailed}
 
 -- Of the lines of an input: the report of their history if they are well formed, otherwise the refusal of the first faulty one. `first` says that only the first register that isn't atomic is asked for.
 abbrev pub IsAnswerToLines : Bool → List Line → Result Report Refusal → Type 0
@@ -36,9 +36,3 @@ IsAnswerText first input bytes told = (report : Report) × IsAnswer first input 
 -- why there is no answer: the refusal is the answer, or memory was refused
 abbrev pub IsRefused : Bool → List ℕ → Refusal → Type 0
 IsRefused first input refusal = (refusal ≡ NoRoom) ⊎ IsAnswer first input (Err refusal)
-
--- the arena of an input that is within its limit and well formed
-pub record IsArenaOf (input : List ℕ) (arena : History) : Type 0 where
-  pub within : length input ≤ MAX_INPUT
-  pub well_formed : IsWellFormed (history_lines input)
-  pub is : arena ≡ history_of (events_of (history_lines input))

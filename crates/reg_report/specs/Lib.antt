@@ -1,4 +1,3 @@
-pub mod Refusals
 pub mod Text
 pub mod Sends
 pub mod ByPoint
@@ -18,6 +17,3 @@ pub mod SummaryText
 pub mod Ends
 pub mod Run
 pub mod Cuts
-pub mod Pulled
-pub mod Intake
-pub mod Underway

@@ -6,12 +6,13 @@ use Rattle.history_model.specs.History.{history_of}
 use Rattle.history_model.specs.Legal.{IsAtomic}
 use Rattle.history_model.specs.Operations.{operations}
 use Rattle.history_model.specs.Refusals.{events_of}
-use Rattle.reg_report.specs.Ends.{IsAll, AppendsBeginning}
+use Rattle.reg_intake.specs.Ends.{IsAll}
+use Rattle.reg_report.specs.Ends.{AppendsBeginning}
 use Rattle.reg_report.specs.Answer.{IsAnswer, IsAnswerText}
 use Rattle.reg_report.specs.declared.outcome.Outcome.{Outcome}
 use Rattle.reg_report.specs.declared.outcome.Outcome.TheVariants.{Atomic, NotAtomic}
-use Rattle.reg_report.specs.declared.refusal.Refusal.{Refusal}
-use Rattle.reg_report.specs.declared.refusal.Refusal.TheVariants.{At, TooLong, InputFailed, NoRoom, OutputFailed}
+use Rattle.reg_intake.specs.declared.refusal.Refusal.{Refusal}
+use Rattle.reg_intake.specs.declared.refusal.Refusal.TheVariants.{At, TooLong, InputFailed, NoRoom, OutputFailed}
 
 -- a refusal of the input itself, and of no failure or want of memory
 abbrev pub IsOfInput : Refusal → Type 0

@@ -1,20 +1,22 @@
 //! From the bytes of a history to the bytes of its report.
 //!
 //! What the floor above may rely on: [`run`] pulls all the bytes of a source, and the bytes that it pushes into a sink are
-//! the report of their history; or it answers a refusal, and has pushed nothing, or a beginning if it is the sink that failed. [`check`] gives the report's values, and
-//! so does [`check_alone`] without threads; [`text`] gives their bytes; [`merge`] lists the operations of all registers in
-//! one legal order. [`plan`] and [`work`], handed on from `reg_pieces`, are the pieces of work and one worker; how many
-//! workers there are, and how they take turns, changes no report. Sources and sinks are handed on from `byte_ends`.
-//! [`laws`] says why the whole history is atomic exactly if each of its registers is, and that a history has one report.
+//! the report of their history; or it answers a refusal, and has pushed nothing, or a beginning if it is the sink that failed.
+//! [`check`] gives the report's values, and so does [`check_alone`] without threads; [`text`] gives their bytes; [`merge`] lists
+//! the operations of all registers in one legal order. [`plan`] and [`work`], handed on from `reg_pieces`, are the pieces of work
+//! and one worker; how many workers there are, and how they take turns, changes no report. Sources and sinks are handed on from
+//! `byte_ends`, and [`Refusal`] from `reg_intake`. [`laws`] says why the whole history is atomic exactly if each of its registers
+//! is, and that a history has one report.
 //!
-//! To read, from the input on: `pulled`, `held` and `intake`, where the bytes come in; `reading`, which has their lines read and
-//! makes the arena; `answered`, which has the report made as bytes, as `checked` does as values, from a slice as a source (`slice`),
-//! and `alone` without threads; below them `find`, which has `reg_pieces` do the work and `tally` count the calls; `findings`,
-//! which puts what is done together, with `levels`, and `one_by_one`, where one thread does all; `found_text`, which writes
-//! each register's line as soon as it is made, with `summary_text` for the last line, or `history`, which makes the report's
-//! values. If the first register that isn't atomic is all that is asked for, `first` has `reg_pieces` look for it. `register` makes the line of one register, with `fault_lines` and `order_lines`, and `merged` the order of
-//! all, with `by_point`; `merged_lines` finds that order's lines by several threads. Then come `report` with `lists`, `send` and `written`, and `pushed`, `outcome` and `whole` at last.
-//! `refusal` and `wording` say why there is no report, and `told` asks the arena for what its laws say.
+//! To read, from the arena on, which `reg_intake` makes: `answered`, which has the report made as bytes, as `checked` does as
+//! values, from a slice as a source (`slice`), and `alone` without threads; below them `find`, which has `reg_pieces` do the work
+//! and `tally` count the calls; `findings`, which puts what is done together, with `levels`, and `one_by_one`, where one thread
+//! does all; `found_text`, which writes each register's line as soon as it is made, with `summary_text` for the last line, or
+//! `history`, which makes the report's values. If the first register that isn't atomic is all that is asked for, `first` has
+//! `reg_pieces` look for it. `register` makes the line of one register, with `fault_lines` and `order_lines`, and `merged` the
+//! order of all, with `by_point`; `merged_lines` finds that order's lines by several threads. Then come `report` with `lists`,
+//! `send` and `written`, and `pushed`, `outcome` and `whole` at last. `wording` says why there is no report, and `told` asks the
+//! arena for what its laws say.
 #![tactic(auto)]
 
 mod alone;
@@ -26,9 +28,7 @@ mod find;
 mod findings;
 mod first;
 mod found_text;
-mod held;
 mod history;
-mod intake;
 pub mod laws;
 mod levels;
 mod lists;
@@ -37,10 +37,7 @@ mod merged_lines;
 mod one_by_one;
 mod order_lines;
 mod outcome;
-mod pulled;
 mod pushed;
-mod reading;
-mod refusal;
 mod register;
 mod report;
 mod send;
@@ -58,7 +55,7 @@ pub use checked::check;
 pub use lists::{Lines, Registers};
 pub use merged::merge;
 pub use outcome::Outcome;
-pub use refusal::Refusal;
+pub use reg_intake::Refusal;
 pub use reg_pieces::{
     BadReads, Gate, Judgement, MAX_CUT, MAX_WORKERS, OpenGate, Order, Piece, Plan, Settings,
     Worked, plan, work,

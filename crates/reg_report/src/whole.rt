@@ -6,9 +6,8 @@ ghost use Rattle.reg_report.specs.Run.{IsOfInput, IsRefusedWhole, Reports, Repor
 use crate::answered::text_by;
 use crate::outcome::Outcome;
 use crate::pushed::deliver;
-use crate::reading::arena_of;
-use crate::refusal::Refusal;
 use byte_ends::{Sink, Source};
+use reg_intake::{Refusal, arena_of};
 use reg_pieces::{Gate, Settings};
 use std::alloc::Global;
 use std::random::RandomSource;

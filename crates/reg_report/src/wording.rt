@@ -1,6 +1,6 @@
 //! A refusal as one line for a person. The words stand beside each reason: in history_text's `fault.rt`, in history_model's
 //! `refusal.rt`, and in `refusal.rt` here.
-use crate::refusal::Refusal;
+use reg_intake::Refusal;
 use std::alloc::{AllocError, Global};
 
 /// The one line, without its line end, that says why there is no report, or want of memory.

@@ -1,11 +1,11 @@
 -- What a call answers, and what it leaves in the place for the report (this project's own interface; docs/embedding.md).
 use Rattle.std.specs.Prelude.{◌≡◌, ◌⊎◌, ◌++◌, ℕ, List, false, length, drop, nat_le, ◌==◌, ◌||◌, if◌then◌else◌, Option, Some, None, Ok}
 use Rattle.reg_report.specs.Answer.{IsAnswer, IsRefused}
-use Rattle.reg_report.specs.Refusals.{number_of, line_of, other_of}
+use Rattle.reg_intake.specs.Refusals.{number_of, line_of, other_of}
 use Rattle.reg_report.specs.Run.{IsOutcome}
 use Rattle.reg_report.specs.Text.{report_text}
 use Rattle.reg_report.specs.declared.outcome.Outcome.TheVariants.{Atomic, NotAtomic}
-use Rattle.reg_report.specs.declared.refusal.Refusal.{Refusal}
+use Rattle.reg_intake.specs.declared.refusal.Refusal.{Refusal}
 use Rattle.reg_report.specs.declared.report.Report.{Report}
 use Rattle.regcheck_c.specs.declared.answer.Answer.{Answer}
 use Rattle.regcheck_c.specs.declared.status.TheConstants.{ATOMIC, NOT_ATOMIC, REFUSED, NO_MEMORY, TOO_SMALL}

@@ -1,5 +1,5 @@
 use Rattle.std.proofs.Common.{◌∙◌, ℕ, List, subst, sym}
-use Rattle.reg_report.specs.Answer.{IsArenaOf}
+use Rattle.reg_intake.specs.Arena.{IsArenaOf}
 use Rattle.reg_report.proofs.Answering.{answer-of-arena}
 use Rattle.reg_report.proofs.checked.check.Goals as goal
 

@@ -1,0 +1,5 @@
+pub mod Pulling
+mod Passing
+mod WholeRead
+mod Turning
+mod Refusing

@@ -1,0 +1,19 @@
+//! From the bytes of a source to the arena of their history, or the refusal.
+//!
+//! What the floor above may rely on: [`arena_of`] pulls all the bytes of a source, and gives the arena of their history; or it answers
+//! a [`Refusal`]: that of the first faulty line, too long an input, a source that failed, or want of memory. Too long an input and a
+//! failure go before a faulty line and want of memory. A refusal says by its number why there is no report, and which lines are
+//! to blame. `OutputFailed` is for the floor above, which has the sink.
+//!
+//! Read it in this order: `refusal`; `pulled`, `held` and `intake`, where the bytes come in; `reading`, which has their lines read
+//! and makes the arena.
+#![tactic(auto)]
+
+mod held;
+mod intake;
+mod pulled;
+mod reading;
+mod refusal;
+
+pub use reading::arena_of;
+pub use refusal::Refusal;
