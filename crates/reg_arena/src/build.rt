@@ -396,7 +396,7 @@ impl Arena {
             what: What::Call(parts.kind),
             value: parts.value,
         };
-        match self.lists.append(event, id, last) {
+        match self.lists.append(&event, id, last) {
             Ok(()) => {}
             Err(error) => {
                 forget(&mut self.names, &mut self.lists);
@@ -439,7 +439,7 @@ impl Arena {
             what: What::Reply(opened.kind),
             value,
         };
-        match self.lists.append(event, opened.call, alike) {
+        match self.lists.append(&event, opened.call, alike) {
             Ok(()) => Ok(()),
             Err(error) => {
                 forget(&mut self.names, &mut self.lists);
@@ -466,7 +466,7 @@ impl Arena {
             what: What::Fail(opened.kind),
             value: opened.value,
         };
-        match self.lists.append(event, opened.call, alike) {
+        match self.lists.append(&event, opened.call, alike) {
             Ok(()) => Ok(()),
             Err(error) => {
                 forget(&mut self.names, &mut self.lists);
@@ -489,7 +489,7 @@ impl Arena {
             what: What::Crash,
             value: None,
         };
-        match self.lists.append(event, id, None) {
+        match self.lists.append(&event, id, None) {
             Ok(()) => Ok(()),
             Err(error) => {
                 forget(&mut self.names, &mut self.lists);

@@ -66,18 +66,18 @@ impl EventLists {
     /// A crash has no call, and `call` is then not read. A fail takes the call that it ends from the operations.
     pub(crate) fn append(
         &mut self,
-        event: Event,
+        event: &Event,
         call: EvId,
         alike: Option<EvId>,
     ) -> Result<(), AllocError>
         requires lists { AreEventLists self.old }
-        requires register { number_in event.register ≤ length self.old.registers.items }
+        requires register { number_in event.now.register ≤ length self.old.registers.items }
         requires room { length self.old.rows.events < MAX_EVENTS }
-        requires call { IsAppendable self.old.rows.events event call }
-        requires alike { IsAlike self.old.rows.events event alike }
+        requires call { IsAppendable self.old.rows.events event.now call }
+        requires alike { IsAlike self.old.rows.events event.now alike }
         ensures lists { OnOk result (AreEventLists self.new) }
-        ensures registers { OnOk result (length self.new.registers.items ≡ max (length self.old.registers.items) (end_of event.register)) }
-        ensures events { OnOk result (self.new.rows.events ≡ self.old.rows.events ++ event ∷ []) }
+        ensures registers { OnOk result (length self.new.registers.items ≡ max (length self.old.registers.items) (end_of event.now.register)) }
+        ensures events { OnOk result (self.new.rows.events ≡ self.old.rows.events ++ event.now ∷ []) }
     {
         let id = EvId(self.rows.len() as u32);
         let found = self.number_of(alike);
@@ -89,7 +89,8 @@ impl EventLists {
             &mut self.pairs,
             &mut self.entries,
             found,
-            Joined { event, id, call },
+            event,
+            Joined { id, call },
         )?;
         let call = join_call(&mut self.rows, event.what, call);
         self.rows.push(event, call, number)?;
@@ -98,7 +99,7 @@ impl EventLists {
 }
 
 /// Keeps event `id` as its register's guess, if it is a reply or the register's first event.
-fn keep_guess(guesses: &mut Vec<EvId>, event: Event, id: EvId) -> Result<(), AllocError> {
+fn keep_guess(guesses: &mut Vec<EvId>, event: &Event, id: EvId) -> Result<(), AllocError> {
     let Some(register) = event.register else {
         return Ok(());
     };

@@ -107,10 +107,9 @@ pub(crate) fn whole(value: Val) -> Option<i64>
     }
 }
 
-/// An event that joins its lists, with the event of its call.
+/// Where an event that joins its lists stands, and the event of its call.
 #[derive(Clone, Copy)]
 pub(crate) struct Joined {
-    pub(crate) event: Event,
     pub(crate) id: EvId,
     pub(crate) call: EvId,
 }
@@ -123,24 +122,25 @@ pub(crate) fn join_value(
     pairs: &mut Pairs,
     entries: &mut Vec<Entry>,
     number: Option<u32>,
+    event: &Event,
     joined: Joined,
 ) -> Result<Option<u32>, AllocError>
-    requires number { number ≡ event_number pairs.old joined.event }
+    requires number { number ≡ event_number pairs.old event.now }
     requires within { (k : ℕ × AVal) (e : Ends) → value_ends pairs.old entries.old.items k ≡ Some e → e.last.0 < length rows.old.events }
     requires column { length rows.old.in_value ≡ length rows.old.events }
     requires numbered { length pairs.old ≡ length entries.old.items }
     requires room { length entries.old.items < 2 ^ 32 }
     requires bound { joined.id.0 < NO_NUMBER }
-    ensures joined { OnOk result (IsJoinedBy (by_value joined.event) joined.id (item_at rows.old.in_value) (item_at (rows.new.in_value ++ None ∷ [])) (value_ends pairs.old entries.old.items) (value_ends pairs.new entries.new.items)) }
-    ensures entered { OnOk result (IsEnteredBy (by_value joined.event) joined.event joined.id joined.call (value_entry pairs.old entries.old.items) (value_entry pairs.new entries.new.items)) }
+    ensures joined { OnOk result (IsJoinedBy (by_value event.now) joined.id (item_at rows.old.in_value) (item_at (rows.new.in_value ++ None ∷ [])) (value_ends pairs.old entries.old.items) (value_ends pairs.new entries.new.items)) }
+    ensures entered { OnOk result (IsEnteredBy (by_value event.now) event.now joined.id joined.call (value_entry pairs.old entries.old.items) (value_entry pairs.new entries.new.items)) }
     ensures numbered { OnOk result (length pairs.new ≡ length entries.new.items) }
     ensures few { length entries.new.items ≤ length entries.old.items + 1 }
-    ensures number { IfOk result (λ n. n ≡ event_number pairs.new joined.event) }
+    ensures number { IfOk result (λ n. n ≡ event_number pairs.new event.now) }
     ensures kept { OnOk result ((q : ℕ × AVal) (n : ℕ) → value_number pairs.old q ≡ Some n → value_number pairs.new q ≡ Some n) }
     ensures others { OnOk result (rows.new ≡ with_in_value rows.old rows.new.in_value) }
     ensures count { OnOk result (length rows.new.in_value ≡ length rows.old.in_value) }
 {
-    let Joined { event, id, call } = joined;
+    let Joined { id, call } = joined;
     match (number, event.value, event.register) {
         (Some(number), _, _) => {
             let entry = entries[number as usize];

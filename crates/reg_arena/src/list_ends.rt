@@ -88,8 +88,8 @@ pub(crate) struct Entry {
 
 impl Entry {
     /// The list that begins with the event `id`, whose call is the event `call`.
-    pub(crate) fn new(event: Event, id: EvId, call: EvId) -> Self
-        ensures { result ≡ entry_alone event id call }
+    pub(crate) fn new(event: &Event, id: EvId, call: EvId) -> Self
+        ensures { result ≡ entry_alone event.now id call }
     {
         Entry {
             ends: Ends {
@@ -103,8 +103,8 @@ impl Entry {
     }
 
     /// The list with the event `id` behind it, whose call is the event `call`.
-    pub(crate) fn with(self, event: Event, id: EvId, call: EvId) -> Self
-        ensures { result ≡ entry_with self event id call }
+    pub(crate) fn with(self, event: &Event, id: EvId, call: EvId) -> Self
+        ensures { result ≡ entry_with self event.now id call }
     {
         Entry {
             ends: Ends {

@@ -31,9 +31,9 @@ const _: () = prove!(size_of::<PackedEvent>() == 24);
 
 impl PackedEvent {
     /// The event, packed.
-    pub(crate) fn new(event: Event) -> Self
-        requires { IfSome event.register (λ r. r.0 < NO_NUMBER) }
-        ensures { unpacked result ≡ event }
+    pub(crate) fn new(event: &Event) -> Self
+        requires { IfSome event.now.register (λ r. r.0 < NO_NUMBER) }
+        ensures { unpacked result ≡ event.now }
     {
         let register = match event.register {
             Some(register) => Some(register.0),

@@ -120,14 +120,14 @@ impl Rows {
     /// One event more, without links.
     pub(crate) fn push(
         &mut self,
-        event: Event,
+        event: &Event,
         call: Option<EvId>,
         number: Option<u32>,
     ) -> Result<(), AllocError>
-        requires register { IfSome event.register (λ r. r.0 < NO_NUMBER) }
+        requires register { IfSome event.now.register (λ r. r.0 < NO_NUMBER) }
         requires call { IfSome call (λ id. id.0 < NO_NUMBER) }
         requires number { IfSome number (λ n. n < NO_NUMBER) }
-        ensures { OnOk result (self.new ≡ with_event self.old event call number) }
+        ensures { OnOk result (self.new ≡ with_event self.old event.now call number) }
     {
         self.rows.push(Row {
             event: PackedEvent::new(event),

@@ -29,7 +29,7 @@ join_value-requires-clause-within c = λ k e h.
 
 pub join_call-call-requires-clause-fail : goal.join_call-call-requires-clause-fail
 join_call-call-requires-clause-fail c = λ f.
-    let l = fail-within c.args.self.now.rows.events c.args.event c.args.call c.requires.call f in
+    let l = fail-within c.args.self.now.rows.events c.args.event.now c.args.call c.requires.call f in
     let same = ap length (events-value c.args.self.now.rows c.join_register.new.rows c.join_process.new.rows c.join_value.new.rows c.join_value.new.rows c.in_ok-join_register.ensures.others c.in_ok-join_process.ensures.others c.in_ok-number.ensures.others) in
     omega arith
 
@@ -37,7 +37,7 @@ pub returns-clause-lists : goal.returns-clause-lists
 returns-clause-lists c =
     let before = c.args.self.now.rows in
     let es = before.events in
-    let e = c.args.event in
+    let e = c.args.event.now in
     let t = c.requires.lists in
     let at : c.len.result ≡ length es = omega (arith, c.len.ensures) in
     let n : EvId = record { 0 = c.len.result } in
