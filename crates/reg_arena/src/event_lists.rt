@@ -88,9 +88,12 @@ impl EventLists {
             &mut self.rows,
             &mut self.pairs,
             &mut self.entries,
-            found,
             event,
-            Joined { id, call },
+            Joined {
+                number: found,
+                id,
+                call,
+            },
         )?;
         let call = join_call(&mut self.rows, event.what, call);
         self.rows.push(event, call, number)?;

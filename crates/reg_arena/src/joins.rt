@@ -107,25 +107,26 @@ pub(crate) fn whole(value: Val) -> Option<i64>
     }
 }
 
-/// Where an event that joins its lists stands, and the event of its call.
+/// Where an event that joins the list of its register and value stands, the event of its call, and the number of that list's
+/// entry, if there is one already.
 #[derive(Clone, Copy)]
 pub(crate) struct Joined {
+    pub(crate) number: Option<u32>,
     pub(crate) id: EvId,
     pub(crate) call: EvId,
 }
 
 /// Joins an event to the list of its register and value, if it has a value.
 ///
-/// `number` is the number of that list's entry, if there is one already. Gives back the number of its entry.
+/// Gives back the number of its entry.
 pub(crate) fn join_value(
     rows: &mut Rows,
     pairs: &mut Pairs,
     entries: &mut Vec<Entry>,
-    number: Option<u32>,
     event: &Event,
     joined: Joined,
 ) -> Result<Option<u32>, AllocError>
-    requires number { number ≡ event_number pairs.old event.now }
+    requires number { joined.number ≡ event_number pairs.old event.now }
     requires within { (k : ℕ × AVal) (e : Ends) → value_ends pairs.old entries.old.items k ≡ Some e → e.last.0 < length rows.old.events }
     requires column { length rows.old.in_value ≡ length rows.old.events }
     requires numbered { length pairs.old ≡ length entries.old.items }
@@ -140,7 +141,7 @@ pub(crate) fn join_value(
     ensures others { OnOk result (rows.new ≡ with_in_value rows.old rows.new.in_value) }
     ensures count { OnOk result (length rows.new.in_value ≡ length rows.old.in_value) }
 {
-    let Joined { id, call } = joined;
+    let Joined { number, id, call } = joined;
     match (number, event.value, event.register) {
         (Some(number), _, _) => {
             let entry = entries[number as usize];
