@@ -11,7 +11,7 @@ use std::alloc::Global;
 use std::marker::Model;
 
 /// How many bytes are pulled at once: as many as a pipe of Linux holds.
-const PIECE: usize = 65_536;
+const PULL: usize = 65_536;
 
 /// The bytes at the front of a buffer. Those behind them mean nothing.
 #[derive(Drop)]
@@ -64,10 +64,10 @@ impl Held {
         ensures further { IfOk result (λ _. IsFurther pulled.old pulled.new) }
         ensures err { IfErr result (GetsNoMore (S.left source.old) (S.left source.new) (S.failed source.old) (S.failed source.new) pulled.old pulled.new) }
     {
-        if self.buffer.len() - self.count < PIECE {
-            self.buffer.resize(self.count + PIECE, 0)?;
+        if self.buffer.len() - self.count < PULL {
+            self.buffer.resize(self.count + PULL, 0)?;
         }
-        let room = &mut self.buffer[self.count..self.count + PIECE];
+        let room = &mut self.buffer[self.count..self.count + PULL];
         let count = pulled.pull(source, room)?;
         self.count += count;
         Ok(())

@@ -25,7 +25,7 @@ use std::thread::{Threads, join_mut};
 
 /// How many bytes a block has if several processors share the work: so many that its lines are read by the time those before
 /// them are taken in, even if the thread that reads them starts late, and so few that they take little memory.
-const BLOCK: usize = 2_621_440;
+const BLOCK: usize = 1_572_864;
 
 /// How many bytes a block has on one processor: so few that its lines are still in the processor's cache when they are taken
 /// in.

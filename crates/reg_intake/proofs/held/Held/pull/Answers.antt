@@ -3,7 +3,7 @@ use Rattle.std.proofs.Common.{◌≡◌, ◌+◌, ◌≤◌, ◌++◌, ℕ, List
 use Rattle.std.proofs.Math.Seq.{take-append-add}
 use Rattle.std.proofs.lemmas.List.{length-drop, length-take, length-take-le, take-append-le, take-take}
 use Rattle.reg_intake.specs.declared.held.Held.TheInside.{Inside}
-use Rattle.reg_intake.proofs.held.Held.pull.Goals.{then-len-self-lt-PIECE+in_ok-resize, else-len-self-lt-PIECE}
+use Rattle.reg_intake.proofs.held.Held.pull.Goals.{then-len-self-lt-PULL+in_ok-resize, else-len-self-lt-PULL}
 use Rattle.reg_intake.proofs.held.Held.pull.Goals as goal
 
 -- the front stays when a list is cut behind it and filled up
@@ -32,17 +32,17 @@ fits-behind xs k m n at within =
 pub returns-clause-ok : goal.returns-clause-ok
 returns-clause-ok g c =
     let old = c.self.inside in
-    let room = c.if-len-self-lt-PIECE.self-inside in
+    let room = c.if-len-self-lt-PULL.self-inside in
     let count = c.in_ok-count.count in
     let piece = take count c.pull.new.piece in
-    let same : room.count ≡ old.count = elim c.if-len-self-lt-PIECE.branch [
-      | then-len-self-lt-PIECE+in_ok-resize w ↦ ap (λ (h : Inside). h.count) w.self-inside-is
-      | else-len-self-lt-PIECE w ↦ ap (λ (h : Inside). h.count) w.self-inside-is
+    let same : room.count ≡ old.count = elim c.if-len-self-lt-PULL.branch [
+      | then-len-self-lt-PULL+in_ok-resize w ↦ ap (λ (h : Inside). h.count) w.self-inside-is
+      | else-len-self-lt-PULL w ↦ ap (λ (h : Inside). h.count) w.self-inside-is
     ] in
-    let kept : take room.count room.buffer.items ≡ take old.count old.buffer.items = elim c.if-len-self-lt-PIECE.branch [
-      | then-len-self-lt-PIECE+in_ok-resize w ↦ ap (λ (h : Inside). take h.count h.buffer.items) w.self-inside-is
+    let kept : take room.count room.buffer.items ≡ take old.count old.buffer.items = elim c.if-len-self-lt-PULL.branch [
+      | then-len-self-lt-PULL+in_ok-resize w ↦ ap (λ (h : Inside). take h.count h.buffer.items) w.self-inside-is
           ∙ front-of-resized old.buffer.items _ _ old.count _ c.self.invariant w.in_ok-resize.ensures.items
-      | else-len-self-lt-PIECE w ↦ ap (λ (h : Inside). take h.count h.buffer.items) w.self-inside-is
+      | else-len-self-lt-PULL w ↦ ap (λ (h : Inside). take h.count h.buffer.items) w.self-inside-is
     ] in
     let front = ap (take room.count) c.deref_mut.ensures.value ∙ kept ∙ c.self.view_is in
     let long = ap length front ∙ ap length (sym c.self.view_is) ∙ length-take-le old.count old.buffer.items c.self.invariant ∙ sym same in
