@@ -2,7 +2,7 @@
 //! numbered, and those behind them are read.
 ghost use Rattle.std.specs.Prelude.{◌≡◌, ◌+◌, ◌-◌, ◌^◌, ◌<◌, ◌≤◌, ℕ, List, [], Option, Some, true, false, length, IfOk, IfErr};
 ghost use Rattle.history_text.specs.declared.limits.TheConstants.{MAX_INPUT};
-ghost use Rattle.reg_intake.specs.declared.reading.TheConstants.{BLOCK};
+ghost use Rattle.reg_intake.specs.declared.reading.TheConstants.{LONG_BLOCK};
 ghost use Rattle.history_model.specs.History.{History};
 ghost use Rattle.reg_arena.specs.Numbered.{ArePartsNumbered};
 ghost use Rattle.reg_intake.specs.Arena.{IsArenaOf, IsRefusedOf};
@@ -26,6 +26,10 @@ use std::thread::{Threads, join_mut};
 /// How many bytes a block has if several processors share the work: so many that its lines are read by the time those before
 /// them are taken in, even if the thread that reads them starts late, and so few that they take little memory.
 const BLOCK: usize = 1_572_864;
+
+/// How many bytes a block has behind a block's worth without a line feed: more, since all of it is looked through each time, and
+/// so few that as many short lines behind a long one take little memory.
+const LONG_BLOCK: usize = 2_621_440;
 
 /// How many bytes a block has on one processor: so few that its lines are still in the processor's cache when they are taken
 /// in.
@@ -213,14 +217,16 @@ impl Underway {
 }
 
 /// How many bytes a block has, by whether there is one processor alone and how many bytes are held. If a line is longer than
-/// a small block, the rest of it comes in large ones, since all of it is looked through each time.
+/// a block, the rest of it comes in larger ones, since all of it is looked through each time.
 fn block(is_alone: bool, held: usize) -> usize
-    ensures { (0 < result) × (result ≤ BLOCK) }
+    ensures { (0 < result) × (result ≤ LONG_BLOCK) }
 {
     if is_alone && held < SMALL_BLOCK {
         SMALL_BLOCK
-    } else {
+    } else if held < BLOCK {
         BLOCK
+    } else {
+        LONG_BLOCK
     }
 }
 

@@ -1,6 +1,6 @@
 //! From what is found of all registers to the bytes of the report. Each thread makes the line of a register and writes it
 //! at once, so that no line is kept as values.
-ghost use Rattle.std.specs.Prelude.{◌≡◌, All, false, flat_map, length, is_some, IfOk};
+ghost use Rattle.std.specs.Prelude.{◌≡◌, ◌<◌, All, false, flat_map, length, is_some, IfOk};
 ghost use Rattle.std.specs.Thread.{IsSync};
 ghost use Rattle.history_model.specs.Operations.{calls};
 ghost use Rattle.reg_report.specs.FoundText.{IsLinesText, IsReportText, IsTextOf};
@@ -16,13 +16,14 @@ use crate::register::register_report;
 use crate::report::Report;
 use crate::summary_text::summary_text;
 use crate::written::{put_line, register_line};
+use rayon::current_num_threads;
 use rayon::prelude::*;
 use reg_arena::Arena;
 use std::alloc::{AllocError, Global};
 use std::thread::{Threads, join};
 
-/// At most how many parts the registers' lines are made in: enough for each thread to have some, and so few that they cost
-/// little beside the lines.
+/// At most how many parts the lines of many registers are made in: enough for each thread to have some, and so few that they
+/// cost little beside the lines.
 const PARTS: usize = 64;
 
 /// The bytes of a report in parts, one behind the other, and what it says of the whole history.
@@ -45,6 +46,19 @@ fn lines_text(alloc: Global, arena: &Arena, findings: &[Finding]) -> Result<Vec<
     Ok(out)
 }
 
+/// How many registers' lines are made in one part. The lines of few registers are long, and the thread that merges their orders
+/// takes as long as each that makes lines: it keeps a processor to itself.
+fn part_size(rt: &impl Threads, count: usize) -> usize
+    ensures { 0 < result }
+{
+    if count < PARTS {
+        let others = current_num_threads(rt).saturating_sub(1).max(1);
+        (count / others).max(1)
+    } else {
+        count / PARTS + 1
+    }
+}
+
 /// The lines of all registers in parts, one behind the other, each made by one thread.
 fn lines_in_parts(
     rt: &(impl Threads + Sync),
@@ -57,7 +71,7 @@ fn lines_in_parts(
 {
     // A register's line may be long, so even one part is worth a thread.
     findings
-        .par_chunks(findings.len() / PARTS + 1)
+        .par_chunks(part_size(rt, findings.len()))
         .with_min_len(1)
         .map(
             |part: &[Finding]| -> Result<Vec<u8>, AllocError>
