@@ -1,5 +1,6 @@
 -- The lines of a source, turn by turn: what is known when some are taken in while the next are read, and when none are left.
-use Rattle.std.proofs.Common.{◌≡◌, ℕ, ◌+◌, ◌-◌, ◌<◌, ◌≤◌, Bool, true, false, cond, min, List, [], ◌++◌, length, Option, Ok, Err, refl, sym, ap, subst, ◌∙◌, arith, append_assoc, append-nil, length-append}
+use Rattle.std.proofs.Common.{◌≡◌, ℕ, ◌+◌, ◌-◌, ◌<◌, ◌≤◌, Bool, true, false, cond, min, List, [], ◌++◌, length, take, drop, Option, Ok, refl, sym, ap, subst, ◌∙◌, arith, append_assoc, append-nil, length-append}
+use Rattle.std.proofs.lemmas.List.Concat.{flat_map-append}
 use Rattle.history_text.specs.declared.limits.TheConstants.{MAX_INPUT}
 use Rattle.history_text.specs.Lines.{MayCome}
 use Rattle.history_text.specs.Reading.{history_lines, lines_from}
@@ -8,8 +9,9 @@ use Rattle.history_model.specs.Refusals.{Line, IsBuildError, IsRefusal, IsWellFo
 use Rattle.history_model.specs.declared.refusal.BuildError.{BuildError}
 use Rattle.history_model.specs.declared.refusal.BuildError.TheVariants.{Refused, Memory}
 use Rattle.reg_arena.specs.Built.{IsBuilt, IsBuiltWith}
-use Rattle.reg_arena.specs.Numbered.{names_with}
-use Rattle.reg_arena.proofs.Numbered.{names-lines}
+use Rattle.reg_arena.specs.Numbered.{lines_of, names_with}
+use Rattle.reg_arena.specs.declared.numbering.NumberedLines.{NumberedLines}
+use Rattle.reg_intake.proofs.Growing.{lines-split, names-built, numbered-further}
 use Rattle.reg_intake.proofs.Pulling.{left_to_pull, less-to-pull, gives-more, gives-none, stops-after}
 use Rattle.reg_intake.specs.Arena.{IsArenaOf}
 use Rattle.reg_intake.specs.Ends.{IsAll}
@@ -19,7 +21,7 @@ use Rattle.reg_intake.specs.Refusals.{of_build}
 use Rattle.reg_intake.specs.Underway.{AreNumberedBehind, IsReadOn, IsReadSoFar, IsStopped, IsUnderway, lines_in, waiting}
 use Rattle.reg_intake.specs.declared.intake.Intake.{Intake}
 use Rattle.reg_intake.specs.declared.pulled.Pulled.{Pulled}
-use Rattle.reg_intake.specs.declared.reading.Reader.{Reader}
+use Rattle.reg_intake.specs.declared.reader.Reader.{Reader}
 use Rattle.reg_intake.specs.declared.reading.Underway.{Underway}
 use Rattle.reg_intake.specs.declared.refusal.Refusal.{Refusal}
 use Rattle.reg_intake.specs.declared.refusal.Refusal.TheVariants.{At, TooLong, InputFailed, NoRoom, OutputFailed}
@@ -93,6 +95,12 @@ module _ (left mid now : Option (List ℕ)) (failed failed_mid failed_now : ℕ)
   stopped-by-next NoRoom stops = (bytes ++ stops.0, gives-more left mid now failed failed_mid failed_now nothing old.pulled bytes taken.given new.pulled stops.0 stops.1)
   stopped-by-next OutputFailed stops = absurd stops
 
+-- memory is refused once a turn has pulled
+pub no-room : (left mid now : Option (List ℕ)) (failed failed_mid failed_now : ℕ) (bytes : List ℕ) (read : List Line) (old middle new : Intake) → IsReadSoFar left mid failed failed_mid bytes read old → (given : List ℕ)
+    → IsHeld mid now failed_mid failed_now old middle given → new.pulled ≡ middle.pulled → IsStopped left now failed failed_now new.pulled NoRoom
+no-room left mid now failed failed_mid failed_now bytes read old middle new taken given held same =
+    stopped-by-next left mid now failed failed_mid failed_now bytes read old new taken NoRoom (given, subst (λ pulled. Gives mid now failed_mid failed_now old.pulled pulled given) (sym same) held.given)
+
 -- what refuses the lines that were read, whatever follows them, refuses the input, whatever may come
 pub stopped-by-build : (left now : Option (List ℕ)) (failed failed_now : ℕ) (bytes : List ℕ) (read : List Line) (intake : Intake) → IsReadSoFar left now failed failed_now bytes read intake
     → (e : BuildError) → ((after : List Line) → IsBuildError (read ++ after) e) → IsStopped left now failed failed_now intake.pulled (of_build e)
@@ -104,34 +112,46 @@ stopped-by-build left now failed failed_now bytes read intake taken Memory refus
 behind : (before numbered waited after : List Line) → (before ++ (numbered ++ waited)) ++ after ≡ (before ++ numbered) ++ (waited ++ after)
 behind before numbered waited after = ap (λ lines. lines ++ after) (sym (append_assoc before numbered waited)) ∙ append_assoc (before ++ numbered) waited after
 
+-- some of the lines that were numbered are taken in, and more are numbered
+further-behind-lines : (before front rest waited later numbered waiting_now : List Line) → numbered ++ waiting_now ≡ waited ++ later → (before ++ ((front ++ rest) ++ waited)) ++ later ≡ (before ++ front) ++ ((rest ++ numbered) ++ waiting_now)
+further-behind-lines before front rest waited later numbered waiting_now all =
+    behind before (front ++ rest) waited later
+    ∙ ap (λ lines. lines ++ (waited ++ later)) (sym (append_assoc before front rest))
+    ∙ append_assoc (before ++ front) rest (waited ++ later)
+    ∙ ap (λ lines. (before ++ front) ++ lines) (ap (λ lines. rest ++ lines) (sym all) ∙ sym (append_assoc rest numbered waiting_now))
+
 module _ (left mid : Option (List ℕ)) (failed failed_mid : ℕ) (old : Intake) (reader : Reader) (state : Underway) (underway : IsUnderway left mid failed failed_mid old reader state) where
   abbrev pub ahead : List Line
   ahead = lines_in state.ahead.items
 
-  -- a faulty line among those read ahead refuses all, whatever follows
-  pub refused-behind : (e : BuildError) → IsBuiltWith underway.before ahead (Err e) → (after : List Line) → IsBuildError ((underway.before ++ (ahead ++ waiting reader)) ++ after) e
+  -- a faulty line among those ahead refuses all, whatever follows
+  pub refused-behind : (e : BuildError) → ((after : List Line) → IsBuildError (underway.before ++ ahead ++ after) e) → (after : List Line) → IsBuildError ((underway.before ++ (ahead ++ waiting reader)) ++ after) e
   refused-behind e refused after = subst (λ lines. IsBuildError lines e) (sym (behind underway.before ahead (waiting reader) after)) (refused (waiting reader ++ after))
 
   module _ (now : Option (List ℕ)) (failed_now : ℕ) (new : Intake) (later : List Line) (next : IsNext mid now failed_mid failed_now old new later) where
-    -- the names up to the lines read ahead are those of the arena that has taken them in
-    names-behind : (h : History) → IsBuilt (underway.before ++ ahead) h → reader.numbering ≡ h.names
-    names-behind h built = underway.numbered.names_after ∙ (ap (λ (g : History). names_with g.names ahead) underway.built.is ∙ (sym (names-lines underway.before ahead) ∙ ap (λ (g : History). g.names) (sym built.is)))
+    -- the lines at the front of those ahead are taken in, those that were waiting are numbered, and the next ones are read
+    pub turned : (count : ℕ) (numbered : List NumberedLines) (reader_after : Reader) (after : Underway) → IsBuilt (underway.before ++ lines_in (take count state.ahead.items)) after.arena
+        → after.ahead.items ≡ drop count state.ahead.items ++ numbered → lines_in numbered ++ waiting reader_after ≡ waiting reader ++ later → AreNumberedBehind reader.numbering reader_after.numbering numbered
+        → IsUnderway left now failed failed_now new reader_after after
+    turned count numbered reader_after after built left_ahead all are_numbered =
+        let front = lines_in (take count state.ahead.items) in
+        let rest = lines_in (drop count state.ahead.items) in
+        let lines_left : lines_in after.ahead.items ≡ rest ++ lines_in numbered = ap lines_in left_ahead ∙ flat_map-append lines_of (drop count state.ahead.items) numbered in
+        record {
+          before = underway.before ++ front;
+          built = built;
+          numbered = subst (λ names. AreNumberedBehind names reader_after.numbering after.ahead.items) (sym (names-built underway.before front state.arena after.arena underway.built built))
+              (subst (AreNumberedBehind (names_with state.arena.names front) reader_after.numbering) (sym left_ahead) (numbered-further state.arena.names reader.numbering reader_after.numbering state.ahead.items count numbered underway.numbered are_numbered));
+          bytes = underway.bytes ++ next.bytes;
+          so_far = subst (λ lines. IsReadSoFar left now failed failed_now (underway.bytes ++ next.bytes) lines new)
+              (ap (λ lines. (underway.before ++ (lines ++ waiting reader)) ++ later) (sym (lines-split state.ahead.items count))
+              ∙ further-behind-lines underway.before front rest (waiting reader) later (lines_in numbered) (waiting reader_after) all
+              ∙ ap (λ lines. (underway.before ++ front) ++ (lines ++ waiting reader_after)) (sym lines_left))
+              (read-further left mid now failed failed_mid failed_now underway.bytes (underway.before ++ (ahead ++ waiting reader)) old new underway.so_far later next);
+        }
 
-    -- the lines read ahead are taken in, those that were waiting are numbered, and the next ones are read
-    pub turned : (reader_after : Reader) (after : Underway) → IsBuilt (underway.before ++ ahead) after.arena → lines_in after.ahead.items ++ waiting reader_after ≡ waiting reader ++ later
-        → AreNumberedBehind reader.numbering reader_after.numbering after.ahead.items → IsUnderway left now failed failed_now new reader_after after
-    turned reader_after after built all numbered = record {
-      before = underway.before ++ ahead;
-      built = built;
-      numbered = subst (λ names. AreNumberedBehind names reader_after.numbering after.ahead.items) (names-behind after.arena built) numbered;
-      bytes = underway.bytes ++ next.bytes;
-      so_far = subst (λ lines. IsReadSoFar left now failed failed_now (underway.bytes ++ next.bytes) lines new)
-          (behind underway.before ahead (waiting reader) later ∙ ap (λ lines. (underway.before ++ ahead) ++ lines) (sym all))
-          (read-further left mid now failed failed_mid failed_now underway.bytes (underway.before ++ (ahead ++ waiting reader)) old new underway.so_far later next);
-    }
-
-    -- a faulty line among those read ahead refuses the input
-    pub turn-refused : (e : BuildError) → IsBuiltWith underway.before ahead (Err e) → IsStopped left now failed failed_now new.pulled (of_build e)
+    -- a faulty line among those ahead refuses the input
+    pub turn-refused : (e : BuildError) → ((after : List Line) → IsBuildError (underway.before ++ ahead ++ after) e) → IsStopped left now failed failed_now new.pulled (of_build e)
     turn-refused e refused =
         let read = underway.before ++ (ahead ++ waiting reader) in
         stopped-by-build left now failed failed_now (underway.bytes ++ next.bytes) (read ++ later) new

@@ -1,18 +1,20 @@
 -- The reading of a source turn by turn: what is built, what was read ahead and numbered or not, and what is held.
-use Rattle.std.specs.Prelude.{◌≡◌, ◌+◌, ◌<◌, ◌≤◌, ◌++◌, ℕ, List, [], true, flat_map, length, Option, Some, Result}
+use Rattle.std.specs.Prelude.{◌≡◌, ◌+◌, ◌<◌, ◌≤◌, ◌++◌, ℕ, List, [], true, flat_map, length, take, IfOk, Option, Some, Ok, Err, Result}
 use Rattle.history_text.specs.Lines.{MayCome}
 use Rattle.history_text.specs.Reading.{history_lines, lines_from}
 use Rattle.history_model.specs.History.{History}
-use Rattle.history_model.specs.Refusals.{Line, IsRefusal}
+use Rattle.history_model.specs.Refusals.{Line, IsBuildError, IsRefusal}
 use Rattle.history_model.specs.declared.refusal.BuildError.{BuildError}
-use Rattle.reg_arena.specs.Built.{IsBuilt, IsBuiltWith}
+use Rattle.reg_arena.specs.Built.{IsBuilt}
 use Rattle.reg_arena.specs.Numbered.{ArePartsNumbered, lines_of, names_with}
 use Rattle.reg_arena.specs.declared.numbering.NumberedLines.{NumberedLines}
 use Rattle.reg_intake.specs.Intake.{IsReadOf}
 use Rattle.reg_intake.specs.Pulled.{Exceeds, Gives, nothing}
 use Rattle.reg_intake.specs.declared.intake.Intake.{Intake}
 use Rattle.reg_intake.specs.declared.pulled.Pulled.{Pulled}
-use Rattle.reg_intake.specs.declared.reading.Reader.{Reader}
+use Rattle.reg_intake.specs.declared.reader.Reader.{Reader}
+use Rattle.reg_intake.specs.declared.reading.Grown.{Grown}
+use Rattle.reg_intake.specs.declared.reading.TheConstants.{MOST_WAITING}
 use Rattle.reg_intake.specs.declared.reading.Underway.{Underway}
 use Rattle.reg_intake.specs.declared.refusal.Refusal.{Refusal}
 use Rattle.reg_intake.specs.declared.refusal.Refusal.TheVariants.{At, TooLong, InputFailed, NoRoom, OutputFailed}
@@ -40,9 +42,20 @@ pub record IsReadOn (old new : Intake) (reader reader_after : Reader) (numbered 
 abbrev pub IsLast : Intake → Type 0
 IsLast intake = (intake.pulled.is_ended ≡ true) × (intake.held ≡ [])
 
--- what came of taking more lines into an arena that is there
-pub record IsWithLines (arena : Option History) (lines : List Line) (result : Result History BuildError) : Type 0 where
-  pub whole : (built : History) (before : List Line) → arena ≡ Some built → IsBuilt before built → IsBuiltWith before lines result
+-- an arena of some lines is there, and the lines of the parts have numbers behind its names
+abbrev pub MayGrow : Option History → List NumberedLines → Type 0
+MayGrow arena parts = (built : History) × (before : List Line) × (arena ≡ Some built) × IsBuilt before built × ArePartsNumbered built.names parts
+
+-- what came of taking parts into an arena of the lines before: the arena with the lines of the parts at the front, or the reason why none is built of any lines that begin with all of these
+abbrev pub IsGrownWith : List Line → List NumberedLines → Result Grown BuildError → Type 0
+IsGrownWith before parts (Ok grown) = IsBuilt (before ++ lines_in (take grown.count parts)) grown.arena
+IsGrownWith before parts (Err e) = (after : List Line) → IsBuildError (before ++ lines_in parts ++ after) e
+
+-- what came of taking parts into an arena that is there: all of them but a few at most
+pub record IsGrown (arena : Option History) (parts : List NumberedLines) (result : Result Grown BuildError) : Type 0 where
+  pub count : IfOk result (λ grown. grown.count ≤ length parts)
+  pub few_left : IfOk result (λ grown. length parts ≤ grown.count + MOST_WAITING)
+  pub whole : (built : History) (before : List Line) → arena ≡ Some built → IsBuilt before built → IsGrownWith before parts result
 
 -- the source gave these bytes since nothing was pulled, and whatever may come, their lines are those that were read and those of what is held
 pub record IsReadSoFar (left now : Option (List ℕ)) (failed failed_now : ℕ) (bytes : List ℕ) (read : List Line) (intake : Intake) : Type 0 where
@@ -51,7 +64,7 @@ pub record IsReadSoFar (left now : Option (List ℕ)) (failed failed_now : ℕ) 
   pub end : intake.pulled.is_ended ≡ true → intake.held ≡ []
   pub room : intake.next_line + length intake.held ≤ intake.pulled.total + 1
 
--- the arena is built of some lines, and those that were read are these, the ones that were numbered behind them and the ones that wait for it
+-- the arena is built of some lines, and those that were read are these, the ones ahead of it, which are numbered, and the ones that wait for numbers
 pub record IsUnderway (left now : Option (List ℕ)) (failed failed_now : ℕ) (intake : Intake) (reader : Reader) (state : Underway) : Type 0 where
   pub before : List Line
   pub built : IsBuilt before state.arena

@@ -1,26 +1,27 @@
 //! From the bytes of a source to the arena of their history: while the lines of one block are taken in, those of the next are
 //! numbered, and those behind them are read.
-ghost use Rattle.std.specs.Prelude.{◌≡◌, ◌+◌, ◌-◌, ◌^◌, ◌<◌, ◌≤◌, ℕ, List, [], Option, Some, true, false, length, IfOk, IfErr};
+ghost use Rattle.std.specs.Prelude.{◌≡◌, ◌+◌, ◌-◌, ◌^◌, ◌<◌, ◌≤◌, ◌++◌, ℕ, List, [], Option, Some, true, false, drop, length, IfOk, IfErr};
 ghost use Rattle.history_text.specs.declared.limits.TheConstants.{MAX_INPUT};
 ghost use Rattle.reg_intake.specs.declared.reading.TheConstants.{LONG_BLOCK};
-ghost use Rattle.history_model.specs.History.{History};
-ghost use Rattle.reg_arena.specs.Numbered.{ArePartsNumbered};
 ghost use Rattle.reg_intake.specs.Arena.{IsArenaOf, IsRefusedOf};
 ghost use Rattle.reg_intake.specs.Ends.{IsAll};
 ghost use Rattle.reg_intake.specs.Intake.{FitsLimit};
 ghost use Rattle.reg_intake.specs.Pulled.{IsFurther, nothing};
-ghost use Rattle.reg_intake.specs.Underway.{AreNumberedBehind, MayChange, IsLast, IsReadOn, IsStopped, IsUnderway, IsWithLines, lines_in, waiting};
+ghost use Rattle.reg_intake.specs.Underway.{AreNumberedBehind, IsGrown, IsLast, IsReadOn, IsStopped, IsUnderway, MayChange, MayGrow, lines_in};
 
 use crate::intake::Intake;
+use crate::reader::Reader;
 use crate::refusal::Refusal;
 use byte_ends::Source;
 use history_model::BuildError;
-use history_text::{LineEvent, LineFault, MAX_EVENTS, MAX_INPUT};
+use history_text::{MAX_EVENTS, MAX_INPUT};
 use rayon::current_num_threads;
-use reg_arena::{Arena, HashKey, NumberedLines, Numbering};
+use reg_arena::{Arena, HashKey, NumberedLines};
 use std::alloc::{AllocError, Global};
-use std::mem::replace;
+use std::collections::VecDeque;
 use std::random::RandomSource;
+use std::slice::from_ref;
+use std::sync::atomic::{AtomicBool, Ordering};
 use std::thread::{Threads, join_mut};
 
 /// How many bytes a block has if several processors share the work: so many that its lines are read by the time those before
@@ -35,158 +36,110 @@ const LONG_BLOCK: usize = 2_621_440;
 /// in.
 const SMALL_BLOCK: usize = 262_144;
 
+/// How many parts of lines may wait for the arena once the next ones are read: so many that the thread which builds it has work
+/// while the threads that read start late, and so few that they take little memory. A block of short lines has some six.
+const MOST_WAITING: usize = 4;
+
 /// The fewest bytes of an event, as of `{"process":1,"event":"crash"}` with its line feed. A fail may have one less, but its
 /// call has many more.
 const SHORTEST_EVENT: usize = 30;
 
-/// What the reading side keeps from turn to turn.
+/// An arena, and how many parts of the lines behind it were taken into it.
 #[derive(Drop)]
-struct Reader {
-    alloc: Global,
-    /// Whether there is one processor alone, so that a thread more would gain nothing.
-    is_alone: bool,
-    /// The numbers of the registers so far.
-    numbering: Numbering,
-    /// The lines that were read last, in parts. They have no numbers yet.
-    unnumbered: Vec<Vec<Result<LineEvent, LineFault>>>,
-    /// The lines that were taken in last. They are dropped here, so that the thread which builds the arena needn't.
-    spent: Vec<NumberedLines>,
-}
-
-impl Reader {
-    /// Nothing is read, and no register has a number. The key is that of the names' hashes.
-    fn new(alloc: Global, is_alone: bool, key: HashKey) -> Self
-        ensures none { result.unnumbered.items ≡ [] }
-        ensures names { result.numbering ≡ [] }
-    {
-        Reader {
-            alloc,
-            is_alone,
-            numbering: Numbering::new(alloc, key),
-            unnumbered: Vec::new(alloc),
-            spent: Vec::new(alloc),
-        }
-    }
-
-    /// Drops the lines that were taken in last, and numbers those that were read.
-    fn number(&mut self) -> Result<Vec<NumberedLines>, AllocError>
-        ensures lines { IfOk result (λ parts. lines_in parts.items ≡ waiting self.old) }
-        ensures numbered { IfOk result (λ parts. AreNumberedBehind self.old.numbering self.new.numbering parts.items) }
-        ensures none { self.new.unnumbered.items ≡ [] }
-    {
-        self.spent.clear();
-        let parts = replace(&mut self.unnumbered, Vec::new(self.alloc));
-        self.numbering.number_parts(self.alloc, parts)
-    }
-
-    /// Reads the whole lines that are held, and numbers all that were read.
-    fn read_and_number<T: Threads + Sync>(
-        &mut self,
-        rt: &T,
-        intake: &mut Intake,
-    ) -> Result<Vec<NumberedLines>, AllocError>
-        requires { intake.old.next_line + length intake.old.held ≤ MAX_INPUT + 1 }
-        ensures read { IfOk result (λ parts. IsReadOn intake.old intake.new self.old self.new (lines_in parts.items)) }
-        ensures numbered { IfOk result (λ parts. AreNumberedBehind self.old.numbering self.new.numbering parts.items) }
-        ensures none { IfOk result (λ _. self.new.unnumbered.items ≡ []) }
-        ensures pulled { intake.new.pulled ≡ intake.old.pulled }
-    {
-        let mut parts = intake.read(rt, self.alloc)?;
-        self.unnumbered.append(&mut parts)?;
-        self.number()
-    }
-
-    /// Has another thread number the lines that were read, and meanwhile reads the whole lines that are held. On one processor,
-    /// or if nothing is held, it numbers what it reads at once.
-    fn read_on<T: Threads + Sync>(
-        &mut self,
-        rt: &T,
-        intake: &mut Intake,
-    ) -> Result<Vec<NumberedLines>, AllocError>
-        requires { intake.old.next_line + length intake.old.held ≤ MAX_INPUT + 1 }
-        ensures read { IfOk result (λ parts. IsReadOn intake.old intake.new self.old self.new (lines_in parts.items)) }
-        ensures numbered { IfOk result (λ parts. AreNumberedBehind self.old.numbering self.new.numbering parts.items) }
-        ensures none { IfOk result (λ _. intake.old.held ≡ [] → self.new.unnumbered.items ≡ []) }
-        ensures pulled { intake.new.pulled ≡ intake.old.pulled }
-    {
-        if self.is_alone || intake.held().is_empty() {
-            return self.read_and_number(rt, intake);
-        }
-        let alloc = self.alloc;
-        let (numbered, read) = join_mut(
-            rt,
-            &mut || self.number(),
-            &mut ||
-                requires { intake.now.next_line + length intake.now.held ≤ MAX_INPUT + 1 }
-            { intake.read(rt, alloc) },
-        );
-        self.unnumbered = read?;
-        numbered
-    }
-}
-
-/// An arena of the lines so far, and the lines that come next, which are numbered.
-#[derive(Drop)]
-struct Underway {
+struct Grown {
     arena: Arena,
-    ahead: Vec<NumberedLines>,
+    count: usize,
 }
 
-/// The arena with more lines. It is taken out of its place, since `join_mut` only lends its closures what they use.
+/// Takes lines into the arena, part by part: all but the last [`MOST_WAITING`] parts, and of those as many as it can until the
+/// next lines are read. The arena is taken out of its place, since `join_mut` only lends its closures what they use.
 fn take_in(
     alloc: Global,
     arena: &mut Option<Arena>,
     parts: &[NumberedLines],
-) -> Result<Arena, BuildError>
-    requires { (built : History) × (arena.old ≡ Some built) × ArePartsNumbered built.names parts.now }
-    ensures { IsWithLines arena.old (lines_in parts.now) result }
+    is_read: &AtomicBool,
+) -> Result<Grown, BuildError>
+    requires { MayGrow arena.old parts.now }
+    ensures { IsGrown arena.old parts.now result }
 {
-    match arena.take() {
-        Some(arena) => arena.with_lines(alloc, parts),
-        None => unreachable!(),
+    let Some(mut built) = arena.take() else {
+        unreachable!()
+    };
+    let mut count = 0;
+    while count < parts.len()
+        && (MOST_WAITING < parts.len() - count || !is_read.load(Ordering::SeqCst))
+    {
+        built = built.with_lines(alloc, from_ref(&parts[count]))?;
+        count += 1;
     }
+    Ok(Grown {
+        arena: built,
+        count,
+    })
+}
+
+/// Has another thread read on, and meanwhile takes in the lines that have numbers. On one processor it does one after the
+/// other, and takes in all.
+fn read_and_take_in<T: Threads + Sync>(
+    rt: &T,
+    intake: &mut Intake,
+    reader: &mut Reader,
+    arena: Arena,
+    parts: &[NumberedLines],
+) -> (
+    Result<Vec<NumberedLines>, AllocError>,
+    Result<Grown, BuildError>,
+)
+    requires room { intake.old.next_line + length intake.old.held ≤ MAX_INPUT + 1 }
+    requires grows { MayGrow (Some arena) parts.now }
+    ensures read { IfOk result.0 (λ numbered. IsReadOn intake.old intake.new reader.old reader.new (lines_in numbered.items)) }
+    ensures numbered { IfOk result.0 (λ numbered. AreNumberedBehind reader.old.numbering reader.new.numbering numbered.items) }
+    ensures none { IfOk result.0 (λ _. intake.old.held ≡ [] → reader.new.unnumbered.items ≡ []) }
+    ensures pulled { intake.new.pulled ≡ intake.old.pulled }
+    ensures grown { IsGrown (Some arena) parts.now result.1 }
+{
+    let alloc = reader.alloc;
+    let is_read = AtomicBool::new(false);
+    let mut arena = Some(arena);
+    if reader.is_alone {
+        let grown = take_in(alloc, &mut arena, parts, &is_read);
+        return (reader.read_on(rt, intake), grown);
+    }
+    join_mut(
+        rt,
+        &mut ||
+            requires { intake.now.next_line + length intake.now.held ≤ MAX_INPUT + 1 }
+        {
+            let numbered = reader.read_on(rt, intake);
+            is_read.store(true, Ordering::SeqCst);
+            numbered
+        },
+        &mut || take_in(alloc, &mut arena, parts, &is_read),
+    )
+}
+
+/// An arena of the lines so far, and the lines that come next, which are numbered, in parts.
+#[derive(Drop)]
+struct Underway {
+    arena: Arena,
+    ahead: VecDeque<NumberedLines>,
+}
+
+/// Moves the parts behind so many out of the list, and those that were numbered behind them.
+fn still_ahead(
+    ahead: &mut VecDeque<NumberedLines>,
+    count: usize,
+    numbered: Vec<NumberedLines>,
+) -> Result<VecDeque<NumberedLines>, AllocError>
+    requires { count ≤ length ahead.old.items }
+    ensures { IfOk result (λ left. left.items ≡ drop count ahead.old.items ++ numbered.items) }
+{
+    let mut left = ahead.split_off(count)?;
+    left.append(&mut VecDeque::from_vec(numbered))?;
+    Ok(left)
 }
 
 impl Underway {
-    /// Has another thread read on, and meanwhile takes in the lines that have numbers. On one processor it does one after the
-    /// other.
-    fn read_and_take_in<T: Threads + Sync>(
-        self,
-        rt: &T,
-        intake: &mut Intake,
-        reader: &mut Reader,
-    ) -> (
-        Result<Vec<NumberedLines>, AllocError>,
-        Result<Arena, BuildError>,
-    )
-        requires names { ArePartsNumbered self.arena.names self.ahead.items }
-        requires room { intake.old.next_line + length intake.old.held ≤ MAX_INPUT + 1 }
-        ensures read { IfOk result.0 (λ parts. IsReadOn intake.old intake.new reader.old reader.new (lines_in parts.items)) }
-        ensures numbered { IfOk result.0 (λ parts. AreNumberedBehind reader.old.numbering reader.new.numbering parts.items) }
-        ensures none { IfOk result.0 (λ _. intake.old.held ≡ [] → reader.new.unnumbered.items ≡ []) }
-        ensures pulled { intake.new.pulled ≡ intake.old.pulled }
-        ensures taken { IsWithLines (Some self.arena) (lines_in self.ahead.items) result.1 }
-    {
-        let Underway { arena, ahead } = self;
-        let alloc = reader.alloc;
-        let mut arena = Some(arena);
-        if reader.is_alone {
-            let taken = take_in(alloc, &mut arena, &ahead);
-            let read = reader.read_on(rt, intake);
-            reader.spent = ahead;
-            return (read, taken);
-        }
-        let made = join_mut(
-            rt,
-            &mut ||
-                requires { intake.now.next_line + length intake.now.held ≤ MAX_INPUT + 1 }
-            { reader.read_on(rt, intake) },
-            &mut || take_in(alloc, &mut arena, &ahead),
-        );
-        reader.spent = ahead;
-        made
-    }
-
     /// Pulls the next bytes, and has their lines read while those that were read before are numbered and taken in.
     ///
     /// # Errors
@@ -198,7 +151,7 @@ impl Underway {
         intake: &mut Intake,
         reader: &mut Reader,
     ) -> Result<Self, Refusal>
-        requires names { ArePartsNumbered self.arena.names self.ahead.items }
+        requires grows { MayGrow (Some self.arena) self.ahead.items }
         requires fits { FitsLimit intake.old }
         requires failures { S.failed source.old < 2 ^ 64 - 1 }
         ensures ok { IfOk result (λ after. (left : Option (List ℕ)) (failed : ℕ) → IsUnderway left (S.left source.old) failed (S.failed source.old) intake.old reader.old self → IsUnderway left (S.left source.new) failed (S.failed source.new) intake.new reader.new after) }
@@ -209,10 +162,19 @@ impl Underway {
         let held = intake.held().len();
         let enough = held + block(reader.is_alone, held);
         intake.fill(source, enough)?;
-        let (read, taken) = self.read_and_take_in(rt, intake, reader);
-        let ahead = read?;
-        let arena = taken?;
-        Ok(Underway { arena, ahead })
+        let Underway { arena, mut ahead } = self;
+        let (numbered, grown) = read_and_take_in(
+            rt,
+            intake,
+            reader,
+            arena,
+            ahead.make_contiguous(),
+        );
+        let numbered = numbered?;
+        let Grown { arena, count } = grown?;
+        let left = still_ahead(&mut ahead, count, numbered)?;
+        reader.spent = ahead;
+        Ok(Underway { arena, ahead: left })
     }
 }
 
@@ -272,13 +234,13 @@ fn read_arena<T: Threads + RandomSource + Sync, S: Source>(
     let key = HashKey::drawn(rt, intake.held());
     let arena = Arena::empty(alloc, key, room_for(intake))?;
     let mut reader = Reader::new(alloc, is_alone, key);
-    let ahead = reader.read_and_number(rt, intake)?;
+    let ahead = VecDeque::from_vec(reader.read_and_number(rt, intake)?);
     let mut underway = Underway { arena, ahead };
     while !intake.is_ended() || !reader.unnumbered.is_empty() {
         underway = underway.turn(rt, source, intake, &mut reader)?;
     }
-    let Underway { arena, ahead } = underway;
-    Ok(arena.with_lines(alloc, &ahead)?)
+    let Underway { arena, mut ahead } = underway;
+    Ok(arena.with_lines(alloc, ahead.make_contiguous())?)
 }
 
 /// The refusal of all that the source gives, from the one that was met first. If that is of a line or the want of memory, the

@@ -1,34 +1,36 @@
 -- Each turn reads on, and nothing is held when the last lines are taken in.
-use Rattle.std.proofs.Common.{◌<◌, ◌≢◌, ap, arith, flat_map, length, subst, sym, vec_len, ◌∙◌}
+use Rattle.std.proofs.Common.{◌<◌, ◌≢◌, ◌++◌, List, ap, arith, flat_map, length, subst, sym, vec_len, ◌∙◌}
 use Rattle.std.proofs.lemmas.Bool.{eqb-false, eqb-true, false≢true}
 use Rattle.std.proofs.lemmas.List.{nil_from_length}
-use Rattle.reg_arena.specs.Built.{IsBuiltWith}
-use Rattle.reg_arena.specs.Numbered.{lines_of}
+use Rattle.history_model.specs.Refusals.{Line, IsBuildError}
+use Rattle.reg_arena.specs.Built.{IsBuilt}
+use Rattle.reg_arena.specs.declared.numbering.NumberedLines.{NumberedLines}
 use Rattle.reg_intake.proofs.Passing.{passed-on}
-use Rattle.reg_intake.proofs.Turning.{ended-ok, first-turn, less-to-do, none-read, refused-behind, stopped-by-build, stopped-by-next}
-use Rattle.reg_intake.specs.Pulled.{Gives}
+use Rattle.reg_intake.proofs.Turning.{ended-ok, first-turn, less-to-do, no-room, none-read, refused-behind, stopped-by-build}
 use Rattle.reg_intake.specs.Refusals.{of_build}
-use Rattle.reg_intake.specs.Underway.{IsStopped}
+use Rattle.reg_intake.specs.Underway.{AreNumberedBehind, IsReadOn, IsStopped, lines_in}
 use Rattle.reg_intake.specs.declared.refusal.Refusal.TheVariants.{NoRoom}
 use Rattle.reg_intake.proofs.reading.read_arena.Goals.{then-not-is_ended, else-not-is_ended+then-not-is_empty}
 use Rattle.reg_intake.proofs.reading.read_arena.Goals as goal
 
-pub returns-in_err-ahead-clause-err : goal.returns-in_err-ahead-clause-err
-returns-in_err-ahead-clause-err g c =
+pub returns-in_err-read_and_number-clause-err : goal.returns-in_err-read_and_number-clause-err
+returns-in_err-read_and_number-clause-err g c =
     let old = c.args.intake.now in
     let held = c.in_ok-fill.ensures.ok in
     passed-on (IsStopped (g.S.Source.left c.args.source.now) (g.S.Source.left c.fill.new.source) (g.S.Source.failed c.args.source.now) (g.S.Source.failed c.fill.new.source) c.read_and_number.new.intake.pulled)
-    NoRoom c.from_residual-in_err-ahead.result c.from_residual-in_err-ahead.ensures.1
-    (stopped-by-next _ _ _ _ _ _ _ _ old c.read_and_number.new.intake (none-read _ _ old c.requires.held c.requires.line c.requires.pulled) NoRoom
-    (held.0, subst (λ pulled. Gives (g.S.Source.left c.args.source.now) (g.S.Source.left c.fill.new.source) (g.S.Source.failed c.args.source.now) (g.S.Source.failed c.fill.new.source) old.pulled pulled held.0) (sym c.read_and_number.ensures.pulled) held.1.given))
+    NoRoom c.from_residual-in_err-read_and_number.result c.from_residual-in_err-read_and_number.ensures.1
+    (no-room _ _ _ _ _ _ _ _ old c.fill.new.self c.read_and_number.new.intake (none-read _ _ old c.requires.held c.requires.line c.requires.pulled) held.0 held.1 c.read_and_number.ensures.pulled)
 
 pub loop-reader-init : goal.loop-reader-init
 loop-reader-init g c =
     let old = c.args.intake.now in
     let held = c.in_ok-fill.ensures.ok in
-    first-turn _ _ _ _ old c.fill.new.self c.read_and_number.new.intake c.new-reader.result c.read_and_number.new.self _ held.0
-    (none-read _ _ old c.requires.held c.requires.line c.requires.pulled) held.1 (ap (flat_map (λ part. part.items)) c.new-reader.ensures.none) c.in_ok-ahead.ensures.read
-    c.in_ok-arena.ensures.built (c.in_ok-arena.ensures.names ∙ sym c.new-reader.ensures.names) c.in_ok-ahead.ensures.numbered
+    let ahead = sym c.from_vec-ahead.ensures.items in
+    first-turn _ _ _ _ old c.fill.new.self c.read_and_number.new.intake c.new-reader.result c.read_and_number.new.self _ held.0 (none-read _ _ old c.requires.held c.requires.line c.requires.pulled) held.1
+    (ap (flat_map (λ part. part.items)) c.new-reader.ensures.none)
+    (subst (λ (parts : List NumberedLines). IsReadOn c.fill.new.self c.read_and_number.new.intake c.new-reader.result c.read_and_number.new.self (lines_in parts)) ahead c.in_ok-read_and_number.ensures.read)
+    c.in_ok-arena.ensures.built (c.in_ok-arena.ensures.names ∙ sym c.new-reader.ensures.names)
+    (subst (AreNumberedBehind c.new-reader.result.numbering c.read_and_number.new.self.numbering) ahead c.in_ok-read_and_number.ensures.numbered)
 
 pub returns-in_err-underway-clause-err : goal.returns-in_err-underway-clause-err
 returns-in_err-underway-clause-err g c =
@@ -55,18 +57,15 @@ pub returns-in_err-with_lines-clause-err : goal.returns-in_err-with_lines-clause
 returns-in_err-with_lines-clause-err g c =
     let underway = c.loop-reader.invariant in
     let e = c.in_err-with_lines.field-0.0 in
-    let refused = subst (IsBuiltWith underway.before (flat_map lines_of c.loop-reader.underway.ahead.items)) c.in_err-with_lines.was
-    (subst (λ lines. IsBuiltWith underway.before (flat_map lines_of lines) c.with_lines.result) c.deref.ensures.value (c.with_lines.ensures underway.before underway.built)) in
     passed-on (IsStopped (g.S.Source.left c.args.source.now) (g.S.Source.left c.loop-reader.source) (g.S.Source.failed c.args.source.now) (g.S.Source.failed c.loop-reader.source) c.loop-reader.intake.pulled)
     (of_build e) c.from_residual-in_err-with_lines.result c.from_residual-in_err-with_lines.ensures.1
-    (stopped-by-build _ _ _ _ underway.bytes _ c.loop-reader.intake underway.so_far e (refused-behind _ _ _ _ c.loop-reader.intake c.loop-reader.reader c.loop-reader.underway underway e refused))
+    (stopped-by-build _ _ _ _ underway.bytes _ c.loop-reader.intake underway.so_far e (refused-behind _ _ _ _ c.loop-reader.intake c.loop-reader.reader c.loop-reader.underway underway e
+    (subst (λ (parts : List NumberedLines). (after : List Line) → IsBuildError (underway.before ++ lines_in parts ++ after) e) c.make_contiguous.ensures.value (c.in_err-with_lines.ensures underway.before underway.built))))
 
 pub returns-clause-ok : goal.returns-clause-ok
 returns-clause-ok g c =
     let underway = c.loop-reader.invariant in
-    let built = subst (IsBuiltWith underway.before (flat_map lines_of c.loop-reader.underway.ahead.items)) c.in_ok-with_lines.was
-    (subst (λ lines. IsBuiltWith underway.before (flat_map lines_of lines) c.with_lines.result) c.deref.ensures.value (c.with_lines.ensures underway.before underway.built)) in
     let parts = c.loop-reader.reader.unnumbered in
     let none = nil_from_length parts.items (sym parts.ok.0 ∙ eqb-true (vec_len parts) 0 (sym c.is_empty.ensures ∙ c.if-not-is_empty.false)) in
-    ended-ok _ _ _ _ c.loop-reader.intake c.loop-reader.reader c.loop-reader.underway underway (sym c.is_ended.ensures ∙ c.if-not-is_ended.false) (ap (flat_map (λ part. part.items)) none)
-    c.in_ok-with_lines.field-0 built
+    ended-ok _ _ _ _ c.loop-reader.intake c.loop-reader.reader c.loop-reader.underway underway (sym c.is_ended.ensures ∙ c.if-not-is_ended.false) (ap (flat_map (λ part. part.items)) none) c.in_ok-with_lines.field-0
+    (subst (λ (parts : List NumberedLines). IsBuilt (underway.before ++ lines_in parts) c.in_ok-with_lines.field-0) c.make_contiguous.ensures.value (c.in_ok-with_lines.ensures underway.before underway.built))
