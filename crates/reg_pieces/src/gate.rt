@@ -5,11 +5,6 @@
 pub trait Gate {
     /// Returns when the worker may go on.
     fn arrive(&self, piece: u64);
-
-    /// Whether `arrive` returns at once and does nothing else, whatever the piece: then it need not be called.
-    fn is_open(&self) -> bool {
-        false
-    }
 }
 
 /// A gate that lets each worker go on at once.
@@ -18,8 +13,4 @@ pub struct OpenGate;
 
 impl Gate for OpenGate {
     fn arrive(&self, _piece: u64) {}
-
-    fn is_open(&self) -> bool {
-        true
-    }
 }

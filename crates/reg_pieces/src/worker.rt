@@ -83,6 +83,7 @@ pub fn work<G: Gate>(
     ensures { HasWorked arena.now plan.now seat result }
 {
     let mut done = Vec::new(alloc);
+    let _room = done.reserve(plan.len() as usize);
     while let Some(number) = board.draw(&mut seat) {
         gate.arrive(number);
         let added = if plan.is_first() {

@@ -8,17 +8,14 @@ ghost use Rattle.reg_report.specs.Registers.{AreFindings};
 ghost use Rattle.reg_report.specs.Tally.{AreCallCounts};
 
 use crate::findings::{Finding, findings};
-use crate::one_by_one::find_one_by_one;
 use crate::tally::{CallCounts, count_calls};
-use rayon::current_num_threads;
 use reg_arena::Arena;
 use reg_pieces::{Gate, Pieces, Settings, do_pieces, plan_in_parts};
 use std::alloc::{AllocError, Global};
 use std::thread::{Threads, join};
 
 /// What is found of all registers, and how many operations there are: workers do the pieces of the plan, and meanwhile another
-/// thread counts the calls that didn't fail. One worker has nobody to share with, and several on one processor would only
-/// take turns: then one register is taken after another without a plan, if there is no gate to pass.
+/// thread counts the calls that didn't fail.
 pub(crate) fn find<R: Threads + Sync, G: Gate + Sync>(
     rt: &R,
     alloc: Global,
@@ -29,10 +26,6 @@ pub(crate) fn find<R: Threads + Sync, G: Gate + Sync>(
     requires { settings.first ≡ false }
     ensures { IfOk result (λ found. AreFindings arena.now found.0.items × (found.1 ≡ length (calls arena.now.events))) }
 {
-    let alone = settings.workers() == 1 || current_num_threads(rt) == 1;
-    if alone && gate.is_open() {
-        return find_one_by_one(alloc, arena);
-    }
     let plan = plan_in_parts(rt, alloc, arena, settings)?;
     let (counts, pieces) = join(
         rt,
