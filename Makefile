@@ -1,6 +1,6 @@
 # make: prove and build bin/regcheck. make run: run it on a shipped example, or on FILE=...
 # make try: the same at once, unproved and with checks at run time; for a first look.
-# make test: `rt ci`, which proves all that this machine hasn't proved yet; then the examples, hostile runs and tests of regkit.
+# make test: the gate: every proof from nothing, edits that must fail, tests, and scripts over the built program.
 # make fuzz: compare the program with the reference on spoiled histories for SECONDS=...
 # make library: bin/libregcheck.a, bin/libregcheck.so and bin/regcheck.pc, to call the checker from C and other languages.
 # make embed-test: compare the library with the program from C, Python, Go and Rust, on COUNT=... histories; under valgrind too.
@@ -29,9 +29,11 @@ DOCUMENTS = $(DESTDIR)$(PREFIX)/share/doc/regcheck
 
 all: bin/regcheck
 
-# `rt run` proves the program's crate and those below it, builds the program and leaves it in out/; its stored input keeps it
-# from waiting for ours. What it says goes to a log in bin/, and a line for each crate to standard error.
+# The crates below the program are proved side by side. Then `rt run` proves the program's own, builds it and leaves it in
+# out/; its stored input keeps it from waiting for ours. What they say goes to logs in bin/, and a line for each crate to
+# standard error.
 bin/regcheck: $(SOURCES) crates.txt
+	packaging/prove_crates regcheck
 	cd crates/regcheck && $(CURDIR)/packaging/prove $(CURDIR)/bin/regcheck.log rt run < stdin
 	cp crates/regcheck/out/regcheck bin/regcheck
 
@@ -72,23 +74,9 @@ try:
 	@echo 'Nothing is proved in this run: see make run.' >&2
 	@cd crates/regcheck && rt try < $(abspath $(FILE)); status=$$?; test $$status -le 1
 
-# What `rt ci` built is what is tested. The scripts print only differences, but for a seed and some counts.
+# tests/gate says what it runs, and at its end how long each part took.
 test:
-	@docs/list_edits | diff docs/edits.md -
-	rt ci
-	@mkdir -p bin
-	@cp crates/regcheck/out/regcheck crates/history_generator/out/history_generator bin/
-	@tests/compare bin/regcheck
-	@tests/wrong_ends bin/regcheck
-	@tests/one_processor crates/report_tests/out/report_tests_tests
-	@tests/gate_comes_first crates/reg_pieces/out/reg_pieces_tests
-	@tests/refused_memory bin/regcheck
-	@tests/limits bin/regcheck
-	@tests/spoiled_bytes bin/regcheck
-	@tests/compare_random --count 2000
-	@tests/compare_random --count 1000 --options=--first
-	@tests/installed
-	@cd python && REGCHECK=$(CURDIR)/bin/regcheck python3 -B -m unittest discover -q -s tests -t .
+	tests/gate
 
 fuzz: bin/regcheck bin/history_generator
 	tests/spoiled_bytes bin/regcheck --seconds $(SECONDS)
