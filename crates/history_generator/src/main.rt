@@ -6,8 +6,6 @@
 #![tactic(auto)]
 
 mod client;
-#[cfg(test)]
-mod end_tests;
 mod event;
 mod generate;
 mod history;
@@ -17,8 +15,6 @@ mod opening;
 mod rounds;
 mod settings;
 mod simulation;
-#[cfg(test)]
-mod tests;
 mod words;
 
 use generate::generate;

@@ -13,8 +13,6 @@ mod gathering;
 mod laws;
 mod level;
 mod read_list;
-#[cfg(test)]
-mod tests;
 mod writer;
 
 pub use breaks::first_bad;

@@ -22,8 +22,6 @@ mod pieces;
 mod planning;
 mod settings;
 mod tasks;
-#[cfg(test)]
-mod tests;
 mod worker;
 mod workers;
 

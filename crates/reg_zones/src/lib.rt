@@ -24,8 +24,6 @@ mod pass;
 mod placed;
 mod reads;
 mod register;
-#[cfg(test)]
-mod tests;
 mod valued;
 mod walk;
 mod zone;

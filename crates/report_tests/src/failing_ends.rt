@@ -1,7 +1,7 @@
 //! Ends that give and take little at a time, and ends that fail.
 ghost use Rattle.std.specs.Prelude.{◌≡◌, ◌<◌};
 
-use crate::histories::settings;
+use crate::answer::settings;
 use crate::rows::READ_ONCE;
 use history_model::{LineRefusal, Reason};
 use history_text::LineKind;
@@ -78,8 +78,11 @@ fn expect_whole(
 // However few bytes come at a time, they are the bytes of the whole.
 #[test]
 fn bytes_a_few_at_a_time(rt: HostRuntime) -> Result<(), Fail> {
-    for (pulled, pushed) in [(1, 1), (1, 4096), (7, 10), (4096, 1), (4096, 4096)] {
-        expect_whole(&rt, pulled, pushed)?;
+    for pulled in 1..=HISTORY.len() {
+        expect_whole(&rt, pulled, 10)?;
+    }
+    for pushed in [1, 7, 4096] {
+        expect_whole(&rt, 4096, pushed)?;
     }
     Ok(())
 }

@@ -1,6 +1,6 @@
 //! Runs by several workers: by all settings, and past gates that hold pieces back.
-use crate::histories::{Answer, answered_by, expect_reports, settings};
-use crate::rows::{REPORTS, Report};
+use crate::answer::{Answer, answered_by, first_settings, settings};
+use crate::rows::{FIRST_BY_APPEARANCE, Report, SECOND_OF_THREE, TWO_FAULTY, TWO_WRITES};
 use reg_report::{Gate, Outcome, Settings};
 use std::alloc::{AllocError, Global};
 use std::process::Abort;
@@ -9,46 +9,11 @@ use std::sync::atomic::{AtomicBool, AtomicU64, Ordering};
 use std::test::Fail;
 use std::thread::Threads;
 
-// Histories of two registers, and how many pieces each has in cuts of one read.
-const TWO_REGISTERS: [(&str, u64); 2] = [
-    ("one value in two registers", 2),
-    ("two registers that are not atomic", 4),
-];
-
 // How often a gate looks whether it may let a piece go, before it gives up.
 const MOST_TURNS: u32 = 200_000_000;
 
 // How often a gate looks while it holds the first piece.
 const HELD_TURNS: u32 = 1_000_000;
-
-// The history of this name.
-fn row(name: &str) -> Result<Report, Fail> {
-    for row in &REPORTS {
-        if row.0 == name {
-            return Ok(*row);
-        }
-    }
-    Err(Fail::from("no history of this name"))
-}
-
-// Neither the number of workers nor the cut changes a byte.
-#[test]
-fn reports_by_nine_settings(rt: HostRuntime) -> Result<(), Fail> {
-    for (workers, cut) in [
-        (1, 1),
-        (1, 2),
-        (1, 1_048_576),
-        (2, 1),
-        (2, 2),
-        (2, 1_048_576),
-        (16, 1),
-        (16, 2),
-        (16, 1_048_576),
-    ] {
-        expect_reports(&rt, &REPORTS, workers, cut)?;
-    }
-    Ok(())
-}
 
 // Whether the word came to hold as much, within the turns that a gate looks.
 fn comes_to(word: &AtomicU64, least: u64) -> bool {
@@ -114,7 +79,7 @@ fn expect_past(
 }
 
 // So they do while any one of them is held.
-pub(crate) fn expect_past_each(
+fn expect_past_each(
     rt: &(impl Threads + RandomSource + AllocGlobal + Abort + Sync),
     row: &Report,
     pieces: u64,
@@ -129,10 +94,15 @@ pub(crate) fn expect_past_each(
 // Workers run at once, and none has a share that was fixed before.
 #[test]
 fn a_held_piece_holds_no_other(rt: HostRuntime) -> Result<(), Fail> {
-    for (name, pieces) in TWO_REGISTERS {
-        expect_past_each(&rt, &row(name)?, pieces, settings(2, 1)?)?;
-    }
-    Ok(())
+    expect_past_each(&rt, &TWO_WRITES, 2, settings(2, 1)?)?;
+    expect_past_each(&rt, &TWO_FAULTY, 4, settings(2, 1)?)
+}
+
+// A register that is held back changes no byte, though the others are done and flagged before it.
+#[test]
+fn a_held_register_holds_no_other(rt: HostRuntime) -> Result<(), Fail> {
+    expect_past_each(&rt, &SECOND_OF_THREE, 3, first_settings(2, 1)?)?;
+    expect_past_each(&rt, &FIRST_BY_APPEARANCE, 3, first_settings(2, 1)?)
 }
 
 // Holds the first piece for a while, and each other until the first is let go.
@@ -160,11 +130,12 @@ impl Gate for HoldsAll {
     }
 }
 
-// No more pieces of this atomic history are at work at once than there are workers.
+// No more pieces of this history are at work at once than there are workers.
 fn expect_no_more(
     rt: &(impl Threads + RandomSource + AllocGlobal + Abort + Sync),
     input: &str,
     workers: u32,
+    outcome: Outcome,
 ) -> Result<(), Fail> {
     let gate = HoldsAll {
         arrived: AtomicU64::new(0),
@@ -178,7 +149,7 @@ fn expect_no_more(
         0 < at_once && at_once <= u64::from(workers),
         "{workers}: {at_once}"
     );
-    assert_eq!(rt; told, Ok(Outcome::Atomic), "{workers}");
+    assert_eq!(rt; told, Ok(outcome), "{workers}");
     Ok(())
 }
 
@@ -187,7 +158,10 @@ fn expect_no_more(
 fn no_more_pieces_at_once_than_workers(rt: HostRuntime) -> Result<(), Fail> {
     let input = reads_of_a_write(rt.alloc(), 15)?;
     for workers in 1..=15u32 {
-        expect_no_more(&rt, input.as_str(), workers)?;
+        expect_no_more(&rt, input.as_str(), workers, Outcome::Atomic)?;
+    }
+    for workers in 1..=2u32 {
+        expect_no_more(&rt, TWO_FAULTY.1, workers, Outcome::NotAtomic)?;
     }
     Ok(())
 }

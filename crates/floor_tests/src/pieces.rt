@@ -1,0 +1,246 @@
+//! The pieces of a history: how many there are, and that workers and threads of the callers' own do each once.
+//!
+//! A test hands its body's work to small functions that ask for the rights they need: those are proved in a fraction
+//! of the time that one long test over the whole `HostRuntime` takes.
+ghost use Rattle.std.specs.Prelude.{◌≡◌, false, IfOk};
+ghost use Rattle.reg_pieces.specs.Plan.{IsSomePlan};
+ghost use Rattle.reg_pieces.specs.Work.{IsSeatFor};
+
+use crate::short::arena_of;
+use job_board::{Board, Seat};
+use reg_arena::Arena;
+use reg_pieces::{
+    Gate, Judgement, OpenGate, Piece, Plan, Settings, Worked, do_pieces, plan, plan_in_parts, work,
+};
+use std::alloc::{AllocError, Global};
+use std::process::Abort;
+use std::sync::atomic::{AtomicU64, Ordering};
+use std::test::Fail;
+use std::thread::{Threads, join};
+
+// In each of two registers a new value is read, then the old one; several processes write the second.
+const TWO_REGISTERS: &str = "p1 W x 1; p1 ok; p1 W x 2; p2 R x; p2 = 2; p2 R x; p2 = 1; p1 ok; \
+    p1 W y 1; p1 ok; p2 W y 2; p2 ok; p3 R y; p3 = 2; p3 R y; p3 = 1";
+
+// Two registers that are atomic: memory is wanted for the order of each.
+const TWO_ORDERS: &str = "p1 W x 1; p2 W y 1";
+
+// So many workers, and so many reads to a piece, for a whole report.
+fn settings(workers: u32, cut: u32) -> Result<Settings, Fail>
+    ensures { IfOk result (λ s. s.first ≡ false) }
+{
+    Ok(Settings::new(workers, cut, false).ok_or("a number beyond its limit")?)
+}
+
+// The settings of a run, if the first register that isn't atomic is all that is asked for.
+fn first_settings(workers: u32, cut: u32) -> Result<Settings, Fail> {
+    Ok(Settings::new(workers, cut, true).ok_or("a number beyond its limit")?)
+}
+
+// How many pieces one thread finds by these settings.
+fn count(alloc: Global, arena: &Arena, by: Settings) -> Result<u64, AllocError> {
+    Ok(plan(alloc, arena, by)?.len())
+}
+
+// How many pieces there are in cuts of one read, if several threads list the reads.
+fn count_in_parts(rt: &(impl Threads + AllocGlobal + Sync), arena: &Arena) -> Result<u64, Fail> {
+    Ok(plan_in_parts(rt, rt.alloc(), arena, settings(1, 1)?)?.len())
+}
+
+// Each register has a piece, and with a single writer one for each cut of its reads, whoever lists them; and one piece
+// alone if only the first register that isn't atomic is asked for.
+fn expect_counts(
+    rt: &(impl Threads + AllocGlobal + Abort + Sync),
+    arena: &Arena,
+) -> Result<(), Fail> {
+    for (cut, want) in [(1, 4), (2, 3), (4096, 3)] {
+        assert_eq!(rt; count(rt.alloc(), arena, settings(1, cut)?)?, want, "{cut}");
+        assert_eq!(rt;
+            count(rt.alloc(), arena, first_settings(2, cut)?)?,
+            2,
+            "{cut}"
+        );
+    }
+    assert_eq!(rt; count_in_parts(rt, arena)?, 4);
+    Ok(())
+}
+
+#[test]
+fn counts_of_pieces(rt: HostRuntime) -> Result<(), Fail> {
+    expect_counts(&rt, &arena_of(&rt, rt.alloc(), TWO_REGISTERS)?)
+}
+
+// What one worker does alone past a gate.
+fn worked_alone(
+    alloc: Global,
+    arena: &Arena,
+    by: Settings,
+    gate: &impl Gate,
+) -> Result<Worked, AllocError> {
+    let plan = plan(alloc, arena, by)?;
+    let (board, seat) = Board::open(alloc, plan.len())?;
+    Ok(work(alloc, arena, &plan, &board, seat, gate))
+}
+
+// The first of two registers isn't atomic, and the second was skipped.
+fn expect_second_skipped(rt: &impl Abort, done: &[(u64, Piece)]) {
+    assert_eq!(rt; done.len(), 2);
+    assert!(rt; matches!(done.first(), Some((0, Piece::Judged(Judgement::Faulty(_))))));
+    assert!(rt; matches!(done.get(1), Some((1, Piece::Skipped))));
+}
+
+// One worker alone skips the second of the two registers.
+fn expect_skips(rt: &(impl AllocGlobal + Abort), arena: &Arena) -> Result<(), Fail> {
+    let worked = worked_alone(rt.alloc(), arena, first_settings(1, 1)?, &OpenGate)?;
+    expect_second_skipped(rt, worked.done.as_slice());
+    Ok(())
+}
+
+// A worker that found the first register not to be atomic skips the second, and makes no order.
+#[test]
+fn registers_above_a_fault_are_skipped(rt: HostRuntime) -> Result<(), Fail> {
+    expect_skips(&rt, &arena_of(&rt, rt.alloc(), TWO_REGISTERS)?)
+}
+
+// Counts how often the piece of one number arrives, or each piece if there is no such number.
+#[derive(Drop)]
+struct Counter {
+    number: Option<u64>,
+    arrived: AtomicU64,
+}
+
+impl Gate for Counter {
+    fn arrive(&self, piece: u64) {
+        if self.number.is_none_or(|number| number == piece) {
+            self.arrived.fetch_add(1, Ordering::SeqCst);
+        }
+    }
+}
+
+fn counter(number: Option<u64>) -> Counter {
+    Counter {
+        number,
+        arrived: AtomicU64::new(0),
+    }
+}
+
+// How often the piece of this number passes the gate of so many workers.
+fn passes(
+    rt: &(impl Threads + AllocGlobal + Sync),
+    arena: &Arena,
+    workers: u32,
+    number: u64,
+) -> Result<u64, Fail> {
+    let by = settings(workers, 1)?;
+    let plan = plan(rt.alloc(), arena, by)?;
+    let gate = counter(Some(number));
+    let _pieces = do_pieces(rt, rt.alloc(), arena, &plan, by, &gate)?;
+    Ok(gate.arrived.load(Ordering::SeqCst))
+}
+
+// By so many workers, each of the four pieces passes the gate once.
+fn expect_once(
+    rt: &(impl Threads + AllocGlobal + Abort + Sync),
+    arena: &Arena,
+    workers: u32,
+) -> Result<(), Fail> {
+    for number in 0..4u64 {
+        let passed = passes(rt, arena, workers, number)?;
+        assert_eq!(rt; passed, 1, "{workers} {number}");
+    }
+    Ok(())
+}
+
+// So it is by each of these numbers of workers.
+fn expect_once_by_all(
+    rt: &(impl Threads + AllocGlobal + Abort + Sync),
+    arena: &Arena,
+) -> Result<(), Fail> {
+    for workers in [1, 2, 3, 4, 16] {
+        expect_once(rt, arena, workers)?;
+    }
+    Ok(())
+}
+
+// However many workers there are, each piece passes the gate once.
+#[test]
+fn each_piece_passes_the_gate_once(rt: HostRuntime) -> Result<(), Fail> {
+    expect_once_by_all(&rt, &arena_of(&rt, rt.alloc(), TWO_REGISTERS)?)
+}
+
+// What two threads of the callers' own do, each with one of these seats.
+fn worked_by_two<R: Threads + AllocGlobal + Sync>(
+    rt: &R,
+    arena: &Arena,
+    plan: &Plan,
+    board: &Board<Global>,
+    seats: (Seat, Seat),
+) -> (Worked, Worked)
+    requires plan { IsSomePlan arena.now plan.now }
+    requires first { IsSeatFor plan.now.tasks board.now seats.0 }
+    requires second { IsSeatFor plan.now.tasks board.now seats.1 }
+{
+    let alloc = rt.alloc();
+    let (one, other) = seats;
+    join(
+        rt,
+        move || work(alloc, arena, plan, board, one, &OpenGate),
+        move || work(alloc, arena, plan, board, other, &OpenGate),
+    )
+}
+
+// The numbers of all that is done, sorted, or nothing if a worker was refused memory.
+fn numbers(alloc: Global, back: &(Worked, Worked)) -> Result<Option<Vec<u64>>, AllocError> {
+    let mut numbers = Vec::new(alloc);
+    for worked in [&back.0, &back.1] {
+        if worked.refused {
+            return Ok(None);
+        }
+        for (number, _) in &worked.done {
+            numbers.push(*number)?;
+        }
+    }
+    numbers.sort()?;
+    Ok(Some(numbers))
+}
+
+// Two threads of the callers' own, each with a seat, do each of the four pieces once.
+fn expect_done_by_two<R: Threads + AllocGlobal + Abort + Sync>(
+    rt: &R,
+    arena: &Arena,
+) -> Result<(), Fail> {
+    let plan = plan(rt.alloc(), arena, settings(1, 1)?)?;
+    let (board, seat) = Board::open(rt.alloc(), plan.len())?;
+    let seats = board.split(seat, 1);
+    let back = worked_by_two(rt, arena, &plan, &board, seats);
+    let done = numbers(rt.alloc(), &back)?.ok_or("memory was refused")?;
+    assert_eq!(rt; done.as_slice(), [0, 1, 2, 3].as_slice());
+    Ok(())
+}
+
+#[test]
+fn callers_threads_do_each_piece_once(rt: HostRuntime) -> Result<(), Fail> {
+    expect_done_by_two(&rt, &arena_of(&rt, rt.alloc(), TWO_REGISTERS)?)
+}
+
+// How many pieces pass the gate of one worker alone, and how many it draws.
+fn passed_and_drawn(alloc: Global, arena: &Arena) -> Result<(u64, u64), Fail> {
+    let gate = counter(None);
+    let worked = worked_alone(alloc, arena, settings(1, 1)?, &gate)?;
+    let drawn = (worked.done.len() as u64).saturating_add(u64::from(worked.refused));
+    Ok((gate.arrived.load(Ordering::SeqCst), drawn))
+}
+
+// The two are as many.
+fn expect_all_passed(rt: &(impl AllocGlobal + Abort), arena: &Arena) -> Result<(), Fail> {
+    let (passed, drawn) = passed_and_drawn(rt.alloc(), arena)?;
+    assert_eq!(rt; passed, drawn, "done before the gate");
+    Ok(())
+}
+
+// A piece passes the gate before it is done, so one for which memory is refused has passed it too. It is
+// tests/gate_comes_first that refuses memory to this test.
+#[test]
+fn each_drawn_piece_has_passed_the_gate(rt: HostRuntime) -> Result<(), Fail> {
+    expect_all_passed(&rt, &arena_of(&rt, rt.alloc(), TWO_ORDERS)?)
+}
