@@ -26,8 +26,6 @@ mod optional_name;
 mod read;
 mod refused;
 mod scan;
-#[cfg(test)]
-mod tests;
 
 pub use event::{Kind, LineEvent, OpKind, ReplyParts, Val};
 pub use fault::{LineFault, LineKind};
