@@ -12,7 +12,7 @@ use Rattle.history_text.specs.declared.event.Val.{Val}
 use Rattle.history_text.specs.declared.event.OpKind.{OpKind}
 use Rattle.history_text.specs.declared.event.EventWord.{EventWord}
 use Rattle.history_text.specs.Limits.{MAX_PROCESS}
-use Rattle.history_text.specs.Flat.{Scalar, Named, Holds, Adds, process_data, event_data, op_data, value_data}
+use Rattle.history_text.specs.Flat.{Scalar, Named, Holds, Adds, Passes, whole_data, event_data, op_data, value_data}
 use Rattle.history_text.proofs.Lexed.{ascii_front}
 use denote.Ref.{Bor}
 
@@ -20,9 +20,9 @@ differ : (x y : ℕ) (xs ys : List ℕ) → (x ≡ y → ⊥) → x ∷ xs ≡ y
 differ x y xs ys h e = h (ap (λ l. get_or l 0 0) e)
 
 module _ (f : Found) (ms : Members) (h : Holds ms f) where
-  put_process : (p : ℕ) → p ≤ MAX_PROCESS → Holds (put (codes "process") (process_data p) ms) (record { process = Some p; event = f.event; op = f.op; register = f.register; value = f.value })
+  put_process : (p : ℕ) → p ≤ MAX_PROCESS → Holds (put (codes "process") (whole_data p) ms) (record { process = Some p; event = f.event; op = f.op; register = f.register; value = f.value })
   put_process p fits = record {
-    process = get_member-put (codes "process") (process_data p) ms;
+    process = get_member-put (codes "process") (whole_data p) ms;
     limit = fits;
     event = get_member-put_other (codes "event") (codes "process") _ ms (differ _ _ _ _ (λ e. omega arith)) ∙ h.event;
     op = get_member-put_other (codes "op") (codes "process") _ ms (differ _ _ _ _ (λ e. omega arith)) ∙ h.op;
@@ -70,6 +70,17 @@ module _ (f : Found) (ms : Members) (h : Holds ms f) where
     value = get_member-put (codes "value") (value_data v) ms;
   }
 
+  put_other : (k : List ℕ) (d : Data) → (codes "process" ≡ k → ⊥) → (codes "event" ≡ k → ⊥) → (codes "op" ≡ k → ⊥) → (codes "register" ≡ k → ⊥)
+      → (codes "value" ≡ k → ⊥) → Holds (put k d ms) f
+  put_other k d process event op register value = record {
+    process = get_member-put_other (codes "process") k d ms process ∙ h.process;
+    limit = h.limit;
+    event = get_member-put_other (codes "event") k d ms event ∙ h.event;
+    op = get_member-put_other (codes "op") k d ms op ∙ h.op;
+    register = get_member-put_other (codes "register") k d ms register ∙ h.register;
+    value = get_member-put_other (codes "value") k d ms value ∙ h.value;
+  }
+
 -- a member's name with its colon
 abbrev IsKeyed : List ℕ → List ℕ → List ℕ → Type 0
 IsKeyed k text rest = (lex between text ≡ token (Token.string k) ∷ colon ∷ lex between rest) × (IsUtf8 rest → IsUtf8 text)
@@ -94,11 +105,11 @@ adds_member k d old new text mid rest front scalar put_holds ended =
     )
 
 module _ (f : Found) (text mid rest : List ℕ) where
-  pub adds_process : (p : ℕ) → p ≤ MAX_PROCESS → Named (codes "\"process\":") text mid → Scalar mid (process_data p) rest
+  pub adds_process : (p : ℕ) → p ≤ MAX_PROCESS → Named (codes "\"process\":") text mid → Scalar mid (whole_data p) rest
       → Adds text f (record { process = Some p; event = f.event; op = f.op; register = f.register; value = f.value }) rest
   unfolding lex content
   adds_process p fits named scalar =
-      adds_member (codes "process") (process_data p) f _ text mid rest (keyed (codes "process") _ text mid (λ behind. refl) refl named) scalar (λ ms h. put_process f ms h p fits)
+      adds_member (codes "process") (whole_data p) f _ text mid rest (keyed (codes "process") _ text mid (λ behind. refl) refl named) scalar (λ ms h. put_process f ms h p fits)
 
   pub adds_event : (w : EventWord) → Named (codes "\"event\":") text mid → Scalar mid (event_data w) rest
       → Adds text f (record { process = f.process; event = Some w; op = f.op; register = f.register; value = f.value }) rest
@@ -123,3 +134,22 @@ module _ (f : Found) (text mid rest : List ℕ) where
   unfolding lex content
   adds_value v named scalar =
       adds_member (codes "value") (value_data v) f _ text mid rest (keyed (codes "value") _ text mid (λ behind. refl) refl named) scalar (λ ms h. put_value f ms h v)
+
+module _ (text mid rest : List ℕ) where
+  pub passes_client : (s : Bor (List ℕ)) → Named (codes "\"client\":") text mid → Scalar mid (string s.now) rest → Passes text rest
+  unfolding lex content
+  passes_client s named scalar f =
+      adds_member (codes "client") (string s.now) f f text mid rest (keyed (codes "client") _ text mid (λ behind. refl) refl named) scalar
+      (λ ms h. put_other f ms h (codes "client") _ (differ _ _ _ _ (λ e. omega arith)) (differ _ _ _ _ (λ e. omega arith)) (differ _ _ _ _ (λ e. omega arith)) (differ _ _ _ _ (λ e. omega arith)) (differ _ _ _ _ (λ e. omega arith)))
+
+  pub passes_node : (s : Bor (List ℕ)) → Named (codes "\"node\":") text mid → Scalar mid (string s.now) rest → Passes text rest
+  unfolding lex content
+  passes_node s named scalar f =
+      adds_member (codes "node") (string s.now) f f text mid rest (keyed (codes "node") _ text mid (λ behind. refl) refl named) scalar
+      (λ ms h. put_other f ms h (codes "node") _ (differ _ _ _ _ (λ e. omega arith)) (differ _ _ _ _ (λ e. omega arith)) (differ _ _ _ _ (λ e. omega arith)) (differ _ _ _ _ (λ e. omega arith)) (differ _ _ _ _ (λ e. omega arith)))
+
+  pub passes_time : (n : ℕ) → Named (codes "\"time\":") text mid → Scalar mid (whole_data n) rest → Passes text rest
+  unfolding lex content
+  passes_time n named scalar f =
+      adds_member (codes "time") (whole_data n) f f text mid rest (keyed (codes "time") _ text mid (λ behind. refl) refl named) scalar
+      (λ ms h. put_other f ms h (codes "time") _ (differ _ _ _ _ (λ e. omega arith)) (differ _ _ _ _ (λ e. omega arith)) (differ _ _ _ _ (λ e. omega arith)) (differ _ _ _ _ (λ e. omega arith)) (differ _ _ _ _ (λ e. omega arith)))

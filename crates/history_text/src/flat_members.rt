@@ -1,7 +1,8 @@
 //! The members of a flat object, one after another, read from its text with no tree.
 //!
-//! An object is flat here if it has one to five members, in any order, each with a name that the
-//! format knows and with a plain value of that member: a number, a word, a string or null. Spaces may
+//! An object is flat here if it has one to eight members, in any order, each with a name that the
+//! format knows and with a plain value of that member: a number, a word, a string or null; `client`, `node` and
+//! `time`, which say who called and when, are passed over. Spaces may
 //! stand wherever JSON allows them, except before a colon: hardly any writer puts them there, and looking
 //! for them would cost time on every line. As in `members`, the last of equal names counts.
 //!
@@ -9,7 +10,7 @@
 ghost use Rattle.std.specs.Prelude.{◌≤◌, IfSome};
 ghost use Rattle.serde_json.specs.Data.{string};
 ghost use Rattle.history_text.specs.Limits.{MAX_PROCESS};
-ghost use Rattle.history_text.specs.Flat.{Scalar, Named, Adds, IsFlat, process_data, event_data, op_data, value_data};
+ghost use Rattle.history_text.specs.Flat.{Scalar, Named, Adds, Passes, IsFlat, whole_data, event_data, op_data, value_data};
 
 use crate::event::{EventWord, OpKind, Val};
 use crate::scan::{after, next_byte, plain_string, signed, skip_spaces, unsigned};
@@ -32,13 +33,13 @@ const NOTHING: Found<'static> = Found {
     value: None,
 };
 
-// One for each name that the format knows.
-const MOST_MEMBERS: usize = 5;
+// One for each name that the format knows, and one for each that is passed over.
+const MOST_MEMBERS: usize = 8;
 
 /// The process, a whole number within its limit.
 #[inline(always)]
 fn process(text: &[u8]) -> Option<(u32, &[u8])>
-    ensures text { IfSome result (λ r. Scalar text.now (process_data r.0) r.1.now) }
+    ensures text { IfSome result (λ r. Scalar text.now (whole_data r.0) r.1.now) }
     ensures limit { IfSome result (λ r. r.0 ≤ MAX_PROCESS) }
 {
     let (number, rest) = unsigned(text)?;
@@ -78,9 +79,9 @@ fn op(text: &[u8]) -> Option<(OpKind, &[u8])>
     Some((OpKind::WriteOp, rest))
 }
 
-/// The text that names the register. Its length is not judged here.
+/// A text: the name of the register, whose length is not judged here, or of a client or a node.
 #[inline(always)]
-fn register(text: &[u8]) -> Option<(&str, &[u8])>
+fn name(text: &[u8]) -> Option<(&str, &[u8])>
     ensures { IfSome result (λ r. Scalar text.now (string r.0.now) r.1.now) }
 {
     plain_string(text)
@@ -107,6 +108,31 @@ fn named<'a>(text: &'a [u8], name: &[u8]) -> Option<&'a [u8]>
     Some(skip_spaces(behind))
 }
 
+/// A moment, a whole number.
+#[inline(always)]
+fn time(text: &[u8]) -> Option<(u64, &[u8])>
+    ensures { IfSome result (λ r. Scalar text.now (whole_data r.0) r.1.now) }
+{
+    unsigned(text)
+}
+
+/// The text behind a member that says who called or when, and nothing of what happened.
+fn passed(text: &[u8]) -> Option<&[u8]>
+    ensures { IfSome result (λ rest. Passes text.now rest.now) }
+{
+    if let Some(behind) = named(text, b"\"client\":") {
+        let (_client, rest) = name(behind)?;
+        return Some(rest);
+    }
+    if let Some(behind) = named(text, b"\"node\":") {
+        let (_node, rest) = name(behind)?;
+        return Some(rest);
+    }
+    let behind = named(text, b"\"time\":")?;
+    let (_time, rest) = time(behind)?;
+    Some(rest)
+}
+
 /// One more member; it replaces an earlier one of the same name.
 #[inline(always)]
 fn member<'a>(text: &'a [u8], found: Found<'a>) -> Option<(Found<'a>, &'a [u8])>
@@ -129,13 +155,16 @@ fn member<'a>(text: &'a [u8], found: Found<'a>) -> Option<(Found<'a>, &'a [u8])>
         return Some((found, rest));
     }
     if let Some(behind) = named(text, b"\"register\":") {
-        let (register, rest) = register(behind)?;
+        let (register, rest) = name(behind)?;
         found.register = Some(register);
         return Some((found, rest));
     }
-    let behind = named(text, b"\"value\":")?;
-    let (value, rest) = value(behind)?;
-    found.value = Some(value);
+    if let Some(behind) = named(text, b"\"value\":") {
+        let (value, rest) = value(behind)?;
+        found.value = Some(value);
+        return Some((found, rest));
+    }
+    let rest = passed(text)?;
     Some((found, rest))
 }
 

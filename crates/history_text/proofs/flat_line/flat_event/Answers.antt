@@ -6,7 +6,7 @@ use Rattle.history_text.specs.declared.event.Kind.{Kind}
 use Rattle.history_text.specs.declared.event.EventWord.{EventWord}
 use Rattle.history_text.specs.declared.event.EventWord.TheVariants as word
 use Rattle.history_text.specs.declared.flat_members.Found.{Found}
-use Rattle.history_text.specs.Flat.{Holds, IsFlat, process_data, event_data}
+use Rattle.history_text.specs.Flat.{Holds, IsFlat, whole_data, event_data}
 use Rattle.history_text.specs.Limits.{MAX_LINE, MAX_PROCESS}
 use Rattle.history_text.specs.Members.{event_form}
 use Rattle.history_text.specs.Reading.{kind_of, line_form}
@@ -24,7 +24,7 @@ event_made : (n p : ℕ) (w : EventWord) (kind : Kind) (bytes : List ℕ) (f : F
 event_made n p w kind bytes f short flat process event kinds =
     let ms = flat.1.0 in
     let h = flat.1.2 in
-    let numbered : get_member (codes "process") ms ≡ Some (process_data p) = h.process ∙ ap (option_map process_data) process in
+    let numbered : get_member (codes "process") ms ≡ Some (whole_data p) = h.process ∙ ap (option_map whole_data) process in
     let worded : get_member (codes "event") ms ≡ Some (event_data w) = h.event ∙ ap (option_map event_data) event in
     let fits : p ≤ MAX_PROCESS = subst (λ o. IfSome o (λ q. q ≤ MAX_PROCESS)) process h.limit in
     line_form-read n bytes (object ms) short (json_of-read bytes (object ms) flat.0 flat.1.1)

@@ -18,6 +18,9 @@ pub returns-in-Some-named-3 : goal.returns-in-Some-named-3
 returns-in-Some-named-3 c =
     adds_register c.args.found c.args.text.now c.in-Some-named-3.behind.now c.in_ok-register.rest.now c.in_ok-register.register c.in-Some-named-3.ensures c.in_ok-register.ensures
 
+pub returns-in-Some-named-4 : goal.returns-in-Some-named-4
+returns-in-Some-named-4 c =
+    adds_value c.args.found c.args.text.now c.in-Some-named-4.behind.now c.in_ok-value.rest.now c.in_ok-value.value c.in-Some-named-4.ensures c.in_ok-value.ensures
+
 pub returns : goal.returns
-returns c =
-    adds_value c.args.found c.args.text.now c.in_ok-behind.behind.now c.in_ok-value.rest.now c.in_ok-value.value c.in_ok-behind.ensures c.in_ok-value.ensures
+returns c = c.in_ok-rest.ensures c.args.found

@@ -4,7 +4,7 @@ use Rattle.std.specs.Str.{IsUtf8}
 use Rattle.serde_json.specs.Data.{string}
 use Rattle.history_text.specs.Flat.{Scalar, IsPlain}
 use Rattle.history_text.proofs.Lexed.{plain_word}
-use Rattle.history_text.proofs.flat_members.register.Goals as goal
+use Rattle.history_text.proofs.flat_members.name.Goals as goal
 
 as_scalar : (t : List ℕ) (r : Option (Bor (List ℕ) × Bor (List ℕ))) → IfSome r (λ x. IsPlain x.0.now) → IfSome r (λ x. IsUtf8 x.0.now)
     → IfSome r (λ x. t ≡ 34 ∷ (x.0.now ++ 34 ∷ x.1.now)) → IfSome r (λ x. Scalar t (string x.0.now) x.1.now)
