@@ -1,6 +1,7 @@
 # make: prove and build bin/regcheck. make run: run it on a shipped example, or on FILE=...
 # make try: the same at once, unproved and with checks at run time; for a first look.
 # make test: the gate: every proof from nothing, edits that must fail, tests, and scripts over the built program.
+# make edits: try the wrong bodies that `make test` leaves out, in half an hour: after a change of a contract or of a body that they edit.
 # make fuzz: compare the program with the reference on spoiled histories for SECONDS=...
 # make library: bin/libregcheck.a, bin/libregcheck.so and bin/regcheck.pc, to call the checker from C and other languages.
 # make embed-test: compare the library with the program from C, Python, Go and Rust, on COUNT=... histories; under valgrind too.
@@ -25,7 +26,7 @@ PYTHON := $(shell find python/regkit -name '*.py')
 PROGRAM := bin/regcheck
 DOCUMENTS = $(DESTDIR)$(PREFIX)/share/doc/regcheck
 
-.PHONY: all run try test fuzz picture-test bench bench-compare library embed-test bench-library install install-programs install-library dist dist-library clean
+.PHONY: all run try test edits fuzz picture-test bench bench-compare library embed-test bench-library install install-programs install-library dist dist-library clean
 
 all: bin/regcheck
 
@@ -77,6 +78,11 @@ try:
 # tests/gate says what it runs, and at its end how long each part took.
 test:
 	tests/gate
+
+# Over what `make` proved: what isn't proved yet is proved in the copy first.
+edits:
+	tests/check_edits
+	tests/try_edits
 
 fuzz: bin/regcheck bin/history_generator
 	tests/spoiled_bytes bin/regcheck --seconds $(SECONDS)
