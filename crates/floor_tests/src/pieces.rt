@@ -117,10 +117,12 @@ impl Gate for Counter {
     }
 }
 
-fn counter(number: Option<u64>) -> Counter {
-    Counter {
-        number,
-        arrived: AtomicU64::new(0),
+impl Counter {
+    fn of(number: Option<u64>) -> Self {
+        Counter {
+            number,
+            arrived: AtomicU64::new(0),
+        }
     }
 }
 
@@ -133,7 +135,7 @@ fn passes(
 ) -> Result<u64, Fail> {
     let by = settings(workers, 1)?;
     let plan = plan(rt.alloc(), arena, by)?;
-    let gate = counter(Some(number));
+    let gate = Counter::of(Some(number));
     let _pieces = do_pieces(rt, rt.alloc(), arena, &plan, by, &gate)?;
     Ok(gate.arrived.load(Ordering::SeqCst))
 }
@@ -225,7 +227,7 @@ fn callers_threads_do_each_piece_once(rt: HostRuntime) -> Result<(), Fail> {
 
 // How many pieces pass the gate of one worker alone, and how many it draws.
 fn passed_and_drawn(alloc: Global, arena: &Arena) -> Result<(u64, u64), Fail> {
-    let gate = counter(None);
+    let gate = Counter::of(None);
     let worked = worked_alone(alloc, arena, settings(1, 1)?, &gate)?;
     let drawn = (worked.done.len() as u64).saturating_add(u64::from(worked.refused));
     Ok((gate.arrived.load(Ordering::SeqCst), drawn))
