@@ -19,15 +19,19 @@ def build(folder):
     return library
 
 
-def run(library, command, first=0, last=0, threads=False, given=b""):
-    """What the command ended with, and which kinds of request were refused: m for memory, t for a thread. A command that
-    doesn't end ends the test."""
+def to_one_processor():
+    os.sched_setaffinity(0, {min(os.sched_getaffinity(0))})
+
+
+def run(library, command, first=0, last=0, threads=False, given=b"", alone=False):
+    """What the command ended with, and which kinds of request were refused: m for memory, t for a thread. It runs on one
+    processor if it is alone. A command that doesn't end ends the test."""
     reader, writer = os.pipe()
     environment = {"LD_PRELOAD": library, "REFUSE_FROM": str(first), "REFUSE_TO": str(last),
                    "REFUSE_TOLD": str(writer), "REFUSE_THREADS": str(int(threads))}
     try:
         ran = subprocess.run(command, input=given, capture_output=True, env=environment, pass_fds=[writer],
-                             timeout=SECONDS, check=False)
+                             timeout=SECONDS, check=False, preexec_fn=to_one_processor if alone else None)
     except subprocess.TimeoutExpired:
         sys.exit(f"requests {first} to {last} refused: {command} didn't end in {SECONDS} seconds")
     finally:

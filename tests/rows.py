@@ -71,10 +71,11 @@ class Case(NamedTuple):
     answer: Tuple[int, bytes, bytes]  # exit status, standard output, standard error
     threaded: bool = False  # whether a run starts a thread for sure
     named: bool = False  # whether the history comes by the name of a file
+    alone: bool = False  # whether a run has one processor alone
 
 
 def case(name: str, words: Tuple[str, ...], given: bytes) -> Case:
-    status, report, refusal = reference.answer(given)
+    status, report, refusal = reference.answer(given, reference.Options("--first" in words))
     return Case(name, words, given, (status, report, (refusal + "\n").encode() if refusal else b""))
 
 
@@ -90,6 +91,9 @@ def refused_cases() -> List[Case]:
     cases.append(case("two_registers --cut 1", ("--workers", "4", "--cut", "1"), history(TWO_REGISTERS))._replace(threaded=True))
     cases.append(case("sixteen_registers", ("--workers", "4"), sixteen_registers())._replace(threaded=True))
     cases.append(case("inversion in two blocks", ("--workers", "2"), in_two_blocks(history(INVERSION)))._replace(threaded=True))
+    first = case("two_registers --first", ("--workers", "2", "--first"), history(TWO_REGISTERS))._replace(threaded=True)
+    by_two = case("two_registers --workers 2", ("--workers", "2"), history(TWO_REGISTERS))._replace(threaded=True)
+    cases.extend([first, *(one._replace(name=f"{one.name}, one processor", alone=True) for one in (first, by_two))])
     # On one processor a history that is refused starts no thread.
     several = len(os.sched_getaffinity(0)) > 1
     cases.append(case("written_twice before a block", (), history(WRITTEN_TWICE) + BLOCK)._replace(threaded=several))
