@@ -2,6 +2,7 @@
 # make try: the same at once, unproved and with checks at run time; for a first look.
 # make test: the gate: every proof from nothing, edits that must fail, tests, and scripts over the built program.
 # make edits: try the wrong bodies that `make test` leaves out, in half an hour: after a change of a contract or of a body that they edit.
+# make costs: write the table of what the program spends, after a change that is meant to cost more or less.
 # make fuzz: compare the program with the reference on spoiled histories for SECONDS=...
 # make library: bin/libregcheck.a, bin/libregcheck.so and bin/regcheck.pc, to call the checker from C and other languages.
 # make embed-test: compare the library with the program from C, Python, Go and Rust, on COUNT=... histories; under valgrind too.
@@ -26,7 +27,7 @@ PYTHON := $(shell find python/regkit -name '*.py')
 PROGRAM := bin/regcheck
 DOCUMENTS = $(DESTDIR)$(PREFIX)/share/doc/regcheck
 
-.PHONY: all run try test edits fuzz picture-test bench bench-compare library embed-test bench-library install install-programs install-library dist dist-library clean
+.PHONY: all run try test edits costs fuzz picture-test bench bench-compare library embed-test bench-library install install-programs install-library dist dist-library clean
 
 all: bin/regcheck
 
@@ -83,6 +84,9 @@ test:
 edits:
 	tests/check_edits
 	tests/try_edits
+
+costs: bin/regcheck
+	tests/costs --write
 
 fuzz: bin/regcheck bin/history_generator
 	tests/spoiled_bytes bin/regcheck --seconds $(SECONDS)
