@@ -42,6 +42,8 @@ for at, line in enumerate(text.splitlines(), 1):
         print("fn low::one: no proof: expected answers in ./proofs/one/Answers.antt")
     if "FALSE_THREE" in line:
         print(f"note: src/lib.rt:{{at}}:9: it is not proved that what the function ensures holds")
+    if "BREAKS_THREE" in line:
+        print("fn low::Three::three: not proved")
     if "FALSE_TWO" in line:
         print("fn low::two: no proof: it calls `low::one`, which is not proved")
 print("logic=not-proved")
@@ -95,6 +97,10 @@ class Edits(unittest.TestCase):
     def test_one_outside_of_bodies_goes_alone(self) -> None:
         self.write("more-edits", signature=SIGNATURE, three=FALSE_THREE)
         self.assertRegex(self.said("try_edits").stdout, r"\Alow: 2 of 2 edits refused; rounds: 2; ")
+
+    def test_one_that_breaks_another_proof_too_is_tried_alone(self) -> None:
+        self.write("more-edits", one=FALSE_ONE + " + BREAKS_THREE", two=FALSE_TWO)
+        self.assertRegex(self.said("try_edits").stdout, r"\Alow: 2 of 2 edits refused; rounds: 3; ")
 
     def test_let_through(self) -> None:
         self.write("more-edits", one=FALSE_ONE, two=STILL_TWO)
