@@ -327,7 +327,8 @@ class WhoAndWhen(unittest.TestCase):
         wrong: List[Any] = [1.5, -1, True, None, 2**63, "5"]
         for given in wrong:
             with self.subTest(given):
-                recorder = Recorder(clock=lambda: given)
+                clock: Any = lambda: given
+                recorder = Recorder(clock=clock)
                 with self.assertRaisesRegex(RecordingError, "give Recorder a clock of whole nanoseconds"):
                     with recorder.write("x"):
                         self.fail("the block of a refused call ran")

@@ -146,11 +146,11 @@ class Conversions(unittest.TestCase):
         return [(event.get("client"), event.get("time")) for event in events]
 
     def test_clients_that_are_no_numbers_and_times_of_a_known_unit(self) -> None:
-        for unit, expected in [((), [None] * 4), (("us",), [10_000, 20_000, 20_500, 30_000]),
-                               (("s",), [10 * 10**9, 20 * 10**9, 20_500_000_000, 30 * 10**9])]:
-            options = ("--clock-unit", *unit) if unit else ()
-            self.assertEqual(self.who(TABLE, "csv", *options),
-                             list(zip(["alice", None, "alice", None], expected)))
+        clients = ["alice", None, "alice", None]
+        self.assertEqual(self.who(TABLE, "csv"), [(client, None) for client in clients])
+        for unit, times in [("us", [10_000, 20_000, 20_500, 30_000]), ("ns", [10, 20, 20, 30]),
+                            ("s", [10 * 10**9, 20 * 10**9, 20_500_000_000, 30 * 10**9])]:
+            self.assertEqual(self.who(TABLE, "csv", "--clock-unit", unit), list(zip(clients, times)))
 
     def test_the_clock_error_moves_no_time(self) -> None:
         times = [time for _, time in self.who(TABLE, "csv", "--clock-unit", "ns", "--clock-error", "100ns")]

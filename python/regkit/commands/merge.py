@@ -53,7 +53,7 @@ def duration(word: str) -> int:
     if found is None:
         raise argparse.ArgumentTypeError(f"{word!r} is no duration: a number with ns, us, ms or s is "
                                          "expected, such as 5ms")
-    return math.ceil(Fraction(found[1] or 0) * 10 ** UNITS[found[2] or "ns"])
+    return math.ceil(Fraction(f"{found[1] or 0}e{UNITS[found[2] or 'ns']}"))
 
 
 def add_arguments(parser: argparse.ArgumentParser) -> None:
