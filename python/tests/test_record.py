@@ -272,7 +272,7 @@ class WhoAndWhen(unittest.TestCase):
             with client.write("x") as write:
                 self.assertEqual(write.value, 1)
             with client.read("x") as read:
-                read.value = None
+                read.value = 1
             with contextlib.suppress(Refused), client.read("x"):
                 raise Refused
             raise Lost
@@ -281,7 +281,7 @@ class WhoAndWhen(unittest.TestCase):
             '{"process":1,"event":"call","op":"write","register":"x","value":1' + who + "5}",
             '{"process":1,"event":"reply","register":"x"' + who + "10}",
             '{"process":1,"event":"call","op":"read","register":"x"' + who + "15}",
-            '{"process":1,"event":"reply","register":"x","value":null' + who + "20}",
+            '{"process":1,"event":"reply","register":"x","value":1' + who + "20}",
             '{"process":1,"event":"call","op":"read","register":"x"' + who + "25}",
             '{"process":1,"event":"fail","register":"x"' + who + "30}",
             '{"process":1,"event":"crash"' + who + "35}"])

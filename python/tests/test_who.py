@@ -65,7 +65,7 @@ class Lines(unittest.TestCase):
         self.assertEqual(first_call({**read(1), "node": "any"}, crash(1)).node, "any")
 
     def test_times_begin_with_the_first_call(self) -> None:
-        history = read_history(text(named(read(1), 50), named(read(2), 40), read(3), named(reply(1), 0)))
+        history = read_history(text(named(read(1), 50), named(read(2), 40), read(3), named(gave(1, None), 0)))
         self.assertEqual([call.time for call in history.calls], [10, 0, None])
 
 
