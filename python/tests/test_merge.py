@@ -401,7 +401,8 @@ class Command(unittest.TestCase):
         self.assertEqual(out.read_bytes(), merged)
         out.unlink()
         ran = self.ran("-o", str(out), a=WRITER, b=b"nope\n")
-        self.assertEqual(ran, (2, b"", "regkit merge: b: line 1: not JSON\n"))
+        self.assertEqual(ran, (2, b"", "regkit merge: b: line 1: not JSON: `regkit check` says what to do "
+                                       "about it\n"))
         self.assertFalse(out.exists())
         self.assertEqual(self.ran("-", "-").status, 3)
 

@@ -39,7 +39,7 @@ class Recorded:
                 history.take(number, event)
                 self._add(number, event)
         except Refused as refused:
-            raise Unmergeable(f"{name}: {refused.text}") from None
+            raise Unmergeable(f"{name}: {refused.text}: `regkit check` says what to do about it") from None
         self.written = history.written  # register -> value -> the line of its write's call
 
     def _add(self, number: int, event: Dict[str, Any]) -> None:
