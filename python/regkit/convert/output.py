@@ -42,8 +42,8 @@ def history_lines(converted: Converted) -> Iterator[str]:
 
 
 def _who(step: Operation, is_call: bool) -> str:
-    """The members that say who and when: the client if it isn't the process itself, and the time if it is known
-    in nanoseconds. An initial write is nobody's."""
+    """The members that say who and when: the client if it isn't the process itself, and the time if it is
+    known in nanoseconds. An initial write is nobody's."""
     if not step.line:
         return ""
     client = "" if step.process == step.client else str(step.client)
