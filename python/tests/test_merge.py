@@ -389,7 +389,7 @@ class Command(unittest.TestCase):
 
     def test_files_that_are_far_apart(self) -> None:
         later = text(timed(10**9, read(1)), timed(10**9 + 5, gave(1, 5)))
-        words = "b has no time that is near another history's: were they recorded at one time"
+        words = "no other history has times near those of a, b: were all recorded at once, with clocks"
         self.assertIn(words, self.ran(a=WRITER, b=later).words)
         self.assertNotIn(words, self.ran("--clock-error", "1s", a=WRITER, b=later).words)
 

@@ -106,9 +106,10 @@ def told(files: Sequence[Recorded], found: Merged, clock_error: int) -> Iterator
     """What a person should know of the merged history."""
     for number, file in enumerate(files):
         yield f"{plain(file.name)}: {counted(len(file.events), 'event')}{numbered(found, file, number)}"
-        if is_apart(file, files, clock_error):
-            yield (f"{plain(file.name)} has no time that is near another history's: were they recorded at "
-                   "one time, with clocks that agree?")
+    apart = [plain(file.name) for file in files if is_apart(file, files, clock_error)]
+    if apart:
+        yield (f"no other history has times near those of {', '.join(apart)}: were all recorded at once, with "
+               "clocks that agree?")
     if found.given_up:
         yield (f"the orders of two histories contradict each other within the clock error at "
                f"{counted(found.given_up, 'call')}: there operations of one history overlap")
