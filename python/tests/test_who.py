@@ -11,6 +11,7 @@ from regkit.draw import draw_page
 from regkit.drawing.figure import PAGE_WIDTH
 from regkit.explanation import explain_text
 from regkit.history import Operation, read_history
+from regkit.lines import NotJson, json_of
 from regkit.who import members, process_of
 
 from . import convert_support
@@ -58,6 +59,16 @@ class Lines(unittest.TestCase):
                 call = first_call({**read(1), **other})
                 self.assertEqual((call.client, call.node, call.time), (None, None, None))
                 self.assertEqual(process_of(call), "process 1")
+
+    def test_minus_zero_is_no_whole_number_and_in_a_name_it_is_nothing(self) -> None:
+        for value, kind in [("-0", float), (" -0", float), ("\t-0", float), ("-0.0", float), ("0", int),
+                            ("-10", int), ('"worker-0"', str), ('"a:-0"', str)]:
+            with self.subTest(value):
+                line = json_of(b'{"client":"worker-0","x":%s}' % value.encode())
+                self.assertIs(type(line["x"]), kind)
+                self.assertIs(type(json_of(b"[1,%s]" % value.encode())[1]), kind)
+                self.assertIs(type(json_of(value.strip().encode())), kind)
+        self.assertRaises(NotJson, json_of, b'{"client":"worker-0","x":-01}')
 
     def test_an_answer_may_tell_the_node(self) -> None:
         call = first_call({**read(1), "node": "any"}, {**gave(1, None), "node": "replica-2"})
