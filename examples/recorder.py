@@ -10,6 +10,7 @@ import pathlib
 import random
 import sys
 import threading
+import time
 from contextlib import suppress
 
 sys.path.insert(0, str(pathlib.Path(__file__).resolve().parents[1] / "python"))
@@ -56,11 +57,12 @@ def call(client, store):
             read.value = store.get(register)
 
 
-def use(recorder, store):
-    """One client. If it is killed, its process crashes, and another client takes its place."""
+def use(recorder, store, name):
+    """One client. If it is killed, its process crashes, and another client takes its place. Its lines have its
+    name, and that of the server that it asks."""
     calls = 100
     while calls > 0:
-        with suppress(Killed), recorder.client() as client:
+        with suppress(Killed), recorder.client(name, node="store-1") as client:
             while calls > 0:
                 calls -= 1
                 call(client, store)
@@ -68,8 +70,8 @@ def use(recorder, store):
 
 def main():
     store = Store()
-    with Recorder(sys.stdout, failures=ConnectionRefusedError) as recorder:
-        clients = [threading.Thread(target=use, args=(recorder, store)) for _ in range(4)]
+    with Recorder(sys.stdout, failures=ConnectionRefusedError, clock=time.monotonic_ns) as recorder:
+        clients = [threading.Thread(target=use, args=(recorder, store, f"worker-{n}")) for n in range(4)]
         for client in clients:
             client.start()
         for client in clients:

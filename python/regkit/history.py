@@ -21,7 +21,8 @@ class NoRegister(ValueError):
 class Operation:
     """A call with what ended it. `line` is the line of the call, 0 for a register's initial write of null."""
 
-    __slots__ = ("line", "process", "register", "kind", "value", "ending", "end_line")
+    __slots__ = ("line", "process", "register", "kind", "value", "ending", "end_line", "client", "node",
+                 "time")
 
     def __init__(self, line: int, process: Optional[int], register: str, kind: str,
                  value: Optional[int]) -> None:
@@ -32,6 +33,9 @@ class Operation:
         self.value = value  # written, or read; None is null, and also what a read that isn't completed gave
         self.ending: Optional[str] = None  # "reply", "fail", "crash", or None if nothing ended it
         self.end_line: Optional[int] = None  # the line of that ending
+        self.client: Optional[str] = None  # who called, of which server, and when, as far as the lines say it
+        self.node: Optional[str] = None
+        self.time: Optional[int] = None  # in nanoseconds, from the history's first call on
 
     @property
     def completed(self) -> bool:
@@ -94,11 +98,34 @@ def read_history(data: bytes, watch: Optional[Callable[[int], None]] = None) -> 
                 call = Operation(line, event["process"], event["register"], event["op"], event.get("value"))
                 calls.append(call)
                 open_calls[call.process] = call  # type: ignore[index]
+                note_who(call, event)
                 continue
             end_call(open_calls, crashes, line, event)
     except (KeyError, TypeError, AttributeError, lines.NotJson) as error:
         raise NotAHistory(f"line {line}: no event that regcheck accepts") from error
+    count_from_first(calls)
     return History(calls, count, line, crashes)
+
+
+def note_who(call: Operation, event: lines.Event) -> None:
+    """Notes who calls and when, if the line says so in the recorder's form. The checker takes any form."""
+    call.client, call.node = text_in(event, "client"), text_in(event, "node")
+    time = event.get("time")
+    call.time = time if type(time) is int else None
+
+
+def text_in(event: lines.Event, name: str) -> Optional[str]:
+    """A member that is a text, and not the empty one."""
+    said = event.get(name)
+    return said if type(said) is str and said else None
+
+
+def count_from_first(calls: List[Operation]) -> None:
+    """Lets the times begin with the first call that has one."""
+    first = min((call.time for call in calls if call.time is not None), default=0)
+    for call in calls:
+        if call.time is not None:
+            call.time -= first
 
 
 def end_call(open_calls: Dict[int, Operation], crashes: Dict[int, int], line: int,
@@ -111,6 +138,7 @@ def end_call(open_calls: Dict[int, Operation], crashes: Dict[int, int], line: in
     if ended is None:
         return
     ended.ending, ended.end_line = what, line
+    ended.node = text_in(event, "node") or ended.node  # an answer may tell which server gave it
     if what == "reply" and ended.kind == "read":
         ended.value = event["value"]
 

@@ -7,27 +7,31 @@ import json
 import os
 import pathlib
 import threading
-from typing import IO, Any, Dict, List, Optional, Tuple, Type, Union
+from typing import IO, Any, Callable, Dict, List, Optional, Tuple, Type, Union
+
+from regkit.who import members
 
 Output = Union[None, str, "os.PathLike[str]", IO[Any], io.IOBase]
 Failures = Union[Type[BaseException], Tuple[Type[BaseException], ...]]
+Clock = Callable[[], int]  # gives nanoseconds, and never goes back
 
 NAME_BYTES = 255
+GREATEST = 2**63 - 1  # of values and times
 
 
 class RecordingError(Exception):
     """The recorder was used in a way that would make the history wrong. The call stays pending."""
 
 
-def quoted(register: str) -> str:
-    """A register's name in JSON. Raises RecordingError if the checker would refuse it."""
+def quoted(name: str, what: str = "register") -> str:
+    """The name of a register, a client or a node in JSON. Raises RecordingError if it is none."""
     try:
-        size = len(register.encode("utf-8"))
+        size = len(name.encode("utf-8"))
     except (AttributeError, UnicodeEncodeError):
         size = 0
     if not 1 <= size <= NAME_BYTES:
-        raise RecordingError(f"{register!r} is no register: name it by a text of 1 to {NAME_BYTES} bytes")
-    return json.dumps(register)
+        raise RecordingError(f"{name!r} is no {what}: name it by a text of 1 to {NAME_BYTES} bytes")
+    return json.dumps(name)
 
 
 class Log:
@@ -66,14 +70,22 @@ class Log:
 class Journal:
     """What all clients share, behind one lock: the lines, the process numbers, and the written values."""
 
-    def __init__(self, output: Output, failures: Failures) -> None:
+    def __init__(self, output: Output, failures: Failures, prefix: str = "", values_after: int = 0,
+                 clock: Optional[Clock] = None) -> None:
+        if prefix != "":
+            quoted(prefix, "prefix")
+        if type(values_after) is not int or not 0 <= values_after < GREATEST:
+            raise RecordingError(f"values_after is {values_after!r}: it is a whole number from 0")
         self.failures = failures
+        self.prefix = prefix
         self.mistakes: List[RecordingError] = []
         self._log = Log(output)
+        self._clock = clock
         self._lock = threading.Lock()
         self._closed = False
         self._free: List[int] = []  # a heap of the process numbers given back
         self._processes = 0
+        self._values_after = values_after
         self._values: Dict[str, int] = {}  # register -> the greatest value written
         self._names: Dict[str, str] = {}  # register -> its name in JSON
 
@@ -91,7 +103,21 @@ class Journal:
         self.mistakes.append(error)
         return error
 
-    def call(self, process: Optional[int], op: str, register: str) -> Tuple[int, Optional[int]]:
+    def key(self, register: str) -> str:
+        """The register's name, in the history as in the store. A call refuses what is no text."""
+        return self.prefix + register if isinstance(register, str) else register
+
+    def who(self, client: str, node: str) -> str:
+        """The members that name a client and the node that it asks. Raises RecordingError."""
+        try:
+            for name, what in ((client, "client"), (node, "node")):
+                if name != "":
+                    quoted(name, what)
+        except RecordingError as error:
+            raise self.mistake(str(error)) from None
+        return members(client, node)
+
+    def call(self, process: Optional[int], op: str, register: str, who: str) -> Tuple[int, Optional[int]]:
         """Writes a call, under a free number if none is given. Gives the number, and a write's value."""
         with self._lock:
             if self._closed:
@@ -102,20 +128,20 @@ class Journal:
             line = f'{{"process":{process},"event":"call","op":"{op}","register":{name}'
             value = None
             if op == "write":
-                value = self._values[register] = self._values.get(register, 0) + 1
+                value = self._values[register] = self._values.get(register, self._values_after) + 1
                 line += f',"value":{value}'
-            self._append(line + "}\n")
+            self._append(line + who)
         return process, value
 
-    def reply(self, process: int, register: str, value: str) -> None:
+    def reply(self, process: int, register: str, value: str, who: str) -> None:
         """Writes a reply. It names its register, so that the line can be read alone."""
-        self._end(f'{{"process":{process},"event":"reply","register":{self._names[register]}{value}}}\n')
+        self._end(f'{{"process":{process},"event":"reply","register":{self._names[register]}{value}{who}')
 
-    def fail(self, process: int, register: str) -> None:
-        self._end(f'{{"process":{process},"event":"fail","register":{self._names[register]}}}\n')
+    def fail(self, process: int, register: str, who: str) -> None:
+        self._end(f'{{"process":{process},"event":"fail","register":{self._names[register]}{who}')
 
-    def crash(self, process: int) -> None:
-        self._end(f'{{"process":{process},"event":"crash"}}\n')
+    def crash(self, process: int, who: str) -> None:
+        self._end(f'{{"process":{process},"event":"crash"{who}')
 
     def give_back(self, process: int) -> None:
         """Lets another client have a number. Never that of a call that stays pending, or of a crash."""
@@ -146,7 +172,19 @@ class Journal:
             raise self.mistake(str(error)) from None
         return name
 
+    def _now(self) -> Optional[int]:
+        """The time of a line that is written at once, so that the times follow the lines."""
+        if self._clock is None:
+            return None
+        now = self._clock()
+        if type(now) is not int or not 0 <= now <= GREATEST:
+            raise self.mistake(f"the clock gave {now!r}: give Recorder a clock of whole nanoseconds, such as "
+                               "time.monotonic_ns")
+        return now
+
     def _append(self, line: str) -> None:
+        """Writes a line that lacks its time and its end."""
+        line += members(time=self._now()) + "}\n"
         try:
             self._log.append(line.encode("ascii"))
         except BaseException as error:

@@ -1,11 +1,13 @@
 """The lines of a history as JSON objects. It says nothing of what the objects mean."""
 import json
 import math
+import re
 from typing import Any, Dict, Iterator, Tuple
 
 BLANK = b" \t\r"
 MAX_DEPTH = 127  # of lists and objects in one line, as the checker's JSON reader takes them
 Event = Dict[str, Any]
+_MINUS_ZERO = re.compile(r"(?<![^:,\[\s])-0")  # where a number may stand, and not in a name such as worker-0
 
 
 class NotJson(ValueError):
@@ -48,7 +50,7 @@ def json_of(line: bytes) -> Any:
     """The JSON value of a line. Raises NotJson. Of members with one name the last counts."""
     try:
         text = line.decode("utf-8")
-        if len(text) > 2 * MAX_DEPTH or "\\u" in text or "-0" in text:
+        if len(text) > 2 * MAX_DEPTH or "\\u" in text or "-0" in text and _MINUS_ZERO.search(text):
             return _checked(_careful_decoder.decode(text), MAX_DEPTH)
         return _decoder.decode(text)
     except (ValueError, RecursionError) as error:

@@ -4,6 +4,7 @@ are shown as escapes."""
 import unicodedata
 
 RIGHT_TO_LEFT = {"R", "AL", "AN"}  # the directions of letters that turn around the numbers beside them
+ELLIPSIS = "\u2026"
 
 
 def is_plain(character: str) -> bool:
@@ -25,3 +26,11 @@ def plain(text: str) -> str:
 def quoted(name: str) -> str:
     """The name in quotation marks, so that one sees where it ends."""
     return '"' + plain(name.replace("\\", "\\\\").replace('"', '\\"')) + '"'
+
+
+def shortened(text: str, longest: int) -> str:
+    """The text, without its middle if it is longer."""
+    if len(text) <= longest:
+        return text
+    head = (longest - 1) // 2
+    return text[:head] + ELLIPSIS + text[len(text) - (longest - 1 - head):]

@@ -20,14 +20,25 @@ The values of a register's writes are 1, 2, 3, and so on. A store of texts is gi
 takes the number, its text, its bytes, or None if the store has no value.
 
 Threads and asyncio tasks share one recorder, and each takes a client of its own. No lock is held inside a
-block, so a block may await. A program that forks needs a recorder in each of its processes.
+block, so a block may await. A program that forks needs a recorder in each of its processes, each with values
+of its own, and a clock: `regkit merge` then makes one history of theirs.
+
+    Recorder(f"history-{number}.jsonl", clock=time.monotonic_ns, values_after=number * 1_000_000)
+
+A store that isn't empty gives values that this run never wrote. Empty it, or let the run use keys of its own:
+
+    with Recorder("history.jsonl", prefix=f"run-{time.time_ns()}/") as recorder:
+        with recorder.client("worker-3", node="replica-1") as client, client.write("x") as write:
+            store.set(write.register, write.value)
+
+A client's name and its node stand on its lines, so that `regkit explain` and `regkit draw` can show them.
 """
 import pathlib
 import re
 from types import TracebackType
 from typing import Any, List, Optional, Type, TypeVar
 
-from regkit.journal import Failures, Journal, Output, RecordingError
+from regkit.journal import Clock, Failures, Journal, Output, RecordingError
 
 LEAST, GREATEST = -(2**63), 2**63 - 1
 WHOLE_NUMBER = re.compile(r"-?[0-9]{1,19}")
@@ -51,14 +62,29 @@ def number_of(value: object) -> Optional[int]:
 class Client:
     """Makes one call after another under a process number of its own: a thread, a task, a connection.
 
+    Each of its lines has its name, and the node that it asks, if they are given. `node` may be set to another
+    one at any time, also within a call once the answer tells which server gave it.
+
     As a context manager it gives the number back at the end. If an exception leaves the block, it crashes."""
 
-    def __init__(self, journal: Journal) -> None:
+    def __init__(self, journal: Journal, name: str = "", node: str = "") -> None:
         self.journal = journal
+        self.name = name
+        self.node = node
         self._process: Optional[int] = None  # from the first call on
         self._open = False  # whether a call is open right now
         self._spent = False  # whether the number has a call that stays pending
         self._gone = False
+
+    @property
+    def node(self) -> str:
+        """The server that it asks."""
+        return self._node
+
+    @node.setter
+    def node(self, node: str) -> None:
+        self._who = self.journal.who(self.name, node)
+        self._node = node
 
     def write(self, register: str) -> "Write":
         """The call of a write, for a `with` statement. Its `value` is what to write."""
@@ -71,7 +97,7 @@ class Client:
     def crash(self) -> None:
         """Says that this client does nothing more. A call that it has open, or left pending, stays so."""
         if self._process is not None and not self._gone:
-            self.journal.crash(self._process)
+            self.journal.crash(self._process, self._who)
         self._gone = True
 
     def close(self) -> None:
@@ -94,7 +120,7 @@ class Client:
         if self._gone:
             raise self.journal.mistake(f"the client is closed or crashed, and calls a {op} of {register!r}")
         kept, self._spent = None if self._spent else self._process, True
-        process, value = self.journal.call(kept, op, register)
+        process, value = self.journal.call(kept, op, register, self._who)
         self._process, self._open, self._spent = process, True, False
         return value
 
@@ -104,9 +130,9 @@ class Client:
         if self._gone or process is None or ending == NOTHING:
             return
         if ending == FAIL:
-            self.journal.fail(process, register)
+            self.journal.fail(process, register, self._who)
         else:
-            self.journal.reply(process, register, value)
+            self.journal.reply(process, register, value, self._who)
         self._spent = False
 
 
@@ -116,7 +142,7 @@ class Call:
     op = ""
 
     def __init__(self, client: Client, register: str, alone: bool = False) -> None:
-        self.register = register
+        self.register = client.journal.key(register)  # its name in the store, too
         self._client = client
         self._alone = alone  # whether the client makes this one call
         self._stage = "new"  # then "open", then "ended"
@@ -230,15 +256,21 @@ class Read(Call):
 class Recorder:
     """A history in the making. `output` is a path, a stream such as sys.stdout, or None to keep it in memory.
 
-    An exception of `failures` that leaves the block of a call says that the call surely had no effect."""
+    - `failures`: an exception of these that leaves the block of a call says that it surely had no effect.
+    - `prefix`: each register's name begins with it. `call.register` is the whole name, for the store.
+    - `values_after`: the values of a register's writes are this number plus 1, 2, 3, and so on.
+    - `clock`: gives the time of each line, in whole nanoseconds, such as time.monotonic_ns."""
 
-    def __init__(self, output: Output = None, failures: Failures = ()) -> None:
-        self._journal = Journal(output, failures)
+    def __init__(self, output: Output = None, failures: Failures = (), *, prefix: str = "",
+                 values_after: int = 0, clock: Optional[Clock] = None) -> None:
+        self._journal = Journal(output, failures, prefix, values_after, clock)
         self.checked = False  # whether a test has looked at the verdict
 
-    def client(self) -> Client:
-        """A client for one thread or task. Its first call takes a process number."""
-        return Client(self._journal)
+    def client(self, name: str = "", node: str = "") -> Client:
+        """A client for one thread or task. Its first call takes a process number.
+
+        Its lines have its name, and the node (the server of the store) that it asks, if they are given."""
+        return Client(self._journal, name, node)
 
     def write(self, register: str) -> Write:
         """A write under any free process number. Take a client where one thread makes several calls."""

@@ -4,6 +4,7 @@ from typing import List, Optional, Tuple
 from regkit.history import History, Operation
 from regkit.quoting import quoted
 from regkit.report import Row
+from regkit.who import process_of
 
 
 def counted(number: int, noun: str) -> str:
@@ -33,7 +34,7 @@ def named(operation: Operation) -> str:
         return "the initial write of null"
     gave = operation.kind == "write" or operation.completed
     what = f"{operation.kind} of {value_of(operation)}" if gave else operation.kind
-    return f"the {what} by process {operation.process} ({lines_of(operation)})"
+    return f"the {what} by {process_of(operation)} ({lines_of(operation)})"
 
 
 def capital(sentence: str) -> str:

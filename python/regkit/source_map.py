@@ -39,5 +39,6 @@ def put_labels(history: History, written: bytes) -> None:
             client = processes.get(str(call.process))
             if call.process is not None and client is not None:
                 call.process = labelled(call.process, client)
+                call.client = None  # the label says it
     except (ValueError, KeyError, TypeError, AttributeError) as error:
         raise NotAMap("the map is none that `regkit convert --map` wrote") from error

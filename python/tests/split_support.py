@@ -25,6 +25,7 @@ ODD_LINES = ["", " \t", "\r", "[]", "null", "7", "{}", "not json", "\ufeff{}", '
              '{"process":1,"event":"call","op":"cas","register":"a"}',
              '{"process":1,"event":"call","op":"read","register":""}',
              '{"process":1,"event":"call","op":"write","register":"a","value":1.0}']
+WHO: List[Tuple[str, Any]] = [("client", "w-3"), ("node", "\u00e9"), ("time", 12031000000)]
 
 
 class Ran(NamedTuple):
@@ -184,6 +185,8 @@ class Maker:
 
     def say(self, line: Line) -> None:
         members = list(line.items())
+        if self.chance.random() < 0.3:
+            members += [member for member in WHO if self.chance.random() < 0.7]
         if self.chance.random() < 0.1:
             note = self.chance.choice([1.5, "\U0001f600", [{}]])
             members.insert(self.chance.randrange(len(members)), ("note", note))

@@ -254,6 +254,131 @@ class Processes(unittest.TestCase):
                 pass
 
 
+class Ticks:
+    """A clock that goes on by 5 at each look."""
+
+    def __init__(self) -> None:
+        self.now = 0
+
+    def __call__(self) -> int:
+        self.now += 5
+        return self.now
+
+
+class WhoAndWhen(unittest.TestCase):
+    def test_each_line_says_it_behind_its_other_members(self) -> None:
+        recorder = Recorder(failures=Refused, clock=Ticks())
+        with contextlib.suppress(Lost), recorder.client("worker-3", node="replica-1") as client:
+            with client.write("x") as write:
+                self.assertEqual(write.value, 1)
+            with client.read("x") as read:
+                read.value = 1
+            with contextlib.suppress(Refused), client.read("x"):
+                raise Refused
+            raise Lost
+        who = ',"client":"worker-3","node":"replica-1","time":'
+        self.assertEqual(lines(recorder), [
+            '{"process":1,"event":"call","op":"write","register":"x","value":1' + who + "5}",
+            '{"process":1,"event":"reply","register":"x"' + who + "10}",
+            '{"process":1,"event":"call","op":"read","register":"x"' + who + "15}",
+            '{"process":1,"event":"reply","register":"x","value":1' + who + "20}",
+            '{"process":1,"event":"call","op":"read","register":"x"' + who + "25}",
+            '{"process":1,"event":"fail","register":"x"' + who + "30}",
+            '{"process":1,"event":"crash"' + who + "35}"])
+        self.assertEqual(run_checker(recorder.history()).status, 0)
+
+    def test_what_is_not_known_is_left_out(self) -> None:
+        for words, members in [((), ""), (("a",), ',"client":"a"'), (("", "b"), ',"node":"b"')]:
+            with self.subTest(words):
+                recorder = Recorder()
+                with recorder.client(*words) as client, client.read("x") as read:
+                    read.value = None
+                self.assertEqual(lines(recorder), [
+                    '{"process":1,"event":"call","op":"read","register":"x"' + members + "}",
+                    '{"process":1,"event":"reply","register":"x","value":null' + members + "}"])
+
+    def test_the_node_may_change_within_a_call(self) -> None:
+        recorder = Recorder()
+        with recorder.client(node="any") as client:
+            with client.read("x") as read:
+                read.value, client.node = None, "replica-2"
+            with client.read("x") as read:
+                read.value, client.node = None, ""
+        nodes = [json.loads(line).get("node") for line in lines(recorder)]
+        self.assertEqual(nodes, ["any", "replica-2", "replica-2", None])
+
+    def test_names_are_texts_of_any_letters(self) -> None:
+        for name in ["\u00e9\u202e\x00\n\"\\", "x" * 255]:
+            recorder = Recorder()
+            with recorder.client(name, name) as client, client.read("x") as read:
+                read.value = None
+            event = json.loads(lines(recorder)[0])
+            self.assertEqual((event["client"], event["node"]), (name, name))
+        wrong: List[Any] = ["x" * 256, "\ud800", 7, b"x", None]
+        for name in wrong:
+            for words, what in (((name,), "client"), (("", name), "node")):
+                with self.subTest(words):
+                    recorder = Recorder()
+                    with self.assertRaisesRegex(RecordingError, f"is no {what}: name it by a text"):
+                        recorder.client(*words)
+                    self.assertEqual(len(recorder.mistakes), 1)
+
+    def test_a_clock_of_another_kind_is_refused_and_the_call_not_recorded(self) -> None:
+        wrong: List[Any] = [1.5, -1, True, None, 2**63, "5"]
+        for given in wrong:
+            with self.subTest(given):
+                clock: Any = lambda: given
+                recorder = Recorder(clock=clock)
+                with self.assertRaisesRegex(RecordingError, "give Recorder a clock of whole nanoseconds"):
+                    with recorder.write("x"):
+                        self.fail("the block of a refused call ran")
+                self.assertEqual((lines(recorder), len(recorder.mistakes)), ([], 1))
+
+    def test_the_times_of_all_threads_follow_the_lines(self) -> None:
+        self.addCleanup(sys.setswitchinterval, sys.getswitchinterval())
+        sys.setswitchinterval(1e-6)
+        recorder, store = Recorder(clock=time.monotonic_ns), Store(1, 0.0)
+        clients = [threading.Thread(target=use, args=(recorder, store, seed, 50)) for seed in range(4)]
+        for client in clients:
+            client.start()
+        for client in clients:
+            client.join()
+        times = [json.loads(line)["time"] for line in lines(recorder)]
+        self.assertEqual(len(times), 400)
+        self.assertEqual(times, sorted(times))
+
+
+class OneOfSeveral(unittest.TestCase):
+    def test_a_prefix_is_on_each_register(self) -> None:
+        recorder = Recorder(prefix="run-7/")
+        with recorder.write("x") as write, recorder.read("y") as read:
+            self.assertEqual((write.value, write.register, read.register), (1, "run-7/x", "run-7/y"))
+            read.value = None
+        registers = [json.loads(line)["register"] for line in lines(recorder)]
+        self.assertEqual(registers, ["run-7/x", "run-7/y", "run-7/y", "run-7/x"])
+        self.assertEqual(recorder.read("x").register, "run-7/x")
+
+    def test_a_name_is_refused_for_its_whole_length(self) -> None:
+        recorder = Recorder(prefix="x" * 255)
+        with self.assertRaisesRegex(RecordingError, "is no register"):
+            with recorder.write("y"):
+                self.fail("the block of a refused call ran")
+        wrong: List[Any] = [7, "x" * 256, b"run"]
+        for prefix in wrong:
+            with self.assertRaisesRegex(RecordingError, "is no prefix"):
+                Recorder(prefix=prefix)
+
+    def test_values_begin_where_they_should(self) -> None:
+        recorder = Recorder(values_after=1_000_000)
+        for expected in (1_000_001, 1_000_002):
+            with recorder.write("x") as write:
+                self.assertEqual(write.value, expected)
+        wrong: List[Any] = [-1, 2**63, 1.0, True, "5"]
+        for values_after in wrong:
+            with self.subTest(values_after), self.assertRaisesRegex(RecordingError, "values_after is"):
+                Recorder(values_after=values_after)
+
+
 class Misuse(unittest.TestCase):
     """Each wrong use raises, is kept, and leaves the call pending."""
 

@@ -4,13 +4,14 @@ import re
 from decimal import Decimal, InvalidOperation
 from typing import Any, List, NamedTuple, Optional, Tuple
 
-from regkit.convert.model import Refused, WrongWords
+from regkit.convert.model import GREATEST, Refused, WrongWords
 
 UNITS = {"ns": 0, "us": 3, "ms": 6, "s": 9}  # by name, how many nanoseconds: the exponent of ten
 _WHOLE = re.compile(r"-?[0-9]+")
 _ERROR = re.compile(r"([0-9]+(?:\.[0-9]+)?)(ns|us|ms|s)?")
 _STAMP = re.compile(
     r"(\d{4})-(\d\d)-(\d\d)[T ](\d\d):(\d\d):(\d\d)(?:[.,](\d{1,18}))?(Z|[+-]\d\d:?\d\d)?", re.ASCII)
+_EPOCH = datetime.date(1970, 1, 1).toordinal() * 86400 * 10 ** UNITS["s"]
 _MOST_EXPONENT = 40  # a time beyond 10^40, or finer than 10^-40, is a mistake
 
 
@@ -57,6 +58,17 @@ class Clock:
         digits, places = _digits(Decimal(found[1]))
         self.least = min(self.least, places + exponent)
         return Time(digits, places + exponent)
+
+    def nanoseconds(self, time: Time, unit: Optional[str]) -> Optional[int]:
+        """A time from 0 to the greatest of 64 bits, if the source's unit is known. A date counts from 1970."""
+        own = unit if self.kind == "a number" else "s"
+        if own is None:
+            return None
+        exponent = time.exponent + UNITS[own]
+        found = time.digits * 10 ** exponent if exponent >= 0 else time.digits // 10 ** -exponent
+        if self.kind != "a number":
+            found -= _EPOCH
+        return found if 0 <= found <= GREATEST else None
 
     def scaled(self, times: List[Time]) -> List[int]:
         """Times in units of the least exponent."""

@@ -29,7 +29,8 @@ class WrongWords(Exception):
 class Operation:
     """A call with what ended it, as the source has it. `kind` is crash for a crash without an open call."""
 
-    __slots__ = ("line", "end_line", "client", "kind", "key", "value", "answer", "ending", "process")
+    __slots__ = ("line", "end_line", "client", "kind", "key", "value", "answer", "ending", "process", "time",
+                 "end_time")
 
     def __init__(self, line: int, client: Client, kind: str, key: Any, value: Any) -> None:
         self.line = line
@@ -41,6 +42,8 @@ class Operation:
         self.ending: Optional[str] = None  # "reply", "fail", "crash", or None if its outcome is unknown
         self.end_line: Optional[int] = None
         self.process = -1  # its number in the history
+        self.time: Optional[int] = None  # of its call and of its end, in nanoseconds, if they are known
+        self.end_time: Optional[int] = None
 
 
 def counted(number: int, what: str) -> str:

@@ -13,9 +13,10 @@ import itertools
 import json
 from typing import Any, Dict, Iterable, Iterator, List, NamedTuple, TextIO
 
-from regkit.convert.model import Source
+from regkit.convert.model import Operation, Source
 from regkit.convert.values import readable
 from regkit.convert.whole import Converted
+from regkit.who import members
 
 _AT_ONCE = 10_000
 
@@ -23,21 +24,30 @@ _AT_ONCE = 10_000
 def history_lines(converted: Converted) -> Iterator[str]:
     quoted = {key: json.dumps(name, ensure_ascii=False) for key, name in converted.names.items()}
     for step, is_call in converted.source.moments():
-        process, value = step.process, step.value
+        process, value, who = step.process, step.value, _who(step, is_call)
         if step.kind == "crash":
-            yield f'{{"process":{process},"event":"crash"}}\n'
+            yield f'{{"process":{process},"event":"crash"{who}}}\n'
         elif not is_call:
             if step.ending != "reply":
-                yield f'{{"process":{process},"event":"{step.ending}"}}\n'
+                yield f'{{"process":{process},"event":"{step.ending}"{who}}}\n'
             elif step.kind == "read":
                 shown = "null" if value is None else value
-                yield f'{{"process":{process},"event":"reply","value":{shown}}}\n'
+                yield f'{{"process":{process},"event":"reply","value":{shown}{who}}}\n'
             else:
-                yield f'{{"process":{process},"event":"reply"}}\n'
+                yield f'{{"process":{process},"event":"reply"{who}}}\n'
         else:
             value_member = "" if step.kind == "read" else f',"value":{value}'
             yield (f'{{"process":{process},"event":"call","op":"{step.kind}","register":{quoted[step.key]}'
-                   f'{value_member}}}\n')
+                   f'{value_member}{who}}}\n')
+
+
+def _who(step: Operation, is_call: bool) -> str:
+    """The members that say who and when: the client if it isn't the process itself, and the time if it is
+    known in nanoseconds. An initial write is nobody's."""
+    if not step.line:
+        return ""
+    client = "" if step.process == step.client else str(step.client)
+    return members(client, time=step.time if is_call else step.end_time)
 
 
 class Written(NamedTuple):

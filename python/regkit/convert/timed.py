@@ -37,6 +37,7 @@ class Timed:
 
     def source(self, choices: Choices) -> Source:
         """The operations in order. Raises Refused, and WrongWords if the clock error can't be told."""
+        self._say_when(choices.clock_unit)
         error_time = self.clock.error(choices.clock_error, choices.clock_unit)
         error, = self.clock.scaled([error_time])
         starts, ends = self.clock.scaled(self.starts), self.clock.scaled(self.ends)
@@ -50,6 +51,12 @@ class Timed:
             source.notes.append(f"put calls before replies at {counted(ties, 'time stamp')} that both have: "
                                 "those operations overlap")
         return source
+
+    def _say_when(self, unit: Optional[str]) -> None:
+        for operation, time in zip(self.operations, self.starts):
+            operation.time = self.clock.nanoseconds(time, unit)
+        for operation, time in zip(self.ended, self.ends):
+            operation.end_time = self.clock.nanoseconds(time, unit)
 
     def _refuse_backward(self, starts: List[int], ends: List[int]) -> None:
         start_of = dict(zip(self.operations, starts))

@@ -1,10 +1,10 @@
 """One picture as SVG: zones and arrows above, bars in their lanes, and the axis below."""
-from typing import Dict, List, Tuple
+from typing import Dict, List, Sequence, Tuple
 
 from regkit.drawing import shapes, svg
 from regkit.drawing.axis import Gap
 from regkit.drawing.barmarks import bar_group, points_of, spots_of, thread_of
-from regkit.drawing.bars import LETTER, Bar, label_of, shown_value
+from regkit.drawing.bars import LETTER, SMALL_LETTER, Bar, label_of, shown_value
 from regkit.drawing.marks import Arrow, Marks, Zone
 from regkit.drawing.ruler import OVERVIEW_LABEL, ruler, ruler_height
 from regkit.drawing.scene import Scene
@@ -41,11 +41,12 @@ def zone_title(zone: Zone) -> str:
             f"line {zone.end}, and one moment in it is enough for them.")
 
 
-def gutter_of(marks: Marks, lane_labels: List[str]) -> float:
-    """The room that the labels at the left need."""
+def gutter_of(marks: Marks, lane_labels: List[str], details: Sequence[str] = ()) -> float:
+    """The room that the labels at the left need, and the small ones below them."""
     labels = [zone_label(zone) for zone in marks.zones] + lane_labels
     labels += [arrow_label(arrow) for arrow in marks.arrows]
-    return max(LEAST_GUTTER, max(map(len, labels)) * LETTER + 18) if labels else LEFT
+    widths = [len(label) * LETTER for label in labels] + [len(detail) * SMALL_LETTER for detail in details]
+    return max(LEAST_GUTTER, max(widths) + 18) if labels else LEFT
 
 
 class Figure:
@@ -54,7 +55,8 @@ class Figure:
     def __init__(self, scene: Scene, history: History) -> None:
         self.scene = scene
         self.history = history
-        self.gutter = gutter_of(scene.marks, scene.lanes.labels + [OVERVIEW_LABEL] * bool(scene.left_out))
+        labels = scene.lanes.labels + [OVERVIEW_LABEL] * bool(scene.left_out)
+        self.gutter = gutter_of(scene.marks, labels, scene.lanes.details)
         self.arrows_top = TOP + ZONE_ROW * len(scene.marks.zones)
         self.lanes_top = self.arrows_top + ARROW_ROW * len(scene.marks.arrows) + 4
         self.lanes_end = self.lanes_top + LANE_ROW * scene.lanes.count
@@ -81,10 +83,13 @@ class Figure:
     def rules(self) -> List[str]:
         """A faint line for each process, with its label. Lanes that processes share have none."""
         parts = []
-        for lane, label in enumerate(self.scene.lanes.labels):
+        for lane, (label, detail) in enumerate(zip(self.scene.lanes.labels, self.scene.lanes.details)):
             middle = self.lanes_top + LANE_ROW * (lane + 0.5)
             line = shapes.path("M", self.gutter, middle, "H", self.width - RIGHT)
-            parts += [tag("path", class_="rule", d=line), text(self.gutter - 12, middle + 4, label, "gutter")]
+            label_line = middle - 2 if detail else middle + 4
+            parts += [tag("path", class_="rule", d=line), text(self.gutter - 12, label_line, label, "gutter")]
+            if detail:
+                parts.append(text(self.gutter - 12, middle + 11, detail, "gutter detail"))
         return parts
 
     def zones(self) -> List[str]:

@@ -16,17 +16,19 @@ class Lanes(NamedTuple):
     lane_of: Dict[int, int]
     count: int
     labels: List[str]  # of the lanes, if they belong to processes
+    details: List[str]  # below the labels: the client and the node
     crowded_out: int  # bars for which there was no lane
 
 
-def lanes_of_processes(bars: List[Bar], processes: List[int]) -> Lanes:
+def lanes_of_processes(bars: List[Bar], processes: List[int], details: Dict[int, str]) -> Lanes:
     """A lane for each process, by their numbers, below one for the initial write."""
     initial = any(bar.operation.process is None for bar in bars)
     lane = {process: number + initial for number, process in enumerate(sorted(processes))}
     labels = ["initially"] * initial + [f"process {process}" for process in lane]
     calls = [(bar.begin, bar.operation.process) for bar in bars]
     lane_of = {begin: 0 if process is None else lane[process] for begin, process in calls}
-    return Lanes(lane_of, len(labels), labels, 0)
+    below = [""] * initial + [details.get(process, "") for process in lane]
+    return Lanes(lane_of, len(labels), labels, below, 0)
 
 
 def urgency(bar: Bar, axis: Axis) -> Tuple[int, int]:
@@ -52,7 +54,7 @@ def packed(bars: List[Bar], axis: Axis) -> Lanes:
         lane = free_lane(taken, (axis.begin_at(bar.begin), axis.end_at(bar.end)))
         if lane is not None:
             lane_of[bar.begin] = lane
-    return Lanes(lane_of, len(taken), [], len(bars) - len(lane_of))
+    return Lanes(lane_of, len(taken), [], [], len(bars) - len(lane_of))
 
 
 def free_lane(taken: List[List[Span]], span: Span) -> Optional[int]:

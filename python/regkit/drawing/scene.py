@@ -10,6 +10,7 @@ from regkit.drawing.lanes import MOST_PROCESSES, Lanes, lanes_of_processes, pack
 from regkit.drawing.marks import Marks
 from regkit.drawing.windows import Window, count_left_out, windows_around
 from regkit.history import Operation
+from regkit.who import shared
 
 MOST_CONTEXT = 30  # events on either side of each that matters, if they fit
 WIDEST_STEP = 36  # between two events, if the page has room
@@ -27,6 +28,7 @@ class Register:
         self.call_at.update({call.end_line: call for call in calls if call.end_line is not None})
         self.events = sorted(self.call_at)
         self.processes: Set[int] = {call.process for call in calls if call.process is not None}
+        self.details = details_of(calls)
         self.place_of = {line: place for place, line in enumerate(order, 1)}
         self.points = dict(zip(order, points))
         self.effects = Counter(points)  # line -> how many operations take effect there
@@ -47,6 +49,15 @@ class Register:
                 if call.pending or (end is not None and following < end):
                     found.append(call)
         return found
+
+
+def details_of(calls: List[Operation]) -> Dict[int, str]:
+    """What all calls of a process have in common of their client and their node, by process."""
+    found: Dict[int, List[Operation]] = {}
+    for call in calls:
+        if call.process is not None:
+            found.setdefault(call.process, []).append(call)
+    return {process: shared(calls) for process, calls in found.items()}
 
 
 class Scene(NamedTuple):
@@ -165,7 +176,7 @@ def with_initial(lines: List[List[int]], left_out: List[int],
 def lanes_of(bars: List[Bar], axis: Axis, register: Register) -> Lanes:
     processes = lane_processes([bar.operation for bar in bars], register)
     if processes:
-        return lanes_of_processes(bars, processes)
+        return lanes_of_processes(bars, processes, register.details)
     return packed(bars, axis)
 
 

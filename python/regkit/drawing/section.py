@@ -68,7 +68,7 @@ class Author:
     def room(self, marks: Marks) -> float:
         """What is left of the page's width beside the labels."""
         longest = f"process {max(self.register.processes)}"
-        return PAGE_WIDTH - gutter_of(marks, [longest]) - RIGHT
+        return PAGE_WIDTH - gutter_of(marks, [longest], list(self.register.details.values())) - RIGHT
 
     def first_read(self, found: Unexplained, marks: Marks) -> str:
         """A picture of its own for the first read that can't be explained, which may be far from the

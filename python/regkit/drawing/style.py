@@ -50,6 +50,7 @@ figcaption{font-size:13px;color:var(--dim);margin-top:4px}
 PICTURES = """
 svg text{font:11.5px MONOSPACE;fill:var(--ink)}
 text.gutter{text-anchor:end;fill:var(--dim)}
+text.detail{font-size:10px}
 text.line,text.left-out{text-anchor:middle;fill:var(--dim);font-size:10px}
 text.line.strong{fill:var(--ink);font-weight:700}
 text.left-out{font-style:italic}

@@ -4,25 +4,16 @@ import html
 import unicodedata
 from typing import List
 
-from regkit.quoting import escaped, plain
+from regkit.quoting import escaped, plain, shortened
 
 LONGEST = 96  # characters of a name that are shown; the middle of a longer one is left out
 MOST_MARKS = 2  # combining marks on one letter; more of them would climb over the lines above
-ELLIPSIS = "\u2026"
-
-
-def shortened(text: str, longest: int = LONGEST) -> str:
-    """The text, without its middle if it is longer."""
-    if len(text) <= longest:
-        return text
-    head = (longest - 1) // 2
-    return text[:head] + ELLIPSIS + text[len(text) - (longest - 1 - head):]
 
 
 def attribute(text: str) -> str:
     """The text for an attribute or a title, where nothing can isolate it: each letter that runs from right to
     left is an escape too."""
-    return html.escape(plain(shortened(text)), quote=True)
+    return html.escape(plain(shortened(text, LONGEST)), quote=True)
 
 
 def words(text: str) -> str:
@@ -35,7 +26,7 @@ def name(text: str) -> str:
     name's own letters, so that a backslash in the name isn't taken for one."""
     pieces: List[str] = []
     marks = MOST_MARKS  # so that a mark without a letter before it is an escape
-    for character in shortened(text):
+    for character in shortened(text, LONGEST):
         is_mark = unicodedata.category(character).startswith("M")
         marks = marks + 1 if is_mark else 0
         if character.isprintable() and marks <= MOST_MARKS:
