@@ -8,7 +8,6 @@ use Rattle.reg_report.specs.declared.outcome.Outcome.TheVariants.{Atomic, NotAto
 use Rattle.reg_intake.specs.declared.refusal.Refusal.{Refusal}
 use Rattle.reg_report.specs.declared.report.Report.{Report}
 use Rattle.regcheck_c.specs.declared.answer.Answer.{Answer}
-use Rattle.regcheck_c.specs.declared.status.TheConstants.{ATOMIC, NOT_ATOMIC, REFUSED, NO_MEMORY, TOO_SMALL}
 
 -- the place with a text at its beginning, if there is room for all of it; else as it was
 abbrev pub with_text : List ℕ → List ℕ → List ℕ
@@ -16,7 +15,7 @@ with_text text old = if nat_le (length text) (length old) then text ++ drop (len
 
 -- the status of a report, if there is room for so many bytes
 abbrev pub status_of_report : ℕ → Report → ℕ
-status_of_report room report = if nat_le (length (report_text report)) room then (if report.atomic then ATOMIC else NOT_ATOMIC) else TOO_SMALL
+status_of_report room report = if nat_le (length (report_text report)) room then (if report.atomic then 0 else 1) else 5
 
 -- what is said of a report
 abbrev pub answer_of_report : ℕ → Report → Answer
@@ -29,7 +28,7 @@ line_or_0 None = 0
 
 -- the status of a refusal, as the program has it
 abbrev pub status_of_refusal : Refusal → ℕ
-status_of_refusal refusal = if nat_le (number_of refusal) 15 || number_of refusal == 19 then REFUSED else NO_MEMORY
+status_of_refusal refusal = if nat_le (number_of refusal) 15 || number_of refusal == 19 then 2 else 4
 
 -- what is said of a refusal
 abbrev pub answer_of_refusal : Refusal → Answer
@@ -57,5 +56,5 @@ IsAnswered input old new answer =
 
 -- the status of an input's answer says whether its history is atomic, if it says either
 pub record TellsAtomic (input : List ℕ) (status : ℕ) : Type 0 where
-  pub atomic : status ≡ ATOMIC → IsOutcome input Atomic
-  pub not_atomic : status ≡ NOT_ATOMIC → IsOutcome input NotAtomic
+  pub atomic : status ≡ 0 → IsOutcome input Atomic
+  pub not_atomic : status ≡ 1 → IsOutcome input NotAtomic
