@@ -5,6 +5,7 @@
    that it has COSTS_PROCESSORS processors, whatever the machine has. It needs glibc, and knows the calls that the program makes. */
 #define _GNU_SOURCE
 #include <dlfcn.h>
+#include <errno.h>
 #include <fcntl.h>
 #include <malloc.h>
 #include <pthread.h>
@@ -84,6 +85,11 @@ int open(const char *path, int how, ...)
     int mode = how & O_CREAT ? va_arg(more, int) : 0;
     va_end(more);
     add(&system_calls);
+    // A container's share of the processors would be one more answer to how many there are.
+    if (strcmp(path, "/sys/fs/cgroup/cpu.max") == 0) {
+        errno = ENOENT;
+        return -1;
+    }
     return (int)syscall(SYS_openat, AT_FDCWD, path, how, mode);
 }
 
