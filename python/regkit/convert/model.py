@@ -13,6 +13,7 @@ READS = frozenset({"read", "r", "get"})
 WRITES = frozenset({"write", "w", "put", "set"})
 READ_AND_WRITE = frozenset({"cas", "append"})  # operations that read and write at once
 KNOWN = READS | WRITES | READ_AND_WRITE
+ENDINGS = {"ok": "reply", "fail": "fail", "unknown": None}  # by outcome, what ends an operation
 
 
 class Refused(Exception):
@@ -52,17 +53,32 @@ def counted(number: int, what: str) -> str:
 
 
 class Choices(NamedTuple):
-    """What the command line says of a source."""
+    """What the command line says of a source. Its words for operations, outcomes and members are folded."""
 
     form: str
     register: str = "x"  # the one register of a source without keys
     keys: str = "auto"
     nulls: FrozenSet[str] = frozenset()
     initial: Optional[str] = None
+    values: str = "auto"
     cas: str = "refuse"
     columns: Dict[str, str] = {}
+    delimiter: Optional[str] = None
+    ops: Dict[str, str] = {}  # the source's word for an operation -> read, write or cas
+    outcomes: Dict[str, str] = {}  # the source's word for an outcome -> ok, fail or unknown
+    ok_when: Dict[str, FrozenSet[str]] = {}  # a member -> the words in it that say that all went well
+    ignored: FrozenSet[str] = frozenset()  # members that mean nothing
     clock_error: Optional[str] = None
     clock_unit: Optional[str] = None
+
+    def kind_of(self, word: str) -> str:
+        """What a word of the source does, if the command line says so; else the word."""
+        return self.ops.get(folded(word), word) if self.ops else word
+
+
+def folded(word: str) -> str:
+    """A word of the source or of the command line, as both are compared: of any case, with a colon or without."""
+    return word.strip().lstrip(":").lower()
 
 
 class Source:
@@ -71,6 +87,7 @@ class Source:
     def __init__(self, steps: List[Operation]) -> None:
         self.steps = steps
         self.left_out: Dict[str, int] = Counter()  # which lines were left out -> how many
+        self.skipped = ""  # what --cas skip-key left out, in words
         self.notes: List[str] = []  # what else a person should know
 
     def moments(self) -> Iterator[Tuple[Operation, bool]]:
