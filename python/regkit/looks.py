@@ -91,8 +91,8 @@ def nearly(history: bytes, file: str) -> Optional[str]:
     beginning = history[:ENOUGH].lstrip()
     if beginning.startswith(b"["):
         form = form_of(beginning)
-        how = f"`regkit convert --from {form} {file}`" if form else "write each event on one line, as `jq -c '.[]'` does"
-        return f"this looks like a JSON array: {how}"
+        how = "write each event on one line, as `jq -c '.[]'` does"
+        return f"this looks like a JSON array: {f'`regkit convert --from {form} {file}`' if form else how}"
     if beginning.startswith(b"{") and not is_json(beginning.split(b"\n")[0]) and is_json(history):
         return "this is one JSON object over several lines: write each event on one line, as `jq -c` does"
     return None

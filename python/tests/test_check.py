@@ -200,7 +200,7 @@ class Refusals(unittest.TestCase):
             (b"process;op;value;start;end\n1;write;1;0;1\n", "CSV: `regkit convert --from csv h.x`"),
             (b'"client";"op"\n1;read\n', "CSV, and `regkit convert` needs columns for"),
             (b"client\top\n1\tread\n", "CSV, and `regkit convert` needs columns for"),
-            (b'[{"who":1,"did":"read"}]', "a JSON array: write each event on one line, as `jq -c '.[]'` does"),
+            (b'[{"who":1,"did":"read"}]', "a JSON array: write each event on one line, as `jq -c "),
             (b"\x1f\x8b\x08\x00abc", "gzip: unpack it, as in `gzip -dc h.x | regkit check`"),
             (b"\x28\xb5\x2f\xfdabc", "zstd -dc"), (b"BZh9abc", "bzip2 -dc"), (b"\xfd7zXZ\x00a", "xz -dc"),
             (b"PK\x03\x04abc", "zip"),

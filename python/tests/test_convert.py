@@ -2,19 +2,24 @@
 import gzip
 import json
 import subprocess
+import pathlib
 import sys
+import tempfile
 import unittest
 from typing import List, Sequence, Tuple
 
 from regkit.checker import run_checker
 from regkit.convert.summary import too_large
 from tests.convert_support import SAMPLES, run, short
+from tests.events import run as command
 
 TIMES = ("--columns", "process=client,register=key,outcome=status")
-WORDS = ("--columns", "process=wer,start=wann,end=fertig,op=was,register=Schl\u00fcssel,value=Wert,outcome=Ergebnis",
-         "--ops", "lies=read,setze=write", "--outcomes", "gut=ok,abgelehnt, zu alt=fail,Zeit um=unknown",
+WORDS = ("--columns", "process=wer,start=wann,end=fertig,op=was,register=Schl\u00fcssel,value=Wert,"
+         "outcome=Ergebnis", "--ops", "lies=read,setze=write",
+         "--outcomes", "gut=ok,abgelehnt, zu alt=fail,Zeit um=unknown",
          "--ignore-member", "Knoten", "--ignore-member", "Version")
-VERSIONS = ("--ignore-member", "Version", "--ok-when", "Err=OK", "--null", ",ErrNoKey", "--outcomes", "ErrVersion=fail")
+VERSIONS = ("--ignore-member", "Version", "--ok-when", "Err=OK", "--null", ",ErrNoKey",
+            "--outcomes", "ErrVersion=fail")
 OUTCOMES = ("--ops", "fetch=read", "--ok-when", "code=200", "--ignore-member", "value", "--null", "404",
             "--outcomes", "timeout=unknown,409=fail")
 
@@ -196,12 +201,36 @@ class Jepsen(unittest.TestCase):
         )
         self.check(source, ["0 w 1 5", "0 .", "2 r 1", "2 = 5"], "--cas", "skip-key")
         told = run(source, "jepsen", "--cas", "skip-key").told
-        self.assertIn("left out 2 of 4 operations, on 1 of 2 keys, since cas or append touches these: 2\n", told)
+        self.assertIn("left out 2 of 4 operations, since something else than reads and writes touches "
+                      "1 of 2 keys: 2\n", told)
 
     def test_plain_cas_isnt_taken_for_keys(self) -> None:
         ran = run(jepsen("0 invoke cas [1 2]", "0 ok cas [1 2]"), "jepsen", "--cas", "skip-key")
         self.assertEqual(ran.status, 2)
-        self.assertIn("nothing is left to check: --cas skip-key left out 1 of 1 operation, on 1 of 1 key", ran.told)
+        self.assertIn("nothing is left to check: --cas skip-key left out 1 of 1 operation, since", ran.told)
+
+    def test_cas_skip_key_may_leave_too_little(self) -> None:
+        """What is left is no yes: `regkit check` wants a completed read."""
+        source = jepsen("0 invoke write [1 5]", "0 ok write [1 5]", "1 invoke cas [2 [3 4]]",
+                        "2 invoke read [2 nil]", "2 ok read [2 3]")
+        ran = run(source, "jepsen", "--cas", "skip-key")
+        self.assertEqual(short(ran.history), ["0 w 1 5", "0 ."], ran.told)
+        self.assertIn("left out 2 of 3 operations, since something else than reads and writes touches 1 ",
+                      ran.told)
+        self.assertIn("no read is left that was completed, so that a yes would say nothing", ran.told)
+        with tempfile.TemporaryDirectory() as folder:
+            path = pathlib.Path(folder) / "left.jsonl"
+            path.write_text(ran.history, encoding="utf-8")
+            self.assertEqual(command("check", str(path)).status, 5)
+
+    def test_an_append_transaction_gets_one_refusal(self) -> None:
+        """Even behind a transaction that is refused for another reason, and whatever the options say."""
+        longer = TXN % "[[:r 1 nil] [:r 2 nil]]" + TXN.replace(":process 0", ":process 1") % "[[:append 3 1]]"
+        for options in [(), ("--cas", "skip-key"), ("--ops", "append=write"), ("--keys", "none")]:
+            ran = run(longer, "jepsen", *options)
+            self.assertEqual(ran.status, 2)
+            self.assertIn("line 2: a transaction appends to a list", ran.told)
+            self.assertIn("so no option converts it: check such histories with Elle", ran.told)
 
 
 def row(process: object, op: str, value: object, *times: object, **others: str) -> str:
@@ -302,6 +331,20 @@ class Timed(unittest.TestCase):
             "r",
         )
         self.assertEqual(short(ran.history), ["7 w r 3", "7 ."], ran.told)
+
+    def test_delimiters(self) -> None:
+        rows = HEADER + row(0, "write", "a", 0, 1) + row(1, "read", "a", 2, 3)
+        expected = run(rows, "csv").history
+        for delimiter, options in [(";", ()), ("\t", ()), ("|", ()), (":", ("--delimiter", ":")),
+                                   (";", ("--delimiter", ";")), ("\t", ("--delimiter", "tab")),
+                                   ("\t", ("--delimiter", "\\t"))]:
+            with self.subTest(delimiter, options=options):
+                ran = run(rows.replace(",", delimiter), "csv", *options)
+                self.assertEqual((ran.status, ran.history), (0, expected), ran.told)
+        ran = run(rows.replace(",", ";").replace("a;", '"a,b;c";'), "csv", "--map")
+        self.assertEqual(ran.map and ran.map["values"], {"x": {"1": "a,b;c"}})
+        told = run(rows, "csv", "--delimiter", ";").told
+        self.assertIn("say what stands between its fields with --delimiter C", told)
 
     def test_a_field_may_have_line_ends(self) -> None:
         ran = run(HEADER + row(0, "write", '"a\nb"', 0, 1) + row(0, "write", "c", 2, 3), "csv", "--map")
@@ -418,6 +461,54 @@ class Values(unittest.TestCase):
         self.assertEqual(json.loads(report.splitlines()[0])["regular"], "yes")
 
 
+class Suspects(unittest.TestCase):
+    """Reads of values that nothing writes, where the conversion may be wrong and not the store."""
+
+    def test_what_may_spell_null_or_be_there_from_the_start(self) -> None:
+        for value in ("nil", "None", "(nil)", "NULL", "not found", "-1", "0", "undefined", "b'none'"):
+            with self.subTest(value):
+                ran = run(HEADER + row(0, "write", 7, 0, 1) + row(1, "read", value, 0, 3), "csv")
+                self.assertEqual(ran.status, 2, ran.history)
+                self.assertIn("which nothing writes to x: say ", ran.told)
+                self.assertIn("or --initial=null if the store was wrong to give it", ran.told)
+
+    def test_a_value_that_is_written_is_a_value(self) -> None:
+        for value in ("nil", "-1", "0", "undefined"):
+            with self.subTest(value):
+                ran = run(HEADER + row(0, "write", value, 0, 1) + row(1, "read", value, 0, 3), "csv")
+                self.assertEqual(ran.status, 0, ran.told)
+
+    def test_a_value_that_no_one_may_mean_is_a_fault(self) -> None:
+        ran = run(HEADER + row(0, "write", "v1", 0, 1) + row(1, "read", "v2", 0, 3), "csv")
+        self.assertEqual(short(ran.history), ["0 w x 1", "1 r x", "0 .", "1 = 2"], ran.told)
+
+    def test_values_that_are_spelled_alike(self) -> None:
+        for written, read in [("1", '"1"'), ('"1"', "1"), (":a", '"a"'), ("1", "1.0"),
+                              ('"v"', "\"b'v'\""), ('" v"', '"v"')]:
+            source = jepsen(f"0 invoke write {written}", f"0 ok write {written}", "1 invoke read nil",
+                            f"1 ok read {read}")
+            with self.subTest(source):
+                told = run(source, "jepsen").told
+                self.assertIn("a value of another kind that is spelled alike is written there", told)
+                self.assertEqual(len(set(short(run(source, "jepsen", "--values", "exact").history))), 4)
+                alike = short(run(source, "jepsen", "--values", "alike").history)
+                self.assertEqual(alike[0].split()[-1], alike[-1].split()[-1], alike)
+
+    def test_values_that_are_alike_are_written_once(self) -> None:
+        source = jepsen("0 invoke write 1", "0 ok write 1", '0 invoke write "1"', '0 ok write "1"')
+        self.assertEqual(run(source, "jepsen").status, 0)
+        self.assertIn("1 is written to x again", run(source, "jepsen", "--values", "alike").told)
+
+    def test_an_object_is_no_value(self) -> None:
+        for value in ('#object[a.b 0x1f "a.b@1f"]', '#error {:cause nil}'):
+            read, write = jepsen("0 invoke read nil", f"0 ok read {value}"), jepsen(f"0 invoke write {value}")
+            for source in (read, write):
+                with self.subTest(source):
+                    self.assertIn("only names an object of Clojure", run(source, "jepsen").told)
+        ran = run(jepsen('0 invoke write #inst "2026-11-28"', "0 ok write nil"), "jepsen")
+        self.assertEqual(short(ran.history), ["0 w x 1", "0 ."], ran.told)
+
+
 class Names(unittest.TestCase):
     def names(self, *keys: str) -> List[str]:
         source = jepsen(*(f"{place} invoke write [{key} 1]" for place, key in enumerate(keys)))
@@ -490,6 +581,19 @@ REFUSALS: List[Tuple[str, str, Sequence[str], str]] = [
      "line 2: the reply of a write has the value 2, and its call, at l"),
     ("jepsen", jepsen("0 start read nil"), (),
      "line 1: :type is :start, and :invoke, :ok, :fail or :info is expected"),
+    ("jepsen", '{:process "alice", :type :invoke, :f :write, :value 1}', (),
+     'line 1: :process is "alice", and its :f is :write: give each client a whole number'),
+    ("jepsen", "{:type :invoke, :f :read, :value 1}", (), "line 1: :process is nil, and its :f is :read"),
+    ("jepsen", "[[1 2]]", (), "line 1: no operation: a map such as"),
+    ("jepsen", jepsen("0 invoke read 4, :index 4", "0 ok read 4, :index 3"), (),
+     "line 2: :index is 3, and an earlier line's 4: the order of the lines is the order of time"),
+    ("jepsen", '[{"process":0,"type":"invoke","f":"read"}\n,7]', (),
+     "line 2: no operation: an object such as"),
+    ("jepsen", "INFO - :invoke :read nil", (), "line 1: no process before the operation: INFO - :in"),
+    ("jepsen", jepsen("0 invoke push 1"), ("--ops", "push=other"),
+     "line 1: by --ops this is neither a read nor a write: leave out the keys that it touches with --cas"),
+    ("jepsen", "{:process 0, :type :invoke, :f :read, :f :write}", (),
+     "line 1: not EDN: a map with the key :f twice"),
     ("jepsen", "{:process 0, :type :invoke, :f 3}", (),
      "line 1: :f is 3, and a keyword such as :read is expected"),
     ("jepsen", "{:process 0}\n[1 2]", (), "line 1: :type is nil, and"),
@@ -505,8 +609,8 @@ REFUSALS: List[Tuple[str, str, Sequence[str], str]] = [
     ("jepsen", TXN % "[[:w 1 2] [:r 1 nil]]", (),
      "line 1: a transaction of 2 operations, and registers have single"),
     ("jepsen", TXN % "[[:append 1 2]]", (),
-     "line 1: a transaction appends to a list, and regcheck judges registers, which are read and written whole, "
-     "so no option converts it"),
+     "line 1: a transaction appends to a list, and regcheck judges registers, which are read and written "
+     "whole, so no option converts it"),
     ("jepsen", TXN % "7", (), "line 1: 7 is no transaction of one read or write, such as [[:w 3 1]]"),
     ("jepsen", TXN % "[[:w 1 2]]" + "{:process 0, :type :ok, :f :txn, :value [[:r 1 2]]}", (),
      "line 2: the reply's transaction isn't"),
@@ -583,6 +687,15 @@ WRONG_WORDS: List[Tuple[str, Sequence[str], str]] = [
     ("csv", ("--columns", "process"), "--columns process: COLUMN=NAME is expected"),
     ("csv", ("--clock-error", "soon"), "--clock-error soon: a number with ns, us, ms or s is expected"),
     ("csv", ("--clock-error", "5ms"), "--clock-error 5ms needs --clock-unit ns, us, ms or s"),
+    ("jsonl", ("--delimiter", ";"), "--delimiter is for csv, not for jsonl"),
+    ("csv", ("--delimiter", "::"), "--delimiter ::: one character is expected, or comma, semicolon or tab"),
+    ("csv", ("--ops", "get"), "--ops get: WORD=MEANING,.. is expected, with one of read, write, other for"),
+    ("csv", ("--ops", "get=fetch"), "--ops get=fetch: WORD=MEANING,.. is expected"),
+    ("csv", ("--ops", "a=read,a=write"), "--ops: a is given two meanings"),
+    ("csv", ("--outcomes", "late=reply"),
+     "--outcomes late=reply: WORD=MEANING,.. is expected, with one of ok, fail, un"),
+    ("csv", ("--ok-when", "status"),
+     "--ok-when status: MEMBER=WORD,.. is expected, such as status=200 or error="),
     ("csv", ("--to", "jepsen", "--map"), "--map describes a history for regcheck: leave out --to, or --map"),
 ]
 

@@ -240,7 +240,8 @@ class RoundTrips(unittest.TestCase):
                 {"process": 0, "op": "read", "register": "x", "value": value, "start": place, "end": place}
                 for place, value in enumerate(values)
             ]
-            ran = run("\n".join(map(json.dumps, rows)), "operations", "--map", "--values", "exact", "--initial", "null")
+            exactly = ("--values", "exact", "--initial", "null")
+            ran = run("\n".join(map(json.dumps, rows)), "operations", "--map", *exactly)
             numbers = [event["value"] for event in ran.events if event["event"] == "reply"]
             for one, its in zip(values, numbers):
                 if type(one) is int or one is None:

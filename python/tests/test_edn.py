@@ -59,8 +59,8 @@ class Reading(unittest.TestCase):
         self.assertEqual((tagged.tag, tagged.value), ("jepsen.history.Op", {":index": 0}))
         self.assertEqual(edn.write(read('#a #b [1]')[0]), "#a #b [1]")
         for text in ['#object[jepsen.os$fn__1 0x5c29bfd "jepsen.os$fn__1@5c29bfd"]', "#inst \"2026-11-28\"",
-                     "#error {:cause nil, :trace [[a.b$c invoke \"c.clj\" 829]]}", '#"\\d+\\["', "[#'a.b/c 1]",
-                     "#:a{:b 1}"]:
+                     "#error {:cause nil, :trace [[a.b$c invoke \"c.clj\" 829]]}", '#"\\d+\\["',
+                     "[#'a.b/c 1]", "#:a{:b 1}"]:
             with self.subTest(text):
                 value, = read(text)
                 self.assertEqual(list(map(edn.write, read(edn.write(value)))), [edn.write(value)])

@@ -68,15 +68,16 @@ class _Log:
         if outcome is not None:
             return ENDINGS[outcome]
         option = shlex.quote(f"{what}=unknown") if type(what) is str else "WORD=unknown"
-        raise Refused(f"event is {said}, and call, reply, fail or crash is expected: if it ends a call, say with "
-                      f"--outcomes {option} what it means (or ok, or fail, if it surely had no effect)", line)
+        raise Refused(f"event is {said}, and call, reply, fail or crash is expected: if it ends a call, say "
+                      f"with --outcomes {option} what it means (or ok, or fail, if it surely had no "
+                      "effect)", line)
 
     def _agree(self, event: Event, called: Operation, line: int) -> None:
         """A reply or a failure repeats its call's op and register, if it has them."""
         op = event.get("op")
         if op is not None and self.choices.kind_of(op if type(op) is str else edn.write(op)) != called.kind:
-            raise Refused(f"op is {edn.write(op)}, and the call at line {called.line} has {edn.write(called.kind)}: is "
-                          "it the answer to another call?", line)
+            raise Refused(f"op is {edn.write(op)}, and the call at line {called.line} has "
+                          f"{edn.write(called.kind)}: is it the answer to another call?", line)
         register = event.get("register")
         if register is not None and edn.write(register) != edn.write(called.key):
             raise Refused(f"register is {edn.write(register)}, and the call at line {called.line} has "
@@ -87,6 +88,6 @@ class _Log:
         ending, found_nothing = self.outcomes.of(event, called.kind in READS)
         if called.kind in READS and not found_nothing and ending == "reply" and "value" not in event:
             raise Refused("a read's reply has no value: write null if the read found none", line)
-        told = called.kind not in WRITES or not {"value"} & (self.choices.ignored | set(self.choices.ok_when))
+        told = called.kind not in WRITES or not self.choices.explains("value")
         called.answer = event.get("value") if told and not found_nothing else None
         return ending

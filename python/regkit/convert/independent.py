@@ -55,6 +55,7 @@ def part(operation: Operation) -> None:
     answered = pair_of(operation.answer)
     if answered is None or (answered[0] is not called[0] and edn.write(answered[0]) != edn.write(called[0])):
         raise Refused(f"the reply's value {edn.write(operation.answer)} doesn't have the key "
-                      f"{edn.write(called[0])} of the call at line {operation.line}: let the client reply with the "
-                      "key and the value, or say --keys none if the values are none", operation.end_line)
+                      f"{edn.write(called[0])} of the call at line {operation.line}: let the client reply "
+                      "with the key and the value, or say --keys none if there are no keys",
+                      operation.end_line)
     operation.answer = answered[1]

@@ -65,8 +65,8 @@ def _json_events(lines: Iterable[str]) -> Iterator[Tuple[int, Event]]:
     """Objects of JSON as EDN would have them."""
     for line, value in json_values(lines):
         if not isinstance(value, dict):
-            raise Refused('no operation: an object such as {"process":0,"type":"invoke","f":"read","value":null} '
-                          "is expected", line)
+            raise Refused("no operation: an object such as "
+                          '{"process":0,"type":"invoke","f":"read","value":null} is expected', line)
         event = {":" + name.lstrip(":"): _as_edn(member) for name, member in value.items()}
         if type(event.get(":type")) is str:
             event[":type"] = edn.Keyword(":" + event[":type"].lstrip(":"))
@@ -115,8 +115,8 @@ class _Log:
         """Counts a line that is no client's. A client's would be missed, so it isn't left out."""
         function = self.choices.kind_of(folded(spelled(event.get(":f"))))
         if folded(spelled(client)) != "nemesis" and (function in KNOWN or function == "txn"):
-            raise Refused(f":process is {edn.write(client)}, and its :f is {edn.write(event[':f'])}: give each client "
-                          "a whole number", line)
+            raise Refused(f":process is {edn.write(client)}, and its :f is {edn.write(event[':f'])}: give "
+                          "each client a whole number", line)
         if client is None:
             name = "without a process"
         elif client == NO_OPERATION:
@@ -145,8 +145,8 @@ class _Log:
         index = event.get(":index")
         if type(index) is int:
             if index < self.index:
-                raise Refused(f":index is {index}, and an earlier line's {self.index}: the order of the lines is the "
-                              "order of time, so sort them by :index", line)
+                raise Refused(f":index is {index}, and an earlier line's {self.index}: the order of the "
+                              "lines is the order of time, so sort them by :index", line)
             self.index = index
 
     def _function(self, event: Event, line: int) -> str:
@@ -158,8 +158,9 @@ class _Log:
     def _other_ending(self, kind: str, line: int) -> Optional[str]:
         outcome = self.choices.outcomes.get(folded(kind))
         if outcome is None:
-            raise Refused(f":type is {kind}, and :invoke, :ok, :fail or :info is expected: say what it means with "
-                          f"--outcomes {folded(kind)}=unknown (or ok, or fail, if it surely had no effect)", line)
+            raise Refused(f":type is {kind}, and :invoke, :ok, :fail or :info is expected: say what it means "
+                          f"with --outcomes {folded(kind)}=unknown (or ok, or fail, if it surely had no "
+                          "effect)", line)
         return ENDINGS[outcome] or "crash"
 
     def _agree(self, client: int, event: Event, line: int) -> None:
@@ -181,22 +182,18 @@ class _Log:
                 answer = nothing_for(called.value)
             elif is_read and ending == "reply" and ":value" not in event:
                 raise Refused("the reply of a read has no :value: let it be nil if the read found none", line)
-            elif called.kind in WRITES and self._means_nothing("value"):
+            elif called.kind in WRITES and self.choices.explains("value"):
                 answer = called.value
         self.pairing.end(line, client, ending, answer)
 
     def _looked_closer(self, event: Event, is_read: bool, line: int) -> Ended:
         """How an operation ended that is :ok. An error beside that is a contradiction."""
         for name in _ERRORS:
-            if event.get(name) is not None and not self._means_nothing(folded(name)):
-                raise Refused(f"the operation is :ok and has {name} {edn.write(event[name])[:60]}: say --ok-when "
-                              f"{name[1:]}= if it took place only without one, or --ignore-member {name[1:]} if that "
-                              "means nothing", line)
+            if event.get(name) is not None and not self.choices.explains(folded(name)):
+                raise Refused(f"the operation is :ok and has {name} {edn.write(event[name])[:60]}: say "
+                              f"--ok-when {name[1:]}= if it took place only without one, or --ignore-member "
+                              f"{name[1:]} if that means nothing", line)
         return self.outcomes.of(event, is_read)
-
-    def _means_nothing(self, name: str) -> bool:
-        """Whether the options say what a member means."""
-        return name in self.choices.ignored or name in self.choices.ok_when
 
     def _found_no_key(self, event: Event) -> bool:
         """Whether a read failed because the key has no value: that is a read of null."""

@@ -15,8 +15,8 @@ Event = Dict[Any, Any]
 
 NO_OPERATION = "of the log that record no operation"
 _TYPES = "invoke|ok|fail|info"
-_LINE = re.compile(rf"(?:^|\s)(:?[\w-]+)\s+:({_TYPES})\s+(:[^\s,]+)(.*)", re.DOTALL)
-_BARE = re.compile(rf"\s*(:?[\w-]+)\s+({_TYPES})\s+([^\s,:]+)(.*)", re.DOTALL)  # without the colons
+_LINE = re.compile(rf"(?:^|\s)(:?\w[\w-]*)\s+:({_TYPES})\s+(:[^\s,]+)(.*)", re.DOTALL)
+_BARE = re.compile(rf"\s*(:?\w[\w-]*)\s+({_TYPES})\s+([^\s,:]+)(.*)", re.DOTALL)  # without the colons
 _LOST = re.compile(r"(?:^|\s):(?:invoke|ok)\s+:\w")  # an operation, but whose?
 
 
@@ -35,7 +35,7 @@ def line_events(lines: Iterable[str]) -> Iterator[Tuple[int, Event]]:
 
 def _event(who: str, kind: str, function: str, values: List[Any]) -> Event:
     event: Event = {":process": int(who) if who.isdecimal() else edn.Keyword(who), ":type": ":" + kind,
-                    ":f": ":" + function}
+                    ":f": edn.Keyword(":" + function)}
     event.update(zip((":value", ":error"), values))
     return event
 

@@ -23,7 +23,8 @@ def _object(members: List[Tuple[str, Any]]) -> Dict[str, Any]:
 
 # Numbers with a fraction stay as exact as they are written: they may be times.
 _DECODER = json.JSONDecoder(parse_float=Decimal, parse_constant=_no_constant, object_pairs_hook=_object)
-_BEGINS = re.compile(r'\s*(?:\[\s*)?(?:\{\s*(?:"|\}\s*$)|\]\s*$)')  # as objects or an array of them in JSON, not in EDN
+# Objects of JSON, or an array of them, and not maps of EDN; and what may yet be either.
+_BEGINS = re.compile(r'\s*(?:\[\s*)?(?:\{\s*(?:"|\}\s*$)|\]\s*$)')
 _UNDECIDED = re.compile(r"\s*(?:\[\s*)?(?:\{\s*)?")
 
 

@@ -67,10 +67,10 @@ class Known:
 
 def _not_understood(what: str, name: str, value: Any) -> str:
     quoted = shlex.quote(name)
-    column = f"--columns outcome={quoted} if it is the outcome, " if what == "column" else ""
+    column = f"--columns outcome={quoted} if it is the outcome, " if what == "column" and name else ""
     return (f"the {what} {quoted} isn't understood, and it may tell the outcome (here it is "
-            f"{edn.write(value)[:_LONGEST]}): say {column}--ok-when {quoted}=WORD,.. with the words in it by which the "
-            f"operation took place, or --ignore-member {quoted} if it means nothing")
+            f"{edn.write(value)[:_LONGEST]}): say {column}--ok-when {quoted}=WORD,.. with the words in it by "
+            f"which the operation took place, or --ignore-member {quoted} if it means nothing")
 
 
 def word_of(value: Any) -> str:
@@ -121,8 +121,8 @@ class Outcomes:
     def notes(self) -> Iterator[str]:
         for (name, word), number in sorted(self.unknown.items()):
             said = f"{name} {word}" if word else f"no {name}"
-            yield (f"took {counted(number, 'operation')} with {said} as of unknown outcome: if that means that it "
-                   f"surely had no effect, say --outcomes {shlex.quote(word + '=fail')}")
+            yield (f"took {counted(number, 'operation')} with {said} as of unknown outcome: if that means "
+                   f"that it surely had no effect, say --outcomes {shlex.quote(word + '=fail')}")
 
 
 def by_folded_name(members: Mapping[Any, Any]) -> Dict[str, Any]:

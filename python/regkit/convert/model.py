@@ -1,5 +1,6 @@
 """What every reader gives: the source's operations, in the order in which they were called and ended."""
 from collections import Counter
+from functools import lru_cache
 from typing import Any, Dict, FrozenSet, Iterator, List, NamedTuple, Optional, Set, Tuple, Union
 
 Client = Union[int, str]
@@ -12,6 +13,7 @@ MOST_PROCESS = 2 ** 32 - 1
 READS = frozenset({"read", "r", "get"})
 WRITES = frozenset({"write", "w", "put", "set"})
 READ_AND_WRITE = frozenset({"cas", "append"})  # operations that read and write at once
+OTHER = "other"  # by --ops, an operation that is neither a read nor a write
 KNOWN = READS | WRITES | READ_AND_WRITE
 ENDINGS = {"ok": "reply", "fail": "fail", "unknown": None}  # by outcome, what ends an operation
 
@@ -64,7 +66,7 @@ class Choices(NamedTuple):
     cas: str = "refuse"
     columns: Dict[str, str] = {}
     delimiter: Optional[str] = None
-    ops: Dict[str, str] = {}  # the source's word for an operation -> read, write or cas
+    ops: Dict[str, str] = {}  # the source's word for an operation -> read, write or other
     outcomes: Dict[str, str] = {}  # the source's word for an outcome -> ok, fail or unknown
     ok_when: Dict[str, FrozenSet[str]] = {}  # a member -> the words in it that say that all went well
     ignored: FrozenSet[str] = frozenset()  # members that mean nothing
@@ -75,9 +77,14 @@ class Choices(NamedTuple):
         """What a word of the source does, if the command line says so; else the word."""
         return self.ops.get(folded(word), word) if self.ops else word
 
+    def explains(self, *members: str) -> bool:
+        """Whether the command line says what one of some members means."""
+        return any(member in self.ignored or member in self.ok_when for member in members)
 
+
+@lru_cache(maxsize=10_000)  # a source says few words very often
 def folded(word: str) -> str:
-    """A word of the source or of the command line, as both are compared: of any case, with a colon or without."""
+    """A word of the source or of the command line, as both are compared: in any case, with a colon or not."""
     return word.strip().lstrip(":").lower()
 
 

@@ -25,7 +25,7 @@ from regkit.convert.values import spelled
 
 # Operations in Porcupine's models: the key-value model has numbers, the register says whether it is a read.
 _OPS = {"0": "get", "1": "put", "2": "append", "true": "get", "false": "put"}
-_READS_BY_HABIT = {"0": "0=write,1=read", "true": "true=write,false=read"}  # and --ops for the other way round
+_READS_BY_HABIT = {"0": "0=write,1=read", "true": "true=write,false=read"}  # and --ops for the contrary
 _KINDS = {"call": True, "callevent": True, "false": True, "0": True,
           "return": False, "returnevent": False, "true": False, "1": False}
 _END_OF_TIME = 2 ** 63 - 1  # math.MaxInt64, which stands for no return
@@ -72,8 +72,8 @@ class _Values:
         """The operation that an input describes."""
         found = by_folded_name(given) if isinstance(given, dict) else {}
         if found.get("op") is None:
-            raise Refused("the input has no member Op: let it have Op (get or put), Key and Value, exported, so "
-                          "that Go's encoding/json writes them", line)
+            raise Refused("the input has no member Op: let it have Op (get or put), Key and Value, exported, "
+                          "so that Go's encoding/json writes them", line)
         self.known["input"].check(given, line)
         word = spelled(found["op"]).lower()
         kind = self.choices.kind_of(word)
@@ -85,7 +85,7 @@ class _Values:
         return Operation(line, client, kind, found.get("key", self.choices.register), found.get("value"))
 
     def _end(self, operation: Operation, output: Any, beside: Members, line: int) -> Optional[str]:
-        """Gives an operation its answer: the member Value of its output, or the output. Returns its ending."""
+        """Gives an operation its answer, the output or its member Value. Returns the operation's ending."""
         members: Members = {} if output is None else {"output": output}
         if isinstance(output, dict):
             self.known["output"].check(output, line)
@@ -94,7 +94,7 @@ class _Values:
         ending, found_nothing = self.outcomes.of({**beside, **members}, is_read)
         if is_read and not found_nothing and ending == "reply":
             operation.answer = self._read(members, line)
-        elif operation.kind in WRITES and not {"output", "value"} & (self.choices.ignored | set(self.choices.ok_when)):
+        elif operation.kind in WRITES and not self.choices.explains("output", "value"):
             operation.answer = _written(members)
         return ending
 
@@ -102,8 +102,8 @@ class _Values:
         for name in ("value", "output"):
             if name in members:
                 return members[name]
-        raise Refused("the output of a get has no member Value: write one, exported and without omitempty, or null "
-                      "there if the get found none; leave out Return if it had no answer", line)
+        raise Refused("the output of a get has no member Value: write one, exported and without omitempty, "
+                      "or null there if the get found none; leave out Return if it had no answer", line)
 
     def _take_event(self, event: Members, members: Members, line: int) -> None:
         word = spelled(members["kind"]).lower()

@@ -49,8 +49,8 @@ class Rows:
             operation.ending = None
         found_nothing = self._found_nothing(operation, row.members)
         if value is ABSENT and not found_nothing and operation.ending == "reply" and kind in READS:
-            raise Refused(f"a read without {self.choices.columns['value']}: write null if it found none, or say "
-                          "which member is the value with --columns value=NAME", row.line)
+            raise Refused(f"a read without {self.choices.columns['value']}: write null if it found none, or "
+                          "say which member is the value with --columns value=NAME", row.line)
         self.timed.add(operation, start, end, self.names)
 
     def _found_nothing(self, operation: Operation, members: Members) -> bool:
@@ -67,9 +67,10 @@ class Rows:
         if self.choices.outcomes and folded(word) in self.choices.outcomes:
             return ENDINGS[self.choices.outcomes[folded(word)]]
         if word.lower() not in OUTCOMES:
-            raise Refused(f"the outcome is {word}, and ok, fail, unknown or info is expected: say what it means "
-                          f"with --outcomes {shlex.quote(word + '=unknown')} (or ok, or fail, if it surely had no "
-                          "effect), or which column is the outcome with --columns outcome=NAME", row.line)
+            raise Refused(f"the outcome is {word}, and ok, fail, unknown or info is expected: say what it "
+                          f"means with --outcomes {shlex.quote(word + '=unknown')} (or ok, or fail, if it "
+                          "surely had no effect), or which column is the outcome with --columns "
+                          "outcome=NAME", row.line)
         if outcome is not None and not word:
             self.empty = self.empty or row.line
         elif word.lower() == "ok":
@@ -78,8 +79,8 @@ class Rows:
 
     def source(self) -> Source:
         if self.empty and self.well:
-            raise Refused(f"the outcome is empty, and at line {self.well} it is ok: say --outcomes =ok if empty "
-                          "means ok too, or --outcomes =unknown", self.empty)
+            raise Refused(f"the outcome is empty, and at line {self.well} it is ok: say --outcomes =ok if "
+                          "empty means ok too, or --outcomes =unknown", self.empty)
         source = self.timed.source(self.choices)
         source.notes.extend(self.outcomes.notes())
         settle(source, self.choices)

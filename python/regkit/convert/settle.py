@@ -5,8 +5,8 @@ from typing import Any, Callable, Dict, List, Set
 
 from regkit import edn
 from regkit.convert.members import WRITE_ANSWERS
-from regkit.convert.model import (READ_AND_WRITE, READS, WRITES, Choices, Operation, Refused, Source, Value,
-                                  counted)
+from regkit.convert.model import (OTHER, READ_AND_WRITE, READS, WRITES, Choices, Operation, Refused, Source,
+                                  Value, counted)
 from regkit.convert.values import ALL_TEXTS, readable, settled, shown
 
 _OPAQUE = frozenset({"object", "error"})  # tags of values that can't be compared by how they are written
@@ -19,7 +19,7 @@ def settle(source: Source, choices: Choices) -> None:
     operations = list(source.operations())
     for operation in operations:
         _settle_key(operation, keys)
-        if operation.kind in READ_AND_WRITE and choices.cas == "skip-key":
+        if (operation.kind in READ_AND_WRITE or operation.kind == OTHER) and choices.cas == "skip-key":
             skipped.add(operation.key)
     if skipped:
         _skip(source, operations, skipped)
@@ -50,8 +50,8 @@ def _skip(source: Source, operations: List[Operation], skipped: Set[str]) -> Non
     source.steps = [step for step in source.steps if step.key not in skipped or step.kind == "crash"]
     named: List[str] = sorted(readable(skipped).values())
     names = ", ".join(named[:5]) + (f" and {len(named) - 5} more" if len(named) > 5 else "")
-    source.skipped = (f"left out {left:,} of {counted(len(operations), 'operation')}, on {len(skipped):,} of "
-                      f"{counted(keys, 'key')}, since cas or append touches these: {names}")
+    source.skipped = (f"left out {left:,} of {counted(len(operations), 'operation')}, since something else "
+                      f"than reads and writes touches {len(skipped):,} of {counted(keys, 'key')}: {names}")
     source.notes.append(source.skipped)
 
 
@@ -64,19 +64,22 @@ def _settle_kind(operation: Operation) -> None:
         raise Refused(f"{operation.kind} reads and writes at once, and a register has reads and writes only: "
                       f"leave {operation.kind} out of the workload, or leave out the keys that it touches "
                       "with --cas skip-key", operation.line)
+    elif operation.kind == OTHER:
+        raise Refused("by --ops this is neither a read nor a write: leave out the keys that it touches with "
+                      "--cas skip-key", operation.line)
     else:
         option = f"--ops {shlex.quote(operation.kind + '=')}"
         raise Refused(f"{operation.kind} is no word for a read ({', '.join(sorted(READS))}) or a write "
-                      f"({', '.join(sorted(WRITES))}): say {option}read or {option}write if it is one, or leave "
-                      f"out the keys that it touches with {option}cas --cas skip-key", operation.line)
+                      f"({', '.join(sorted(WRITES))}): say {option}read or {option}write if it is one, or "
+                      f"leave out the keys that it touches with {option}other --cas skip-key", operation.line)
 
 
 def _settle_value(operation: Operation, read_value: Callable[[Any], Value], form: str) -> None:
     """A write's value is that of its call, with which its reply agrees; a read's is that of its reply."""
     for value in (operation.value, operation.answer):
         if type(value) is edn.Tagged and value.tag in _OPAQUE:
-            raise Refused(f"the value {edn.write(value)[:60]} only names an object of Clojure: let the client record "
-                          "the value itself", operation.line)
+            raise Refused(f"the value {edn.write(value)[:60]} only names an object of Clojure: let the "
+                          "client record the value itself", operation.line)
     answer = read_value(operation.answer) if operation.ending == "reply" else None
     if operation.kind == "read":
         operation.value = answer
@@ -86,5 +89,5 @@ def _settle_value(operation: Operation, read_value: Callable[[Any], Value], form
         name = WRITE_ANSWERS[form]
         raise Refused(f"the reply of a write has the value {shown(answer)}, and its call, at line "
                       f"{operation.line}, {shown(operation.value)}: say "
-                      f"--ok-when {name}=WORD,.. with the words by which the write took place, or --ignore-member "
-                      f"{name} if what a write answers means nothing", operation.end_line)
+                      f"--ok-when {name}=WORD,.. with the words by which the write took place, or "
+                      f"--ignore-member {name} if what a write answers means nothing", operation.end_line)

@@ -13,7 +13,7 @@ def told(converted: Converted, has_map: bool) -> Iterator[str]:
     for what, lines in sorted(converted.source.left_out.items()):
         yield f"left out {counted(lines, 'line')} {what}"
     yield from converted.source.notes
-    if not any(operation.kind == "read" and operation.ending == "reply" for operation in converted.operations):
+    if not any((each.kind, each.ending) == ("read", "reply") for each in converted.operations):
         yield "no read is left that was completed, so that a yes would say nothing: regkit check wants one"
     yield from _renamed(converted)
     texts = sum(map(len, converted.numbers.values()))

@@ -1,8 +1,8 @@
 """Reads of values that nothing writes, where the conversion may be the one that is wrong.
 
-Such a read is a fault of the store, unless its value spells null (none, -1), is the value with which registers
-start (0), or is spelled as a written value is and has another kind: a client may write 1 and read "1". A fault
-of the conversion's own making would be worse than none, so a person has to say what the value is.
+Such a read is a fault of the store, unless its value spells null (none, -1), is the value with which
+registers start (0), or is spelled as a written value is and has another kind: a client may write 1 and read
+"1". To make up a fault is the worst that a conversion can do. So a person has to say what the value is.
 """
 import shlex
 from typing import Any, Dict, Iterable, Optional, Set
@@ -13,9 +13,9 @@ from regkit.convert.values import Written, bare, initial_value, shown, spelled
 
 SPELL_NULL = frozenset({
     "", "-", "\\n", "<nil>", "(nil)", "(null)", "absent", "empty", "key not found", "key-does-not-exist",
-    "missing", "n/a", "na", "nan", "nil", "no such key", "nokey", "none", "not found", "not-found", "not_found",
-    "notfound", "null", "undefined"})
-STARTS = frozenset({"0", "-1", "false"})  # values that a register may have before any write, or that stand for none
+    "missing", "n/a", "na", "nan", "nil", "no such key", "nokey", "none", "not found", "not-found",
+    "not_found", "notfound", "null", "undefined"})
+STARTS = frozenset({"0", "-1", "false"})  # what a register may have before any write, or what stands for none
 
 
 def refuse_suspects(operations: Iterable[Operation], written: Written, choices: Choices) -> None:
@@ -31,11 +31,12 @@ def refuse_suspects(operations: Iterable[Operation], written: Written, choices: 
         if why is None and choices.values == "auto":
             known = spellings.get(read.key)
             if known is None:
-                known = spellings[read.key] = {bare(value_of(each)) for each in written.get(read.key, nothing)}
+                values = written.get(read.key, nothing)
+                known = spellings[read.key] = {bare(value_of(each)) for each in values}
             why = _another_kind() if bare(own) in known else None
         if why is not None:
-            raise Refused(f"a read gave {edn.write(own)[:40]}, which nothing writes to {shown(read.key)}: {why}",
-                          read.end_line)
+            what = f"a read gave {edn.write(own)[:40]}, which nothing writes to {shown(read.key)}"
+            raise Refused(f"{what}: {why}", read.end_line)
 
 
 def value_of(value: Value) -> Any:
@@ -56,5 +57,5 @@ def _spells_null(value: Any, choices: Choices) -> Optional[str]:
 
 
 def _another_kind() -> str:
-    return ("a value of another kind that is spelled alike is written there; say --values alike if they are one "
-            "value, or --values exact if they aren't")
+    return ("a value of another kind that is spelled alike is written there; say --values alike if they are "
+            "one value, or --values exact if they aren't")

@@ -63,7 +63,7 @@ def _csv_rows(lines: Iterable[str], choices: Choices) -> Iterator[Row]:
 
 
 def _delimiter_of(header: str, named: Dict[str, str]) -> str:
-    """The delimiter by which the header has the most of the columns that are looked for, else the most names."""
+    """The delimiter by which the header has most of the columns that are looked for, else most names."""
     def found(delimiter: str) -> Tuple[int, int]:
         names = [name.strip().strip('"') for name in header.split(delimiter)]
         return len(set(names) & set(named.values())), len(names)
@@ -73,8 +73,8 @@ def _delimiter_of(header: str, named: Dict[str, str]) -> str:
 
 def _fields(row: List[str], places: List[Optional[int]], width: int, line: int) -> List[Optional[str]]:
     if len(row) != width:
-        raise Refused(f"the row has {counted(len(row), 'field')}, and the header {width}: put a field with the "
-                      "delimiter in double quotes, or say with --delimiter what stands between the fields", line)
+        raise Refused(f"the row has {counted(len(row), 'field')}, and the header {width}: put a field that "
+                      "has the delimiter in double quotes, or say with --delimiter what it is", line)
     return [None if place is None else row[place] for place in places]
 
 
@@ -90,8 +90,9 @@ def _places(header: List[str], named: Dict[str, str]) -> List[Optional[int]]:
         elif column in OPTIONAL and name == column:
             places.append(None)
         else:
-            raise Refused(f"the header has no {name}, but {', '.join(header) or 'nothing'}: say which column "
-                          f"is the {column} with --columns {column}=NAME", 1)
+            option = "what stands between its fields with --delimiter C" if len(header) == 1 else (
+                f"which column is the {column} with --columns {column}=NAME")
+            raise Refused(f"the header has no {name}, but {', '.join(header) or 'nothing'}: say {option}", 1)
     return places
 
 

@@ -9,9 +9,9 @@ def refuse_appends(operations: Iterable[Operation]) -> None:
     """Raises Refused if any transaction appends to a list: no option makes registers of lists."""
     for operation in operations:
         if operation.kind == "txn" and "append" in map(_function, _parts(operation.value)):
-            raise Refused("a transaction appends to a list, and regcheck judges registers, which are read and written "
-                          "whole, so no option converts it: check such histories with Elle, as in "
-                          "`elle-cli --model list-append history.edn`", operation.line)
+            raise Refused("a transaction appends to a list, and regcheck judges registers, which are read "
+                          "and written whole, so no option converts it: check such histories with Elle, as "
+                          "in `elle-cli --model list-append history.edn`", operation.line)
 
 
 def take_apart(operation: Operation) -> None:
@@ -21,8 +21,8 @@ def take_apart(operation: Operation) -> None:
         line = operation.end_line or operation.line
         answered_function, answered_key, answer = _single(operation.answer, line)
         if answered_function != function or edn.write(answered_key) != edn.write(key):
-            raise Refused(f"the reply's transaction isn't that of the call at line {operation.line}: let the client "
-                          "reply with the transaction of its call, its read filled in", line)
+            raise Refused(f"the reply's transaction isn't that of the call at line {operation.line}: let the "
+                          "client reply with the transaction of its call, its read filled in", line)
         operation.answer = answer
     operation.kind, operation.key, operation.value = function, key, value
 
@@ -43,6 +43,7 @@ def _single(value: Any, line: int) -> List[Any]:
     if len(parts) == 1 and _function(parts[0]) is not None:
         return [_function(parts[0]), *parts[0][1:]]
     if len(parts) > 1:
-        raise Refused(f"a transaction of {len(parts)} operations, and registers have single reads and writes: let "
-                      "each transaction have one operation (:max-txn-length 1, docs/recipes.md)", line)
+        raise Refused(f"a transaction of {len(parts)} operations, and registers have single reads and "
+                      "writes: let each transaction have one operation (:max-txn-length 1, "
+                      "docs/recipes.md)", line)
     raise Refused(f"{edn.write(value)[:60]} is no transaction of one read or write, such as [[:w 3 1]]", line)

@@ -4,12 +4,12 @@ import re
 from typing import Collection, Dict, FrozenSet, List, Optional
 
 from regkit.convert import tables, write_back
-from regkit.convert.model import ENDINGS, Choices, WrongWords, folded
+from regkit.convert.model import ENDINGS, OTHER, Choices, WrongWords, folded
 from regkit.convert.whole import READERS
 
 TIMED = ("porcupine", "csv", "operations")
 NULLS = {"porcupine": "", "csv": ""}  # by form, what spells null if --null doesn't say
-OPS = ("read", "write", "cas")
+OPS = ("read", "write", OTHER)
 DELIMITERS = {"comma": ",", "semicolon": ";", "tab": "\t", "\\t": "\t", "pipe": "|", "bar": "|"}
 
 
@@ -31,7 +31,8 @@ def add_arguments(parser: argparse.ArgumentParser) -> None:
         help='whether values that are spelled alike, as 1, "1" and :1 are, are one value (alike) or several '
         "(exact); auto, the default, refuses them if it matters")
     add("--cas", choices=["refuse", "skip-key"], default="refuse",
-        help="refuse operations that read and write at once (default), or leave out the keys that have any")
+        help="refuse operations that read and write at once, such as cas (default), or leave out the keys "
+        "that have any")
     add("--keys", choices=["auto", "independent", "none"], default="auto",
         help="jepsen: whether a value is [key value] (default auto: if all calls' values are pairs)")
     add("--register", metavar="NAME", default="x", help="the register of a source without keys (default x)")
@@ -47,12 +48,12 @@ def _add_meanings(parser: argparse.ArgumentParser) -> None:
     add("--delimiter", metavar="C", help="csv: what stands between the fields: a character, or comma, "
         "semicolon or tab (default: whichever the header has)")
     add("--ops", metavar="WORD=OP,..", action="append", default=[],
-        help=f"what the source's words for operations mean: {', '.join(OPS[:-1])}, or cas, which --cas treats")
+        help="what the source's words for operations mean: read, write, or other, which --cas treats too")
     add("--outcomes", metavar="WORD=OUTCOME,..", action="append", default=[],
         help="what the source's words for outcomes mean: ok, fail (it surely had no effect) or unknown")
     add("--ok-when", metavar="MEMBER=WORD,..", action="append", default=[],
         help="an operation took place only if this member or column has one of these words; any other is an "
-        "unknown outcome, unless --outcomes has it; the empty word also is null, and a member that isn't there")
+        "unknown outcome unless --outcomes has it; the empty word is null too, and no such member")
     add("--ignore-member", metavar="NAME", action="append", default=[],
         help="this member or column means nothing; may be given again")
 
@@ -93,7 +94,7 @@ def _delimiter(word: Optional[str]) -> Optional[str]:
 
 
 def _meanings(option: str, given: List[str], known: Collection[str]) -> Dict[str, str]:
-    """What words of the source mean, each one of those known. A word may have commas and signs of equality."""
+    """What words of the source mean, each one of those known. A word may have commas and equals signs."""
     one = rf"(.*?)=({'|'.join(known)})(?:,|$)"
     meanings: Dict[str, str] = {}
     for words in given:
