@@ -153,6 +153,8 @@ class Jepsen(unittest.TestCase):
             jepsen("0 invoke write [1 2]", "0 ok write [1 2]", "0 invoke read nil", "0 ok read [1 2]"),
             ["0 w x 1", "0 .", "0 r x", "0 = 1"],
         )
+        ran = run(jepsen("0 invoke write [1 2]", "1 invoke read [1 nil]", "2 invoke read nil"), "jepsen")
+        self.assertIn("line 3: the value nil is no key with its value, as others are; if none is", ran.told)
         self.check(jepsen("0 invoke write [1 2]", "0 ok write [1 2]"), ["0 w x 1", "0 ."], "--keys", "none")
         self.check(
             jepsen("0 invoke write [1 2]", "0 ok write [1 2]"), ["0 w 1 2", "0 ."], "--keys", "independent"
@@ -493,6 +495,28 @@ class Suspects(unittest.TestCase):
                 self.assertEqual(len(set(short(run(source, "jepsen", "--values", "exact").history))), 4)
                 alike = short(run(source, "jepsen", "--values", "alike").history)
                 self.assertEqual(alike[0].split()[-1], alike[-1].split()[-1], alike)
+
+    def test_keys_that_are_spelled_alike(self) -> None:
+        source = jepsen("0 invoke write [5 1]", "0 ok write [5 1]", '1 invoke read ["5" nil]',
+                        '1 ok read ["5" 1]')
+        told = run(source, "jepsen").told
+        self.assertIn("it is written to 5, a key of another kind that is spelled alike; say --values", told)
+        ran = run(source, "jepsen", "--values", "alike")
+        self.assertEqual(short(ran.history), ["0 w 5 1", "0 .", "1 r 5", "1 = 1"], ran.told)
+        ran = run(source, "jepsen", "--values", "exact")
+        self.assertEqual(short(ran.history), ["0 w 5 1", "0 .", '1 r "5"', "1 = 1"], ran.told)
+
+    def test_faults_that_may_be_of_the_recording_are_told(self) -> None:
+        unwritten = jepsen("0 invoke read nil", "0 ok read 17")
+        told = run(unwritten, "jepsen").told
+        self.assertIn("1 read gave a value that nothing writes: was the store empty before", told)
+        failed = jepsen("0 invoke write 1", "0 fail write 1", "1 invoke read nil", "1 ok read 1")
+        ran = run(failed, "jepsen")
+        self.assertEqual(short(ran.history), ["0 w x 1", "0 fail", "1 r x", "1 = 1"])
+        self.assertIn("1 read gave a value of a failed write: is it sure that such a write has no", ran.told)
+        ran = run(failed, "jepsen", "--outcomes", "fail=unknown")
+        self.assertEqual(short(ran.history), ["0 w x 1", "0 crash", "1 r x", "1 = 1"])
+        self.assertNotIn("failed write", ran.told)
 
     def test_values_that_are_alike_are_written_once(self) -> None:
         source = jepsen("0 invoke write 1", "0 ok write 1", '0 invoke write "1"', '0 ok write "1"')

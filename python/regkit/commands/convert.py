@@ -23,10 +23,13 @@ examples:
   regkit convert --from porcupine operations.jsonl | regkit check
   regkit convert --from csv log.csv --columns process=client,register=key -o history.jsonl --map history.map
   regkit convert --from csv merged.csv --clock-error 5ms --clock-unit us | regkit check
+  regkit convert --from csv log.tsv --ops fetch=read,store=write --outcomes done=ok,timeout=unknown
+  regkit convert --from porcupine log.jsonl --ok-when Err=OK --outcomes ErrVersion=fail --ignore-member Version
 
 A conversion never adds a precedence that the source doesn't have. It drops one only at a tie of time stamps
-or by --clock-error, which can hide a fault and never makes one up. docs/recipes.md describes the forms, and
-how to set up a workload: it is in the repository, and in share/doc/regcheck of a release.
+or by --clock-error, which can hide a fault and never makes one up. What it doesn't understand it refuses by
+name, and says which option tells what it means. docs/recipes.md describes the forms, and how to set up a
+workload: it is in the repository, and in share/doc/regcheck of a release.
 
 exit status:
   0  converted

@@ -16,7 +16,7 @@ from regkit.convert.pairing import Pairing
 from regkit.convert.rows import client_of
 from regkit.convert.settle import settle
 
-_ENDINGS = ("reply", "fail", "crash")
+_ENDINGS = ("reply", "fail")
 
 Event = Dict[str, Any]
 
@@ -55,18 +55,21 @@ class _Log:
         elif what == "crash":
             self.pairing.crash(line, client)
         else:
-            ending = what if what in _ENDINGS else self._other_ending(what, line)
+            ending = self._ending(what, line)
             called = self.pairing.called(client, line)
             self._agree(event, called, line)
             if ending == "reply":
                 ending = self._reply(event, called, line)
             self.pairing.end(line, client, ending, called.answer)
 
-    def _other_ending(self, what: Any, line: int) -> Optional[str]:
-        said = "absent" if what is None else edn.write(what)
+    def _ending(self, what: Any, line: int) -> Optional[str]:
+        """What an event other than a call and a crash does to its call."""
         outcome = self.choices.outcomes.get(folded(what)) if type(what) is str else None
         if outcome is not None:
             return ENDINGS[outcome]
+        if what in _ENDINGS:
+            return str(what)
+        said = "absent" if what is None else edn.write(what)
         option = shlex.quote(f"{what}=unknown") if type(what) is str else "WORD=unknown"
         raise Refused(f"event is {said}, and call, reply, fail or crash is expected: if it ends a call, say "
                       f"with --outcomes {option} what it means (or ok, or fail, if it surely had no "

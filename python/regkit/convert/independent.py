@@ -2,7 +2,7 @@
 from typing import Any, List, Optional, Tuple
 
 from regkit import edn
-from regkit.convert.model import KNOWN, Choices, Operation, Refused
+from regkit.convert.model import KNOWN, READS, Choices, Operation, Refused
 
 Pair = Tuple[Any, Any]
 
@@ -27,20 +27,24 @@ def nothing_for(value: Any) -> Any:
 
 
 def are_independent(operations: List[Operation], choices: Choices) -> bool:
-    """Whether the values are keys with values: so it is if all calls' are. A plain read is called with nil.
+    """Whether the values are keys with values: if all calls' are, or if any read's is a key with nil.
 
-    A plain cas is called with a pair too, of the old value and the new; its second half is no pair.
+    A plain read is called with nil. A plain cas is called with a pair too, of the old value and the new; its
+    second half is no pair.
     """
     if choices.keys != "auto":
         return choices.keys == "independent"
-    found = False
+    pairs = others = 0
     for call in operations:
         if call.key is None and call.kind in KNOWN:
             pair = pair_of(call.value)
             if pair is None or (call.kind == "cas" and pair_of(pair[1]) is None):
-                return False
-            found = True
-    return found
+                others += 1
+            elif call.kind in READS and pair[1] is None:
+                return True
+            else:
+                pairs += 1
+    return pairs > 0 and not others
 
 
 def part(operation: Operation) -> None:

@@ -133,7 +133,14 @@ class _Log:
             function = self._function(event, line)
             self.pairing.call(Operation(line, client, function, event.get(":key"), event.get(":value")))
             return
-        ending = _TYPES.get(kind) or self._other_ending(kind, line)
+        if folded(kind) in self.choices.outcomes:
+            ending = ENDINGS[self.choices.outcomes[folded(kind)]] or "crash"
+        elif kind in _TYPES:
+            ending = _TYPES[kind]
+        else:
+            raise Refused(f":type is {kind}, and :invoke, :ok, :fail or :info is expected: say what it means "
+                          f"with --outcomes {folded(kind)}=unknown (or ok, or fail, if it surely had no "
+                          "effect)", line)
         if ending == "crash":
             self._agree(client, event, line)
             self.pairing.crash(line, client)
@@ -154,14 +161,6 @@ class _Log:
         if not isinstance(name, str):
             raise Refused(f":f is {edn.write(name)}, and a keyword such as :read is expected", line)
         return self.choices.kind_of(name.lstrip(":"))
-
-    def _other_ending(self, kind: str, line: int) -> Optional[str]:
-        outcome = self.choices.outcomes.get(folded(kind))
-        if outcome is None:
-            raise Refused(f":type is {kind}, and :invoke, :ok, :fail or :info is expected: say what it means "
-                          f"with --outcomes {folded(kind)}=unknown (or ok, or fail, if it surely had no "
-                          "effect)", line)
-        return ENDINGS[outcome] or "crash"
 
     def _agree(self, client: int, event: Event, line: int) -> None:
         called = self.pairing.open.get(client)

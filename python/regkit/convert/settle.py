@@ -7,7 +7,7 @@ from regkit import edn
 from regkit.convert.members import WRITE_ANSWERS
 from regkit.convert.model import (OTHER, READ_AND_WRITE, READS, WRITES, Choices, Operation, Refused, Source,
                                   Value, counted)
-from regkit.convert.values import ALL_TEXTS, readable, settled, shown
+from regkit.convert.values import ALL_TEXTS, bare, readable, settled, shown
 
 _OPAQUE = frozenset({"object", "error"})  # tags of values that can't be compared by how they are written
 
@@ -18,7 +18,7 @@ def settle(source: Source, choices: Choices) -> None:
     skipped: Set[str] = set()
     operations = list(source.operations())
     for operation in operations:
-        _settle_key(operation, keys)
+        _settle_key(operation, keys, choices.values == "alike")
         if (operation.kind in READ_AND_WRITE or operation.kind == OTHER) and choices.cas == "skip-key":
             skipped.add(operation.key)
     if skipped:
@@ -31,9 +31,9 @@ def settle(source: Source, choices: Choices) -> None:
             _settle_value(operation, read_value, choices.form)
 
 
-def _settle_key(operation: Operation, keys: Dict[object, str]) -> None:
+def _settle_key(operation: Operation, keys: Dict[object, str], alike: bool) -> None:
     """The key as EDN writes it. Texts and whole numbers are looked up, since a source repeats its keys."""
-    key = operation.key
+    key = bare(operation.key) if alike else operation.key
     if type(key) is not str and type(key) is not int:
         operation.key = edn.write(key)
         return

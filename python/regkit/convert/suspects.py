@@ -2,13 +2,13 @@
 
 Such a read is a fault of the store, unless its value spells null (none, -1), is the value with which
 registers start (0), or is spelled as a written value is and has another kind: a client may write 1 and read
-"1". To make up a fault is the worst that a conversion can do. So a person has to say what the value is.
+"1". To make up a fault is the worst that a conversion can do. So a person has to say what such a value is.
 """
 import shlex
-from typing import Any, Dict, Iterable, Optional, Set
+from typing import Any, Dict, Iterable, Iterator, List, Optional, Set
 
 from regkit import edn
-from regkit.convert.model import Choices, Operation, Refused, Value
+from regkit.convert.model import Choices, Operation, Refused, Value, counted
 from regkit.convert.values import Written, bare, initial_value, shown, spelled
 
 SPELL_NULL = frozenset({
@@ -18,30 +18,47 @@ SPELL_NULL = frozenset({
 STARTS = frozenset({"0", "-1", "false"})  # what a register may have before any write, or what stands for none
 
 
-def refuse_suspects(operations: Iterable[Operation], written: Written, choices: Choices) -> None:
-    """Raises Refused for the first read that may have been misread. Values aren't numbered yet."""
-    spellings: Dict[str, Set[str]] = {}
+def look_at_reads(operations: Iterable[Operation], written: Written, choices: Choices) -> Iterator[str]:
+    """Notes on reads that are faults if all was recorded well. Values aren't numbered yet.
+
+    Raises Refused for the first read that the conversion may have misread.
+    """
+    spellings = _Spellings(written)
     nothing: Dict[Value, Operation] = {}
+    unwritten = failed = 0
     for read in operations:
         value = read.value
-        if read.kind == "write" or value is None or value in written.get(read.key, nothing):
+        if read.kind == "write" or value is None:
             continue
-        own = value_of(value)
-        why = _spells_null(own, choices)
-        if why is None and choices.values == "auto":
-            known = spellings.get(read.key)
-            if known is None:
-                values = written.get(read.key, nothing)
-                known = spellings[read.key] = {bare(value_of(each)) for each in values}
-            why = _another_kind() if bare(own) in known else None
-        if why is not None:
-            what = f"a read gave {edn.write(own)[:40]}, which nothing writes to {shown(read.key)}"
-            raise Refused(f"{what}: {why}", read.end_line)
+        write = written.get(read.key, nothing).get(value)
+        if write is None:
+            unwritten += 1
+            _refuse_suspect(read, value_of(value), spellings, choices)
+        elif write.ending == "fail":
+            failed += 1
+    if unwritten:
+        yield (f"{counted(unwritten, 'read')} gave a value that nothing writes: was the store empty before "
+               "the run, and are values recorded alike by reads and by writes?")
+    if failed:
+        yield (f"{counted(failed, 'read')} gave a value of a failed write: is it sure that such a write has "
+               "no effect? Else its outcome is unknown (--outcomes WORD=unknown)")
 
 
 def value_of(value: Value) -> Any:
     """A settled value as Python has it."""
     return next(edn.values([value]))[1] if type(value) is str else value
+
+
+def _refuse_suspect(read: Operation, value: Any, spellings: "_Spellings", choices: Choices) -> None:
+    why = _spells_null(value, choices)
+    if why is None and choices.values == "auto":
+        alike = spellings.written(read.key, value)
+        why = None if alike is None else (
+            f"{alike}; say --values alike if what is spelled alike is one value and one key, or --values "
+            "exact if it isn't")
+    if why is not None:
+        what = f"a read gave {edn.write(value)[:40]}, which nothing writes to {shown(read.key)}"
+        raise Refused(f"{what}: {why}", read.end_line)
 
 
 def _spells_null(value: Any, choices: Choices) -> Optional[str]:
@@ -56,6 +73,29 @@ def _spells_null(value: Any, choices: Choices) -> Optional[str]:
     return (f"say {initial}{null} if it stands for none, or --initial=null if the store was wrong to give it")
 
 
-def _another_kind() -> str:
-    return ("a value of another kind that is spelled alike is written there; say --values alike if they are "
-            "one value, or --values exact if they aren't")
+class _Spellings:
+    """How keys and the values written to them are spelled without what tells their kinds."""
+
+    def __init__(self, written: Written) -> None:
+        self._written = written
+        self._values: Dict[str, Set[str]] = {}  # by key
+        self._keys: Dict[str, List[str]] = {}  # by spelling
+
+    def written(self, key: str, value: Any) -> Optional[str]:
+        """Where a value is written that is spelled alike, in words."""
+        if bare(value) in self._values_of(key):
+            return "a value of another kind that is spelled alike is written there"
+        if not self._keys:
+            for each in self._written:
+                self._keys.setdefault(bare(value_of(each)), []).append(each)
+        for other in self._keys.get(bare(value_of(key)), []):
+            if bare(value) in self._values_of(other):
+                return f"it is written to {other}, a key of another kind that is spelled alike"
+        return None
+
+    def _values_of(self, key: str) -> Set[str]:
+        known = self._values.get(key)
+        if known is None:
+            values = self._written.get(key, {})
+            known = self._values[key] = {bare(value_of(value)) for value in values}
+        return known

@@ -5,7 +5,7 @@ from regkit.convert import events, jepsen, porcupine, tables
 from regkit.convert.model import Choices, Operation, Refused, Source, Value
 from regkit.convert.names import names
 from regkit.convert.processes import Given, give_processes
-from regkit.convert.suspects import refuse_suspects
+from regkit.convert.suspects import look_at_reads
 from regkit.convert.values import Table, initial_value, number_texts, written_once
 
 READERS: Dict[str, Callable[[Iterable[str], Choices], Source]] = {
@@ -37,7 +37,7 @@ def convert(lines: Iterable[str], choices: Choices, number: bool = True) -> Conv
         start = initial_value(choices.initial, choices.form, choices.values == "alike")
         if start is not None:
             _begin(source, read, start)
-    refuse_suspects(read, written_once(source.operations()), choices)
+    source.notes.extend(look_at_reads(read, written_once(source.operations()), choices))
     named = names(read)
     numbers = number_texts(source.operations()) if number else {}
     return Converted(source, read, named, numbers, given)
