@@ -11,7 +11,7 @@ PACKED = [(b"\x1f\x8b", "gzip", "gzip -dc"), (b"\x28\xb5\x2f\xfd", "zstd", "zstd
           (b"PK\x03\x04", "a zip archive", "unzip -p")]
 UTF_16 = (b"\xff\xfe", b"\xfe\xff")
 MARK = b"\xef\xbb\xbf"
-EDN = re.compile(rb"\s*(?:[\[({]|#[^\s{]*\{)*\s*:(?:type|process|f|index|time|value)\b")
+EDN = re.compile(rb"\s*(?:(?:[\[({]|#[^\s{]*\{)\s*)*:(?:type|process|f|index|time|value)\b")
 LOG = re.compile(rb"(?m)^.*\s:(?:invoke|ok|info|fail)\s+:\w+")
 TABLE = re.compile(rb"\s*\"?[A-Za-z_][\w .-]*\"?([,;\t])\"?[A-Za-z_][\w .\-\",;\t]*\r?\n")
 LEAST_COLUMNS = 5  # of a table that can be converted

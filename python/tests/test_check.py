@@ -236,6 +236,7 @@ class Refusals(unittest.TestCase):
             (b"INFO jepsen.util - 0\t:invoke\t:read\tnil\n", "jepsen"),
             (b"0\t:invoke\t:read\tnil\n", "jepsen"),
             (event, "jepsen"), (b"[" + event + b"]", "jepsen"),
+            (b"[\n {:process 0, :type :invoke, :f :write, :value 1}\n]\n", "jepsen"),
             (b"process,op,register,value,start,end\n1,write,x,1,0,1\n", "csv"),
             (b"process;op;value;start;end\n1;write;1;0;1\n", "csv"),
             (b"process\top\tvalue\tstart\tend\n1\twrite\t1\t0\t1\n", "csv"),

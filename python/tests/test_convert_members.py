@@ -48,6 +48,12 @@ def _go_event(name: str, value: object) -> str:
     return "\n".join(map(json.dumps, rows))
 
 
+def _beside_event(name: str, value: object) -> str:
+    lines = _go_event(name, value).split("\n")
+    lines[1] = json.dumps({"ClientId": 0, "Kind": "return", "Value": {}, "Id": 1, name: value})
+    return "\n".join(lines)
+
+
 def _log(name: str, value: object) -> str:
     return _edn(name, value).replace(":write", ":put").replace(":read, :value nil", ':get, :key "x"').replace(
         ':get, :key "x"}', ':get, :key "x", :value ""}').replace(":value 1", ':key "x", :value "1"')
@@ -76,7 +82,8 @@ PLANTS: List[Tuple[str, str, Plant]] = [
     ("porcupine", "output", lambda name, value: _go(name, value, "Output")),
     ("porcupine", "input", lambda name, value: _go(name, value, "Input")),
     ("porcupine", "beside", lambda name, value: _go(name, value, "beside")),
-    ("porcupine", "event", _go_event), ("csv", "", _csv), ("operations", "", _objects),
+    ("porcupine", "event", _go_event), ("porcupine", "beside event", _beside_event),
+    ("csv", "", _csv), ("operations", "", _objects),
     ("jsonl", "", _events)]
 OUTPUTS = [row for row in PLANTS if row[1] != "input"]  # an input tells no outcome
 MEMBERS: List[Tuple[str, object]] = [

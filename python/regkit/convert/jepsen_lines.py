@@ -16,8 +16,8 @@ Event = Dict[Any, Any]
 NO_OPERATION = "of the log that record no operation"
 _TYPES = "invoke|ok|fail|info"
 _LINE = re.compile(rf"(?:^|\s)(:?\w[\w-]*)\s+:({_TYPES})\s+(:[^\s,]+)(.*)", re.DOTALL)
-_BARE = re.compile(rf"\s*(:?\w[\w-]*)\s+({_TYPES})\s+([^\s,:]+)(.*)", re.DOTALL)  # without the colons
-_LOST = re.compile(r"(?:^|\s):(?:invoke|ok)\s+:\w")  # an operation, but whose?
+_BARE = re.compile(rf"\s*(\d+|:?nemesis)\s+({_TYPES})\s+([^\s,:]+)(.*)", re.DOTALL)  # without the colons
+_LOST = re.compile(r"(?:^|\s):(?:invoke|ok|read|write|cas|txn)\s")  # part of an operation
 
 
 def line_events(lines: Iterable[str]) -> Iterator[Tuple[int, Event]]:
@@ -28,7 +28,8 @@ def line_events(lines: Iterable[str]) -> Iterator[Tuple[int, Event]]:
             who, kind, function, rest = found.groups()
             yield number, _event(who, kind, function.lstrip(":"), _values(rest, kind, number))
         elif _LOST.search(text):
-            raise Refused(f"no process before the operation: {text.strip()[:60]}", number)
+            raise Refused("an operation has a process, a type, a function and a value, with their colons, "
+                          f"and this line has not all of them: {text.strip()[:60]}", number)
         elif text.strip():
             yield number, {":process": NO_OPERATION}
 
