@@ -251,6 +251,18 @@ class Refusals(unittest.TestCase):
                 self.assertEqual(ran.status, 0, ran.err)
                 self.assertEqual(run_checker(made.read_bytes()).status, 0)
 
+    def test_the_advice_to_number_does_it(self) -> None:
+        call: Line = {"process": 1, "event": "call", "op": "write", "register": "x", "value": 5}
+        with tempfile.TemporaryDirectory() as folder:
+            path, made = pathlib.Path(folder) / "source", pathlib.Path(folder) / "made"
+            for said in ({"process": "alice"}, {"value": "v1"}, {"value": [1, 2]}, {"value": True}):
+                path.write_bytes(json.dumps({**call, **said}).encode() + b"\n")
+                with self.subTest(said):
+                    self.assertIn("`regkit convert --from jsonl`", self.told(path.read_bytes(), str(path)))
+                    ran = run("convert", "--from", "jsonl", str(path), "-o", str(made))
+                    self.assertEqual(ran.status, 0, ran.err)
+                    self.assertEqual(run_checker(made.read_bytes()).status, 0)
+
     def test_what_gzip_packed_is_read(self) -> None:
         """Its verdict is that of the same history unpacked, and so is its advice."""
         with tempfile.TemporaryDirectory() as folder:

@@ -228,7 +228,7 @@ class Jepsen(unittest.TestCase):
     def test_an_append_transaction_gets_one_refusal(self) -> None:
         """Even behind a transaction that is refused for another reason, and whatever the options say."""
         longer = TXN % "[[:r 1 nil] [:r 2 nil]]" + TXN.replace(":process 0", ":process 1") % "[[:append 3 1]]"
-        for options in [(), ("--cas", "skip-key"), ("--ops", "append=write"), ("--keys", "none")]:
+        for options in [(), ("--cas", "skip-key"), ("--ops", "append=other"), ("--keys", "none")]:
             ran = run(longer, "jepsen", *options)
             self.assertEqual(ran.status, 2)
             self.assertIn("line 2: a transaction appends to a list", ran.told)
@@ -608,12 +608,13 @@ REFUSALS: List[Tuple[str, str, Sequence[str], str]] = [
     ("jepsen", '{:process "alice", :type :invoke, :f :write, :value 1}', (),
      'line 1: :process is "alice", and its :f is :write: give each client a whole number'),
     ("jepsen", "{:type :invoke, :f :read, :value 1}", (), "line 1: :process is nil, and its :f is :read"),
+    ("jepsen", '{:process "bob", :f :push}', ("--ops", "push=other"), 'line 1: :process is "bob", and its'),
     ("jepsen", "[[1 2]]", (), "line 1: no operation: a map such as"),
     ("jepsen", jepsen("0 invoke read 4, :index 4", "0 ok read 4, :index 3"), (),
      "line 2: :index is 3, and an earlier line's 4: the order of the lines is the order of time"),
     ("jepsen", '[{"process":0,"type":"invoke","f":"read"}\n,7]', (),
      "line 2: no operation: an object such as"),
-    ("jepsen", "INFO - :invoke :read nil", (), "line 1: an operation has a process, a type, a function and a"),
+    ("jepsen", "INFO - :invoke :read nil", (), "line 1: an operation has a process, a type, a function and"),
     ("jepsen", "INFO 5 :begin :read nil", (), "line 1: an operation has a process, a type, a function and a"),
     ("jepsen", jepsen("0 invoke push 1"), ("--ops", "push=other"),
      "line 1: by --ops this is neither a read nor a write: leave out the keys that it touches with --cas"),
@@ -717,6 +718,7 @@ WRONG_WORDS: List[Tuple[str, Sequence[str], str]] = [
     ("csv", ("--ops", "get"), "--ops get: WORD=MEANING,.. is expected, with one of read, write, other for"),
     ("csv", ("--ops", "get=fetch"), "--ops get=fetch: WORD=MEANING,.. is expected"),
     ("csv", ("--ops", "a=read,a=write"), "--ops: a is given two meanings"),
+    ("csv", ("--ops", "CAS=write"), "--ops CAS=write: CAS reads and writes at once, so it is other"),
     ("csv", ("--outcomes", "late=reply"),
      "--outcomes late=reply: WORD=MEANING,.. is expected, with one of ok, fail, un"),
     ("csv", ("--ok-when", "status"),

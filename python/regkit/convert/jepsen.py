@@ -18,7 +18,8 @@ from regkit.convert.independent import are_independent, nothing_for, part
 from regkit.convert.jepsen_lines import NO_OPERATION, line_events
 from regkit.convert.json_values import is_json, json_values
 from regkit.convert.members import Ended, Known, Outcomes, word_of
-from regkit.convert.model import ENDINGS, KNOWN, READS, WRITES, Choices, Operation, Refused, Source, folded
+from regkit.convert.model import (ENDINGS, KNOWN, OTHER, READS, WRITES, Choices, Operation, Refused, Source,
+                                  folded)
 from regkit.convert.pairing import Pairing
 from regkit.convert.settle import settle
 from regkit.convert.transactions import refuse_appends, take_apart
@@ -114,7 +115,7 @@ class _Log:
     def _leave_out(self, line: int, client: Any, event: Event) -> None:
         """Counts a line that is no client's. A client's would be missed, so it isn't left out."""
         function = self.choices.kind_of(folded(spelled(event.get(":f"))))
-        if folded(spelled(client)) != "nemesis" and (function in KNOWN or function == "txn"):
+        if folded(spelled(client)) != "nemesis" and (function in KNOWN or function in (OTHER, "txn")):
             raise Refused(f":process is {edn.write(client)}, and its :f is {edn.write(event[':f'])}: give "
                           "each client a whole number", line)
         if client is None:

@@ -4,7 +4,7 @@ import re
 from typing import Collection, Dict, FrozenSet, List, Optional
 
 from regkit.convert import tables, write_back
-from regkit.convert.model import ENDINGS, OTHER, Choices, WrongWords, folded
+from regkit.convert.model import ENDINGS, OTHER, READ_AND_WRITE, Choices, WrongWords, folded
 from regkit.convert.whole import READERS
 
 TIMED = ("porcupine", "csv", "operations")
@@ -102,6 +102,9 @@ def _meanings(option: str, given: List[str], known: Collection[str]) -> Dict[str
             raise WrongWords(f"{option} {words}: WORD=MEANING,.. is expected, with one of {', '.join(known)} "
                              "for each MEANING")
         for said, meaning in re.findall(one, words, re.DOTALL):
+            if folded(said) in READ_AND_WRITE and meaning in ("read", "write"):
+                raise WrongWords(f"{option} {said}={meaning}: {said} reads and writes at once, so it is "
+                                 f"{OTHER}")
             if meanings.setdefault(folded(said), meaning) != meaning:
                 raise WrongWords(f"{option}: {said} is given two meanings")
     return meanings
