@@ -219,7 +219,7 @@ class Jepsen(unittest.TestCase):
         self.assertEqual(short(ran.history), ["0 w 1 5", "0 ."], ran.told)
         self.assertIn("left out 2 of 3 operations, since something else than reads and writes touches 1 ",
                       ran.told)
-        self.assertIn("no read is left that was completed, so that a yes would say nothing", ran.told)
+        self.assertIn("there is no completed read, so a yes would say nothing: regkit check will", ran.told)
         with tempfile.TemporaryDirectory() as folder:
             path = pathlib.Path(folder) / "left.jsonl"
             path.write_text(ran.history, encoding="utf-8")

@@ -108,6 +108,10 @@ class Members(unittest.TestCase):
                                                f"the outcome .*--ok-when {name}=WORD,.. .*--ignore-member "
                                                f"{name} if")
 
+    def test_all_that_is_not_understood_is_named(self) -> None:
+        source = _go("Err", "ErrVersion", "Output").replace('"Err"', '"Version": 3, "Err"')
+        self.assertIn("if it means nothing; likewise Err\n", run(source, "porcupine").told)
+
     def test_it_is_what_the_options_say(self) -> None:
         for form, place, plant in OUTPUTS:
             source = plant("Err", "ErrVersion")

@@ -10,7 +10,7 @@ name, until the command line says what it means:
 """
 import shlex
 from collections import Counter
-from typing import Any, Dict, FrozenSet, Iterable, Iterator, Mapping, NamedTuple, Optional, Set, Tuple
+from typing import Any, Dict, FrozenSet, Iterable, Iterator, List, Mapping, NamedTuple, Optional, Set, Tuple
 
 from regkit import edn
 from regkit.convert.model import ENDINGS, Choices, Refused, counted, folded
@@ -55,22 +55,23 @@ class Known:
         names = tuple(members)
         if names in self.seen:
             return
-        for name in names:
-            text = spelled(name)
-            if folded(text) not in self.names:
-                raise Refused(_not_understood(self.what, text.lstrip(":"), members[name]), line)
+        strange = [name for name in names if folded(spelled(name)) not in self.names]
+        if strange:
+            raise Refused(_not_understood(self.what, members, strange), line)
         if len({folded(spelled(name)) for name in names}) < len(names):
             raise Refused(f"two members have one name, among {', '.join(map(spelled, names))}: rename one",
                           line)
         self.seen.add(names)
 
 
-def _not_understood(what: str, name: str, value: Any) -> str:
-    quoted = shlex.quote(name)
-    column = f"--columns outcome={quoted} if it is the outcome, " if what == "column" and name else ""
-    return (f"the {what} {quoted} isn't understood, and it may tell the outcome (here it is "
-            f"{edn.write(value)[:_LONGEST]}): say {column}--ok-when {quoted}=WORD,.. with the words in it by "
-            f"which the operation took place, or --ignore-member {quoted} if it means nothing")
+def _not_understood(what: str, members: Mapping[Any, Any], strange: List[Any]) -> str:
+    first, *others = (shlex.quote(spelled(name).lstrip(":")) for name in strange)
+    column = f"--columns outcome={first} if it is the outcome, " if what == "column" and first != "''" else ""
+    more = f"; likewise {', '.join(others)}" if others else ""
+    return (f"the {what} {first} isn't understood, and it may tell the outcome (here it is "
+            f"{edn.write(members[strange[0]])[:_LONGEST]}): say {column}--ok-when {first}=WORD,.. with the "
+            f"words in it by which the operation took place, or --ignore-member {first} if it means "
+            f"nothing{more}")
 
 
 def word_of(value: Any) -> str:

@@ -14,7 +14,8 @@ def told(converted: Converted, has_map: bool) -> Iterator[str]:
         yield f"left out {counted(lines, 'line')} {what}"
     yield from converted.source.notes
     if not any((each.kind, each.ending) == ("read", "reply") for each in converted.operations):
-        yield "no read is left that was completed, so that a yes would say nothing: regkit check wants one"
+        yield ("there is no completed read, so a yes would say nothing: regkit check will find too little "
+               "evidence")
     yield from _renamed(converted)
     texts = sum(map(len, converted.numbers.values()))
     if texts:
