@@ -11,7 +11,8 @@ from typing import Any, Dict, Iterable, Optional
 from regkit import edn
 from regkit.convert.json_values import json_values
 from regkit.convert.members import Known, Outcomes
-from regkit.convert.model import ENDINGS, READS, WRITES, Choices, Operation, Refused, Source, folded
+from regkit.convert.model import (ENDINGS, GREATEST, READS, WRITES, Choices, Client, Operation, Refused,
+                                  Source, folded)
 from regkit.convert.pairing import Pairing
 from regkit.convert.rows import client_of
 from regkit.convert.settle import settle
@@ -50,17 +51,26 @@ class _Log:
             if type(op) is not str:
                 raise Refused("a call has the member op, read or write", line)
             key = event.get("register", self.choices.register)
-            kind = self.choices.kind_of(op)
-            self.pairing.call(Operation(line, client, kind, key, event.get("value")))
+            called = Operation(line, client, self.choices.kind_of(op), key, event.get("value"))
+            _say_who(called, event)
+            self.pairing.call(called)
         elif what == "crash":
-            self.pairing.crash(line, client)
+            self._crash(line, client, event)
         else:
             ending = self._ending(what, line)
             called = self.pairing.called(client, line)
             self._agree(event, called, line)
+            called.end_time = _time(event)
             if ending == "reply":
                 ending = self._reply(event, called, line)
             self.pairing.end(line, client, ending, called.answer)
+
+    def _crash(self, line: int, client: Client, event: Event) -> None:
+        ended = self.pairing.crash(line, client)
+        if ended.kind == "crash":
+            _say_who(ended, event)
+        else:
+            ended.end_time = _time(event)
 
     def _ending(self, what: Any, line: int) -> Optional[str]:
         """What an event other than a call and a crash does to its call."""
@@ -94,3 +104,16 @@ class _Log:
         told = called.kind not in WRITES or not self.choices.explains("value")
         called.answer = event.get("value") if told and not found_nothing else None
         return ending
+
+
+def _say_who(operation: Operation, event: Event) -> None:
+    """Keeps what a recorder says of who called, which node was asked, and when."""
+    client, node = event.get("client"), event.get("node")
+    operation.name = client if type(client) is str else ""
+    operation.node = node if type(node) is str else ""
+    operation.time = _time(event)
+
+
+def _time(event: Event) -> Optional[int]:
+    time = event.get("time")
+    return time if type(time) is int and 0 <= time <= GREATEST else None

@@ -33,7 +33,7 @@ class Operation:
     """A call with what ended it, as the source has it. `kind` is crash for a crash without an open call."""
 
     __slots__ = ("line", "end_line", "client", "kind", "key", "value", "answer", "ending", "process", "time",
-                 "end_time")
+                 "end_time", "name", "node")
 
     def __init__(self, line: int, client: Client, kind: str, key: Any, value: Any) -> None:
         self.line = line
@@ -47,6 +47,8 @@ class Operation:
         self.process = -1  # its number in the history
         self.time: Optional[int] = None  # of its call and of its end, in nanoseconds, if they are known
         self.end_time: Optional[int] = None
+        self.name = ""  # of its client, if the source has one beside `client`
+        self.node = ""  # that was asked, if the source says which
 
 
 def counted(number: int, what: str) -> str:

@@ -41,8 +41,8 @@ class Pairing:
             operation.ending, operation.end_line, operation.answer = ending, line, answer
             self.steps.append(operation)
 
-    def crash(self, line: int, client: Client) -> None:
-        """Ends a client, with its open call if it has one."""
+    def crash(self, line: int, client: Client) -> Operation:
+        """Ends a client, with its open call if it has one. Returns that call, or the crash alone."""
         if self.crashed is not None:
             self.refuse_crashed(client, line)
             self.crashed[client] = line
@@ -52,6 +52,7 @@ class Pairing:
         else:
             operation.ending, operation.end_line = "crash", line
         self.steps.append(operation)
+        return operation
 
     def refuse_crashed(self, client: Client, line: int) -> None:
         if self.crashed and client in self.crashed:
