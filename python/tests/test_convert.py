@@ -496,6 +496,17 @@ class Suspects(unittest.TestCase):
                 alike = short(run(source, "jepsen", "--values", "alike").history)
                 self.assertEqual(alike[0].split()[-1], alike[-1].split()[-1], alike)
 
+    def test_a_value_with_its_version(self) -> None:
+        for written, read in [("[nil 3]", "[7 3]"), ("3", "[7 3]"), ("{:value 3}", "{:version 7, :value 3}")]:
+            source = jepsen(f"0 invoke write {written}", "0 ok write nil", "1 invoke read nil",
+                            f"1 ok read {read}")
+            with self.subTest(source):
+                told = run(source, "jepsen").told
+                self.assertIn("a value that has a part of it in common is written there", told)
+                self.assertEqual(run(source, "jepsen", "--values", "exact").status, 0)
+        apart = jepsen("0 invoke write [7 3]", "0 ok write nil", "1 invoke read nil", "1 ok read [8 4]")
+        self.assertEqual(run(apart, "jepsen").status, 0)
+
     def test_keys_that_are_spelled_alike(self) -> None:
         source = jepsen("0 invoke write [5 1]", "0 ok write [5 1]", '1 invoke read ["5" nil]',
                         '1 ok read ["5" 1]')

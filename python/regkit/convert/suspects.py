@@ -16,6 +16,7 @@ SPELL_NULL = frozenset({
     "missing", "n/a", "na", "nan", "nil", "no such key", "nokey", "none", "not found", "not-found",
     "not_found", "notfound", "null", "undefined"})
 STARTS = frozenset({"0", "-1", "false"})  # what a register may have before any write, or what stands for none
+_COLLECTIONS = (tuple, edn.Map)
 
 
 def look_at_reads(operations: Iterable[Operation], written: Written, choices: Choices) -> Iterator[str]:
@@ -52,10 +53,7 @@ def value_of(value: Value) -> Any:
 def _refuse_suspect(read: Operation, value: Any, spellings: "_Spellings", choices: Choices) -> None:
     why = _spells_null(value, choices)
     if why is None and choices.values == "auto":
-        alike = spellings.written(read.key, value)
-        why = None if alike is None else (
-            f"{alike}; say --values alike if what is spelled alike is one value and one key, or --values "
-            "exact if it isn't")
+        why = spellings.why(read.key, value)
     if why is not None:
         what = f"a read gave {edn.write(value)[:40]}, which nothing writes to {shown(read.key)}"
         raise Refused(f"{what}: {why}", read.end_line)
@@ -79,17 +77,29 @@ class _Spellings:
     def __init__(self, written: Written) -> None:
         self._written = written
         self._values: Dict[str, Set[str]] = {}  # by key
+        self._parts: Dict[str, Set[str]] = {}  # by key, of collections too
         self._keys: Dict[str, List[str]] = {}  # by spelling
 
-    def written(self, key: str, value: Any) -> Optional[str]:
+    def why(self, key: str, value: Any) -> Optional[str]:
+        """What to say of a value if it is like one that is written."""
+        alike = self._alike(key, bare(value))
+        if alike is not None:
+            return (f"{alike}; say --values alike if what is spelled alike is one value and one key, or "
+                    "--values exact if it isn't")
+        if type(value) in _COLLECTIONS and _parts(value) & self._parts_of(key):
+            return ("a value that has a part of it in common is written there; let the recorder keep the "
+                    "value alone, without a version, or say --values exact if they are several values")
+        return None
+
+    def _alike(self, key: str, word: str) -> Optional[str]:
         """Where a value is written that is spelled alike, in words."""
-        if bare(value) in self._values_of(key):
+        if word in self._values_of(key):
             return "a value of another kind that is spelled alike is written there"
         if not self._keys:
             for each in self._written:
                 self._keys.setdefault(bare(value_of(each)), []).append(each)
         for other in self._keys.get(bare(value_of(key)), []):
-            if bare(value) in self._values_of(other):
+            if word in self._values_of(other):
                 return f"it is written to {other}, a key of another kind that is spelled alike"
         return None
 
@@ -99,3 +109,16 @@ class _Spellings:
             values = self._written.get(key, {})
             known = self._values[key] = {bare(value_of(value)) for value in values}
         return known
+
+    def _parts_of(self, key: str) -> Set[str]:
+        known = self._parts.get(key)
+        if known is None:
+            values = self._written.get(key, {})
+            known = self._parts[key] = {part for value in values for part in _parts(value_of(value))}
+        return known
+
+
+def _parts(value: Any) -> Set[str]:
+    """How what is in a collection is spelled; of any other value, how it is spelled itself."""
+    inner = value.values() if type(value) is edn.Map else value if type(value) is tuple else [value]
+    return {bare(part) for part in inner if part is not None}
