@@ -19,13 +19,13 @@ class Keyword(str):
 
 
 class Symbol(str):
-    """A symbol, a character, or a number of another kind (1/2, 1.5M, ##Inf), as it was spelled."""
+    """A symbol, a character, a pattern, or a number of another kind (1/2, 1.5M, ##Inf), as it was spelled."""
 
     __slots__ = ()
 
 
 class Map(Dict[Value, Value]):
-    """A map, and the line on which it began. Of keys that are equal the last counts."""
+    """A map, and the line on which it began."""
 
     __slots__ = ("line",)
     line: int
@@ -75,6 +75,7 @@ _FLAT = re.compile(
 _WHOLE_TEXT = re.compile(r'"(?:[^"\\]|\\.)*"', re.DOTALL)
 _WHOLE = re.compile(r"[+-]?(?:0|[1-9][0-9]*)N?")
 _DECIMAL = re.compile(r"[+-]?[0-9]+(?:\.[0-9]*)?(?:[eE][+-]?[0-9]+)?")
+_HEX = re.compile(r"[+-]?0[xX][0-9a-fA-F]+N?")
 _OTHER_NUMBER = re.compile(r"[+-]?[0-9]+(?:\.[0-9]*)?(?:[eE][+-]?[0-9]+)?M|[+-]?[0-9]+/[0-9]+")
 _NUMBER_START = re.compile(r"[+-]?[0-9]")
 _ESCAPE = re.compile(r"\\(u[0-9a-fA-F]{4}|.)", re.DOTALL)
@@ -107,6 +108,8 @@ def _number(token: str, line: int) -> Value:
         return int(token.rstrip("N"))
     if _DECIMAL.fullmatch(token) and not token.lstrip("+-").isdigit():
         return Decimal(token)
+    if _HEX.fullmatch(token):
+        return int(token.rstrip("N"), 16)
     if _OTHER_NUMBER.fullmatch(token):
         return Symbol(token)
     raise NotEdn(line, f"{token} is no number")
@@ -116,6 +119,10 @@ def _map(items: List[Value], line: int) -> Map:
     if len(items) % 2:
         raise NotEdn(line, "a map with a key and no value")
     made = Map(zip(items[::2], items[1::2]))
+    if 2 * len(made) < len(items):
+        keys = items[::2]
+        twice = next(key for key in keys if keys.count(key) > 1)
+        raise NotEdn(line, f"a map with the key {write(twice)} twice")
     made.line = line
     return made
 
@@ -169,7 +176,7 @@ class _Reader:
             return self.close(token, line)
         if first in "[({" or token == "#{":
             self.open(token, line)
-        elif first == "#" and token[:2] != "##":
+        elif first == "#" and token[:2] not in ("##", "#'"):
             self.prefixes.append(token)
         elif first != ";":
             return self.atom(token, line)
@@ -210,6 +217,8 @@ class _Reader:
     def atom(self, token: str, line: int) -> Value:
         first = token[0]
         if first == '"':
+            if self.prefixes[-1:] == ["#"]:  # a pattern, whose backslashes aren't those of a text
+                return Symbol(self.prefixes.pop() + token)
             return _text(token, line)
         if first == ":":
             if len(token) == 1:

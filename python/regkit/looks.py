@@ -11,9 +11,12 @@ PACKED = [(b"\x1f\x8b", "gzip", "gzip -dc"), (b"\x28\xb5\x2f\xfd", "zstd", "zstd
           (b"PK\x03\x04", "a zip archive", "unzip -p")]
 UTF_16 = (b"\xff\xfe", b"\xfe\xff")
 MARK = b"\xef\xbb\xbf"
-EDN = re.compile(rb"\s*(?:[\[({]|#[^\s{]*\{)*\s*:(?:type|process|f|index|time|value)\b")
+EDN = re.compile(rb"\s*(?:(?:[\[({]|#[^\s{]*\{)\s*)*:(?:type|process|f|index|time|value)\b")
 LOG = re.compile(rb"(?m)^.*\s:(?:invoke|ok|info|fail)\s+:\w+")
 TABLE = re.compile(rb"\s*\"?[A-Za-z_][\w .-]*\"?([,;\t])\"?[A-Za-z_][\w .\-\",;\t]*\r?\n")
+LEAST_COLUMNS = 5  # of a table that can be converted
+MEMBERS = {"porcupine": {b"clientid"}, "jepsen": {b"process", b"type", b"f"}, "operations": {b"start"},
+           "jsonl": {b"process", b"event"}}  # by form, what tells it from the forms behind it
 ENOUGH = 65_536  # bytes that are looked at
 
 
@@ -50,11 +53,14 @@ def converted(beginning: bytes, file: str) -> Optional[str]:
             return f"this looks like EDN, as Porcupine's logs are: `regkit convert --from porcupine {file}`"
         return f"this looks like EDN, as Jepsen writes it: `regkit convert --from jepsen {file}`"
     if LOG.search(beginning):
-        return f"this looks like lines of Jepsen's log: `regkit convert --from porcupine {file}`"
-    if TABLE.match(beginning):
-        return (f"this looks like CSV: `regkit convert --from csv {file}`, with --columns if its columns "
-                "have names of their own")
-    return None
+        return f"this looks like lines of Jepsen's log: `regkit convert --from jepsen {file}`"
+    table = TABLE.match(beginning)
+    if table is None:
+        return None
+    if table[0].count(table[1]) < LEAST_COLUMNS - 1:
+        return "this looks like CSV, and `regkit convert` needs columns for process, op, value, start and end"
+    return (f"this looks like CSV: `regkit convert --from csv {file}`, with --columns if its columns "
+            "have names of their own")
 
 
 def is_json(text: bytes) -> bool:
@@ -65,26 +71,28 @@ def is_json(text: bytes) -> bool:
     return True
 
 
-def form_of(text: bytes) -> str:
-    """Which form of `regkit convert` some JSON has."""
-    if re.search(rb'(?i)"clientid"\s*:', text):
-        return "porcupine"
-    return "operations" if re.search(rb'"start"\s*:', text) else "jsonl"
+def form_of(text: bytes) -> Optional[str]:
+    """Which form of `regkit convert` some JSON has, by the names in it."""
+    names = set(re.findall(rb'"(\w+)"\s*:', text.lower()))
+    return next((form for form, own in MEMBERS.items() if own <= names), None)
 
 
 def operations(line: bytes, name: str) -> Optional[str]:
-    """JSON lines that are whole operations, not events."""
+    """JSON lines in a form that isn't a history's."""
     form = form_of(line)
-    if form == "jsonl":
+    if form in (None, "jsonl"):
         return None
-    return f"this looks like operations with their times: `regkit convert --from {form} {shell_name(name)}`"
+    what = "Jepsen's history as JSON" if form == "jepsen" else "operations with their times"
+    return f"this looks like {what}: `regkit convert --from {form} {shell_name(name)}`"
 
 
 def nearly(history: bytes, file: str) -> Optional[str]:
     """JSON, but not one object a line."""
     beginning = history[:ENOUGH].lstrip()
     if beginning.startswith(b"["):
-        return f"this looks like a JSON array: `regkit convert --from {form_of(beginning)} {file}`"
+        form = form_of(beginning)
+        how = "write each event on one line, as `jq -c '.[]'` does"
+        return f"this looks like a JSON array: {f'`regkit convert --from {form} {file}`' if form else how}"
     if beginning.startswith(b"{") and not is_json(beginning.split(b"\n")[0]) and is_json(history):
         return "this is one JSON object over several lines: write each event on one line, as `jq -c` does"
     return None

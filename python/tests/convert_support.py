@@ -1,6 +1,7 @@
 """Runs `regkit convert` in this process, for its tests."""
 import argparse
 import contextlib
+import functools
 import io
 import json
 import pathlib
@@ -9,6 +10,10 @@ import tempfile
 from typing import Any, Dict, List, NamedTuple, Optional, Union
 
 from regkit.commands import convert
+from regkit.convert import whole
+from regkit.convert.model import Choices
+from regkit.convert.output import history_lines
+from regkit.convert.words import choices_of
 
 SAMPLES = pathlib.Path(__file__).parent / "samples"
 HISTORIES = pathlib.Path(__file__).parents[2] / "bin" / "history_generator"
@@ -47,6 +52,19 @@ def run(source: Union[str, bytes], form: str, *options: str) -> Ran:
             told.getvalue(),
             json.loads(table.read_text(encoding="utf-8")) if table.exists() else None,
         )
+
+
+@functools.lru_cache(maxsize=None)
+def choices(form: str, *options: str) -> Choices:
+    """What options say."""
+    parser = argparse.ArgumentParser()
+    convert.add_arguments(parser)
+    return choices_of(parser.parse_args(["--from", form, *options]))
+
+
+def history_of(source: str, form: str, *options: str) -> str:
+    """The history of a source, without a file. Raises Refused or NotEdn."""
+    return "".join(history_lines(whole.convert(source.splitlines(keepends=True), choices(form, *options))))
 
 
 def short(history: str) -> List[str]:

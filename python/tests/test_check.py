@@ -1,5 +1,6 @@
 """`regkit check`: verdicts, evidence, statuses, refusals and what to do about them."""
 import io
+import gzip
 import json
 import os
 import pathlib
@@ -194,9 +195,12 @@ class Refusals(unittest.TestCase):
             (b"[" + jepsen + b"]", "--from jepsen"),
             (b"#jepsen.history.Op{:index 0, :time 1, :type :invoke}\n", "--from jepsen"),
             (b'{:process 0, :type :invoke, :f :get, :key "0", :value nil}\n', "--from porcupine h.x"),
-            (b"INFO [2026] jepsen.util - 0\t:invoke\t:read\tnil\n", "log: `regkit convert --from porcupine"),
+            (b"INFO [2026] jepsen.util - 0\t:invoke\t:read\tnil\n", "log: `regkit convert --from jepsen"),
             (b"process,op,value,start,end\n1,write,1,0,1\n", "CSV: `regkit convert --from csv h.x`"),
-            (b'"client";"op"\n1;read\n', "CSV"), (b"client\top\n1\tread\n", "CSV"),
+            (b"process;op;value;start;end\n1;write;1;0;1\n", "CSV: `regkit convert --from csv h.x`"),
+            (b'"client";"op"\n1;read\n', "CSV, and `regkit convert` needs columns for"),
+            (b"client\top\n1\tread\n", "CSV, and `regkit convert` needs columns for"),
+            (b'[{"who":1,"did":"read"}]', "a JSON array: write each event on one line, as `jq -c "),
             (b"\x1f\x8b\x08\x00abc", "gzip: unpack it, as in `gzip -dc h.x | regkit check`"),
             (b"\x28\xb5\x2f\xfdabc", "zstd -dc"), (b"BZh9abc", "bzip2 -dc"), (b"\xfd7zXZ\x00a", "xz -dc"),
             (b"PK\x03\x04abc", "zip"),
@@ -223,13 +227,19 @@ class Refusals(unittest.TestCase):
         """The command that is named makes a history that is accepted."""
         operation = b'{"process":1,"op":"write","register":"x","value":1,"start":1,"end":2}'
         go = b'{"ClientId":0,"Input":{"Op":"get","Key":"x"},"Call":1,"Output":{"Value":""},"Return":2}'
+        event = b'{"process":0,"type":"invoke","f":"read","value":null}'
         table = [
             (json.dumps(FINE).encode(), "jsonl"),
             (b"[" + operation + b"]", "operations"), (operation, "operations"),
             (b"{:process 0, :type :invoke, :f :write, :value 1}\n", "jepsen"), (go, "porcupine"),
             (b'{:process 0, :type :invoke, :f :get, :key "0", :value nil}\n', "porcupine"),
-            (b"INFO jepsen.util - 0\t:invoke\t:read\tnil\n", "porcupine"),
+            (b"INFO jepsen.util - 0\t:invoke\t:read\tnil\n", "jepsen"),
+            (b"0\t:invoke\t:read\tnil\n", "jepsen"),
+            (event, "jepsen"), (b"[" + event + b"]", "jepsen"),
+            (b"[\n {:process 0, :type :invoke, :f :write, :value 1}\n]\n", "jepsen"),
             (b"process,op,register,value,start,end\n1,write,x,1,0,1\n", "csv"),
+            (b"process;op;value;start;end\n1;write;1;0;1\n", "csv"),
+            (b"process\top\tvalue\tstart\tend\n1\twrite\t1\t0\t1\n", "csv"),
         ]
         with tempfile.TemporaryDirectory() as folder:
             path, made = pathlib.Path(folder) / "source", pathlib.Path(folder) / "made"
@@ -240,6 +250,31 @@ class Refusals(unittest.TestCase):
                 ran = run("convert", "--from", form, str(path), "-o", str(made))
                 self.assertEqual(ran.status, 0, ran.err)
                 self.assertEqual(run_checker(made.read_bytes()).status, 0)
+
+    def test_the_advice_to_number_does_it(self) -> None:
+        call: Line = {"process": 1, "event": "call", "op": "write", "register": "x", "value": 5}
+        with tempfile.TemporaryDirectory() as folder:
+            path, made = pathlib.Path(folder) / "source", pathlib.Path(folder) / "made"
+            for said in ({"process": "alice"}, {"value": "v1"}, {"value": [1, 2]}, {"value": True}):
+                path.write_bytes(json.dumps({**call, **said}).encode() + b"\n")
+                with self.subTest(said):
+                    self.assertIn("`regkit convert --from jsonl`", self.told(path.read_bytes(), str(path)))
+                    ran = run("convert", "--from", "jsonl", str(path), "-o", str(made))
+                    self.assertEqual(ran.status, 0, ran.err)
+                    self.assertEqual(run_checker(made.read_bytes()).status, 0)
+
+    def test_what_gzip_packed_is_read(self) -> None:
+        """Its verdict is that of the same history unpacked, and so is its advice."""
+        with tempfile.TemporaryDirectory() as folder:
+            path, made = pathlib.Path(folder) / "h.gz", pathlib.Path(folder) / "made"
+            path.write_bytes(gzip.compress(text(*FINE)))
+            self.assertEqual(run("check", "--quiet", str(path)).status, 0)
+            path.write_bytes(gzip.compress(b"{:process 0, :type :invoke, :f :write, :value 1}\n"))
+            self.assertIn(f"`regkit convert --from jepsen {path}`", run("check", str(path)).err)
+            self.assertEqual(run("convert", "--from", "jepsen", str(path), "-o", str(made)).status, 0)
+            path.write_bytes(gzip.compress(text(*FINE))[:-9])
+            ran = run("check", str(path))
+            self.assertEqual((ran.status, "gzip can't unpack it" in ran.err), (4, True), ran.err)
 
     def test_names_of_files_in_commands(self) -> None:
         self.assertIn("`gzip -dc 'a b\\u001b' | regkit check`", self.told(b"\x1f\x8b", "a b\x1b"))

@@ -1,13 +1,27 @@
 """Tests of `regkit convert`: the samples of each form, what each option does, and each refusal."""
+import gzip
 import json
 import subprocess
+import pathlib
 import sys
+import tempfile
 import unittest
 from typing import List, Sequence, Tuple
 
 from regkit.checker import run_checker
 from regkit.convert.summary import too_large
 from tests.convert_support import SAMPLES, run, short
+from tests.events import run as command
+
+TIMES = ("--columns", "process=client,register=key,outcome=status")
+WORDS = ("--columns", "process=wer,start=wann,end=fertig,op=was,register=Schl\u00fcssel,value=Wert,"
+         "outcome=Ergebnis", "--ops", "lies=read,setze=write",
+         "--outcomes", "gut=ok,abgelehnt, zu alt=fail,Zeit um=unknown",
+         "--ignore-member", "Knoten", "--ignore-member", "Version")
+VERSIONS = ("--ignore-member", "Version", "--ok-when", "Err=OK", "--null", ",ErrNoKey",
+            "--outcomes", "ErrVersion=fail")
+OUTCOMES = ("--ops", "fetch=read", "--ok-when", "code=200", "--ignore-member", "value", "--null", "404",
+            "--outcomes", "timeout=unknown,409=fail")
 
 # A sample, its form and options, and the status of its check.
 SAMPLE_RUNS: List[Tuple[str, str, Sequence[str], int]] = [
@@ -17,13 +31,21 @@ SAMPLE_RUNS: List[Tuple[str, str, Sequence[str], int]] = [
     ("jepsen_console.log", "porcupine", (), 0),
     ("maelstrom_lin_kv.edn", "jepsen", (), 0),
     ("elle_rw_register.edn", "jepsen", (), 0),
+    ("jepsen_nemesis.edn", "jepsen", (), 0),
+    ("jepsen_nemesis.txt", "jepsen", (), 0),
+    ("jepsen_nemesis.json", "jepsen", (), 0),
+    ("jepsen_keys.json", "jepsen", (), 0),
     ("porcupine_kv.txt", "porcupine", (), 0),
     ("porcupine_operations.jsonl", "porcupine", (), 0),
     ("porcupine_events.json", "porcupine", (), 0),
-    ("times.csv", "csv", ("--columns", "process=client,register=key,outcome=status"), 0),
+    ("porcupine_versions.jsonl", "porcupine", VERSIONS, 0),
+    ("times.csv", "csv", TIMES, 0),
+    ("times.tsv", "csv", TIMES, 0),
+    ("words.csv", "csv", WORDS, 0),
     ("machines.csv", "csv", ("--clock-error", "3ms", "--null", "none"), 0),
     ("operations.jsonl", "operations", (), 0),
     ("events.jsonl", "jsonl", (), 0),
+    ("events_outcomes.jsonl", "jsonl", OUTCOMES, 0),
 ]
 
 
@@ -31,9 +53,11 @@ class Samples(unittest.TestCase):
     def test_each_becomes_the_history_that_was_worked_out_by_hand(self) -> None:
         for name, form, options, _ in SAMPLE_RUNS:
             with self.subTest(name, form=form):
-                ran = run((SAMPLES / name).read_text(encoding="utf-8"), form, *options)
+                source = (SAMPLES / name).read_bytes()
                 expected = (SAMPLES / name).with_suffix(".expected").read_text(encoding="utf-8")
-                self.assertEqual((ran.status, ran.history), (0, expected), ran.told)
+                for packed in (source, gzip.compress(source)):
+                    ran = run(packed, form, *options)
+                    self.assertEqual((ran.status, ran.history), (0, expected), ran.told)
 
     def test_each_is_checked(self) -> None:
         for name, form, options, status in SAMPLE_RUNS:
@@ -68,7 +92,7 @@ class Samples(unittest.TestCase):
             (
                 "times.csv",
                 "csv",
-                SAMPLE_RUNS[9][2],
+                TIMES,
                 [
                     "read 8 operations of 4 clients on 2 registers: "
                     "4 writes, 4 reads; 1 failed, 1 of unknown outcome",
@@ -129,6 +153,8 @@ class Jepsen(unittest.TestCase):
             jepsen("0 invoke write [1 2]", "0 ok write [1 2]", "0 invoke read nil", "0 ok read [1 2]"),
             ["0 w x 1", "0 .", "0 r x", "0 = 1"],
         )
+        ran = run(jepsen("0 invoke write [1 2]", "1 invoke read [1 nil]", "2 invoke read nil"), "jepsen")
+        self.assertIn("line 3: the value nil is no key with its value, as others are; if none is", ran.told)
         self.check(jepsen("0 invoke write [1 2]", "0 ok write [1 2]"), ["0 w x 1", "0 ."], "--keys", "none")
         self.check(
             jepsen("0 invoke write [1 2]", "0 ok write [1 2]"), ["0 w 1 2", "0 ."], "--keys", "independent"
@@ -177,12 +203,36 @@ class Jepsen(unittest.TestCase):
         )
         self.check(source, ["0 w 1 5", "0 .", "2 r 1", "2 = 5"], "--cas", "skip-key")
         told = run(source, "jepsen", "--cas", "skip-key").told
-        self.assertIn("left out 2 operations of keys that cas or append touches: 2\n", told)
+        self.assertIn("left out 2 of 4 operations, since something else than reads and writes touches "
+                      "1 of 2 keys: 2\n", told)
 
     def test_plain_cas_isnt_taken_for_keys(self) -> None:
         ran = run(jepsen("0 invoke cas [1 2]", "0 ok cas [1 2]"), "jepsen", "--cas", "skip-key")
         self.assertEqual(ran.status, 2)
-        self.assertIn("left out 1 operation of keys that cas or append touches: x", ran.told)
+        self.assertIn("nothing is left to check: --cas skip-key left out 1 of 1 operation, since", ran.told)
+
+    def test_cas_skip_key_may_leave_too_little(self) -> None:
+        """What is left is no yes: `regkit check` wants a completed read."""
+        source = jepsen("0 invoke write [1 5]", "0 ok write [1 5]", "1 invoke cas [2 [3 4]]",
+                        "2 invoke read [2 nil]", "2 ok read [2 3]")
+        ran = run(source, "jepsen", "--cas", "skip-key")
+        self.assertEqual(short(ran.history), ["0 w 1 5", "0 ."], ran.told)
+        self.assertIn("left out 2 of 3 operations, since something else than reads and writes touches 1 ",
+                      ran.told)
+        self.assertIn("there is no completed read, so a yes would say nothing: regkit check will", ran.told)
+        with tempfile.TemporaryDirectory() as folder:
+            path = pathlib.Path(folder) / "left.jsonl"
+            path.write_text(ran.history, encoding="utf-8")
+            self.assertEqual(command("check", str(path)).status, 5)
+
+    def test_an_append_transaction_gets_one_refusal(self) -> None:
+        """Even behind a transaction that is refused for another reason, and whatever the options say."""
+        longer = TXN % "[[:r 1 nil] [:r 2 nil]]" + TXN.replace(":process 0", ":process 1") % "[[:append 3 1]]"
+        for options in [(), ("--cas", "skip-key"), ("--ops", "append=other"), ("--keys", "none")]:
+            ran = run(longer, "jepsen", *options)
+            self.assertEqual(ran.status, 2)
+            self.assertIn("line 2: a transaction appends to a list", ran.told)
+            self.assertIn("so no option converts it: check such histories with Elle", ran.told)
 
 
 def row(process: object, op: str, value: object, *times: object, **others: str) -> str:
@@ -217,7 +267,7 @@ class Timed(unittest.TestCase):
         )
 
     def test_an_unknown_outcome_keeps_its_process(self) -> None:
-        for outcome, end in [("", ""), ("unknown", 9), ("info", ""), ("ok", ""), ("unknown", "")]:
+        for outcome, end in [("", ""), ("unknown", 9), ("info", ""), ("unknown", "")]:
             with self.subTest(outcome, end=end):
                 self.check(
                     row(0, "write", 1, 0, end, outcome=outcome) + row(0, "read", 1, 10, 11),
@@ -273,9 +323,9 @@ class Timed(unittest.TestCase):
             ["0 w x 1", "0 .", "0 r x", "0 = 1", "0 w x 2", "0 ."],
         )
 
-    def test_columns_may_be_absent_or_many(self) -> None:
+    def test_columns_may_be_absent_and_have_other_names(self) -> None:
         ran = run(
-            "t1,t2,who,what,v,more\n0,1,7,w,3,z\n",
+            "t1,t2,who,what,v\n0,1,7,w,3\n",
             "csv",
             "--columns",
             "start=t1,end=t2,process=who,op=what,value=v",
@@ -283,6 +333,20 @@ class Timed(unittest.TestCase):
             "r",
         )
         self.assertEqual(short(ran.history), ["7 w r 3", "7 ."], ran.told)
+
+    def test_delimiters(self) -> None:
+        rows = HEADER + row(0, "write", "a", 0, 1) + row(1, "read", "a", 2, 3)
+        expected = run(rows, "csv").history
+        for delimiter, options in [(";", ()), ("\t", ()), ("|", ()), (":", ("--delimiter", ":")),
+                                   (";", ("--delimiter", ";")), ("\t", ("--delimiter", "tab")),
+                                   ("\t", ("--delimiter", "\\t"))]:
+            with self.subTest(delimiter, options=options):
+                ran = run(rows.replace(",", delimiter), "csv", *options)
+                self.assertEqual((ran.status, ran.history), (0, expected), ran.told)
+        ran = run(rows.replace(",", ";").replace("a;", '"a,b;c";'), "csv", "--map")
+        self.assertEqual(ran.map and ran.map["values"], {"x": {"1": "a,b;c"}})
+        told = run(rows, "csv", "--delimiter", ";").told
+        self.assertIn("say what stands between its fields with --delimiter C", told)
 
     def test_a_field_may_have_line_ends(self) -> None:
         ran = run(HEADER + row(0, "write", '"a\nb"', 0, 1) + row(0, "write", "c", 2, 3), "csv", "--map")
@@ -311,7 +375,7 @@ class Values(unittest.TestCase):
             "1 invoke read nil",
             "1 ok read -9223372036854775808",
         )
-        ran = run(source, "jepsen", "--map")
+        ran = run(source, "jepsen", "--map", "--values", "exact")
         self.assertEqual(
             [event.get("value") for event in ran.events if "value" in event],
             [2, 1, 3, 1, 4, 5, 6, -9223372036854775808],
@@ -345,9 +409,10 @@ class Values(unittest.TestCase):
 
     def test_null(self) -> None:
         reads = '{"process":0,"op":"read","register":"x","value":%s,"start":0,"end":1}'
+        value_as_it_is = ("--initial", "null")
         for value, options, expected in [
             ("null", (), "None"),
-            ('""', (), "1"),
+            ('""', value_as_it_is, "1"),
             ('""', ("--null", ""), "None"),
             ('""', ("--null", '""'), "None"),
             ('""', ("--null", "nil,,gone"), "None"),
@@ -355,13 +420,14 @@ class Values(unittest.TestCase):
             ('"gone"', ("--null", "gone"), "None"),
             ('"gone"', (), "1"),
             ("-1", ("--null=-1",), "None"),
-            ("-1", (), "-1"),
-            ("0", (), "0"),
-            ("0", ("--null", "nil"), "0"),
+            ("-1", value_as_it_is, "-1"),
+            ("0", value_as_it_is, "0"),
+            ("0", ("--null", "nil", *value_as_it_is), "0"),
+            ("0", ("--initial", "7"), "0"),
         ]:
             with self.subTest(value, options=options):
                 ran = run(reads % value, "operations", *options)
-                self.assertEqual(short(ran.history), ["0 r x", f"0 = {expected}"], ran.told)
+                self.assertEqual(short(ran.history)[-2:], ["0 r x", f"0 = {expected}"], ran.told)
         for form, source in [
             ("csv", HEADER + row(0, "read", "", 0, 1)),
             (
@@ -372,7 +438,8 @@ class Values(unittest.TestCase):
         ]:
             with self.subTest(form):
                 self.assertEqual(short(run(source, form).history), ["0 r x", "0 = None"])
-                self.assertEqual(short(run(source, form, "--null", "nil").history), ["0 r x", "0 = 1"])
+                ran = run(source, form, "--null", "nil", *value_as_it_is)
+                self.assertEqual(short(ran.history), ["0 r x", "0 = 1"], ran.told)
 
     def test_initial(self) -> None:
         source = jepsen(
@@ -394,6 +461,87 @@ class Values(unittest.TestCase):
         source = jepsen("1 invoke write 5", "1 ok write 5", "2 invoke read nil", "2 ok read 5")
         report = run_checker(run(source, "jepsen", "--initial", "0").history.encode()).report
         self.assertEqual(json.loads(report.splitlines()[0])["regular"], "yes")
+
+
+class Suspects(unittest.TestCase):
+    """Reads of values that nothing writes, where the conversion may be wrong and not the store."""
+
+    def test_what_may_spell_null_or_be_there_from_the_start(self) -> None:
+        for value in ("nil", "None", "(nil)", "NULL", "not found", "-1", "0", "undefined", "b'none'"):
+            with self.subTest(value):
+                ran = run(HEADER + row(0, "write", 7, 0, 1) + row(1, "read", value, 0, 3), "csv")
+                self.assertEqual(ran.status, 2, ran.history)
+                self.assertIn("which nothing writes to x: say ", ran.told)
+                self.assertIn("or --initial=null if the store was wrong to give it", ran.told)
+
+    def test_a_value_that_is_written_is_a_value(self) -> None:
+        for value in ("nil", "-1", "0", "undefined"):
+            with self.subTest(value):
+                ran = run(HEADER + row(0, "write", value, 0, 1) + row(1, "read", value, 0, 3), "csv")
+                self.assertEqual(ran.status, 0, ran.told)
+
+    def test_a_value_that_no_one_may_mean_is_a_fault(self) -> None:
+        ran = run(HEADER + row(0, "write", "v1", 0, 1) + row(1, "read", "v2", 0, 3), "csv")
+        self.assertEqual(short(ran.history), ["0 w x 1", "1 r x", "0 .", "1 = 2"], ran.told)
+
+    def test_values_that_are_spelled_alike(self) -> None:
+        for written, read in [("1", '"1"'), ('"1"', "1"), (":a", '"a"'), ("1", "1.0"),
+                              ('"v"', "\"b'v'\""), ('" v"', '"v"')]:
+            source = jepsen(f"0 invoke write {written}", f"0 ok write {written}", "1 invoke read nil",
+                            f"1 ok read {read}")
+            with self.subTest(source):
+                told = run(source, "jepsen").told
+                self.assertIn("a value of another kind that is spelled alike is written there", told)
+                self.assertEqual(len(set(short(run(source, "jepsen", "--values", "exact").history))), 4)
+                alike = short(run(source, "jepsen", "--values", "alike").history)
+                self.assertEqual(alike[0].split()[-1], alike[-1].split()[-1], alike)
+
+    def test_a_value_with_its_version(self) -> None:
+        for written, read in [("[nil 3]", "[7 3]"), ("3", "[7 3]"), ("{:value 3}", "{:version 7, :value 3}")]:
+            source = jepsen(f"0 invoke write {written}", "0 ok write nil", "1 invoke read nil",
+                            f"1 ok read {read}")
+            with self.subTest(source):
+                told = run(source, "jepsen").told
+                self.assertIn("a value that has a part of it in common is written there", told)
+                self.assertEqual(run(source, "jepsen", "--values", "exact").status, 0)
+        apart = jepsen("0 invoke write [7 3]", "0 ok write nil", "1 invoke read nil", "1 ok read [8 4]")
+        self.assertEqual(run(apart, "jepsen").status, 0)
+
+    def test_keys_that_are_spelled_alike(self) -> None:
+        source = jepsen("0 invoke write [5 1]", "0 ok write [5 1]", '1 invoke read ["5" nil]',
+                        '1 ok read ["5" 1]')
+        told = run(source, "jepsen").told
+        self.assertIn("it is written to 5, a key of another kind that is spelled alike; say --values", told)
+        ran = run(source, "jepsen", "--values", "alike")
+        self.assertEqual(short(ran.history), ["0 w 5 1", "0 .", "1 r 5", "1 = 1"], ran.told)
+        ran = run(source, "jepsen", "--values", "exact")
+        self.assertEqual(short(ran.history), ["0 w 5 1", "0 .", '1 r "5"', "1 = 1"], ran.told)
+
+    def test_faults_that_may_be_of_the_recording_are_told(self) -> None:
+        unwritten = jepsen("0 invoke read nil", "0 ok read 17")
+        told = run(unwritten, "jepsen").told
+        self.assertIn("1 read gave a value that nothing writes: was the store empty before", told)
+        failed = jepsen("0 invoke write 1", "0 fail write 1", "1 invoke read nil", "1 ok read 1")
+        ran = run(failed, "jepsen")
+        self.assertEqual(short(ran.history), ["0 w x 1", "0 fail", "1 r x", "1 = 1"])
+        self.assertIn("1 read gave a value of a failed write: is it sure that such a write has no", ran.told)
+        ran = run(failed, "jepsen", "--outcomes", "fail=unknown")
+        self.assertEqual(short(ran.history), ["0 w x 1", "0 crash", "1 r x", "1 = 1"])
+        self.assertNotIn("failed write", ran.told)
+
+    def test_values_that_are_alike_are_written_once(self) -> None:
+        source = jepsen("0 invoke write 1", "0 ok write 1", '0 invoke write "1"', '0 ok write "1"')
+        self.assertEqual(run(source, "jepsen").status, 0)
+        self.assertIn("1 is written to x again", run(source, "jepsen", "--values", "alike").told)
+
+    def test_an_object_is_no_value(self) -> None:
+        for value in ('#object[a.b 0x1f "a.b@1f"]', '#error {:cause nil}'):
+            read, write = jepsen("0 invoke read nil", f"0 ok read {value}"), jepsen(f"0 invoke write {value}")
+            for source in (read, write):
+                with self.subTest(source):
+                    self.assertIn("only names an object of Clojure", run(source, "jepsen").told)
+        ran = run(jepsen('0 invoke write #inst "2026-11-28"', "0 ok write nil"), "jepsen")
+        self.assertEqual(short(ran.history), ["0 w x 1", "0 ."], ran.told)
 
 
 class Names(unittest.TestCase):
@@ -458,7 +606,7 @@ REFUSALS: List[Tuple[str, str, Sequence[str], str]] = [
     ("porcupine", '{:process 0, :type :invoke, :f :append, :key "5", :value "a"}', (),
      "line 1: append reads and writes at once"),
     ("jepsen", jepsen("0 invoke read nil", "1 invoke enqueue 1"), (),
-     "line 2: 'enqueue' is neither a read (get, r, read) nor"),
+     "line 2: enqueue is no word for a read (get, r, read) or a write"),
     ("jepsen", jepsen("0 invoke read nil", "0 invoke read nil"), (),
      "line 2: client 0 calls while its call of line 1 is open"),
     ("jepsen", jepsen("0 ok read nil"), (), "line 1: client 0 has no open call that this could end"),
@@ -468,6 +616,21 @@ REFUSALS: List[Tuple[str, str, Sequence[str], str]] = [
      "line 2: the reply of a write has the value 2, and its call, at l"),
     ("jepsen", jepsen("0 start read nil"), (),
      "line 1: :type is :start, and :invoke, :ok, :fail or :info is expected"),
+    ("jepsen", '{:process "alice", :type :invoke, :f :write, :value 1}', (),
+     'line 1: :process is "alice", and its :f is :write: give each client a whole number'),
+    ("jepsen", "{:type :invoke, :f :read, :value 1}", (), "line 1: :process is nil, and its :f is :read"),
+    ("jepsen", '{:process "bob", :f :push}', ("--ops", "push=other"), 'line 1: :process is "bob", and its'),
+    ("jepsen", "[[1 2]]", (), "line 1: no operation: a map such as"),
+    ("jepsen", jepsen("0 invoke read 4, :index 4", "0 ok read 4, :index 3"), (),
+     "line 2: :index is 3, and an earlier line's 4: the order of the lines is the order of time"),
+    ("jepsen", '[{"process":0,"type":"invoke","f":"read"}\n,7]', (),
+     "line 2: no operation: an object such as"),
+    ("jepsen", "INFO - :invoke :read nil", (), "line 1: an operation has a process, a type, a function and"),
+    ("jepsen", "INFO 5 :begin :read nil", (), "line 1: an operation has a process, a type, a function and a"),
+    ("jepsen", jepsen("0 invoke push 1"), ("--ops", "push=other"),
+     "line 1: by --ops this is neither a read nor a write: leave out the keys that it touches with --cas"),
+    ("jepsen", "{:process 0, :type :invoke, :f :read, :f :write}", (),
+     "line 1: not EDN: a map with the key :f twice"),
     ("jepsen", "{:process 0, :type :invoke, :f 3}", (),
      "line 1: :f is 3, and a keyword such as :read is expected"),
     ("jepsen", "{:process 0}\n[1 2]", (), "line 1: :type is nil, and"),
@@ -482,7 +645,9 @@ REFUSALS: List[Tuple[str, str, Sequence[str], str]] = [
      "line 2: the value 3 is no key with"),
     ("jepsen", TXN % "[[:w 1 2] [:r 1 nil]]", (),
      "line 1: a transaction of 2 operations, and registers have single"),
-    ("jepsen", TXN % "[[:append 1 2]]", (), "line 1: append reads and writes at once"),
+    ("jepsen", TXN % "[[:append 1 2]]", (),
+     "line 1: a transaction appends to a list, and regcheck judges registers, which are read and written "
+     "whole, so no option converts it"),
     ("jepsen", TXN % "7", (), "line 1: 7 is no transaction of one read or write, such as [[:w 3 1]]"),
     ("jepsen", TXN % "[[:w 1 2]]" + "{:process 0, :type :ok, :f :txn, :value [[:r 1 2]]}", (),
      "line 2: the reply's transaction isn't"),
@@ -502,7 +667,9 @@ REFUSALS: List[Tuple[str, str, Sequence[str], str]] = [
      "line 1: Kind is start, and call or return (false or true) is expected"),
     ("porcupine", '{"Kind":0,"Value":{"Op":0}}\n{"Call":1,"Input":{"Op":0}}', (),
      "line 2: events and operations in one file"),
-    ("porcupine", '[\n1]', (), "line 2: no operation and no event: an object is expected"),
+    ("porcupine", '[\n1]', (), "line 2: no operation: a map such as"),
+    ("porcupine", '{"Call":1,"Input":{"Op":0}}\n1', (),
+     "line 2: no operation and no event: an object is expected"),
     ("porcupine", '[{"Kind":0,"Value":{"Op":0}}\n', (), "line 2: not JSON: an array without its end"),
     ("porcupine", '[{"Kind":0,"Value":{"Op":0}}]\n1', (),
      "line 1: not JSON: there is something behind the array"),
@@ -557,6 +724,16 @@ WRONG_WORDS: List[Tuple[str, Sequence[str], str]] = [
     ("csv", ("--columns", "process"), "--columns process: COLUMN=NAME is expected"),
     ("csv", ("--clock-error", "soon"), "--clock-error soon: a number with ns, us, ms or s is expected"),
     ("csv", ("--clock-error", "5ms"), "--clock-error 5ms needs --clock-unit ns, us, ms or s"),
+    ("jsonl", ("--delimiter", ";"), "--delimiter is for csv, not for jsonl"),
+    ("csv", ("--delimiter", "::"), "--delimiter ::: one character is expected, or comma, semicolon or tab"),
+    ("csv", ("--ops", "get"), "--ops get: WORD=MEANING,.. is expected, with one of read, write, other for"),
+    ("csv", ("--ops", "get=fetch"), "--ops get=fetch: WORD=MEANING,.. is expected"),
+    ("csv", ("--ops", "a=read,a=write"), "--ops: a is given two meanings"),
+    ("csv", ("--ops", "CAS=write"), "--ops CAS=write: CAS reads and writes at once, so it is other"),
+    ("csv", ("--outcomes", "late=reply"),
+     "--outcomes late=reply: WORD=MEANING,.. is expected, with one of ok, fail, un"),
+    ("csv", ("--ok-when", "status"),
+     "--ok-when status: MEMBER=WORD,.. is expected, such as status=200 or error="),
     ("csv", ("--to", "jepsen", "--map"), "--map describes a history for regcheck: leave out --to, or --map"),
 ]
 

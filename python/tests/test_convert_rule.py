@@ -108,7 +108,7 @@ class Timed(unittest.TestCase):
                 "Input": {
                     "Op": {"read": "get", "write": "put"}[row["op"]],
                     "Key": row["register"],
-                    "Value": row["value"],
+                    "Value": row["value"] if row["op"] == "write" else "",
                 },
                 "Call": row["start"],
                 "Output": row["value"],
@@ -132,7 +132,7 @@ class Timed(unittest.TestCase):
             calls, rows = self.source(chance, chance.choice([3, 6, 40]))
             error = chance.choice([0, 0, 1, 3])
             for form, (text, first) in self.forms(rows).items():
-                ran = run(text, form, "--map", "--clock-error", str(error))
+                ran = run(text, form, "--map", "--clock-error", str(error), "--initial", "null")
                 self.assertEqual(ran.status, 0, ran.told)
                 moved = [call._replace(line=call.line + first) for call in calls]
                 self.assertEqual(
@@ -146,7 +146,7 @@ class Timed(unittest.TestCase):
         for _ in range(60):
             _, rows = self.source(chance, 6)
             text, _ = self.forms(rows)["csv"]
-            history = run(text, "csv").history
+            history = run(text, "csv", "--initial", "null").history
             self.assertIn(run_checker(history.encode()).status, (0, 1), history)
 
 
@@ -240,7 +240,8 @@ class RoundTrips(unittest.TestCase):
                 {"process": 0, "op": "read", "register": "x", "value": value, "start": place, "end": place}
                 for place, value in enumerate(values)
             ]
-            ran = run("\n".join(map(json.dumps, rows)), "operations", "--map")
+            exactly = ("--values", "exact", "--initial", "null")
+            ran = run("\n".join(map(json.dumps, rows)), "operations", "--map", *exactly)
             numbers = [event["value"] for event in ran.events if event["event"] == "reply"]
             for one, its in zip(values, numbers):
                 if type(one) is int or one is None:

@@ -32,7 +32,7 @@ class Reading(unittest.TestCase):
             ("{:a []}", [{":a": ()}]),
             ("[\n{:a 1}\n#_{:b 1}]", [({":a": 1},)]),
             ("#_\n{:a 1}\n{:b 1}", [{":b": 1}]),
-            ("{:a 1 :a 2}", [{":a": 2}]),
+            ("0x5c29bfd -0xFFN 0X0", [96639997, -255, 0]),
             ("{[1 {2 3}] 4}", [{(1, edn.Map({2: 3})): 4}]),
             ("#{1 2} 3", [(1, 2), 3]),
             ("1 ; no 2\n3;no\n;\n", [1, 3]),
@@ -58,6 +58,12 @@ class Reading(unittest.TestCase):
         (tagged,) = read('#jepsen.history.Op{:index 0}')
         self.assertEqual((tagged.tag, tagged.value), ("jepsen.history.Op", {":index": 0}))
         self.assertEqual(edn.write(read('#a #b [1]')[0]), "#a #b [1]")
+        for text in ['#object[jepsen.os$fn__1 0x5c29bfd "jepsen.os$fn__1@5c29bfd"]', "#inst \"2026-11-28\"",
+                     "#error {:cause nil, :trace [[a.b$c invoke \"c.clj\" 829]]}", '#"\\d+\\["',
+                     "[#'a.b/c 1]", "#:a{:b 1}"]:
+            with self.subTest(text):
+                value, = read(text)
+                self.assertEqual(list(map(edn.write, read(edn.write(value)))), [edn.write(value)])
 
     def test_lines_are_those_of_the_beginning(self) -> None:
         text = '1\n{:a\n 2}\n\n#tag{:b\n3} "x\ny" 4\n5'
@@ -84,6 +90,9 @@ class Reading(unittest.TestCase):
             ("1\n[2", "line 2: not EDN: [ is never closed"),
             ("[1}", "line 1: not EDN: } closes nothing"),
             ("{:a}", "line 1: not EDN: a map with a key and no value"),
+            ("\n{:a 1 [2] 3 :a 2}", "line 2: not EDN: a map with the key :a twice"),
+            ("{:a 1 :b [2] :a 2}", "line 1: not EDN: a map with the key :a twice"),
+            ("0x", "line 1: not EDN: 0x is no number"),
             ('1\n"a\nb', "line 2: not EDN: a text without its closing quote"),
             ('"\\x"', "line 1: not EDN: \\x is no escape"),
             ("007", "line 1: not EDN: 007 is no number"),

@@ -1,5 +1,6 @@
 """`regkit split`: a history of any size as parts that can be checked apart."""
 import argparse
+import io
 import os
 import stat
 import sys
@@ -7,6 +8,7 @@ from contextlib import ExitStack
 from typing import BinaryIO, Optional
 
 from regkit.checker import NoChecker, run_checker
+from regkit.inputs import opened
 from regkit.joining import line_map
 from regkit.parts import BLANK, MAP, MAX_PARTS, Manifest, file_of
 from regkit.progress import Progress
@@ -67,21 +69,22 @@ def run(arguments: argparse.Namespace) -> int:
 
 
 def split_named(arguments: argparse.Namespace) -> Manifest:
-    with ExitStack() as opened:
-        stream: BinaryIO = sys.stdin.buffer
-        if arguments.history != "-":
-            stream = opened.enter_context(open(arguments.history, "rb", buffering=1 << 20))
+    with ExitStack() as stack:
+        stream = stack.enter_context(opened(arguments.history))
         size = size_of(stream)
         lines = line_form(arguments.lines, size)
         plan = Plan(arguments.history, arguments.directory, arguments.parts, lines)
-        progress = opened.enter_context(Progress())
+        progress = stack.enter_context(Progress())
         progress.step("splitting", size or 0)
         return split(stream, plan, progress.reach)
 
 
 def size_of(stream: BinaryIO) -> Optional[int]:
     """The bytes of a regular file, None of anything else."""
-    found = os.fstat(stream.fileno())
+    try:
+        found = os.fstat(stream.fileno())
+    except io.UnsupportedOperation:  # what gzip packed
+        return None
     return found.st_size if stat.S_ISREG(found.st_mode) else None
 
 

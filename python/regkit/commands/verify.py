@@ -5,6 +5,7 @@ import sys
 from typing import Optional
 
 from regkit import verify
+from regkit.inputs import opened
 
 HELP = "check each claim of a report against its history, by the definitions alone"
 EPILOG = """\
@@ -37,7 +38,7 @@ REFUSALS = (".err", ".refusal")  # what a file with a refusal is called
 
 
 def add_arguments(parser: argparse.ArgumentParser) -> None:
-    parser.add_argument("history", metavar="HISTORY", help="the history; - is standard input")
+    parser.add_argument("history", metavar="HISTORY", help="the history, packed by gzip or not; - is standard input")
     parser.add_argument("report", metavar="REPORT", nargs="?",
                         help="its report; - is standard input; a file .err or .refusal is a refusal's text")
     parser.add_argument("--refusal", metavar="FILE", help="the text of its refusal, in place of REPORT")
@@ -64,11 +65,11 @@ def run(arguments: argparse.Namespace) -> int:
 
 
 def verified(arguments: argparse.Namespace) -> verify.Verified:
-    history = content(arguments.history)
     refusal = refusal_file(arguments)
-    if refusal is not None:
-        return verify.verify_refusal(history, content(refusal).decode("utf-8", "replace"))
-    return verify.verify(history, content(arguments.report), arguments.joined)
+    if refusal is not None:  # of the bytes as they are, since regcheck unpacks nothing
+        return verify.verify_refusal(content(arguments.history), content(refusal).decode("utf-8", "replace"))
+    with opened(arguments.history) as history:
+        return verify.verify(history.read(), content(arguments.report), arguments.joined)
 
 
 def refusal_file(arguments: argparse.Namespace) -> Optional[str]:

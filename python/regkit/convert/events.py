@@ -5,53 +5,115 @@
 
 Processes and values may be texts, registers any JSON. What else `regcheck` says of a history holds here too.
 """
-from typing import Any, Dict, Iterable
+import shlex
+from typing import Any, Dict, Iterable, Optional
 
 from regkit import edn
 from regkit.convert.json_values import json_values
-from regkit.convert.model import Choices, Operation, Refused, Source
+from regkit.convert.members import Known, Outcomes
+from regkit.convert.model import (ENDINGS, GREATEST, READS, WRITES, Choices, Client, Operation, Refused,
+                                  Source, folded)
 from regkit.convert.pairing import Pairing
+from regkit.convert.rows import client_of
 from regkit.convert.settle import settle
-from regkit.convert.tables import client_of
 
-ENDINGS = ("reply", "fail", "crash")
+_ENDINGS = ("reply", "fail")
+
+Event = Dict[str, Any]
 
 
 def from_events(lines: Iterable[str], choices: Choices) -> Source:
-    pairing = Pairing(ends_with_crash=True)
+    log = _Log(choices)
     for line, event in json_values(lines):
         if not isinstance(event, dict) or event.get("process") is None:
             raise Refused('no event: an object such as {"process":1,"event":"reply"} is expected', line)
-        _take(pairing, line, event, choices)
-    source = Source(pairing.steps)
+        log.take(line, event)
+    source = Source(log.pairing.steps)
+    source.notes.extend(log.outcomes.notes())
     settle(source, choices)
     return source
 
 
-def _take(pairing: Pairing, line: int, event: Dict[str, Any], choices: Choices) -> None:
-    client, what = client_of(event["process"], False), event.get("event")
-    if what == "call":
-        op = event.get("op")
-        if type(op) is not str:
-            raise Refused("a call has the member op, read or write", line)
-        key = event.get("register", choices.register)
-        pairing.call(Operation(line, client, op, key, event.get("value")))
-    elif what in ENDINGS:
-        ended = pairing.open.get(client)
-        if what != "crash" and ended is not None:
-            _agree(event, ended, line)
-        pairing.end(line, client, what, event.get("value"))
-    else:
+class _Log:
+    """Pairs calls with what ended them."""
+
+    def __init__(self, choices: Choices) -> None:
+        self.choices = choices
+        self.pairing = Pairing(ends_with_crash=True)
+        self.known = Known(choices, "jsonl")
+        self.outcomes = Outcomes(choices)
+
+    def take(self, line: int, event: Event) -> None:
+        self.known.check(event, line)
+        client, what = client_of(event["process"], False), event.get("event")
+        if what == "call":
+            op = event.get("op")
+            if type(op) is not str:
+                raise Refused("a call has the member op, read or write", line)
+            key = event.get("register", self.choices.register)
+            called = Operation(line, client, self.choices.kind_of(op), key, event.get("value"))
+            _say_who(called, event)
+            self.pairing.call(called)
+        elif what == "crash":
+            self._crash(line, client, event)
+        else:
+            ending = self._ending(what, line)
+            called = self.pairing.called(client, line)
+            self._agree(event, called, line)
+            called.end_time = _time(event)
+            if ending == "reply":
+                ending = self._reply(event, called, line)
+            self.pairing.end(line, client, ending, called.answer)
+
+    def _crash(self, line: int, client: Client, event: Event) -> None:
+        ended = self.pairing.crash(line, client)
+        if ended.kind == "crash":
+            _say_who(ended, event)
+        else:
+            ended.end_time = _time(event)
+
+    def _ending(self, what: Any, line: int) -> Optional[str]:
+        """What an event other than a call and a crash does to its call."""
+        outcome = self.choices.outcomes.get(folded(what)) if type(what) is str else None
+        if outcome is not None:
+            return ENDINGS[outcome]
+        if what in _ENDINGS:
+            return str(what)
         said = "absent" if what is None else edn.write(what)
-        raise Refused(f"event is {said}, and call, reply, fail or crash is expected", line)
+        option = shlex.quote(f"{what}=unknown") if type(what) is str else "WORD=unknown"
+        raise Refused(f"event is {said}, and call, reply, fail or crash is expected: if it ends a call, say "
+                      f"with --outcomes {option} what it means (or ok, or fail, if it surely had no "
+                      "effect)", line)
+
+    def _agree(self, event: Event, called: Operation, line: int) -> None:
+        """A reply or a failure repeats its call's op and register, if it has them."""
+        op = event.get("op")
+        if op is not None and self.choices.kind_of(op if type(op) is str else edn.write(op)) != called.kind:
+            raise Refused(f"op is {edn.write(op)}, and the call at line {called.line} has "
+                          f"{edn.write(called.kind)}: is it the answer to another call?", line)
+        register = event.get("register")
+        if register is not None and edn.write(register) != edn.write(called.key):
+            raise Refused(f"register is {edn.write(register)}, and the call at line {called.line} has "
+                          f"{edn.write(called.key)}: is it the answer to another call?", line)
+
+    def _reply(self, event: Event, called: Operation, line: int) -> Optional[str]:
+        """Gives a call its answer. Returns what ended it."""
+        ending, found_nothing = self.outcomes.of(event, called.kind in READS)
+        if called.kind in READS and not found_nothing and ending == "reply" and "value" not in event:
+            raise Refused("a read's reply has no value: write null if the read found none", line)
+        told = called.kind not in WRITES or not self.choices.explains("value")
+        called.answer = event.get("value") if told and not found_nothing else None
+        return ending
 
 
-def _agree(event: Dict[str, Any], called: Operation, line: int) -> None:
-    """A reply or a failure repeats its call's op and register, if it has them."""
-    for member, own in (("op", called.kind), ("register", called.key)):
-        said = event.get(member)
-        if said is not None and edn.write(said) != edn.write(own):
-            raise Refused(f"{member} is {edn.write(said)}, and the call at line {called.line} has "
-                          f"{edn.write(own)}", line)
-    if event["event"] == "reply" and called.kind == "read" and "value" not in event:
-        raise Refused("a read's reply has no value: write null if the read found none", line)
+def _say_who(operation: Operation, event: Event) -> None:
+    """Keeps what a recorder says of who called, which node was asked, and when."""
+    client, node = event.get("client"), event.get("node")
+    operation.name = client if type(client) is str else ""
+    operation.node = node if type(node) is str else ""
+    operation.time = _time(event)
+
+
+def _time(event: Event) -> Optional[int]:
+    time = event.get("time")
+    return time if type(time) is int and 0 <= time <= GREATEST else None

@@ -1,238 +1,214 @@
 """Histories of Jepsen and Maelstrom, and Porcupine's logs of a key-value store, which have the same form.
 
-One operation is a map or a record of EDN, or a line of Jepsen's console:
+One operation is a map or a record of EDN, an object of JSON with the same members, or a line for people:
 
     {:process 0, :type :invoke, :f :write, :value [3 11], :index 0, :time 12}
+    {"process":0,"type":"invoke","f":"write","value":[3,11],"index":0,"time":12}
     INFO  jepsen.util - 0 :invoke :write 11
 
 `:ok` is a reply, `:fail` a failure that surely had no effect, and `:info` a crash of the client: the outcome
 is unknown and the process does nothing more. Processes that aren't numbers, such as :nemesis, are no clients.
 """
 import itertools
-import re
+from collections import Counter
 from typing import Any, Dict, Iterable, Iterator, List, Optional, Tuple
 
 from regkit import edn
-from regkit.convert.model import KNOWN, READS, Choices, Operation, Refused, Source
+from regkit.convert.independent import are_independent, nothing_for, part
+from regkit.convert.jepsen_lines import NO_OPERATION, line_events
+from regkit.convert.json_values import is_json, json_values
+from regkit.convert.members import Ended, Known, Outcomes, word_of
+from regkit.convert.model import (ENDINGS, KNOWN, OTHER, READS, WRITES, Choices, Operation, Refused, Source,
+                                  folded)
 from regkit.convert.pairing import Pairing
 from regkit.convert.settle import settle
+from regkit.convert.transactions import refuse_appends, take_apart
 from regkit.convert.values import spelled
 
-ENDINGS = {":ok": "reply", ":fail": "fail", ":info": "crash"}
-_CONSOLE = re.compile(
-    r"\bjepsen\.util\b\s*[-:]\s*(:?[\w-]+)\s+(:(?:invoke|ok|fail|info))\s+(:[\w-]+)(.*)", re.DOTALL)
-_NO_KEY = ":key-does-not-exist"  # Maelstrom's definite error of a read that found no such key
+_NO_KEY = "key-does-not-exist"  # Maelstrom's definite error of a read that found no such key
+_TYPES = {":ok": "reply", ":fail": "fail", ":info": "crash"}
+_ERRORS = (":error", ":exception")
 
 Event = Dict[Any, Any]
-
-
-Pair = Tuple[Any, Any]  # a key and a value, as jepsen.independent makes them
+Events = Iterable[Tuple[int, Event]]
 
 
 def from_jepsen(lines: Iterable[str], choices: Choices) -> Source:
-    """Tells EDN from console lines by the first line."""
-    first, everything = first_line(lines)
-    return from_edn(everything, choices) if first[:1] in "{[(#;" else from_console(everything, choices)
+    """Tells JSON, EDN and lines for people by what they begin with."""
+    found, everything = is_json(lines)
+    return _Log(choices).source(_json_events(everything)) if found else from_edn_or_log(everything, choices)
 
 
-def first_line(lines: Iterable[str]) -> Tuple[str, Iterable[str]]:
-    """The first line that isn't blank, without the blanks around it; and all lines, that one too."""
+def from_edn_or_log(lines: Iterable[str], choices: Choices) -> Source:
+    """EDN has a map or record a line, or one vector of all; all else is lines for people."""
     rest = iter(lines)
     held: List[str] = []
     for line in rest:
         held.append(line)
         if line.strip():
-            return line.strip(), itertools.chain(held, rest)
-    return "", held
+            break
+    first = held[-1].strip() if held else ""
+    everything = itertools.chain(held, rest)
+    return _Log(choices).source(_edn_events(everything) if first[:1] in "{[(#;" else line_events(everything))
 
 
-def from_edn(lines: Iterable[str], choices: Choices) -> Source:
-    """The operations of EDN: a map or record a line, or one vector of all."""
-    return _source(((line, _event(value, line)) for line, value in edn.values(lines, elements=True)), choices)
+def _edn_events(lines: Iterable[str]) -> Iterator[Tuple[int, Event]]:
+    for line, value in edn.values(lines, elements=True):
+        if type(value) is edn.Tagged:
+            value = value.value
+        if not isinstance(value, dict):
+            raise Refused("no operation: a map such as {:process 0, :type :invoke, :f :read, :value nil} is "
+                          f"expected, and this is {edn.write(value)[:60]}", line)
+        yield line, value
 
 
-def from_console(lines: Iterable[str], choices: Choices) -> Source:
-    """The operations among the lines that Jepsen logs on its console."""
-    return _source(_console_events(lines), choices)
+def _json_events(lines: Iterable[str]) -> Iterator[Tuple[int, Event]]:
+    """Objects of JSON as EDN would have them."""
+    for line, value in json_values(lines):
+        if not isinstance(value, dict):
+            raise Refused("no operation: an object such as "
+                          '{"process":0,"type":"invoke","f":"read","value":null} is expected', line)
+        event = {":" + name.lstrip(":"): _as_edn(member) for name, member in value.items()}
+        if type(event.get(":type")) is str:
+            event[":type"] = edn.Keyword(":" + event[":type"].lstrip(":"))
+        yield line, event
 
 
-def _event(value: Any, line: int) -> Event:
-    if type(value) is edn.Tagged:
-        value = value.value
-    if not isinstance(value, dict):
-        raise Refused("no operation: a map such as {:process 0, :type :invoke, :f :read, :value nil} is "
-                      f"expected, and this is {edn.write(value)[:60]}", line)
+def _as_edn(value: Any) -> Any:
+    """A value of JSON with vectors for its lists, and keywords for the names in its objects."""
+    if type(value) is list:
+        return tuple(map(_as_edn, value))
+    if type(value) is dict:
+        return edn.Map((edn.Keyword(":" + name), _as_edn(member)) for name, member in value.items())
     return value
 
 
-def _console_events(lines: Iterable[str]) -> Iterator[Tuple[int, Event]]:
-    for number, text in enumerate(lines, 1):
-        found = _CONSOLE.search(text)
-        if found is None:
-            if text.strip():
-                yield number, {":process": "of the log that record no operation"}
-            continue
-        who, kind, function, rest = found.groups()
-        value, error = _console_values(rest, kind, number)
-        yield number, {":process": int(who) if who.isdecimal() else edn.Keyword(who), ":type": kind,
-                       ":f": function, ":value": value, ":error": error}
+class _Log:
+    """Pairs events first, since only all calls together tell whether their values have keys."""
 
+    def __init__(self, choices: Choices) -> None:
+        self.choices = choices
+        self.pairing = Pairing()
+        self.known = Known(choices, "jepsen")
+        self.outcomes = Outcomes(choices)
+        self.left_out: Dict[str, int] = Counter()
+        self.index = -1  # of the last event that had one
 
-def _console_values(text: str, kind: str, line: int) -> Tuple[Any, Any]:
-    """The value and the error behind an operation. A failure or a crash may say anything there."""
-    try:
-        values = [value for _, value in edn.values([text])]
-    except edn.NotEdn:
-        if kind in (":invoke", ":ok"):
-            raise Refused(f"no value of EDN behind {kind}, but {text.strip()[:60]}", line) from None
-        values = []
-    value, error, *_ = [*values, None, None]
-    return value, error
+    def source(self, events: Events) -> Source:
+        for line, event in events:
+            client = event.get(":process")
+            if type(client) is int:
+                self._take(line, client, event)
+            else:
+                self._leave_out(line, client, event)
+        source = Source(self.pairing.steps)
+        source.left_out.update(self.left_out)
+        source.notes.extend(self.outcomes.notes())
+        operations = list(source.operations())
+        refuse_appends(operations)
+        independent = are_independent(operations, self.choices)
+        for operation in operations:
+            _place(operation, independent, self.choices)
+        settle(source, self.choices)
+        return source
 
-
-def _source(events: Iterable[Tuple[int, Event]], choices: Choices) -> Source:
-    """Pairs the events first, since only all calls together tell whether their values have keys."""
-    pairing = Pairing()
-    others: Dict[str, int] = {}
-    for line, event in events:
-        client = event.get(":process")
-        if type(client) is not int:
-            name = _name_of(client)
-            others[name] = others.get(name, 0) + 1
-            continue
-        kind = event.get(":type")
-        if kind == ":invoke":
-            function = _function(event, line)
-            pairing.call(Operation(line, client, function, event.get(":key"), event.get(":value")))
-        elif kind in ENDINGS:
-            _end(pairing, line, client, event, choices)
+    def _leave_out(self, line: int, client: Any, event: Event) -> None:
+        """Counts a line that is no client's. A client's would be missed, so it isn't left out."""
+        function = self.choices.kind_of(folded(spelled(event.get(":f"))))
+        if folded(spelled(client)) != "nemesis" and (function in KNOWN or function in (OTHER, "txn")):
+            raise Refused(f":process is {edn.write(client)}, and its :f is {edn.write(event[':f'])}: give "
+                          "each client a whole number", line)
+        if client is None:
+            name = "without a process"
+        elif client == NO_OPERATION:
+            name = NO_OPERATION
         else:
-            raise Refused(f":type is {edn.write(kind)}, and :invoke, :ok, :fail or :info is expected", line)
-    source = Source(pairing.steps)
-    source.left_out.update(others)
-    operations = list(source.operations())
-    independent = _independent(operations, choices)
-    for operation in operations:
-        _place(operation, independent, choices)
-    settle(source, choices, choices.form == "porcupine")
-    return source
+            name = f"of process {edn.write(client)}, which is no client"
+        self.left_out[name] += 1
 
+    def _take(self, line: int, client: int, event: Event) -> None:
+        self.known.check(event, line)
+        self._look_at_index(event, line)
+        kind = spelled(event.get(":type"))
+        if kind == ":invoke":
+            function = self._function(event, line)
+            self.pairing.call(Operation(line, client, function, event.get(":key"), event.get(":value")))
+            return
+        if folded(kind) in self.choices.outcomes:
+            ending = ENDINGS[self.choices.outcomes[folded(kind)]] or "crash"
+        elif kind in _TYPES:
+            ending = _TYPES[kind]
+        else:
+            raise Refused(f":type is {kind}, and :invoke, :ok, :fail or :info is expected: say what it means "
+                          f"with --outcomes {folded(kind)}=unknown (or ok, or fail, if it surely had no "
+                          "effect)", line)
+        if ending == "crash":
+            self._agree(client, event, line)
+            self.pairing.crash(line, client)
+        else:
+            self._end(line, client, ending, event)
 
-def _name_of(client: Any) -> str:
-    """What kind of lines those of a process are that is no client."""
-    if client is None:
-        return "without a process"
-    return client if type(client) is str else f"of process {edn.write(client)}, which is no client"
+    def _look_at_index(self, event: Event, line: int) -> None:
+        """The order of the lines is the order of time, so they must not have been sorted otherwise."""
+        index = event.get(":index")
+        if type(index) is int:
+            if index < self.index:
+                raise Refused(f":index is {index}, and an earlier line's {self.index}: the order of the "
+                              "lines is the order of time, so sort them by :index", line)
+            self.index = index
 
+    def _function(self, event: Event, line: int) -> str:
+        name = event.get(":f")
+        if not isinstance(name, str):
+            raise Refused(f":f is {edn.write(name)}, and a keyword such as :read is expected", line)
+        return self.choices.kind_of(name.lstrip(":"))
 
-def _function(event: Event, line: int) -> str:
-    name = event.get(":f")
-    if not isinstance(name, str):
-        raise Refused(f":f is {edn.write(name)}, and a keyword such as :read is expected", line)
-    return name.lstrip(":")
+    def _agree(self, client: int, event: Event, line: int) -> None:
+        called = self.pairing.open.get(client)
+        if called is not None and self._function(event, line) != called.kind:
+            raise Refused(f":f is {edn.write(event[':f'])}, and the open call of process {client}, at line "
+                          f"{called.line}, is :{called.kind}: is a line of the log missing?", line)
 
+    def _end(self, line: int, client: int, ending: Optional[str], event: Event) -> None:
+        called = self.pairing.called(client, line)
+        self._agree(client, event, line)
+        answer = event.get(":value")
+        is_read = called.kind in READS
+        if ending == "fail" and is_read and self._found_no_key(event):
+            ending, answer = "reply", nothing_for(called.value)
+        elif ending == "reply":
+            ending, found_nothing = self._looked_closer(event, is_read, line)
+            if found_nothing:
+                answer = nothing_for(called.value)
+            elif is_read and ending == "reply" and ":value" not in event:
+                raise Refused("the reply of a read has no :value: let it be nil if the read found none", line)
+            elif called.kind in WRITES and self.choices.explains("value"):
+                answer = called.value
+        self.pairing.end(line, client, ending, answer)
 
-def _end(pairing: Pairing, line: int, client: int, event: Event, choices: Choices) -> None:
-    ending, answer = ENDINGS[event[":type"]], event.get(":value")
-    called = pairing.open.get(client)
-    if called is not None and _function(event, line) != called.kind:
-        raise Refused(f":f is {edn.write(event[':f'])}, and the open call of process {client}, at line "
-                      f"{called.line}, is :{called.kind}", line)
-    if ending == "fail" and called is not None and called.kind in READS and _found_no_key(event, choices):
-        pairing.end(line, client, "reply", _nothing(called.value))
-        return
-    pairing.end(line, client, ending, answer)
+    def _looked_closer(self, event: Event, is_read: bool, line: int) -> Ended:
+        """How an operation ended that is :ok. An error beside that is a contradiction."""
+        for name in _ERRORS:
+            if event.get(name) is not None and not self.choices.explains(folded(name)):
+                raise Refused(f"the operation is :ok and has {name} {edn.write(event[name])[:60]}: say "
+                              f"--ok-when {name[1:]}= if it took place only without one, or --ignore-member "
+                              f"{name[1:]} if that means nothing", line)
+        return self.outcomes.of(event, is_read)
 
-
-def _found_no_key(event: Event, choices: Choices) -> bool:
-    """Whether a read failed because the key has no value: that is a read of null."""
-    error = event.get(":error")
-    if isinstance(error, tuple) and error:
-        error = error[0]
-    return error is not None and (error == _NO_KEY or spelled(error) in choices.nulls
-                                  or spelled(error).lstrip(":") in choices.nulls)
-
-
-def _nothing(value: Any) -> Any:
-    """The answer of a read that found nothing, of the form of its call's value."""
-    pair = _pair(value)
-    return None if pair is None else (pair[0], None)
-
-
-def _pair(value: Any) -> Optional[Pair]:
-    """A key with its value: a vector of two, tagged or not, or a map of :key and :val or :value."""
-    if type(value) is edn.Tagged:
-        value = value.value
-    if type(value) is tuple:
-        return (value[0], value[1]) if len(value) == 2 else None
-    if type(value) is edn.Map and len(value) == 2 and ":key" in value:
-        for name in (":val", ":value"):
-            if name in value:
-                return value[":key"], value[name]
-    return None
-
-
-def _independent(operations: List[Operation], choices: Choices) -> bool:
-    """Whether the values are keys with values: so it is if all calls' are. A plain read is called with nil.
-
-    A plain cas is called with a pair too, of the old value and the new; its second half is no pair.
-    """
-    if choices.keys != "auto":
-        return choices.keys == "independent"
-    found = False
-    for call in operations:
-        if call.key is None and call.kind in KNOWN:
-            pair = _pair(call.value)
-            if pair is None or (call.kind == "cas" and _pair(pair[1]) is None):
-                return False
-            found = True
-    return found
+    def _found_no_key(self, event: Event) -> bool:
+        """Whether a read failed because the key has no value: that is a read of null."""
+        error = event.get(":error")
+        if isinstance(error, tuple) and error:
+            error = error[0]
+        word = word_of(error)
+        return error is not None and (folded(word) == _NO_KEY or self.outcomes.names_null(word))
 
 
 def _place(operation: Operation, independent: bool, choices: Choices) -> None:
     """Gives an operation its key, and takes the key out of its values."""
     if operation.kind == "txn":
-        _single(operation)
+        take_apart(operation)
     elif operation.key is None and independent:
-        _part(operation)
+        part(operation)
     elif operation.key is None:
         operation.key = choices.register
-
-
-def _part(operation: Operation) -> None:
-    """Parts a key from its values."""
-    called = _pair(operation.value)
-    if called is None:
-        raise Refused(f"the value {edn.write(operation.value)} is no key with its value, as others are; if "
-                      "none is meant to be, say --keys none", operation.line)
-    operation.key, operation.value = called
-    if operation.ending != "reply":
-        return
-    answered = _pair(operation.answer)
-    if answered is None or (answered[0] is not called[0] and edn.write(answered[0]) != edn.write(called[0])):
-        raise Refused(f"the reply's value {edn.write(operation.answer)} doesn't have the key "
-                      f"{edn.write(called[0])} of the call at line {operation.line}", operation.end_line)
-    operation.answer = answered[1]
-
-
-def _single(operation: Operation) -> None:
-    """Takes a transaction of one operation, as Elle's rw-register has them, for that operation."""
-    function, key, value = _micro(operation.value, operation.line)
-    if operation.ending == "reply":
-        line = operation.end_line or operation.line
-        answered_function, answered_key, answer = _micro(operation.answer, line)
-        if answered_function != function or edn.write(answered_key) != edn.write(key):
-            raise Refused(f"the reply's transaction isn't that of the call at line {operation.line}", line)
-        operation.answer = answer
-    operation.kind, operation.key, operation.value = function, key, value
-
-
-def _micro(value: Any, line: int) -> List[Any]:
-    if type(value) is tuple and len(value) == 1 and type(value[0]) is tuple and len(value[0]) == 3 \
-            and isinstance(value[0][0], str):
-        return [value[0][0].lstrip(":"), *value[0][1:]]
-    if type(value) is tuple and len(value) > 1:
-        raise Refused(f"a transaction of {len(value)} operations, and registers have single reads and "
-                      "writes: let each transaction have one operation (:max-txn-length 1, docs/recipes.md)",
-                      line)
-    raise Refused(f"{edn.write(value)[:60]} is no transaction of one read or write, such as [[:w 3 1]]", line)

@@ -1,7 +1,9 @@
 """The JSON values of a text: one a line, or the elements of one array, each with its line."""
+import itertools
 import json
+import re
 from decimal import Decimal
-from typing import Any, Iterable, Iterator, List, Tuple
+from typing import Any, Dict, Iterable, Iterator, List, Tuple
 
 from regkit.convert.model import Refused
 
@@ -10,8 +12,33 @@ def _no_constant(word: str) -> None:
     raise ValueError(f"{word} is no JSON")
 
 
+def _object(members: List[Tuple[str, Any]]) -> Dict[str, Any]:
+    made = dict(members)
+    if len(made) < len(members):
+        names = [name for name, _ in members]
+        twice = next(name for name in names if names.count(name) > 1)
+        raise ValueError(f"an object has the member {twice} twice")
+    return made
+
+
 # Numbers with a fraction stay as exact as they are written: they may be times.
-_DECODER = json.JSONDecoder(parse_float=Decimal, parse_constant=_no_constant)
+_DECODER = json.JSONDecoder(parse_float=Decimal, parse_constant=_no_constant, object_pairs_hook=_object)
+# Objects of JSON, or an array of them, and not maps of EDN; and what may yet be either.
+_BEGINS = re.compile(r'\s*(?:\[\s*)?(?:\{\s*(?:"|\}\s*$)|\]\s*$)')
+_UNDECIDED = re.compile(r"\s*(?:\[\s*)?(?:\{\s*)?")
+
+
+def is_json(lines: Iterable[str]) -> Tuple[bool, Iterable[str]]:
+    """Whether a source is objects of JSON, by its first lines; and all its lines."""
+    rest = iter(lines)
+    text, held = "", []
+    while _UNDECIDED.fullmatch(text):
+        line = next(rest, None)
+        if line is None:
+            break
+        held.append(line)
+        text += line
+    return bool(_BEGINS.match(text)), itertools.chain(held, rest)
 
 
 def json_values(lines: Iterable[str]) -> Iterator[Tuple[int, Any]]:

@@ -1,5 +1,6 @@
 """What every reader gives: the source's operations, in the order in which they were called and ended."""
 from collections import Counter
+from functools import lru_cache
 from typing import Any, Dict, FrozenSet, Iterator, List, NamedTuple, Optional, Set, Tuple, Union
 
 Client = Union[int, str]
@@ -12,7 +13,9 @@ MOST_PROCESS = 2 ** 32 - 1
 READS = frozenset({"read", "r", "get"})
 WRITES = frozenset({"write", "w", "put", "set"})
 READ_AND_WRITE = frozenset({"cas", "append"})  # operations that read and write at once
+OTHER = "other"  # by --ops, an operation that is neither a read nor a write
 KNOWN = READS | WRITES | READ_AND_WRITE
+ENDINGS = {"ok": "reply", "fail": "fail", "unknown": None}  # by outcome, what ends an operation
 
 
 class Refused(Exception):
@@ -30,7 +33,7 @@ class Operation:
     """A call with what ended it, as the source has it. `kind` is crash for a crash without an open call."""
 
     __slots__ = ("line", "end_line", "client", "kind", "key", "value", "answer", "ending", "process", "time",
-                 "end_time")
+                 "end_time", "name", "node")
 
     def __init__(self, line: int, client: Client, kind: str, key: Any, value: Any) -> None:
         self.line = line
@@ -44,6 +47,8 @@ class Operation:
         self.process = -1  # its number in the history
         self.time: Optional[int] = None  # of its call and of its end, in nanoseconds, if they are known
         self.end_time: Optional[int] = None
+        self.name = ""  # of its client, if the source has one beside `client`
+        self.node = ""  # that was asked, if the source says which
 
 
 def counted(number: int, what: str) -> str:
@@ -52,17 +57,37 @@ def counted(number: int, what: str) -> str:
 
 
 class Choices(NamedTuple):
-    """What the command line says of a source."""
+    """What the command line says of a source. Its words for operations, outcomes and members are folded."""
 
     form: str
     register: str = "x"  # the one register of a source without keys
     keys: str = "auto"
     nulls: FrozenSet[str] = frozenset()
     initial: Optional[str] = None
+    values: str = "auto"
     cas: str = "refuse"
     columns: Dict[str, str] = {}
+    delimiter: Optional[str] = None
+    ops: Dict[str, str] = {}  # the source's word for an operation -> read, write or other
+    outcomes: Dict[str, str] = {}  # the source's word for an outcome -> ok, fail or unknown
+    ok_when: Dict[str, FrozenSet[str]] = {}  # a member -> the words in it that say that all went well
+    ignored: FrozenSet[str] = frozenset()  # members that mean nothing
     clock_error: Optional[str] = None
     clock_unit: Optional[str] = None
+
+    def kind_of(self, word: str) -> str:
+        """What a word of the source does, if the command line says so; else the word."""
+        return self.ops.get(folded(word), word) if self.ops else word
+
+    def explains(self, *members: str) -> bool:
+        """Whether the command line says what one of some members means."""
+        return any(member in self.ignored or member in self.ok_when for member in members)
+
+
+@lru_cache(maxsize=10_000)  # a source says few words very often
+def folded(word: str) -> str:
+    """A word of the source or of the command line, as both are compared: in any case, with a colon or not."""
+    return word.strip().lstrip(":").lower()
 
 
 class Source:
@@ -71,6 +96,7 @@ class Source:
     def __init__(self, steps: List[Operation]) -> None:
         self.steps = steps
         self.left_out: Dict[str, int] = Counter()  # which lines were left out -> how many
+        self.skipped = ""  # what --cas skip-key left out, in words
         self.notes: List[str] = []  # what else a person should know
 
     def moments(self) -> Iterator[Tuple[Operation, bool]]:

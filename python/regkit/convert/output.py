@@ -46,8 +46,8 @@ def _who(step: Operation, is_call: bool) -> str:
     known in nanoseconds. An initial write is nobody's."""
     if not step.line:
         return ""
-    client = "" if step.process == step.client else str(step.client)
-    return members(client, time=step.time if is_call else step.end_time)
+    client = step.name or ("" if step.process == step.client else str(step.client))
+    return members(client, step.node, step.time if is_call else step.end_time)
 
 
 class Written(NamedTuple):

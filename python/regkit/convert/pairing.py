@@ -22,21 +22,35 @@ class Pairing:
                           operation.line)
         self.steps.append(operation)
 
-    def end(self, line: int, client: Client, ending: str, answer: Any,
-            identity: Optional[Hashable] = None) -> Operation:
-        """Ends the open call of a client. A crash needs no open call."""
+    def called(self, client: Client, line: int, identity: Optional[Hashable] = None) -> Operation:
+        """The open call of a client. Raises Refused if there is none."""
         if self.crashed:
             self.refuse_crashed(client, line)
-        operation = self.open.pop(client if identity is None else identity, None)
-        if operation is None and ending != "crash":
+        found = self.open.get(client if identity is None else identity)
+        if found is None:
             raise Refused(f"client {client} has no open call that this could end: is the log's beginning "
                           "missing?", line)
-        if ending == "crash" and self.crashed is not None:
+        return found
+
+    def end(self, line: int, client: Client, ending: Optional[str], answer: Any,
+            identity: Optional[Hashable] = None) -> None:
+        """Ends the open call of a client; without an ending its outcome stays unknown."""
+        operation = self.called(client, line, identity)
+        del self.open[client if identity is None else identity]
+        if ending is not None:
+            operation.ending, operation.end_line, operation.answer = ending, line, answer
+            self.steps.append(operation)
+
+    def crash(self, line: int, client: Client) -> Operation:
+        """Ends a client, with its open call if it has one. Returns that call, or the crash alone."""
+        if self.crashed is not None:
+            self.refuse_crashed(client, line)
             self.crashed[client] = line
+        operation = self.open.pop(client, None)
         if operation is None:
             operation = Operation(line, client, "crash", None, None)
         else:
-            operation.ending, operation.end_line, operation.answer = ending, line, answer
+            operation.ending, operation.end_line = "crash", line
         self.steps.append(operation)
         return operation
 

@@ -10,92 +10,140 @@ a line or in one array, they look like this; the letters of a member's name may 
     {"ClientId":0,"Input":{"Op":"put","Key":"x","Value":"a"},"Call":10,"Output":{},"Return":20}
     {"ClientId":0,"Kind":false,"Value":{"Op":"get","Key":"x"},"Id":7}
 """
-import re
+from decimal import Decimal
 from typing import Any, Dict, Iterable, Optional
 
 from regkit.convert import jepsen
-from regkit.convert.json_values import json_values
-from regkit.convert.model import Choices, Operation, Refused, Source
+from regkit.convert.json_values import is_json, json_values
+from regkit.convert.members import Known, Outcomes, by_folded_name
+from regkit.convert.model import READS, WRITES, Choices, Operation, Refused, Source
 from regkit.convert.pairing import Pairing
+from regkit.convert.rows import client_of
 from regkit.convert.settle import settle
-from regkit.convert.tables import client_of
 from regkit.convert.timed import Timed
 from regkit.convert.values import spelled
 
 # Operations in Porcupine's models: the key-value model has numbers, the register says whether it is a read.
 _OPS = {"0": "get", "1": "put", "2": "append", "true": "get", "false": "put"}
+_READS_BY_HABIT = {"0": "0=write,1=read", "true": "true=write,false=read"}  # and --ops for the contrary
 _KINDS = {"call": True, "callevent": True, "false": True, "0": True,
           "return": False, "returnevent": False, "true": False, "1": False}
+_END_OF_TIME = 2 ** 63 - 1  # math.MaxInt64, which stands for no return
+
+Members = Dict[str, Any]
 
 
 def from_porcupine(lines: Iterable[str], choices: Choices) -> Source:
-    """Tells the forms apart by their first line."""
-    first, everything = jepsen.first_line(lines)
-    if re.match(r'\{\s*["}]|\[\s*(\{\s*"|\]|$)', first):
-        return _from_json(everything, choices)
-    return jepsen.from_jepsen(everything, choices)
+    """Tells the forms apart by what they begin with."""
+    found, everything = is_json(lines)
+    return _Values(choices).source(everything) if found else jepsen.from_edn_or_log(everything, choices)
 
 
-def _from_json(lines: Iterable[str], choices: Choices) -> Source:
-    timed, pairing = Timed(), Pairing()
-    for line, value in json_values(lines):
-        if not isinstance(value, dict):
-            raise Refused("no operation and no event: an object is expected", line)
-        members = _lowered(value)
-        if "kind" in members:
-            _take_event(pairing, members, line, choices)
-        elif "call" in members:
-            _take_operation(timed, members, line, choices)
-        else:
-            raise Refused("neither an operation with Call and Return nor an event with Kind, but "
-                          f"{', '.join(value)}", line)
-        if pairing.steps and timed.operations:
-            raise Refused("events and operations in one file: give each a file of its own", line)
-    source = Source(pairing.steps) if pairing.steps else timed.source(choices)
-    settle(source, choices, True)
-    return source
+class _Values:
+    """Go's values, as they are read."""
+
+    def __init__(self, choices: Choices) -> None:
+        self.choices = choices
+        self.timed = Timed()
+        self.pairing = Pairing()
+        self.outcomes = Outcomes(choices)
+        self.known = {place: Known(choices, place) for place in ("operation", "event", "input", "output")}
+
+    def source(self, lines: Iterable[str]) -> Source:
+        for line, value in json_values(lines):
+            if not isinstance(value, dict):
+                raise Refused("no operation and no event: an object is expected", line)
+            members = by_folded_name(value)
+            if "kind" in members:
+                self._take_event(value, members, line)
+            elif "call" in members:
+                self._take_operation(value, members, line)
+            else:
+                raise Refused("neither an operation with Call and Return nor an event with Kind, but "
+                              f"{', '.join(value)}", line)
+            if self.pairing.steps and self.timed.operations:
+                raise Refused("events and operations in one file: give each a file of its own", line)
+        source = Source(self.pairing.steps) if self.pairing.steps else self.timed.source(self.choices)
+        source.notes.extend(self.outcomes.notes())
+        settle(source, self.choices)
+        return source
+
+    def _operation(self, line: int, client: Any, given: Any) -> Operation:
+        """The operation that an input describes."""
+        found = by_folded_name(given) if isinstance(given, dict) else {}
+        if found.get("op") is None:
+            raise Refused("the input has no member Op: let it have Op (get or put), Key and Value, exported, "
+                          "so that Go's encoding/json writes them", line)
+        self.known["input"].check(given, line)
+        word = spelled(found["op"]).lower()
+        kind = self.choices.kind_of(word)
+        kind = _OPS.get(word, word) if kind == word else kind
+        if word in _READS_BY_HABIT and word not in self.choices.ops and not _is_zero(found.get("value")):
+            raise Refused(f"Op {word} is a get in Porcupine's models, and this input has a value to write, "
+                          f"{spelled(found['value'])[:40]}: say which operation each Op is, as in "
+                          f"--ops {_READS_BY_HABIT[word]}", line)
+        return Operation(line, client, kind, found.get("key", self.choices.register), found.get("value"))
+
+    def _end(self, operation: Operation, output: Any, beside: Members, line: int) -> Optional[str]:
+        """Gives an operation its answer, the output or its member Value. Returns the operation's ending."""
+        members: Members = {} if output is None else {"output": output}
+        if isinstance(output, dict):
+            self.known["output"].check(output, line)
+            members = by_folded_name(output)
+        is_read = operation.kind in READS
+        ending, found_nothing = self.outcomes.of({**beside, **members}, is_read)
+        if is_read and not found_nothing and ending == "reply":
+            operation.answer = self._read(members, line)
+        elif operation.kind in WRITES and not self.choices.explains("output", "value"):
+            operation.answer = _written(members)
+        return ending
+
+    def _read(self, members: Members, line: int) -> Any:
+        for name in ("value", "output"):
+            if name in members:
+                return members[name]
+        raise Refused("the output of a get has no member Value: write one, exported and without omitempty, "
+                      "or null there if the get found none; leave out Return if it had no answer", line)
+
+    def _take_event(self, event: Members, members: Members, line: int) -> None:
+        word = spelled(members["kind"]).lower()
+        if word not in _KINDS:
+            raise Refused(f"Kind is {word}, and call or return (false or true) is expected", line)
+        self.known["event"].check(event, line)
+        client, identity = _client(members), members.get("id")
+        shared = None if identity is None else ("id", spelled(identity))
+        if _KINDS[word]:
+            self.pairing.call(self._operation(line, client, members.get("value")), shared)
+            return
+        called = self.pairing.called(client, line, shared)
+        ending = self._end(called, members.get("value"), _beside(members), line)
+        self.pairing.end(line, client, ending, called.answer, shared)
+
+    def _take_operation(self, value: Members, members: Members, line: int) -> None:
+        """An operation without Return, or with none before the end of time, has an unknown outcome."""
+        self.known["operation"].check(value, line)
+        operation = self._operation(line, _client(members), members.get("input"))
+        end = members.get("return")
+        if end is not None and end != _END_OF_TIME:
+            operation.ending = self._end(operation, members.get("output"), _beside(members), line)
+        self.timed.add(operation, members["call"], end, ("Call", "Return"))
 
 
-def _lowered(value: Any) -> Dict[str, Any]:
-    return {name.lower(): member for name, member in value.items()} if isinstance(value, dict) else {}
-
-
-def _client(members: Dict[str, Any]) -> Any:
+def _client(members: Members) -> Any:
     return client_of(members.get("clientid", 0), False)
 
 
-def _operation(line: int, client: Any, given: Any, choices: Choices) -> Operation:
-    """The operation that an input describes."""
-    found = _lowered(given)
-    if found.get("op") is None:
-        raise Refused("the input has no member Op: let it have Op (get or put), Key and Value, exported, so "
-                      "that Go's encoding/json writes them", line)
-    word = spelled(found["op"]).lower()
-    key = found.get("key", choices.register)
-    return Operation(line, client, _OPS.get(word, word), key, found.get("value"))
+def _beside(members: Members) -> Members:
+    """What stands beside the value in a line."""
+    return {name: value for name, value in members.items() if name not in ("value", "output")}
 
 
-def _answer(output: Any) -> Any:
-    """The value in an output: its member Value, or itself."""
-    return _lowered(output).get("value") if isinstance(output, dict) else output
+def _is_zero(value: Any) -> bool:
+    """Whether it is what Go writes of a field that nobody gave a value."""
+    return value is None or value == "" or (type(value) in (int, Decimal) and value == 0)
 
 
-def _take_event(pairing: Pairing, members: Dict[str, Any], line: int, choices: Choices) -> None:
-    word = spelled(members["kind"]).lower()
-    if word not in _KINDS:
-        raise Refused(f"Kind is {word}, and call or return (false or true) is expected", line)
-    client, identity = _client(members), members.get("id")
-    shared: Optional[Any] = None if identity is None else ("id", spelled(identity))
-    if _KINDS[word]:
-        pairing.call(_operation(line, client, members.get("value"), choices), shared)
-    else:
-        pairing.end(line, client, "reply", _answer(members.get("value")), shared)
-
-
-def _take_operation(timed: Timed, members: Dict[str, Any], line: int, choices: Choices) -> None:
-    """An operation without Return, or with null there, has an unknown outcome."""
-    operation = _operation(line, _client(members), members.get("input"), choices)
-    end = members.get("return")
-    if end is not None:
-        operation.ending, operation.answer = "reply", _answer(members.get("output"))
-    timed.add(operation, members["call"], end, ("Call", "Return"))
+def _written(members: Members) -> Any:
+    """What a put's output says of the value that it wrote, if anything."""
+    value = members.get("value", members.get("output"))
+    return None if _is_zero(value) else value

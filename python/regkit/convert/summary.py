@@ -13,6 +13,9 @@ def told(converted: Converted, has_map: bool) -> Iterator[str]:
     for what, lines in sorted(converted.source.left_out.items()):
         yield f"left out {counted(lines, 'line')} {what}"
     yield from converted.source.notes
+    if not any((each.kind, each.ending) == ("read", "reply") for each in converted.operations):
+        yield ("there is no completed read, so a yes would say nothing: regkit check will find too little "
+               "evidence")
     yield from _renamed(converted)
     texts = sum(map(len, converted.numbers.values()))
     if texts:

@@ -1,4 +1,4 @@
-"""Operations with a start and an end: rows of CSV, or JSON objects.
+"""Operations with a start and an end: rows of a table, or JSON objects.
 
     process,op,register,value,start,end,outcome
     alice,write,k,v1,10,20,ok
@@ -6,17 +6,17 @@
 An empty end, or an outcome of unknown or info, is an unknown outcome: the operation stays pending.
 """
 import csv
-from typing import Any, Dict, Iterable, Iterator, List, Optional, Tuple
+from itertools import chain
+from typing import Dict, Iterable, Iterator, List, Optional, Tuple
 
 from regkit.convert.json_values import json_values
-from regkit.convert.model import Choices, Client, Operation, Refused, Source, WrongWords, counted
-from regkit.convert.settle import settle
-from regkit.convert.timed import Timed
-from regkit.convert.values import settled, spelled
+from regkit.convert.members import Known
+from regkit.convert.model import Choices, Refused, Source, WrongWords, counted
+from regkit.convert.rows import ABSENT, Row, Rows
 
 COLUMNS = ("process", "start", "end", "register", "op", "value", "outcome")
 OPTIONAL = ("register", "outcome")
-OUTCOMES = {"ok": "reply", "fail": "fail", "unknown": None, "info": None, "": "reply"}
+DELIMITERS = ",;\t|"
 
 
 def columns(words: Optional[str]) -> Dict[str, str]:
@@ -32,32 +32,49 @@ def columns(words: Optional[str]) -> Dict[str, str]:
 
 def from_csv(lines: Iterable[str], choices: Choices) -> Source:
     """The rows of a table whose first row names the columns."""
-    return _source(_csv_rows(lines, choices.columns), choices)
+    return _source(_csv_rows(lines, choices), choices)
 
 
 def from_objects(lines: Iterable[str], choices: Choices) -> Source:
     """JSON objects, one a line or in one array."""
-    return _source(_json_rows(lines, choices.columns), choices)
+    return _source(_json_rows(lines, choices), choices)
 
 
-def _csv_rows(lines: Iterable[str], named: Dict[str, str]) -> Iterator[Tuple[int, List[Any]]]:
-    reader = csv.reader(lines, strict=True)
+def _csv_rows(lines: Iterable[str], choices: Choices) -> Iterator[Row]:
+    rest = iter(lines)
+    first = next(rest, "")
+    delimiter = choices.delimiter or _delimiter_of(first, choices.columns)
+    reader = csv.reader(chain([first], rest), strict=True, delimiter=delimiter)
     try:
         header = [name.strip() for name in next(reader, [])]
-        places = _places(header, named)
+        places = _places(header, choices.columns)
+        known = Known(choices, "csv", choices.columns.values(), "column")
         line = reader.line_num + 1
         for row in reader:
             if row:
-                yield line, _fields(row, places, len(header), line)
+                fields = _fields(row, places, len(header), line)
+                members = dict(zip(header, row)) if choices.ok_when or not known.seen else {}
+                if not known.seen:  # the columns of the first row are those of all
+                    known.check(members, line)
+                yield Row(line, fields, members)
             line = reader.line_num + 1
     except csv.Error as error:
         raise Refused(f"not CSV: {error}", reader.line_num) from None
 
 
+def _delimiter_of(header: str, named: Dict[str, str]) -> str:
+    """The delimiter by which the header has most of the columns that are looked for, else most names."""
+    def found(delimiter: str) -> Tuple[int, int]:
+        names = [name.strip().strip('"') for name in header.split(delimiter)]
+        return len(set(names) & set(named.values())), len(names)
+
+    return max(DELIMITERS, key=found)
+
+
 def _fields(row: List[str], places: List[Optional[int]], width: int, line: int) -> List[Optional[str]]:
     if len(row) != width:
-        raise Refused(f"the row has {counted(len(row), 'field')}, and the header {width}: put a field with a "
-                      "comma in double quotes", line)
+        raise Refused(f"the row has {counted(len(row), 'field')}, and the header {width}: put a field that "
+                      "has the delimiter in double quotes, or say with --delimiter what it is", line)
     return [None if place is None else row[place] for place in places]
 
 
@@ -73,12 +90,15 @@ def _places(header: List[str], named: Dict[str, str]) -> List[Optional[int]]:
         elif column in OPTIONAL and name == column:
             places.append(None)
         else:
-            raise Refused(f"the header has no {name}, but {', '.join(header) or 'nothing'}: say which column "
-                          f"is the {column} with --columns {column}=NAME", 1)
+            option = "what stands between its fields with --delimiter C" if len(header) == 1 else (
+                f"which column is the {column} with --columns {column}=NAME")
+            raise Refused(f"the header has no {name}, but {', '.join(header) or 'nothing'}: say {option}", 1)
     return places
 
 
-def _json_rows(lines: Iterable[str], named: Dict[str, str]) -> Iterator[Tuple[int, List[Any]]]:
+def _json_rows(lines: Iterable[str], choices: Choices) -> Iterator[Row]:
+    named = choices.columns
+    known = Known(choices, "operations", named.values())
     for line, row in json_values(lines):
         if not isinstance(row, dict):
             raise Refused('no operation: an object such as {"process":1,"op":"read",..} is expected', line)
@@ -86,41 +106,15 @@ def _json_rows(lines: Iterable[str], named: Dict[str, str]) -> Iterator[Tuple[in
             if row.get(named[column]) is None:
                 raise Refused(f"the object has no {named[column]}, but {', '.join(row) or 'nothing'}: say "
                               f"which member is the {column} with --columns {column}=NAME", line)
-        yield line, [row.get(named[column]) for column in COLUMNS]
+        known.check(row, line)
+        fields = [row.get(named[column]) for column in COLUMNS]
+        if named["value"] not in row:
+            fields[COLUMNS.index("value")] = ABSENT
+        yield Row(line, fields, row)
 
 
-def _source(rows: Iterable[Tuple[int, List[Any]]], choices: Choices) -> Source:
-    timed = Timed()
-    is_csv = choices.form == "csv"
-    names = (choices.columns["start"], choices.columns["end"])
-    for line, (process, start, end, register, op, value, outcome) in rows:
-        kind = op.strip().lower() if type(op) is str else spelled(op)
-        key = choices.register if register is None else register
-        operation = Operation(line, client_of(process, is_csv), kind, key, value)
-        operation.answer = value
-        if end is not None and type(end) is str and not end.strip():
-            end = None
-        operation.ending = _ending(outcome, end, line)
-        timed.add(operation, start, end, names)
-    source = timed.source(choices)
-    settle(source, choices, is_csv)
-    return source
-
-
-def client_of(process: Any, is_text: bool) -> Client:
-    """A client by its number or its name; in a table of texts a name that spells a number is that number."""
-    if type(process) is str:
-        name = process.strip() if is_text else process
-        known = settled(name, frozenset(), is_text)
-        return known if type(known) is int else name
-    known = settled(process, frozenset())
-    return "null" if known is None else known
-
-
-def _ending(outcome: Any, end: Any, line: int) -> Optional[str]:
-    word = "" if outcome is None else spelled(outcome).strip().lower()
-    if word not in OUTCOMES:
-        raise Refused(f"the outcome is {word}, and ok, fail, unknown or info is expected: write one of "
-                      "these, or say which column is the outcome with --columns outcome=NAME", line)
-    ending = OUTCOMES[word]
-    return None if end is None and ending == "reply" else ending
+def _source(rows: Iterable[Row], choices: Choices) -> Source:
+    taken = Rows(choices)
+    for row in rows:
+        taken.take(row)
+    return taken.source()

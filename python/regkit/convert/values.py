@@ -5,9 +5,13 @@ from typing import AbstractSet, Any, Dict, Iterable, Set
 from regkit import edn
 from regkit.convert.model import GREATEST, LEAST, Operation, Refused, Value
 
+ALL_TEXTS = frozenset({"csv", "porcupine"})  # forms in which a text of a whole number is that number
 _WHOLE = re.compile(r"-?[1-9][0-9]{0,18}|0")  # a longer one has more than 64 bits
 
+_QUOTED = re.compile(r"""b?(["'])(.*)\1""", re.DOTALL)  # a text as JSON, EDN or Python shows it, or its bytes
+
 Table = Dict[str, Dict[str, int]]  # by key, the number of each text
+Written = Dict[str, Dict[Value, Operation]]  # by key and value, its write
 
 
 def spelled(value: Any) -> str:
@@ -15,13 +19,24 @@ def spelled(value: Any) -> str:
     return value if type(value) is str else edn.write(value)
 
 
-def settled(value: Any, nulls: AbstractSet[str], numeric_texts: bool = False) -> Value:
+def bare(value: Any) -> str:
+    """How a value is spelled without what only tells its kind: quotes, a colon, or a fraction of zero."""
+    text = spelled(value).strip()
+    quoted = _QUOTED.fullmatch(text)
+    text = quoted[2] if quoted else text.lstrip(":")
+    return text[:-2] if re.fullmatch(r"-?[0-9]+\.0", text) else text
+
+
+def settled(value: Any, nulls: AbstractSet[str], numeric_texts: bool = False, alike: bool = False) -> Value:
     """A value of the source as null, a whole number, or the text by which EDN writes it.
 
     With `numeric_texts`, for sources whose values are all texts, a text of a whole number is that number.
+    With `alike`, values that are spelled alike are one value, of whatever kind they are.
     """
     if value is None or (nulls and spelled(value) in nulls):
         return None
+    if alike:
+        value, numeric_texts = bare(value), True
     if type(value) is str and numeric_texts and _WHOLE.fullmatch(value):
         value = int(value)
     if type(value) is int and LEAST <= value <= GREATEST:
@@ -29,11 +44,19 @@ def settled(value: Any, nulls: AbstractSet[str], numeric_texts: bool = False) ->
     return edn.write(value)
 
 
-def initial_value(word: str) -> Value:
-    """The value that `--initial` names: a whole number, a keyword, a text in quotes, or else a text."""
+def initial_value(word: str, form: str, alike: bool = False) -> Value:
+    """The value that `--initial` names: null, a whole number, a keyword, a text in quotes, or else a text.
+
+    True and false are such values where a source has them, and texts in a source whose values are all texts.
+    """
+    if word in ("null", "nil"):
+        return None
+    value: Any = word
     if re.fullmatch(r':[^\s,"]+|"(?:[^"\\]|\\.)*"', word):
-        return settled(next(edn.values([word]))[1], frozenset())
-    return settled(word, frozenset(), True)
+        return settled(next(edn.values([word]))[1], frozenset(), alike=alike)
+    if word in ("true", "false") and form not in ALL_TEXTS:
+        value = word == "true"
+    return settled(value, frozenset(), True, alike)
 
 
 def readable(texts: Iterable[str]) -> Dict[str, str]:
@@ -85,27 +108,29 @@ def number_texts(operations: Iterable[Operation]) -> Table:
     return {key: mine.texts for key, mine in numbers.items()}
 
 
-def refuse_repeats(operations: Iterable[Operation]) -> None:
+def written_once(operations: Iterable[Operation]) -> Written:
     """Each value is written once to a register at most, so that a read tells which write it saw."""
-    written: Dict[str, Dict[Value, Operation]] = {}
+    written: Written = {}
     for operation in operations:
         if operation.kind != "write":
             continue
         if operation.value is None:
-            raise Refused(f"a write of null to {_shown(operation.key)}: only the initial value is null. Let "
+            raise Refused(f"a write of null to {shown(operation.key)}: only the initial value is null. Let "
                           "the workload delete nothing, or go on with another key; or name fewer spellings "
                           "of null with --null", operation.line)
         before = written.setdefault(operation.key, {}).setdefault(operation.value, operation)
         if before is not operation:
             raise Refused(_repeat(before, operation), operation.line)
+    return written
 
 
-def _shown(value: Value) -> str:
+def shown(value: Value) -> str:
+    """A value of the source for a person, a text without its quotes."""
     return _unquoted(value) if isinstance(value, str) else "null" if value is None else str(value)
 
 
 def _repeat(before: Operation, again: Operation) -> str:
-    value, name = _shown(again.value), _shown(again.key)
+    value, name = shown(again.value), shown(again.key)
     if before.line == 0:
         return (f"{value} is written to {name}, but --initial says that {name} starts with it: let the "
                 "workload write other values")

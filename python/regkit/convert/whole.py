@@ -5,7 +5,8 @@ from regkit.convert import events, jepsen, porcupine, tables
 from regkit.convert.model import Choices, Operation, Refused, Source, Value
 from regkit.convert.names import names
 from regkit.convert.processes import Given, give_processes
-from regkit.convert.values import Table, initial_value, number_texts, refuse_repeats
+from regkit.convert.suspects import look_at_reads
+from regkit.convert.values import Table, initial_value, number_texts, written_once
 
 READERS: Dict[str, Callable[[Iterable[str], Choices], Source]] = {
     "jepsen": jepsen.from_jepsen, "porcupine": porcupine.from_porcupine, "csv": tables.from_csv,
@@ -30,15 +31,23 @@ def convert(lines: Iterable[str], choices: Choices, number: bool = True) -> Conv
     source = READERS[choices.form](lines, choices)
     read = list(source.operations())
     if not read:
-        question = "the source has no operation to check: is it the right file, and of the form"
-        raise Refused("; ".join([f"{question} {choices.form}?", *source.notes]))
+        raise Refused(_nothing_left(source, choices.form))
     given = give_processes(source)
     if choices.initial is not None:
-        _begin(source, read, initial_value(choices.initial))
-    refuse_repeats(source.operations())
+        start = initial_value(choices.initial, choices.form, choices.values == "alike")
+        if start is not None:
+            _begin(source, read, start)
+    source.notes.extend(look_at_reads(read, written_once(source.operations()), choices))
     named = names(read)
     numbers = number_texts(source.operations()) if number else {}
     return Converted(source, read, named, numbers, given)
+
+
+def _nothing_left(source: Source, form: str) -> str:
+    if source.skipped:
+        return f"nothing is left to check: --cas skip-key {source.skipped}"
+    return "; ".join([f"the source has no operation to check: is it the right file, and of the form {form}?",
+                      *source.notes])
 
 
 def _begin(source: Source, operations: List[Operation], value: Value) -> None:

@@ -1,0 +1,131 @@
+"""What the members of a source mean. A member is also a column of a table, and a field of a log's line.
+
+A member that isn't understood may say how the operation ended: an error, a version that didn't match, a flag.
+To pass over it could make a failed write one that took place, or a read without an answer a read of null. So
+each form says here what it understands and what can't say such a thing. Any other member is refused by its
+name, until the command line says what it means:
+
+    --ok-when Err=OK        the operation took place only if Err is OK; --outcomes says what other words mean
+    --ignore-member Err     Err means nothing
+"""
+import shlex
+from collections import Counter
+from typing import Any, Dict, FrozenSet, Iterable, Iterator, List, Mapping, NamedTuple, Optional, Set, Tuple
+
+from regkit import edn
+from regkit.convert.model import ENDINGS, Choices, Refused, counted, folded
+from regkit.convert.values import spelled
+
+# By form, and for Porcupine by place, the members that its reader understands.
+UNDERSTOOD: Dict[str, FrozenSet[str]] = {
+    "jepsen": frozenset({"process", "type", "f", "value", "key", "error", "exception"}),
+    "operation": frozenset({"clientid", "input", "call", "output", "return"}),
+    "event": frozenset({"clientid", "kind", "value", "id"}),
+    "input": frozenset({"op", "key", "value"}),
+    "output": frozenset({"value"}),
+    "csv": frozenset(),  # a table and objects name their own
+    "operations": frozenset(),
+    "jsonl": frozenset({"process", "event", "op", "register", "value"}),
+}
+# By form, members that say who, where and when, and never how an operation ended.
+HARMLESS: Dict[str, FrozenSet[str]] = {
+    "jepsen": frozenset({"index", "time", "node", "final?"}),
+    "csv": frozenset({"index", "node"}),
+    "operations": frozenset({"index", "node"}),
+    "jsonl": frozenset({"client", "node", "time"}),
+}
+# By form, the name of what a write's reply says, for a person.
+WRITE_ANSWERS = {"jepsen": "value", "porcupine": "Output", "csv": "value", "operations": "value",
+                 "jsonl": "value"}
+_ANSWERS = frozenset({"value", "output"})  # a read's value, which is never its outcome
+_LONGEST = 40  # characters of a value that is shown
+
+
+class Known:
+    """Refuses what a place of a form doesn't understand."""
+
+    def __init__(self, choices: Choices, place: str, own: Iterable[str] = (), what: str = "member") -> None:
+        self.what = what
+        self.names = (UNDERSTOOD[place] | HARMLESS.get(place, frozenset()) | choices.ignored
+                      | choices.ok_when.keys() | {folded(name) for name in own})
+        self.seen: Set[Tuple[Any, ...]] = set()  # the members of lines that were let through
+
+    def check(self, members: Mapping[Any, Any], line: int) -> None:
+        """Raises Refused for the first member that isn't understood."""
+        names = tuple(members)
+        if names in self.seen:
+            return
+        strange = [name for name in names if folded(spelled(name)) not in self.names]
+        if strange:
+            raise Refused(_not_understood(self.what, members, strange), line)
+        if len({folded(spelled(name)) for name in names}) < len(names):
+            raise Refused(f"two members have one name, among {', '.join(map(spelled, names))}: rename one",
+                          line)
+        self.seen.add(names)
+
+
+def _not_understood(what: str, members: Mapping[Any, Any], strange: List[Any]) -> str:
+    first, *others = (shlex.quote(spelled(name).lstrip(":")) for name in strange)
+    column = f"--columns outcome={first} if it is the outcome, " if what == "column" and first != "''" else ""
+    more = f"; likewise {', '.join(others)}" if others else ""
+    return (f"the {what} {first} isn't understood, and it may tell the outcome (here it is "
+            f"{edn.write(members[strange[0]])[:_LONGEST]}): say {column}--ok-when {first}=WORD,.. with the "
+            f"words in it by which the operation took place, or --ignore-member {first} if it means "
+            f"nothing{more}")
+
+
+def word_of(value: Any) -> str:
+    """A member's value as a person would write it in an option; null is the empty word."""
+    return "" if value is None else spelled(value)
+
+
+class Ended(NamedTuple):
+    """How an operation ended that the form takes for completed."""
+
+    ending: Optional[str]  # of the operation, as Operation has it
+    found_nothing: bool = False  # a read of null
+
+
+class Outcomes:
+    """What --ok-when and --outcomes make of operations that the form takes for completed."""
+
+    def __init__(self, choices: Choices) -> None:
+        self.choices = choices
+        self.unknown: Dict[Tuple[str, str], int] = Counter()  # by member and its word, how many
+
+    def of(self, members: Mapping[Any, Any], is_read: bool) -> Ended:
+        """By its members. What isn't said to be well or to have failed is unknown."""
+        if not self.choices.ok_when:
+            return Ended("reply")
+        members = by_folded_name(members)
+        endings: Set[Optional[str]] = {"reply"}
+        for name, well in self.choices.ok_when.items():
+            if is_read and name in _ANSWERS:
+                continue
+            word = word_of(members.get(name))
+            if folded(word) in well:
+                continue
+            if is_read and word and self.names_null(word):
+                return Ended("reply", True)
+            endings.add(self._ending(name, word))
+        return Ended(None if None in endings else "fail" if "fail" in endings else "reply")
+
+    def names_null(self, word: str) -> bool:
+        return word in self.choices.nulls or word.lstrip(":") in self.choices.nulls
+
+    def _ending(self, name: str, word: str) -> Optional[str]:
+        outcome = self.choices.outcomes.get(folded(word))
+        if outcome is None:
+            self.unknown[name, word] += 1
+        return ENDINGS[outcome or "unknown"]
+
+    def notes(self) -> Iterator[str]:
+        for (name, word), number in sorted(self.unknown.items()):
+            said = f"{name} {word}" if word else f"no {name}"
+            yield (f"took {counted(number, 'operation')} with {said} as of unknown outcome: if that means "
+                   f"that it surely had no effect, say --outcomes {shlex.quote(word + '=fail')}")
+
+
+def by_folded_name(members: Mapping[Any, Any]) -> Dict[str, Any]:
+    """Members by the names under which options have them."""
+    return {folded(spelled(name)): value for name, value in members.items()}

@@ -1,0 +1,124 @@
+"""Reads of values that nothing writes, where the conversion may be the one that is wrong.
+
+Such a read is a fault of the store, unless its value spells null (none, -1), is the value with which
+registers start (0), or is spelled as a written value is and has another kind: a client may write 1 and read
+"1". To make up a fault is the worst that a conversion can do. So a person has to say what such a value is.
+"""
+import shlex
+from typing import Any, Dict, Iterable, Iterator, List, Optional, Set
+
+from regkit import edn
+from regkit.convert.model import Choices, Operation, Refused, Value, counted
+from regkit.convert.values import Written, bare, initial_value, shown, spelled
+
+SPELL_NULL = frozenset({
+    "", "-", "\\n", "<nil>", "(nil)", "(null)", "absent", "empty", "key not found", "key-does-not-exist",
+    "missing", "n/a", "na", "nan", "nil", "no such key", "nokey", "none", "not found", "not-found",
+    "not_found", "notfound", "null", "undefined"})
+STARTS = frozenset({"0", "-1", "false"})  # what a register may have before any write, or what stands for none
+_COLLECTIONS = (tuple, edn.Map)
+
+
+def look_at_reads(operations: Iterable[Operation], written: Written, choices: Choices) -> Iterator[str]:
+    """Notes on reads that are faults if all was recorded well. Values aren't numbered yet.
+
+    Raises Refused for the first read that the conversion may have misread.
+    """
+    spellings = _Spellings(written)
+    nothing: Dict[Value, Operation] = {}
+    unwritten = failed = 0
+    for read in operations:
+        value = read.value
+        if read.kind == "write" or value is None:
+            continue
+        write = written.get(read.key, nothing).get(value)
+        if write is None:
+            unwritten += 1
+            _refuse_suspect(read, value_of(value), spellings, choices)
+        elif write.ending == "fail":
+            failed += 1
+    if unwritten:
+        yield (f"{counted(unwritten, 'read')} gave a value that nothing writes: was the store empty before "
+               "the run, and are values recorded alike by reads and by writes?")
+    if failed:
+        yield (f"{counted(failed, 'read')} gave a value of a failed write: is it sure that such a write has "
+               "no effect? Else its outcome is unknown (--outcomes WORD=unknown)")
+
+
+def value_of(value: Value) -> Any:
+    """A settled value as Python has it."""
+    return next(edn.values([value]))[1] if type(value) is str else value
+
+
+def _refuse_suspect(read: Operation, value: Any, spellings: "_Spellings", choices: Choices) -> None:
+    why = _spells_null(value, choices)
+    if why is None and choices.values == "auto":
+        why = spellings.why(read.key, value)
+    if why is not None:
+        what = f"a read gave {edn.write(value)[:40]}, which nothing writes to {shown(read.key)}"
+        raise Refused(f"{what}: {why}", read.end_line)
+
+
+def _spells_null(value: Any, choices: Choices) -> Optional[str]:
+    """What to say of a value that may be none, or the one before any write."""
+    start = None if choices.initial is None else initial_value(choices.initial, choices.form)
+    word = bare(value)
+    starts, spells = word in STARTS and choices.initial is None, word.lower() in SPELL_NULL
+    if not (starts or spells) or (choices.initial is not None and start is None):
+        return None
+    null = shlex.quote("--null=" + ",".join(sorted(choices.nulls | {spelled(value)})))
+    initial = f"{shlex.quote('--initial=' + edn.write(value))} if registers start with it, " if starts else ""
+    return (f"say {initial}{null} if it stands for none, or --initial=null if the store was wrong to give it")
+
+
+class _Spellings:
+    """How keys and the values written to them are spelled without what tells their kinds."""
+
+    def __init__(self, written: Written) -> None:
+        self._written = written
+        self._values: Dict[str, Set[str]] = {}  # by key
+        self._parts: Dict[str, Set[str]] = {}  # by key, of collections too
+        self._keys: Dict[str, List[str]] = {}  # by spelling
+
+    def why(self, key: str, value: Any) -> Optional[str]:
+        """What to say of a value if it is like one that is written."""
+        alike = self._alike(key, bare(value))
+        if alike is not None:
+            return (f"{alike}; say --values alike if what is spelled alike is one value and one key, or "
+                    "--values exact if it isn't")
+        if type(value) in _COLLECTIONS and _parts(value) & self._parts_of(key):
+            return ("a value that has a part of it in common is written there; let the recorder keep the "
+                    "value alone, without a version, or say --values exact if they are several values")
+        return None
+
+    def _alike(self, key: str, word: str) -> Optional[str]:
+        """Where a value is written that is spelled alike, in words."""
+        if word in self._values_of(key):
+            return "a value of another kind that is spelled alike is written there"
+        if not self._keys:
+            for each in self._written:
+                self._keys.setdefault(bare(value_of(each)), []).append(each)
+        for other in self._keys.get(bare(value_of(key)), []):
+            if word in self._values_of(other):
+                return f"it is written to {other}, a key of another kind that is spelled alike"
+        return None
+
+    def _values_of(self, key: str) -> Set[str]:
+        known = self._values.get(key)
+        if known is None:
+            values = self._written.get(key, {})
+            known = self._values[key] = {bare(value_of(value)) for value in values}
+        return known
+
+    def _parts_of(self, key: str) -> Set[str]:
+        known = self._parts.get(key)
+        if known is None:
+            values = self._written.get(key, {})
+            known = self._parts[key] = {part for value in values for part in _parts(value_of(value))}
+        return known
+
+
+def _parts(value: Any) -> Set[str]:
+    """How what is in a collection is spelled; of any other value, how it is spelled itself."""
+    inner = value.values() if type(value) is edn.Map else value if type(value) is tuple else [value]
+    return {bare(part) for part in inner if part is not None}

@@ -1,0 +1,49 @@
+"""Transactions of one read or one write, as Elle's rw-register has them: [[:w 3 1]]."""
+from typing import Any, Iterable, List, Optional
+
+from regkit import edn
+from regkit.convert.model import Operation, Refused
+
+
+def refuse_appends(operations: Iterable[Operation]) -> None:
+    """Raises Refused if any transaction appends to a list: no option makes registers of lists."""
+    for operation in operations:
+        if operation.kind == "txn" and "append" in map(_function, _parts(operation.value)):
+            raise Refused("a transaction appends to a list, and regcheck judges registers, which are read "
+                          "and written whole, so no option converts it: check such histories with Elle, as "
+                          "in `elle-cli --model list-append history.edn`", operation.line)
+
+
+def take_apart(operation: Operation) -> None:
+    """Takes a transaction of one operation for that operation. Raises Refused for any other."""
+    function, key, value = _single(operation.value, operation.line)
+    if operation.ending == "reply":
+        line = operation.end_line or operation.line
+        answered_function, answered_key, answer = _single(operation.answer, line)
+        if answered_function != function or edn.write(answered_key) != edn.write(key):
+            raise Refused(f"the reply's transaction isn't that of the call at line {operation.line}: let the "
+                          "client reply with the transaction of its call, its read filled in", line)
+        operation.answer = answer
+    operation.kind, operation.key, operation.value = function, key, value
+
+
+def _parts(value: Any) -> List[Any]:
+    return list(value) if type(value) is tuple else []
+
+
+def _function(part: Any) -> Optional[str]:
+    """What a part of a transaction does, if it is one: a function, a key and a value."""
+    if type(part) is tuple and len(part) == 3 and isinstance(part[0], str):
+        return part[0].lstrip(":")
+    return None
+
+
+def _single(value: Any, line: int) -> List[Any]:
+    parts = _parts(value)
+    if len(parts) == 1 and _function(parts[0]) is not None:
+        return [_function(parts[0]), *parts[0][1:]]
+    if len(parts) > 1:
+        raise Refused(f"a transaction of {len(parts)} operations, and registers have single reads and "
+                      "writes: let each transaction have one operation (:max-txn-length 1, "
+                      "docs/recipes.md)", line)
+    raise Refused(f"{edn.write(value)[:60]} is no transaction of one read or write, such as [[:w 3 1]]", line)

@@ -1,0 +1,122 @@
+"""What the options of `regkit convert` say: its parser, and their words as Choices."""
+import argparse
+import re
+from typing import Collection, Dict, FrozenSet, List, Optional
+
+from regkit.convert import tables, write_back
+from regkit.convert.model import ENDINGS, OTHER, READ_AND_WRITE, Choices, WrongWords, folded
+from regkit.convert.whole import READERS
+
+TIMED = ("porcupine", "csv", "operations")
+NULLS = {"porcupine": "", "csv": ""}  # by form, what spells null if --null doesn't say
+OPS = ("read", "write", OTHER)
+DELIMITERS = {"comma": ",", "semicolon": ";", "tab": "\t", "\\t": "\t", "pipe": "|", "bar": "|"}
+
+
+def add_arguments(parser: argparse.ArgumentParser) -> None:
+    add = parser.add_argument
+    add("--from", dest="form", required=True, choices=list(READERS), help="the form of the source")
+    add("file", metavar="FILE", nargs="?", help="the source, packed by gzip or not (default: standard input)")
+    add("-o", "--output", metavar="OUT", help="the history (default: standard output)")
+    add("--map", metavar="FILE", help="write here, as JSON, what each number, process and line stands for")
+    _add_meanings(parser)
+    add("--clock-error", metavar="TIME", help="porcupine, csv, operations: how far a clock may be from the "
+        "true time, such as 5ms; calls become earlier and replies later by it")
+    add("--clock-unit", choices=["ns", "us", "ms", "s"], help="what a number of the source's clock means")
+    add("--null", metavar="TEXT,..", help="the spellings of null, such as nil,,not-found (the second is the "
+        "empty text, default for csv and porcupine); EDN's nil and JSON's null always are null")
+    add("--initial", metavar="VALUE", help="each register starts with this value: a completed write of it "
+        "comes before all else; null says that each starts with none")
+    add("--values", choices=["auto", "exact", "alike"], default="auto",
+        help='whether values that are spelled alike, as 1, "1" and :1 are, are one value (alike) or several '
+        "(exact); auto, the default, refuses them if it matters")
+    add("--cas", choices=["refuse", "skip-key"], default="refuse",
+        help="refuse operations that read and write at once, such as cas (default), or leave out the keys "
+        "that have any")
+    add("--keys", choices=["auto", "independent", "none"], default="auto",
+        help="jepsen: whether a value is [key value] (default auto: if all calls' values are pairs)")
+    add("--register", metavar="NAME", default="x", help="the register of a source without keys (default x)")
+    add("--to", choices=["history", *write_back.WRITERS], default="history",
+        help="the form of the output (default history, for regcheck)")
+
+
+def _add_meanings(parser: argparse.ArgumentParser) -> None:
+    """The options that say what the source's own words mean."""
+    add = parser.add_argument
+    add("--columns", metavar="COLUMN=NAME,..",
+        help=f"csv, operations: the source's names for {', '.join(tables.COLUMNS)}")
+    add("--delimiter", metavar="C", help="csv: what stands between the fields: a character, or comma, "
+        "semicolon or tab (default: whichever the header has)")
+    add("--ops", metavar="WORD=OP,..", action="append", default=[],
+        help="what the source's words for operations mean: read, write, or other, which --cas treats too")
+    add("--outcomes", metavar="WORD=OUTCOME,..", action="append", default=[],
+        help="what the source's words for outcomes mean: ok, fail (it surely had no effect) or unknown")
+    add("--ok-when", metavar="MEMBER=WORD,..", action="append", default=[],
+        help="an operation took place only if this member or column has one of these words; any other is an "
+        "unknown outcome unless --outcomes has it; the empty word is null too, and no such member")
+    add("--ignore-member", metavar="NAME", action="append", default=[],
+        help="this member or column means nothing; may be given again")
+
+
+def choices_of(arguments: argparse.Namespace) -> Choices:
+    """What the options say. Raises WrongWords if they don't fit the form."""
+    form = arguments.form
+    for option, value, forms in (("--columns", arguments.columns, ("csv", "operations")),
+                                 ("--delimiter", arguments.delimiter, ("csv",)),
+                                 ("--clock-error", arguments.clock_error, TIMED),
+                                 ("--clock-unit", arguments.clock_unit, TIMED)):
+        if value is not None and form not in forms:
+            raise WrongWords(f"{option} is for {', '.join(forms)}, not for {form}")
+    if arguments.map and arguments.to != "history":
+        raise WrongWords("--map describes a history for regcheck: leave out --to, or --map")
+    return Choices(
+        form=form, register=arguments.register, keys=arguments.keys, nulls=_nulls(form, arguments.null),
+        initial=arguments.initial, values=arguments.values,
+        cas=arguments.cas, columns=tables.columns(arguments.columns),
+        delimiter=_delimiter(arguments.delimiter), ops=_meanings("--ops", arguments.ops, OPS),
+        outcomes=_meanings("--outcomes", arguments.outcomes, ENDINGS), ok_when=_ok_when(arguments.ok_when),
+        ignored=frozenset(map(folded, arguments.ignore_member)), clock_error=arguments.clock_error,
+        clock_unit=arguments.clock_unit)
+
+
+def _nulls(form: str, words: Optional[str]) -> FrozenSet[str]:
+    """The spellings of null; two double quotes are the empty text too, since a shell may keep them."""
+    if words is None:
+        return frozenset({NULLS[form]} if form in NULLS else ())
+    return frozenset("" if word == '""' else word for word in words.split(","))
+
+
+def _delimiter(word: Optional[str]) -> Optional[str]:
+    found = DELIMITERS.get(word, word) if word is not None else None
+    if found is not None and (len(found) != 1 or found in '"\r\n'):
+        raise WrongWords(f"--delimiter {word}: one character is expected, or comma, semicolon or tab")
+    return found
+
+
+def _meanings(option: str, given: List[str], known: Collection[str]) -> Dict[str, str]:
+    """What words of the source mean, each one of those known. A word may have commas and equals signs."""
+    one = rf"(.*?)=({'|'.join(known)})(?:,|$)"
+    meanings: Dict[str, str] = {}
+    for words in given:
+        if not re.fullmatch(rf"(?:{one})+", words, re.DOTALL):
+            raise WrongWords(f"{option} {words}: WORD=MEANING,.. is expected, with one of {', '.join(known)} "
+                             "for each MEANING")
+        for said, meaning in re.findall(one, words, re.DOTALL):
+            if folded(said) in READ_AND_WRITE and meaning in ("read", "write"):
+                raise WrongWords(f"{option} {said}={meaning}: {said} reads and writes at once, so it is "
+                                 f"{OTHER}")
+            if meanings.setdefault(folded(said), meaning) != meaning:
+                raise WrongWords(f"{option}: {said} is given two meanings")
+    return meanings
+
+
+def _ok_when(given: List[str]) -> Dict[str, FrozenSet[str]]:
+    """By member, the words that say that all went well: each word, and all of them as one with commas."""
+    well: Dict[str, FrozenSet[str]] = {}
+    for word in given:
+        member, equals, words = word.partition("=")
+        if not equals or not folded(member):
+            raise WrongWords(f"--ok-when {word}: MEMBER=WORD,.. is expected, such as status=200 or error=")
+        known = well.get(folded(member), frozenset())
+        well[folded(member)] = known | set(map(folded, [words, *words.split(",")]))
+    return well

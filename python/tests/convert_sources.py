@@ -1,0 +1,313 @@
+"""Random histories in the form of each tool, as it writes them: `regkit convert --to` has no part in this.
+
+A history is the work of a simulated register for each key. So it is right by construction, until a fault is
+planted.
+"""
+import json
+import random
+from typing import Any, Callable, Dict, Iterator, List, NamedTuple, Optional, Tuple
+
+from regkit.verify.claims import Register, Wrong, check_without_line
+from regkit.verify.operations import read_history
+
+Event = Tuple[int, bool, "Call"]  # a time, whether it is the call, and of which
+
+
+class Call(NamedTuple):
+    """An operation, with times that no other has."""
+
+    client: int
+    key: str
+    op: str
+    value: Optional[int]  # written, or read; None is null
+    start: int
+    end: Optional[int]  # None if its outcome is unknown
+    outcome: str  # ok, fail or unknown
+
+
+class _Running:
+    """A call that is open."""
+
+    def __init__(self, client: int, key: str, op: str, value: Optional[int], start: int) -> None:
+        self.client, self.key, self.op, self.value, self.start = client, key, op, value, start
+        self.effective = False
+
+    def ended(self, end: Optional[int], outcome: str) -> Call:
+        return Call(self.client, self.key, self.op, self.value, self.start, end, outcome)
+
+
+def right_history(chance: random.Random) -> List[Call]:
+    """Clients call, take effect at one moment and get their answers, but for some that fail or get none."""
+    clients = list(range(chance.randrange(1, 5)))
+    store: Dict[str, Optional[int]] = {"a": None, "b": None}
+    running: Dict[int, _Running] = {}
+    lost: List[_Running] = []  # writes of an unknown outcome, which may take effect later
+    done: List[Call] = []
+    written = 0
+    for time in range(chance.randrange(6, 34)):
+        place = chance.randrange(len(clients))
+        client = clients[place]
+        call = running.get(client)
+        if lost and chance.random() < 0.1:
+            late = lost.pop()
+            store[late.key] = late.value
+        if call is None:
+            op = chance.choice(["read", "write"])
+            written += op == "write"
+            value = written if op == "write" else None
+            running[client] = _Running(client, chance.choice("ab"), op, value, time)
+        elif not call.effective and chance.random() < 0.85:
+            call.effective = True
+            if call.op == "write":
+                store[call.key] = call.value
+            else:
+                call.value = store[call.key]
+        else:
+            del running[client]
+            if call.effective and chance.random() < 0.9:
+                done.append(call.ended(time, "ok"))
+            elif not call.effective and chance.random() < 0.5:
+                done.append(call.ended(time, "fail"))
+            else:
+                done.append(call.ended(None, "unknown"))
+                lost += [call] if call.op == "write" and not call.effective else []
+                clients[place] = max(clients) + 1
+    done += [call.ended(None, "unknown") for call in running.values()]
+    return sorted(done, key=lambda call: call.start)
+
+
+def faulty_history(chance: random.Random) -> List[Call]:
+    """A right history in which one read got another answer, such that no order explains it."""
+    while True:
+        calls = right_history(chance)
+        reads = [place for place, call in enumerate(calls) if call.op == "read" and call.outcome == "ok"]
+        if reads:
+            place = chance.choice(reads)
+            values = [call.value for call in calls if call.op == "write" and call.key == calls[place].key]
+            calls[place] = calls[place]._replace(value=chance.choice([None, 77, *values]))
+            if not is_atomic(plain(calls)):
+                return calls
+
+
+def events(calls: List[Call]) -> List[Event]:
+    """Calls and ends in the order of time."""
+    return sorted([(call.start, True, call) for call in calls]
+                  + [(call.end, False, call) for call in calls if call.end is not None])
+
+
+def plain(calls: List[Call]) -> str:
+    """The history as `regcheck` reads it."""
+    lines: List[Dict[str, Any]] = []
+    for _, is_call, call in events(calls):
+        if is_call:
+            value = {"value": call.value} if call.op == "write" else {}
+            lines.append({"process": call.client, "event": "call", "op": call.op, "register": call.key,
+                          **value})
+        else:
+            value = {"value": call.value} if (call.op, call.outcome) == ("read", "ok") else {}
+            what = "reply" if call.outcome == "ok" else "fail"
+            lines.append({"process": call.client, "event": what, **value})
+    return "".join(json.dumps(line) + "\n" for line in lines)
+
+
+def is_atomic(history: str) -> bool:
+    """Whether each register of a history has an order that explains it, by regkit's verifier."""
+    try:
+        for name, calls in read_history(history.encode(), True).registers.items():
+            check_without_line(Register(name, calls))
+    except Wrong:
+        return False
+    return True
+
+
+class Form(NamedTuple):
+    """A way in which a tool writes histories."""
+
+    form: str  # of `regkit convert --from`
+    write: Callable[[List[Call], random.Random], str]
+    options: Tuple[str, ...] = ()
+
+
+NEMESIS = ('{:type :info, :f :cut, :process :nemesis, :index %d, :value '
+           '#object[jepsen.nemesis$cut__9 0x5c29bfd "jepsen.nemesis$cut__9@5c29bfd"]}')
+JEPSEN_TYPES = {"ok": "ok", "fail": "fail", "unknown": "info"}
+
+
+def _steps(calls: List[Call], chance: random.Random) -> Iterator[Tuple[str, Call]]:
+    """Jepsen's events: a type with its call. An unknown outcome is told, or the log ends before."""
+    for _, is_call, call in events(calls):
+        yield ("invoke" if is_call else JEPSEN_TYPES[call.outcome]), call
+    for call in calls:
+        if call.outcome == "unknown" and chance.random() < 0.5:
+            yield "info", call
+
+
+def _known(kind: str, call: Call) -> Optional[int]:
+    """The value that an event of Jepsen's has."""
+    return call.value if call.op == "write" or kind == "ok" else None
+
+
+def jepsen_edn(calls: List[Call], chance: random.Random) -> str:
+    lines: List[str] = []
+    for kind, call in _steps(calls, chance):
+        value = _known(kind, call)
+        error = ', :error [:broken "n1"]' if kind in ("fail", "info") else ""
+        lines.append(f"{{:process {call.client}, :type :{kind}, :f :{call.op}, :value [:{call.key} "
+                     f"{'nil' if value is None else value}], :index {len(lines)}, :time "
+                     f"{len(lines) * 7}{error}}}")
+        if chance.random() < 0.1:
+            lines.append(NEMESIS % len(lines))
+    return "\n".join(lines)
+
+
+def jepsen_json(calls: List[Call], chance: random.Random) -> str:
+    rows: List[Dict[str, Any]] = []
+    for kind, call in _steps(calls, chance):
+        error = {"error": "broken"} if kind in ("fail", "info") else {}
+        rows.append({"index": len(rows), "type": kind, "f": call.op, "value": [call.key, _known(kind, call)],
+                     "process": call.client, "time": len(rows), **error})
+    return json.dumps(rows) if chance.random() < 0.5 else "\n".join(map(json.dumps, rows))
+
+
+def _told(calls: List[Call], chance: random.Random, before: str, gap: str) -> str:
+    lines = []
+    for kind, call in _steps(calls, chance):
+        value = _known(kind, call)
+        shown = f"[:{call.key} {'nil' if value is None else value}]"
+        lines.append(before + gap.join([str(call.client), ":" + kind, ":" + call.op, shown,
+                                        *([":broken"] if kind in ("fail", "info") else [])]))
+        if chance.random() < 0.1:
+            lines.append(before + gap.join([":nemesis", ":info", ":cut", "#<Object of ["]))
+    return "\n".join(lines)
+
+
+def jepsen_history_txt(calls: List[Call], chance: random.Random) -> str:
+    return _told(calls, chance, "", chance.choice(["\t", "      "]))
+
+
+def jepsen_console(calls: List[Call], chance: random.Random) -> str:
+    return _told(calls, chance, "2026-11-28 05:44:32,001{GMT} INFO [jepsen worker 1] jepsen.util: ", "\t")
+
+
+def porcupine_log(calls: List[Call], chance: random.Random) -> str:
+    lines = []
+    for kind, call in _steps(calls, chance):
+        value = _known(kind, call)
+        text = "nil" if kind == "invoke" and value is None else f'"{"" if value is None else value}"'
+        lines.append(f'{{:process {call.client}, :type :{kind}, :f :{"get" if call.op == "read" else "put"}, '
+                     f':key "{call.key}", :value {text}}}')
+    return "\n".join(lines)
+
+
+def _go_input(call: Call) -> Dict[str, Any]:
+    return {"Op": 0 if call.op == "read" else 1, "Key": call.key,
+            "Value": str(call.value) if call.op == "write" else "", "Version": 3}
+
+
+def _go_output(call: Call, chance: random.Random) -> Dict[str, Any]:
+    unknown = chance.choice(["ErrMaybe", "timeout"])
+    error = {"ok": "OK", "fail": "ErrVersion", "unknown": unknown}[call.outcome]
+    known = call.op == "read" and call.outcome == "ok" and call.value is not None
+    return {"Value": str(call.value) if known else "", "Version": 0, "Err": error}
+
+
+def porcupine_operations(calls: List[Call], chance: random.Random) -> str:
+    rows = []
+    for call in calls:
+        end: Optional[int] = call.end
+        if call.outcome == "unknown":
+            end = chance.choice([None, 2 ** 63 - 1, 99])
+        rows.append({"ClientId": call.client, "Input": _go_input(call), "Call": call.start,
+                     "Output": _go_output(call, chance), "Return": end})
+    return json.dumps(rows, indent=1) if chance.random() < 0.3 else "\n".join(map(json.dumps, rows))
+
+
+def porcupine_events(calls: List[Call], chance: random.Random) -> str:
+    rows = []
+    number = {call: place for place, call in enumerate(calls)}
+    told = [(99, False, call) for call in calls if call.outcome == "unknown" and chance.random() < 0.5]
+    for _, is_call, call in events(calls) + told:
+        rows.append({"ClientId": call.client, "Kind": not is_call, "Id": number[call],
+                     "Value": _go_input(call) if is_call else _go_output(call, chance)})
+    return "\n".join(map(json.dumps, rows))
+
+
+def _rows(calls: List[Call], chance: random.Random) -> Iterator[Dict[str, Any]]:
+    for call in sorted(calls, key=lambda _: chance.random()):
+        known = call.op == "write" or call.outcome == "ok"
+        end = chance.choice([None, 99]) if call.end is None else call.end
+        yield {"process": call.client, "start": call.start, "end": end, "register": call.key, "op": call.op,
+               "value": call.value if known else None, "outcome": call.outcome}
+
+
+def _table(calls: List[Call], chance: random.Random, delimiter: str) -> str:
+    lines = [delimiter.join(["process", "start", "end", "register", "op", "value", "outcome"])]
+    lines += [delimiter.join("" if member is None else str(member) for member in row.values())
+              for row in _rows(calls, chance)]
+    return "\n".join(lines)
+
+
+def csv_table(calls: List[Call], chance: random.Random) -> str:
+    return _table(calls, chance, chance.choice(",;\t"))
+
+
+def csv_words(calls: List[Call], chance: random.Random) -> str:
+    words = {"ok": "done", "fail": "refused, too late", "unknown": "timeout"}
+    lines = ["node;who;from;to;what;key;value;status;version"]
+    for row in _rows(calls, chance):
+        row["outcome"] = words[row["outcome"]]
+        row["op"] = {"read": "FETCH", "write": "STORE"}[row["op"]]
+        lines.append(";".join("" if row.get(name) is None else str(row[name]) for name in [
+            "node", "process", "start", "end", "op", "register", "value", "outcome", "version"]))
+    return "\n".join(lines)
+
+
+def operations(calls: List[Call], chance: random.Random) -> str:
+    rows = list(_rows(calls, chance))
+    return json.dumps(rows) if chance.random() < 0.3 else "\n".join(map(json.dumps, rows))
+
+
+def operations_codes(calls: List[Call], chance: random.Random) -> str:
+    codes: Dict[str, List[Optional[int]]] = {"ok": [200, 204], "fail": [409], "unknown": [500, 504, None]}
+    rows = []
+    for row in _rows(calls, chance):
+        row["code"] = chance.choice(codes[row.pop("outcome")])
+        rows.append(row)
+    return "\n".join(map(json.dumps, rows))
+
+
+def jsonl(calls: List[Call], chance: random.Random) -> str:
+    """With the recorder's own members, and with an event for some outcomes that are unknown."""
+    rows: List[Dict[str, Any]] = []
+    told = [(99, False, call) for call in calls if call.outcome == "unknown" and chance.random() < 0.5]
+    for time, is_call, call in events(calls) + told:
+        what = "call" if is_call else {"ok": "reply", "fail": "fail", "unknown": "timeout"}[call.outcome]
+        row: Dict[str, Any] = {"process": f"client {call.client}", "event": what, "time": time}
+        if is_call:
+            row.update(op=call.op, register=call.key)
+        if call.op == "write" if is_call else (call.op, call.outcome) == ("read", "ok"):
+            row["value"] = None if call.value is None else f"v{call.value}"
+        rows.append(row)
+    return "\n".join(map(json.dumps, rows))
+
+
+FORMS: Dict[str, Form] = {
+    "jepsen's EDN": Form("jepsen", jepsen_edn),
+    "jepsen's JSON": Form("jepsen", jepsen_json),
+    "jepsen's history.txt": Form("jepsen", jepsen_history_txt),
+    "jepsen's console": Form("jepsen", jepsen_console),
+    "porcupine's log": Form("porcupine", porcupine_log),
+    "porcupine's operations": Form("porcupine", porcupine_operations, (
+        "--ok-when", "Err=OK", "--outcomes", "ErrVersion=fail", "--ignore-member", "Version")),
+    "porcupine's events": Form("porcupine", porcupine_events, (
+        "--ok-when", "Err=OK", "--outcomes", "ErrVersion=fail", "--ignore-member", "Version")),
+    "csv": Form("csv", csv_table),
+    "csv in other words": Form("csv", csv_words, (
+        "--columns", "process=who,start=from,end=to,op=what,register=key,outcome=status", "--ops",
+        "fetch=read,store=write", "--outcomes", "done=ok,refused, too late=fail,timeout=unknown",
+        "--ignore-member", "version")),
+    "operations": Form("operations", operations),
+    "operations with codes": Form("operations", operations_codes, (
+        "--ok-when", "code=200,204", "--outcomes", "409=fail")),
+    "jsonl": Form("jsonl", jsonl, ("--outcomes", "timeout=unknown")),
+}
