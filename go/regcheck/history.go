@@ -5,6 +5,7 @@ import (
 	"encoding/json"
 	"fmt"
 	"sort"
+	"unicode/utf8"
 )
 
 // History gives the operations in the form of the program regcheck: one event a line, in the order of time.
@@ -44,6 +45,9 @@ func inOrder(operations []Operation) ([]step, error) {
 		if operation.Write && operation.Value == nil {
 			return nil, fmt.Errorf("the operation at index %d writes no value", place)
 		}
+		if !utf8.ValidString(operation.Register) {
+			return nil, fmt.Errorf("the operation at index %d has a register that isn't UTF-8: %q", place, operation.Register)
+		}
 		steps = append(steps, step{operation.Call, false, place})
 		if operation.Return != Pending {
 			steps = append(steps, step{operation.Return, true, place})
@@ -65,6 +69,9 @@ type line struct {
 	Op       string  `json:"op,omitempty"`
 	Register string  `json:"register,omitempty"`
 	Value    **int64 `json:"value,omitempty"` // nil for no value, a pointer to nil for null
+	Client   string  `json:"client,omitempty"`
+	Node     string  `json:"node,omitempty"`
+	Time     *int64  `json:"time,omitempty"`
 }
 
 func (step step) line(operations []Operation, processes *processes) line {
@@ -75,9 +82,11 @@ func (step step) line(operations []Operation, processes *processes) line {
 	case step.isReturn:
 		return line{Process: processes.give(step.operation, operation.ClientId), Event: "reply", Value: &operation.Value}
 	case operation.Write:
-		return line{processes.take(step.operation, operation.ClientId), "call", "write", operation.Register, &operation.Value}
+		return line{Process: processes.take(step.operation, operation.ClientId), Event: "call", Op: "write",
+			Register: operation.Register, Value: &operation.Value}
 	default:
-		return line{processes.take(step.operation, operation.ClientId), "call", "read", operation.Register, nil}
+		return line{Process: processes.take(step.operation, operation.ClientId), Event: "call", Op: "read",
+			Register: operation.Register}
 	}
 }
 

@@ -33,9 +33,13 @@ func Check(operations []Operation) (bool, error) {
 
 // CheckOperations is Check for operations of another type, such as porcupine.Operation; as says what each of them is.
 func CheckOperations[O any](operations []O, as func(O) Operation) (bool, error) {
+	return Check(convert(operations, as))
+}
+
+func convert[O any](operations []O, as func(O) Operation) []Operation {
 	known := make([]Operation, len(operations))
 	for place, operation := range operations {
 		known[place] = as(operation)
 	}
-	return Check(known)
+	return known
 }

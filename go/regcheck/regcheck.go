@@ -1,23 +1,18 @@
 // Package regcheck says whether recorded runs of read/write registers are linearizable. It calls the proved checker of the
-// same name, as a C library, and decides nothing itself.
+// same name, and decides nothing itself.
 //
 // Check takes operations with the times of their calls and returns, as the checker Porcupine does. Report takes a history
 // in the form of the program regcheck, and gives its report.
 //
-// Building it takes cgo, regcheck.h and libregcheck. If they aren't installed where the C compiler looks, CGO_CFLAGS=-I..
-// and CGO_LDFLAGS=-L.. say where they are.
+// A Recorder writes down what goroutines call and get, and fails a test with an explanation in words.
+//
+// It links libregcheck.a, from lib in the release that it came with. Without cgo, or with the build tag regcheck_program, it
+// runs the program regcheck instead: the one that REGCHECK names, or the one on PATH.
 package regcheck
-
-/*
-#cgo LDFLAGS: -lregcheck
-#include <regcheck.h>
-*/
-import "C"
 
 import (
 	"errors"
 	"fmt"
-	"unsafe"
 )
 
 // ErrMemory says that memory ran out.
@@ -61,31 +56,9 @@ func (refusal *Refusal) Error() string {
 	return fmt.Sprintf("line %d: %s", refusal.Line, reason)
 }
 
-// Report gives whether the history is atomic, and the bytes of its report. The error is a *Refusal, or ErrMemory.
-// Goroutines may call it at once.
+// Report gives whether the history is atomic, and the bytes of its report. Goroutines may call it at once.
+//
+// The error is a *Refusal or ErrMemory. Without the library it may also say why the program couldn't be run.
 func Report(history []byte) (atomic bool, report []byte, err error) {
-	input := history
-	if len(input) == 0 {
-		input = make([]byte, 1) // C is given no null, even for no bytes
-	}
-	report = make([]byte, len(history)+1024) // enough unless registers have one operation or two
-	answer := call(input, len(history), report)
-	if answer.status == C.REGCHECK_TOO_SMALL {
-		report = make([]byte, answer.length)
-		answer = call(input, len(history), report)
-	}
-	switch answer.status {
-	case C.REGCHECK_ATOMIC, C.REGCHECK_NOT_ATOMIC:
-		return answer.status == C.REGCHECK_ATOMIC, report[:answer.length], nil
-	case C.REGCHECK_REFUSED:
-		return false, nil, &Refusal{int(answer.number), int(answer.line), int(answer.other)}
-	default:
-		return false, nil, ErrMemory
-	}
-}
-
-func call(input []byte, length int, report []byte) (answer C.regcheck_answer) {
-	C.regcheck_report((*C.uint8_t)(unsafe.Pointer(&input[0])), C.size_t(length),
-		(*C.uint8_t)(unsafe.Pointer(&report[0])), C.size_t(len(report)), &answer)
-	return answer
+	return check(history)
 }
