@@ -1,0 +1,200 @@
+import java.io.ByteArrayOutputStream;
+import java.io.File;
+import java.io.IOException;
+import java.io.OutputStream;
+import java.nio.charset.StandardCharsets;
+import java.nio.file.Files;
+import java.nio.file.Path;
+import java.util.ArrayList;
+import java.util.Comparator;
+import java.util.List;
+import java.util.Map;
+import java.util.concurrent.ConcurrentHashMap;
+import java.util.concurrent.TimeoutException;
+import java.util.concurrent.atomic.AtomicLong;
+import java.util.function.Consumer;
+import java.util.regex.Matcher;
+import java.util.regex.Pattern;
+import java.util.stream.Stream;
+
+import regcheck.Recorder;
+
+/** The tests of the recorder, for {@code java} alone. The exit status is 1 if one fails. */
+final class RecorderTest {
+    private static final String LINES = """
+            {"process":1,"event":"call","op":"write","register":"x","value":1,"client":"one","node":"a","time":1000000}
+            {"process":1,"event":"reply","register":"x","client":"one","node":"a","time":2000000}
+            {"process":1,"event":"call","op":"write","register":"x","value":2,"client":"one","node":"a","time":3000000}
+            {"process":2,"event":"call","op":"write","register":"\\u0022\\u00fc\\u005c","value":1,"client":"one","node":"a","time":4000000}
+            {"process":2,"event":"fail","register":"\\u0022\\u00fc\\u005c","client":"one","node":"a","time":5000000}
+            {"process":3,"event":"call","op":"read","register":"x","time":6000000}
+            {"process":3,"event":"reply","register":"x","value":null,"time":7000000}
+            {"process":3,"event":"call","op":"read","register":"x","time":8000000}
+            {"process":3,"event":"reply","register":"x","value":-3,"time":9000000}
+            {"process":3,"event":"call","op":"read","register":"x","time":10000000}
+            {"process":3,"event":"reply","register":"x","value":9223372036854775807,"time":11000000}
+            {"process":2,"event":"call","op":"read","register":"x","client":"one","node":"a","time":12000000}
+            """;
+
+    private record Row(String name, String words, Consumer<Recorder> use) {}
+
+    private static final List<Row> MISTAKES = List.of(
+            new Row("no name", "is no register", recorder -> recorder.client("one").write("", value -> {})),
+            new Row("a long name", "1 to 255 bytes", recorder -> recorder.client("one").write("x".repeat(256), value -> {})),
+            new Row("half a letter", "is no register", recorder -> recorder.client("one").write("\ud800", value -> {})),
+            new Row("a long client", "is no client", recorder -> recorder.client("x".repeat(256))),
+            new Row("two calls at once", "for each thread", recorder -> {
+                Recorder.Client one = recorder.client("one");
+                one.write("x", value -> one.read("x", () -> value));
+            }),
+            new Row("a fraction", "the store gave \"1.0\"", recorder -> recorder.client("one").read("x", () -> 1.0)),
+            new Row("64 bits and one", "64 bits", recorder -> recorder.client("one").read("x", () -> "9223372036854775808")),
+            new Row("a text", "the store gave \"7a\"", recorder -> recorder.client("one").read("x", () -> "7a")));
+
+    private static Path folder;
+
+    static void lines() throws Exception {
+        ByteArrayOutputStream output = new ByteArrayOutputStream();
+        AtomicLong time = new AtomicLong();
+        Recorder recorder = new Recorder(output, () -> time.addAndGet(1_000_000));
+        Recorder.Client one = recorder.client("one", "a"), two = recorder.client("");
+        one.write("x", value -> {});
+        thrown(TimeoutException.class, () -> one.<TimeoutException>write("x", value -> {
+            throw new TimeoutException();
+        }));
+        thrown(Recorder.NoEffect.class, () -> one.write("\"\u00fc\\", value -> {
+            throw new Recorder.NoEffect(new IOException("connection refused"));
+        }));
+        two.read("x", () -> null);
+        two.read("x", () -> "-3".getBytes(StandardCharsets.UTF_8));
+        expect(two.<Long, RuntimeException>read("x", () -> Long.MAX_VALUE) == Long.MAX_VALUE, "the value is handed on");
+        thrown(TimeoutException.class, () -> one.<Long, TimeoutException>read("x", () -> {
+            throw new TimeoutException();
+        }));
+        expect(text(recorder.history()).equals(LINES), text(recorder.history()));
+        expect(output.toString(StandardCharsets.UTF_8).equals(LINES), "the output has each line");
+        expect(recorder.mistakes().isEmpty(), "there is no mistake");
+    }
+
+    static void mistakes() {
+        for (Row row : MISTAKES) {
+            Recorder recorder = new Recorder().keepIn(folder);
+            for (Consumer<Recorder> use : List.of(row.use(), (Recorder used) -> used.assertLinearizable(row.name()))) {
+                String words = thrown(Recorder.Mistake.class, () -> use.accept(recorder)).getMessage();
+                expect(words.contains(row.words()), row.name() + ": " + words);
+            }
+        }
+        Recorder full = new Recorder(new OutputStream() {
+            @Override
+            public void write(int octet) throws IOException {
+                throw new IOException("the disk is full");
+            }
+        }, System::nanoTime);
+        full.client("one").write("x", value -> {});
+        expect(full.mistakes().get(0).getMessage().contains("the disk is full"), "a lost line is a mistake");
+    }
+
+    static void threads() throws Exception {
+        Recorder recorder = new Recorder().keepIn(folder);
+        Map<String, String> store = new ConcurrentHashMap<>();
+        List<Thread> threads = new ArrayList<>();
+        for (int number = 0; number < 4; number++) {
+            String own = "x" + number % 2;
+            Recorder.Client client = recorder.client("worker-" + number);
+            threads.add(new Thread(() -> {
+                for (int round = 0; round < 25; round++) {
+                    client.write(own, value -> store.put(own, Long.toString(value)));
+                    client.read("x0", () -> store.get("x0"));
+                }
+            }));
+        }
+        threads.forEach(Thread::start);
+        for (Thread thread : threads) {
+            thread.join();
+        }
+        recorder.assertLinearizable("threads");
+        Matcher times = Pattern.compile("\"time\":(\\d+)}").matcher(text(recorder.history()));
+        long last = 0, count = 0;
+        for (; times.find(); count++) {
+            long time = Long.parseLong(times.group(1));
+            expect(last <= time, "the times ascend");
+            last = time;
+        }
+        expect(count == 400, count + " lines have a time");
+    }
+
+    static void evidence() {
+        Recorder recorder = new Recorder().keepIn(folder);
+        recorder.client("one").write("x", value -> {});
+        Throwable little = thrown(Recorder.NotLinearizable.class, () -> recorder.assertLinearizable("little"));
+        expect(little.getMessage().contains("no read was completed"), little.getMessage());
+        recorder.client("one").read("x", () -> 1);
+        recorder.assertLinearizable("little");
+    }
+
+    static void faultWithoutRegkit() throws Exception {
+        Recorder recorder = new Recorder().keepIn(folder);
+        recorder.client("one").read("x", () -> 7);
+        System.setProperty("regkit", "/nowhere/regkit");
+        String words = thrown(Recorder.NotLinearizable.class, () -> recorder.assertLinearizable("a fault/1")).getMessage();
+        System.clearProperty("regkit");
+        for (String part : List.of("a_fault_1.jsonl: not linearizable", "\"kind\":\"unwritten\"", "/nowhere/regkit could not be run")) {
+            expect(words.contains(part), words);
+        }
+        expect(Files.readString(folder.resolve("a_fault_1.jsonl")).equals(text(recorder.history())), "the history is kept");
+    }
+
+    static void noVerdict() {
+        byte[] none = "[]\n".getBytes(StandardCharsets.UTF_8);
+        expect(thrown(Recorder.NotChecked.class, () -> Recorder.check(none)).getMessage().startsWith("line 1: "), "refused");
+        System.setProperty("regcheck", "/nowhere/regcheck");
+        String words = thrown(Recorder.NotChecked.class, () -> Recorder.check(none)).getMessage();
+        System.clearProperty("regcheck");
+        expect(words.contains("/nowhere/regcheck could not be run"), words);
+    }
+
+    private interface Action {
+        void act() throws Exception;
+    }
+
+    private static Throwable thrown(Class<? extends Throwable> kind, Action action) {
+        try {
+            action.act();
+        } catch (Throwable error) {
+            expect(kind.isInstance(error), error.toString());
+            return error;
+        }
+        throw new AssertionError(kind + " was expected");
+    }
+
+    private static void expect(boolean holds, String words) {
+        if (!holds) {
+            throw new AssertionError(words);
+        }
+    }
+
+    private static String text(byte[] bytes) {
+        return new String(bytes, StandardCharsets.UTF_8);
+    }
+
+    public static void main(String[] none) throws Exception {
+        folder = Files.createTempDirectory("regcheck-");
+        Map<String, Action> tests = Map.of("lines", RecorderTest::lines, "mistakes", RecorderTest::mistakes,
+                "threads", RecorderTest::threads, "evidence", RecorderTest::evidence,
+                "faultWithoutRegkit", RecorderTest::faultWithoutRegkit, "noVerdict", RecorderTest::noVerdict);
+        int failed = 0;
+        for (Map.Entry<String, Action> test : tests.entrySet()) {
+            try {
+                test.getValue().act();
+            } catch (Throwable error) {
+                System.out.println(test.getKey() + ": " + error);
+                failed++;
+            }
+        }
+        try (Stream<Path> files = Files.walk(folder)) {
+            files.sorted(Comparator.reverseOrder()).map(Path::toFile).forEach(File::delete);
+        }
+        System.out.println(tests.size() + " tests, " + failed + " failed");
+        System.exit(failed > 0 ? 1 : 0);
+    }
+}

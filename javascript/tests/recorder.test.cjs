@@ -1,0 +1,132 @@
+"use strict";
+const assert = require("node:assert");
+const fs = require("node:fs");
+const os = require("node:os");
+const path = require("node:path");
+const test = require("node:test");
+const { check, Mistake, NoEffect, NotChecked, NotLinearizable, Recorder } = require("../regcheck.cjs");
+
+function ticking() {
+  let time = 0n;
+  return () => (time += 1000000n);
+}
+
+function throws(error) {
+  return () => {
+    throw error;
+  };
+}
+
+/** Runs something while a variable of the environment names another program. */
+function withProgram(variable, program, use) {
+  const before = process.env[variable];
+  process.env[variable] = program;
+  try {
+    use();
+  } finally {
+    if (before === undefined) delete process.env[variable];
+    else process.env[variable] = before;
+  }
+}
+
+const folder = fs.mkdtempSync(path.join(os.tmpdir(), "regcheck-"));
+test.after(() => fs.rmSync(folder, { recursive: true }));
+
+test("each line says what happened, who called, and when", async () => {
+  const output = path.join(folder, "output.jsonl");
+  const recorder = new Recorder({ output, clock: ticking() });
+  const [one, two] = [recorder.client("one", "a"), recorder.client()];
+  const [late, refused] = [new Error("no answer in time"), new Error("connection refused")];
+  await one.write("x", () => {});
+  await assert.rejects(one.write("x", throws(late)), late);
+  await assert.rejects(one.write('"y"', throws(new NoEffect(refused))), (error) => error.cause === refused);
+  for (const given of [null, undefined, "-3", 9223372036854775807n, Buffer.from("12")]) {
+    assert.strictEqual(await two.read("x", async () => given), given);
+  }
+  await assert.rejects(one.read("x", throws(late)), late);
+  const want = `{"process":1,"event":"call","op":"write","register":"x","value":1,"client":"one","node":"a","time":1000000}
+{"process":1,"event":"reply","register":"x","client":"one","node":"a","time":2000000}
+{"process":1,"event":"call","op":"write","register":"x","value":2,"client":"one","node":"a","time":3000000}
+{"process":2,"event":"call","op":"write","register":"\\"y\\"","value":1,"client":"one","node":"a","time":4000000}
+{"process":2,"event":"fail","register":"\\"y\\"","client":"one","node":"a","time":5000000}
+{"process":3,"event":"call","op":"read","register":"x","time":6000000}
+{"process":3,"event":"reply","register":"x","value":null,"time":7000000}
+{"process":3,"event":"call","op":"read","register":"x","time":8000000}
+{"process":3,"event":"reply","register":"x","value":null,"time":9000000}
+{"process":3,"event":"call","op":"read","register":"x","time":10000000}
+{"process":3,"event":"reply","register":"x","value":-3,"time":11000000}
+{"process":3,"event":"call","op":"read","register":"x","time":12000000}
+{"process":3,"event":"reply","register":"x","value":9223372036854775807,"time":13000000}
+{"process":3,"event":"call","op":"read","register":"x","time":14000000}
+{"process":3,"event":"reply","register":"x","value":12,"time":15000000}
+{"process":2,"event":"call","op":"read","register":"x","client":"one","node":"a","time":16000000}
+`;
+  assert.strictEqual(recorder.history(), want);
+  assert.strictEqual(fs.readFileSync(output, "utf8"), want);
+  assert.deepStrictEqual(recorder.mistakes, []);
+});
+
+test("a wrong use is a mistake, also for who doesn't look", async (t) => {
+  const rows = [
+    ["no name", (client) => client.write("", () => {}), "is no register"],
+    ["a long name", (client) => client.write("x".repeat(256), () => {}), "1 to 255 bytes"],
+    ["half a letter", (client) => client.write("\ud800", () => {}), "is no register"],
+    ["no text", (client) => client.write(7, () => {}), "is no register"],
+    ["two calls at once", (client) => client.write("x", () => client.read("x", () => 1)), "for each task"],
+    ["a fraction", (client) => client.read("x", () => 0.5), "the store gave 0.5"],
+    ["a rounded number", (client) => client.read("x", () => 2 ** 53), "as a BigInt"],
+    ["65 bits", (client) => client.read("x", () => 2n ** 63n), "64 bits"],
+    ["a text", (client) => client.read("x", () => "7a"), 'the store gave "7a"'],
+    ["a truth", (client) => client.read("x", () => true), "the store gave true"],
+  ];
+  for (const [name, use, words] of rows) {
+    await t.test(name, async () => {
+      const recorder = new Recorder({ folder });
+      const says = (error) => error instanceof Mistake && error.message.includes(words);
+      await assert.rejects(use(recorder.client("one")), says);
+      assert.throws(() => recorder.assertLinearizable(name), says);
+    });
+  }
+  const recorder = new Recorder({ folder });
+  assert.throws(() => recorder.client("x".repeat(256)), Mistake);
+});
+
+test("tasks at once, under the machine's clock", async () => {
+  const recorder = new Recorder({ folder });
+  const store = new Map();
+  const pause = () => new Promise((goOn) => setImmediate(goOn));
+  const use = async (number) => {
+    const client = recorder.client(`worker-${number}`);
+    for (let round = 0; round < 25; round++) {
+      await client.write(`x${number % 2}`, async (value) => (await pause(), store.set(`x${number % 2}`, `${value}`)));
+      await client.read("x0", async () => (await pause(), store.get("x0")));
+    }
+  };
+  await Promise.all([0, 1, 2, 3].map(use));
+  recorder.assertLinearizable("tasks");
+  const times = recorder.history().trim().split("\n").map((line) => JSON.parse(line).time);
+  assert.strictEqual(times.length, 400);
+  assert.ok(times.every((time, place) => time > 0 && (place === 0 || times[place - 1] <= time)));
+});
+
+test("a yes without a completed read is none", async () => {
+  const recorder = new Recorder({ folder });
+  await recorder.client().write("x", () => {});
+  assert.throws(() => recorder.assertLinearizable("little"), /no read was completed/);
+  await recorder.client().read("x", () => 1);
+  recorder.assertLinearizable("little");
+});
+
+test("a fault is told without regkit too", async () => {
+  const recorder = new Recorder({ folder });
+  await recorder.client().read("x", () => 7);
+  const told = (error) => error instanceof NotLinearizable && ["a_fault_1.jsonl: not linearizable", '"kind":"unwritten"',
+    "/nowhere/regkit could not be run"].every((words) => error.message.includes(words));
+  withProgram("REGKIT", "/nowhere/regkit", () => assert.throws(() => recorder.assertLinearizable("a fault/1"), told));
+  assert.strictEqual(fs.readFileSync(path.join(folder, "a_fault_1.jsonl"), "utf8"), recorder.history());
+});
+
+test("the checker's own words say why there is no verdict", () => {
+  assert.throws(() => check("[]\n"), (error) => error instanceof NotChecked && error.message.startsWith("line 1: "));
+  withProgram("REGCHECK", "/nowhere/regcheck", () => assert.throws(() => check(""), /\/nowhere\/regcheck could not be run/));
+});
