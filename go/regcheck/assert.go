@@ -116,60 +116,43 @@ func (files files) keep(history, report []byte) error {
 
 // explain says why the kept history isn't linearizable, in the words of regkit, and has it drawn.
 func (files files) explain(report []byte) string {
-	words, err := files.explained()
-	if err == nil {
-		err = files.draw()
-	}
-	said := []string{words, ""}
-	if words == "" {
-		said = []string{files.history + ": not linearizable", faulty(report), ""}
-	}
+	kept := "history: " + files.history + "\nreport: " + files.report
+	words, page, err := files.byRegkit()
 	if err != nil {
-		said = append(said, err.Error())
+		return fmt.Sprintf("%s: not linearizable\n%s\n%v\n%s", files.history, faulty(report), err, kept)
 	}
-	said = append(said, "history: "+files.history, "report: "+files.report)
-	if err == nil {
-		said = append(said, "page: "+files.page)
-	}
-	return strings.Join(said, "\n")
+	return words + "\n\n" + kept + "\n" + page
 }
 
 const explained = 1 // the exit status of `regkit explain`
 
-func (files files) explained() (string, error) {
+func (files files) byRegkit() (words, page string, err error) {
 	path, err := regkit()
 	if err != nil {
-		return "", err
+		return "", "", err
 	}
-	status, output, words, err := run(path, nil, "explain", "--color", "never", files.history, files.report)
+	status, output, complaint, err := run(path, nil, "explain", "--color", "never", files.history, files.report)
 	if err == nil && status != explained {
-		err = errors.New(string(words))
+		err = errors.New(complaint)
 	}
 	if err != nil {
-		return "", err
+		return "", "", err
 	}
-	return string(bytes.TrimRight(output, "\n")), nil
-}
-
-func (files files) draw() error {
-	path, err := regkit()
-	if err != nil {
-		return err
-	}
-	status, _, words, err := run(path, nil, "draw", files.history, files.report, "-o", files.page)
+	page = "page: " + files.page
+	status, _, complaint, err = run(path, nil, "draw", files.history, files.report, "-o", files.page)
 	if err == nil && status != 0 {
-		err = fmt.Errorf("no page: %s", words)
+		page = "no page: " + complaint
 	}
-	return err
+	return string(bytes.TrimRight(output, "\n")), page, err
 }
 
 // faulty gives the lines of a report that name a fault.
 func faulty(report []byte) string {
-	var lines []string
+	var lines strings.Builder
 	for _, line := range strings.Split(string(report), "\n") {
 		if strings.Contains(line, `"fault":`) {
-			lines = append(lines, "  "+line)
+			fmt.Fprintf(&lines, "  %s\n", line)
 		}
 	}
-	return strings.Join(lines, "\n")
+	return lines.String()
 }

@@ -22,18 +22,18 @@ func check(history []byte) (atomic bool, report []byte, err error) {
 	if err != nil {
 		return false, nil, err
 	}
-	status, report, words, err := run(path, history)
+	status, report, complaint, err := run(path, history)
 	switch {
 	case err != nil:
 		return false, nil, err
 	case status == statusAtomic, status == statusNotAtomic:
 		return status == statusAtomic, report, nil
 	case status == statusRefused:
-		return false, nil, refusalOf(string(words))
-	case string(words) == ErrMemory.Error():
+		return false, nil, refusalOf(complaint)
+	case complaint == ErrMemory.Error():
 		return false, nil, ErrMemory
 	}
-	return false, nil, fmt.Errorf("%s ended with status %d: %s", path, status, words)
+	return false, nil, fmt.Errorf("%s ended with status %d: %s", path, status, complaint)
 }
 
 var inWords = regexp.MustCompile(`^(?:line (\d+): )?(.*?)(?: (\d+))?$`)

@@ -17,9 +17,13 @@ func mistaken(format string, arguments ...any) *Mistake {
 
 const nameBytes = 255
 
-// isRegister says whether a register can have the name. A text that isn't UTF-8 would be written as another one.
-func isRegister(name string) bool {
+// isName says whether a register can have the name. A text that isn't UTF-8 would be written as another one.
+func isName(name string) bool {
 	return 1 <= len(name) && len(name) <= nameBytes && utf8.ValidString(name)
+}
+
+func noName(name, what string) *Mistake {
+	return mistaken("%q is no %s: name it by a text of 1 to %d bytes", name, what, nameBytes)
 }
 
 // Number reads the value that a store of texts gave. A text that is no value of a register is a mistake that fails the test.

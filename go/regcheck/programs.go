@@ -7,6 +7,7 @@ import (
 	"os"
 	"os/exec"
 	"path/filepath"
+	"strings"
 )
 
 // program gives the path in the variable, or the program on PATH.
@@ -38,14 +39,14 @@ func regkit() (string, error) {
 }
 
 // run gives the exit status and the output of a program.
-func run(path string, input []byte, arguments ...string) (status int, output, words []byte, err error) {
+func run(path string, input []byte, arguments ...string) (status int, output []byte, complaint string, err error) {
 	command := exec.Command(path, arguments...)
 	var said, complained bytes.Buffer
 	command.Stdin, command.Stdout, command.Stderr = bytes.NewReader(input), &said, &complained
 	err = command.Run()
 	var ended *exec.ExitError
 	if err != nil && !errors.As(err, &ended) {
-		return 0, nil, nil, fmt.Errorf("%s could not be run: %w", path, err)
+		return 0, nil, "", fmt.Errorf("%s could not be run: %w", path, err)
 	}
-	return command.ProcessState.ExitCode(), said.Bytes(), bytes.TrimRight(complained.Bytes(), "\n"), nil
+	return command.ProcessState.ExitCode(), said.Bytes(), strings.TrimRight(complained.String(), "\n"), nil
 }

@@ -37,13 +37,24 @@ type Client struct {
 
 // Client gives a client for one goroutine. The name is for people: `regkit explain` says it.
 func (recorder *Recorder) Client(name string) *Client {
+	recorder.expect(name, "client")
 	return &Client{recorder: recorder, name: name, spent: true}
 }
 
 // On says which node of the store the client calls from now on.
 func (client *Client) On(node string) *Client {
+	client.recorder.expect(node, "node")
 	client.node = node
 	return client
+}
+
+// expect notes a name that is none. A client and a node need not have one.
+func (recorder *Recorder) expect(name, what string) {
+	recorder.lock.Lock()
+	defer recorder.lock.Unlock()
+	if name != "" && !isName(name) {
+		recorder.note(noName(name, what))
+	}
 }
 
 // Write records a write, in which set gives the store the value. What set returns decides how the call ends:
@@ -88,8 +99,8 @@ func (client *Client) begin(op, register string) (int64, error) {
 	recorder := client.recorder
 	recorder.lock.Lock()
 	defer recorder.lock.Unlock()
-	if !isRegister(register) {
-		return 0, recorder.note(mistaken("%q is no register: name it by a text of 1 to %d bytes", register, nameBytes))
+	if !isName(register) {
+		return 0, recorder.note(noName(register, "register"))
 	}
 	if client.open {
 		return 0, recorder.note(mistaken("the client has a call open while it calls a %s of %q: take a client for each goroutine", op, register))

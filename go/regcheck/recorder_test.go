@@ -102,6 +102,19 @@ func TestMistakes(t *testing.T) {
 	}
 }
 
+func TestNames(t *testing.T) {
+	for want, use := range map[string]func(recorder *regcheck.Recorder){
+		"is no client": func(recorder *regcheck.Recorder) { recorder.Client(strings.Repeat("x", 256)) },
+		"is no node":   func(recorder *regcheck.Recorder) { recorder.Client("one").On("\xff") },
+	} {
+		var recorder regcheck.Recorder
+		use(&recorder)
+		if err := recorder.Err(); err == nil || !strings.Contains(err.Error(), want) {
+			t.Errorf("%v, not %s", err, want)
+		}
+	}
+}
+
 type full struct{}
 
 func (full) Write([]byte) (int, error) { return 0, errors.New("the disk is full") }
@@ -143,7 +156,7 @@ func TestGoroutines(t *testing.T) {
 		all.Add(1)
 		go func(client *regcheck.Client, own string) {
 			defer all.Done()
-			for round := 0; round < 100; round++ {
+			for round := 0; round < 25; round++ {
 				_ = client.Write(own, func(value int64) error { return store.set(own, value) })
 				_, _ = client.Read("x0", func() (*int64, error) { return store.get("x0") })
 			}
@@ -159,7 +172,7 @@ func TestGoroutines(t *testing.T) {
 		}
 		last = event.Time
 	}
-	if len(lines) != 3200 {
+	if len(lines) != 800 {
 		t.Errorf("%d lines", len(lines))
 	}
 }

@@ -1,0 +1,310 @@
+//! Records what the clients of a store call and get.
+use crate::{clock::now, kept, Trouble};
+use std::{
+    collections::HashMap,
+    io,
+    path::PathBuf,
+    sync::{Arc, Mutex, MutexGuard, PoisonError},
+};
+
+const NAME_BYTES: usize = 255;
+
+/// A history in the making. Threads share one recorder, by clones of it or of references, and each takes a client of its own.
+///
+/// ```
+/// # use std::{collections::HashMap, sync::Mutex};
+/// use regcheck::Recorder;
+///
+/// # let store = Mutex::new(HashMap::new());
+/// let recorder = Recorder::new();
+/// let mut client = recorder.client("worker-1").on("replica-1");
+/// let write = client.write("x");
+/// store.lock().unwrap().insert("x", write.value());
+/// write.replied();
+/// let read = client.read("x");
+/// let value = store.lock().unwrap().get("x").copied();
+/// read.replied(value);
+/// recorder.assert_linearizable("the store");
+/// ```
+///
+/// The values of a register's writes are 1, 2, 3, and so on, so that a read's value tells which write it saw. A call that is
+/// dropped without a word stays pending: nobody knows what the store did. So `?` does what is right after a time-out.
+#[derive(Clone, Default)]
+pub struct Recorder {
+    journal: Arc<Mutex<Journal>>,
+    folder: Option<PathBuf>,
+}
+
+type Clock = Box<dyn FnMut() -> i64 + Send>;
+
+/// What all clients share.
+#[derive(Default)]
+struct Journal {
+    history: Vec<u8>,
+    output: Option<Box<dyn io::Write + Send>>,
+    clock: Option<Clock>,
+    processes: u32,
+    values: HashMap<String, i64>, // the latest of each register
+    reads: u64,                   // completed ones
+    mistakes: Vec<String>,
+}
+
+impl Journal {
+    /// Keeps a mistake, so that it fails the test even in a thread that nobody joins.
+    fn mistake(&mut self, words: String) -> String {
+        self.mistakes.push(words.clone());
+        words
+    }
+
+    /// Adds a line with its time. All lines pass here, one at a time, so that the times ascend.
+    fn append(&mut self, process: u32, members: &str, who: &str) {
+        let time = self.clock.as_mut().map_or_else(now, |clock| clock());
+        let line = format!("{{\"process\":{process},{members}{who},\"time\":{time}}}\n");
+        self.history.extend_from_slice(line.as_bytes());
+        let written = self.output.as_mut().map(|output| {
+            output
+                .write_all(line.as_bytes())
+                .and_then(|()| output.flush())
+        });
+        if let Some(Err(error)) = written {
+            self.mistake(format!("the history could not be written: {error}"));
+        }
+    }
+}
+
+fn locked(journal: &Mutex<Journal>) -> MutexGuard<'_, Journal> {
+    journal.lock().unwrap_or_else(PoisonError::into_inner)
+}
+
+/// The name in JSON, or why it is none. Clients and nodes keep to the rule of registers.
+fn quoted(name: &str, what: &str) -> Result<String, String> {
+    if name.is_empty() || name.len() > NAME_BYTES {
+        return Err(format!(
+            "{name:?} is no {what}: name it by a text of 1 to {NAME_BYTES} bytes"
+        ));
+    }
+    let mut text = String::from("\"");
+    for letter in name.chars() {
+        if letter < ' ' || letter == '"' || letter == '\\' {
+            text += &format!("\\u{:04x}", u32::from(letter));
+        } else {
+            text.push(letter);
+        }
+    }
+    Ok(text + "\"")
+}
+
+impl Recorder {
+    /// Keeps the history in memory, with the times of the machine's monotonic clock.
+    pub fn new() -> Recorder {
+        Recorder::default()
+    }
+
+    /// Gives each line to this output too, at once.
+    pub fn output(self, output: impl io::Write + Send + 'static) -> Recorder {
+        locked(&self.journal).output = Some(Box::new(output));
+        self
+    }
+
+    /// Takes the times from this clock, in nanoseconds.
+    pub fn clock(self, clock: impl FnMut() -> i64 + Send + 'static) -> Recorder {
+        locked(&self.journal).clock = Some(Box::new(clock));
+        self
+    }
+
+    /// Says where `check` leaves what it found, in place of `regcheck-failures`.
+    pub fn keep_in(mut self, folder: impl Into<PathBuf>) -> Recorder {
+        self.folder = Some(folder.into());
+        self
+    }
+
+    /// A client for one thread. `regkit explain` says its name, unless it is empty.
+    pub fn client(&self, name: &str) -> Client {
+        let mut client = Client {
+            journal: Arc::clone(&self.journal),
+            name: String::new(),
+            who: String::new(),
+            process: None,
+        };
+        client.name = client.member("client", name);
+        client.on("")
+    }
+
+    /// The lines so far, which are a history at any moment: what is open is pending.
+    pub fn history(&self) -> Vec<u8> {
+        locked(&self.journal).history.clone()
+    }
+
+    /// Says why the history fails the test, unless it is linearizable, a read was completed, and the recorder was used
+    /// rightly. It leaves the history, its report and a page that shows the fault in `regcheck-failures`, named after the
+    /// test. The words and the page are made by `regkit`: where it isn't there, the report stands in their place.
+    ///
+    /// # Errors
+    /// What is wrong, in words.
+    pub fn check(&self, test: &str) -> Result<(), Trouble> {
+        let journal = locked(&self.journal);
+        if let Some(words) = journal.mistakes.first() {
+            return Err(Trouble::Mistake(words.clone()));
+        }
+        let (history, reads) = (journal.history.clone(), journal.reads);
+        drop(journal);
+        let folder = self.folder.clone();
+        kept::check(
+            &folder.unwrap_or_else(|| "regcheck-failures".into()),
+            test,
+            &history,
+            reads,
+        )
+    }
+
+    /// `check`, for a test that is to panic.
+    ///
+    /// # Panics
+    /// If something is wrong, with what it is.
+    #[track_caller]
+    pub fn assert_linearizable(&self, test: &str) {
+        if let Err(trouble) = self.check(test) {
+            panic!("{trouble}");
+        }
+    }
+}
+
+/// Makes one call after another.
+pub struct Client {
+    journal: Arc<Mutex<Journal>>,
+    name: String,         // the member of its lines that names it
+    who: String,          // that, and the member that names the node
+    process: Option<u32>, // none if its last one has a call that isn't ended
+}
+
+impl Client {
+    /// Says which node of the store the client calls from now on.
+    #[must_use]
+    pub fn on(mut self, node: &str) -> Client {
+        self.who = self.name.clone() + &self.member("node", node);
+        self
+    }
+
+    fn member(&self, what: &str, name: &str) -> String {
+        if name.is_empty() {
+            return String::new();
+        }
+        format!(",\"{what}\":{}", self.expect(quoted(name, what)))
+    }
+
+    /// Panics, and keeps why, unless there is a value.
+    #[track_caller]
+    fn expect<V>(&self, made: Result<V, String>) -> V {
+        made.unwrap_or_else(|words| panic!("{}", locked(&self.journal).mistake(words)))
+    }
+
+    /// The call of a write. Give its value to the store.
+    ///
+    /// # Panics
+    /// If the name is no text of 1 to 255 bytes.
+    pub fn write(&mut self, register: &str) -> Write<'_> {
+        let name = self.expect(quoted(register, "register"));
+        let journal = Arc::clone(&self.journal);
+        let mut journal = locked(&journal);
+        let value = journal.values.entry(register.to_owned()).or_default();
+        *value += 1;
+        let (value, said) = (*value, format!(",\"value\":{value}"));
+        let call = Call::begin(self, &mut journal, "write", name, &said);
+        Write { call, value }
+    }
+
+    /// The call of a read.
+    ///
+    /// # Panics
+    /// If the name is no text of 1 to 255 bytes.
+    pub fn read(&mut self, register: &str) -> Read<'_> {
+        let name = self.expect(quoted(register, "register"));
+        let journal = Arc::clone(&self.journal);
+        let call = Call::begin(self, &mut locked(&journal), "read", name, "");
+        Read { call }
+    }
+}
+
+/// A call of a client. Its process is the client's again only if the call is ended.
+struct Call<'c> {
+    client: &'c mut Client,
+    process: u32,
+    register: String,
+}
+
+impl<'c> Call<'c> {
+    fn begin(
+        client: &'c mut Client,
+        journal: &mut Journal,
+        op: &str,
+        register: String,
+        value: &str,
+    ) -> Call<'c> {
+        let process = client.process.take().unwrap_or_else(|| {
+            journal.processes += 1;
+            journal.processes
+        });
+        let members = format!("\"event\":\"call\",\"op\":\"{op}\",\"register\":{register}{value}");
+        journal.append(process, &members, &client.who);
+        Call {
+            client,
+            process,
+            register,
+        }
+    }
+
+    fn end(self, event: &str, value: &str) {
+        let mut journal = locked(&self.client.journal);
+        let members = format!(
+            "\"event\":\"{event}\",\"register\":{}{value}",
+            self.register
+        );
+        journal.append(self.process, &members, &self.client.who);
+        journal.reads += u64::from(!value.is_empty());
+        self.client.process = Some(self.process);
+    }
+}
+
+/// The call of a write, pending until the store answered.
+#[must_use = "a call that is dropped stays pending"]
+pub struct Write<'c> {
+    call: Call<'c>,
+    value: i64,
+}
+
+impl Write<'_> {
+    /// What to write. No other write of the register has it.
+    pub fn value(&self) -> i64 {
+        self.value
+    }
+
+    /// The store said that it is done.
+    pub fn replied(self) {
+        self.call.end("reply", "");
+    }
+
+    /// The call surely had no effect, and never will have: the connection was refused, say. Don't say it of a call that
+    /// timed out: if the store did the write after all, that invents a fault.
+    pub fn failed(self) {
+        self.call.end("fail", "");
+    }
+}
+
+/// The call of a read, pending until the store answered.
+#[must_use = "a call that is dropped stays pending"]
+pub struct Read<'c> {
+    call: Call<'c>,
+}
+
+impl Read<'_> {
+    /// The store gave this value, or said that it has none.
+    pub fn replied(self, value: Option<i64>) {
+        let value = value.map_or_else(|| "null".to_owned(), |value| value.to_string());
+        self.call.end("reply", &format!(",\"value\":{value}"));
+    }
+
+    /// The call surely had no effect.
+    pub fn failed(self) {
+        self.call.end("fail", "");
+    }
+}

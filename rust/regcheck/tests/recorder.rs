@@ -1,0 +1,227 @@
+//! What the recorder writes, and what it says of a test.
+use regcheck::{report, Client, Error, Recorder, Trouble};
+use std::{
+    collections::HashMap,
+    env, fs, io,
+    panic::{catch_unwind, AssertUnwindSafe},
+    path::PathBuf,
+    process,
+    sync::{Arc, Mutex},
+    thread,
+};
+
+const LINES: &str = r#"{"process":1,"event":"call","op":"write","register":"x","value":1,"client":"one","node":"a","time":1000000}
+{"process":1,"event":"reply","register":"x","client":"one","node":"a","time":2000000}
+{"process":1,"event":"call","op":"write","register":"x","value":2,"client":"one","node":"a","time":3000000}
+{"process":2,"event":"call","op":"write","register":"\u0022ü\u000a","value":1,"client":"one","node":"a","time":4000000}
+{"process":2,"event":"fail","register":"\u0022ü\u000a","client":"one","node":"a","time":5000000}
+{"process":3,"event":"call","op":"read","register":"x","time":6000000}
+{"process":3,"event":"reply","register":"x","value":null,"time":7000000}
+{"process":3,"event":"call","op":"read","register":"x","node":"b","time":8000000}
+{"process":3,"event":"reply","register":"x","value":-3,"node":"b","time":9000000}
+{"process":2,"event":"call","op":"read","register":"x","client":"one","node":"a","time":10000000}
+{"process":2,"event":"fail","register":"x","client":"one","node":"a","time":11000000}
+{"process":2,"event":"call","op":"read","register":"x","client":"one","node":"a","time":12000000}
+"#;
+
+/// A folder that is gone with it.
+struct Folder(PathBuf);
+
+impl Folder {
+    fn new(name: &str) -> Folder {
+        Folder(env::temp_dir().join(format!("regcheck-{}-{name}", process::id())))
+    }
+}
+
+impl Drop for Folder {
+    fn drop(&mut self) {
+        let _ = fs::remove_dir_all(&self.0);
+    }
+}
+
+#[derive(Clone, Default)]
+struct Shared(Arc<Mutex<Vec<u8>>>);
+
+impl io::Write for Shared {
+    fn write(&mut self, bytes: &[u8]) -> io::Result<usize> {
+        self.0.lock().unwrap().write(bytes)
+    }
+
+    fn flush(&mut self) -> io::Result<()> {
+        Ok(())
+    }
+}
+
+struct Full;
+
+impl io::Write for Full {
+    fn write(&mut self, _: &[u8]) -> io::Result<usize> {
+        Err(io::Error::new(io::ErrorKind::Other, "the disk is full"))
+    }
+
+    fn flush(&mut self) -> io::Result<()> {
+        Ok(())
+    }
+}
+
+#[test]
+fn each_line_says_what_happened_who_called_and_when() {
+    let (mut time, output) = (0, Shared::default());
+    let recorder = Recorder::new().output(output.clone()).clock(move || {
+        time += 1_000_000;
+        time
+    });
+    let (mut one, mut two) = (recorder.client("one").on("a"), recorder.client(""));
+    let write = one.write("x");
+    assert_eq!(write.value(), 1);
+    write.replied();
+    drop(one.write("x"));
+    one.write("\"ü\n").failed();
+    two.read("x").replied(None);
+    let mut two = two.on("b");
+    two.read("x").replied(Some(-3));
+    one.read("x").failed();
+    drop(one.read("x"));
+    assert_eq!(String::from_utf8(recorder.history()).unwrap(), LINES);
+    assert_eq!(
+        String::from_utf8(output.0.lock().unwrap().clone()).unwrap(),
+        LINES
+    );
+}
+
+#[test]
+fn a_wrong_use_is_a_mistake_also_for_who_does_not_look() {
+    type Use = fn(&Recorder);
+    let rows: [(Use, &str); 4] = [
+        (
+            |recorder| drop(recorder.client("one").write("")),
+            "is no register",
+        ),
+        (
+            |recorder| drop(recorder.client("one").read(&"x".repeat(256))),
+            "1 to 255 bytes",
+        ),
+        (
+            |recorder| drop(recorder.client(&"x".repeat(256))),
+            "is no client",
+        ),
+        (
+            |recorder| drop(recorder.client("one").on(&"x".repeat(256))),
+            "is no node",
+        ),
+    ];
+    for (wrong, words) in rows {
+        let recorder = Recorder::new();
+        assert!(catch_unwind(AssertUnwindSafe(|| wrong(&recorder))).is_err());
+        match recorder.check("mistakes") {
+            Err(Trouble::Mistake(said)) => assert!(said.contains(words), "{said}"),
+            other => panic!("{other:?}"),
+        }
+    }
+    let recorder = Recorder::new().output(Full);
+    recorder.client("one").write("x").replied();
+    let trouble = recorder.check("full").expect_err("a mistake");
+    assert!(
+        trouble.to_string().contains("the disk is full"),
+        "{trouble}"
+    );
+}
+
+fn use_store(mut client: Client, store: &Mutex<HashMap<String, i64>>, own: &str) {
+    for _ in 0..25 {
+        let write = client.write(own);
+        store.lock().unwrap().insert(own.to_owned(), write.value());
+        write.replied();
+        let read = client.read("x0");
+        let value = store.lock().unwrap().get("x0").copied();
+        read.replied(value);
+    }
+}
+
+#[test]
+fn threads_at_once_under_the_clock_of_the_machine() {
+    let (recorder, store) = (Recorder::new(), Mutex::default());
+    thread::scope(|scope| {
+        for number in 0..4 {
+            let client = recorder.client(&format!("worker-{number}"));
+            let store = &store;
+            scope.spawn(move || use_store(client, store, &format!("x{}", number % 2)));
+        }
+    });
+    recorder.assert_linearizable("threads");
+    let history = String::from_utf8(recorder.history()).unwrap();
+    let time = |line: &str| -> i64 {
+        let (_, time) = line.rsplit_once("\"time\":").unwrap();
+        time.trim_end_matches('}').parse().unwrap()
+    };
+    let times: Vec<i64> = history.lines().map(time).collect();
+    assert_eq!(times.len(), 400);
+    assert!(times[0] > 0 && times.windows(2).all(|pair| pair[0] <= pair[1]));
+}
+
+#[test]
+fn a_yes_without_a_completed_read_is_none() {
+    let folder = Folder::new("little");
+    let recorder = Recorder::new().keep_in(&folder.0);
+    recorder.client("one").write("x").replied();
+    let trouble = recorder.check("little").expect_err("too little");
+    assert!(
+        trouble.to_string().contains("no read was completed"),
+        "{trouble}"
+    );
+    recorder.client("one").read("x").replied(Some(1));
+    assert_eq!(recorder.check("little"), Ok(()));
+}
+
+#[test]
+fn a_fault_panics_and_its_history_is_kept() {
+    let folder = Folder::new("fault");
+    let recorder = Recorder::new().keep_in(&folder.0);
+    recorder.client("one").read("x").replied(Some(7));
+    let panicked = catch_unwind(AssertUnwindSafe(|| {
+        recorder.assert_linearizable("a fault/1")
+    }));
+    let words = panicked
+        .expect_err("a panic")
+        .downcast::<String>()
+        .expect("a text");
+    assert!(
+        words.contains("a_fault_1.jsonl: not linearizable"),
+        "{words}"
+    );
+    assert_eq!(
+        fs::read(folder.0.join("a_fault_1.jsonl")).unwrap(),
+        recorder.history()
+    );
+    let kept = fs::read(folder.0.join("a_fault_1.report")).unwrap();
+    assert_eq!(kept, report(&recorder.history()).unwrap().report);
+}
+
+#[test]
+fn the_words_of_each_kind_of_refusal_are_read() {
+    let open = r#"{"process":1,"event":"call","op":"read","register":"x"}"#;
+    let error = report(br#"{"process":-1}"#).expect_err("a refusal");
+    assert!(
+        matches!(
+            error,
+            Error::Refused {
+                number: 4,
+                line: Some(1),
+                other: None
+            }
+        ),
+        "{error:?}"
+    );
+    let error = report(format!("{open}\n{open}\n").as_bytes()).expect_err("a refusal");
+    assert!(
+        matches!(
+            error,
+            Error::Refused {
+                number: 9,
+                line: Some(2),
+                other: Some(1)
+            }
+        ),
+        "{error:?}"
+    );
+}
