@@ -50,7 +50,7 @@ final class Cache {
     /** The writer writes again, in a thread of its own, while the reader's answer from the database is on its way. */
     static void record(Recorder recorder, boolean counts) {
         Cache store = new Cache(counts);
-        Recorder.Client writer = recorder.client("writer", "cache");
+        Recorder.Client writer = recorder.client("thread-1", "cache");
         writer.write("x", value -> store.set("x", value));
         store.loaded = () -> {
             Thread writing = new Thread(() -> writer.write("x", value -> store.set("x", value)));
@@ -61,8 +61,8 @@ final class Cache {
                 throw new IllegalStateException(error);
             }
         };
-        recorder.client("reader", "cache").read("x", () -> store.get("x"));
-        recorder.client("late", "cache").read("x", () -> store.get("x"));
+        recorder.client("thread-2", "cache").read("x", () -> store.get("x"));
+        recorder.client("thread-3", "cache").read("x", () -> store.get("x"));
     }
 
     public static void main(String[] words) {

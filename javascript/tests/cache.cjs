@@ -36,7 +36,7 @@ class Cache {
 /** The writer writes again while the reader's answer from the database is on its way. */
 async function record(recorder, counts) {
   const store = new Cache(counts);
-  const [writer, reader, late] = ["writer", "reader", "late"].map((name) => recorder.client(name, "cache"));
+  const [writer, reader, late] = ["thread-1", "thread-2", "thread-3"].map((name) => recorder.client(name, "cache"));
   const [set, get] = [(value) => store.set("x", value), () => store.get("x")];
   await writer.write("x", set);
   store.loaded = () => writer.write("x", set);

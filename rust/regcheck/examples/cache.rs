@@ -58,7 +58,8 @@ fn record(recorder: &Recorder, counts: bool) {
         counts,
     };
     let client = |name| recorder.client(name).on("cache");
-    let (mut writer, mut reader, mut late) = (client("writer"), client("reader"), client("late"));
+    let (mut writer, mut reader, mut late) =
+        (client("thread-1"), client("thread-2"), client("thread-3"));
     write(&mut writer, &store);
     let read = reader.read("x");
     let value = store.get("x", || {

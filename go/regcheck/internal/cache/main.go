@@ -56,10 +56,10 @@ func record(recorder *regcheck.Recorder, counts bool) {
 	use := func(name string) *regcheck.Client { return recorder.Client(name).On("cache") }
 	set := func(value int64) error { return store.set("x", value) }
 	get := func() (*int64, error) { return store.get("x") }
-	writer := use("writer")
+	writer := use("thread-1")
 	_ = writer.Write("x", set)
 	go func() {
-		_, _ = use("reader").Read("x", get)
+		_, _ = use("thread-2").Read("x", get)
 		done <- true
 	}()
 	<-loaded
@@ -67,7 +67,7 @@ func record(recorder *regcheck.Recorder, counts bool) {
 	written <- true
 	<-done
 	store.loaded = func() {}
-	_, _ = use("late").Read("x", get)
+	_, _ = use("thread-3").Read("x", get)
 }
 
 // printed is a test that prints why it fails.
