@@ -5,7 +5,8 @@
 # make costs: write the table of what the program spends, after a change that is meant to cost more or less.
 # make fuzz: compare the program with the reference on spoiled histories for SECONDS=...
 # make library: bin/libregcheck.a, bin/libregcheck.so and bin/regcheck.pc, to call the checker from C and other languages.
-# make embed-test: compare the library with the program from C, Python, Go and Rust, on COUNT=... histories; under valgrind too.
+# make embed-test: compare the library with the program from C, Python, Go and Rust, on COUNT=... histories; under valgrind too;
+#   and run the tests of the packages for other languages.
 # make bench-library: time small calls, and 2^20 events against the program with one worker.
 # make picture-test: look at pages of `regkit draw` in a headless browser, and keep the screenshots in SHOTS=...
 # make bench: time it on generated histories, in three to fifteen minutes.
@@ -13,7 +14,7 @@
 # make install: all of the next two below PREFIX, within DESTDIR.
 # make install-programs: the programs, man pages, documents, examples and completions. make install-library: the library.
 # make dist: the release in dist/: a tarball, a Debian package, their bill of materials and their sums.
-# make dist-library: a tarball of the library in dist/, with its packages for Go and Rust.
+# make dist-library: a tarball of the library in dist/, with the packages for other languages.
 FILE ?= examples/new_old_inversion.jsonl
 PREFIX ?= /usr/local
 SECONDS ?= 600
@@ -64,6 +65,7 @@ bin/regcheck.pc: library/regcheck.pc.in VERSION
 
 embed-test: library bin/regcheck bin/history_generator
 	tests/embed --count $(COUNT)
+	tests/languages
 
 bench-library: library bin/regcheck bin/history_generator
 	bench/library
@@ -149,7 +151,7 @@ LIBRARY_TREE := bin/library/libregcheck-$(VERSION)-x86_64-linux
 dist-library:
 	rm -rf bin/library
 	$(MAKE) --no-print-directory -s install-library DESTDIR=$(LIBRARY_TREE) PREFIX=
-	cp -r --parents $$(git ls-files go rust docs/embedding.md docs/format.md) $(LIBRARY_TREE)
+	cp -r --parents $$(git ls-files clojure go java javascript rust docs/embedding.md docs/format.md) $(LIBRARY_TREE)
 	mkdir -p dist
 	tar --sort=name --owner=root --group=root --mtime=@0 --mode=u+rw,go=rX -C bin/library -c . | gzip -9n > dist/$(notdir $(LIBRARY_TREE)).tar.gz
 
