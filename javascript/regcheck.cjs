@@ -132,19 +132,23 @@ class Client {
  *
  * - `output`: a path whose file gets each line at once;
  * - `clock`: gives nanoseconds as a BigInt; by default the machine's monotonic clock;
+ * - `valuesAfter`: what the values come after, by default 0. Where several processes or worker threads record one run,
+ *   give each a number of its own, far from the others;
  * - `folder`: where assertLinearizable leaves what it found; by default regcheck-failures.
  */
 class Recorder {
   #lines = [];
   #processes = 0;
   #values = new Map(); // the latest value of each register
+  #valuesAfter;
   #clock;
   #output;
   reads = 0; // completed ones
   mistakes = [];
 
-  constructor({ output = null, clock = process.hrtime.bigint, folder = "regcheck-failures" } = {}) {
+  constructor({ output = null, clock = process.hrtime.bigint, valuesAfter = 0, folder = "regcheck-failures" } = {}) {
     this.folder = folder;
+    this.#valuesAfter = valuesAfter;
     this.#clock = clock;
     this.#output = output === null ? null : fs.openSync(output, "w");
   }
@@ -188,7 +192,7 @@ class Recorder {
 
   /** For Client: a value that the register never had. */
   nextValue(register) {
-    const value = (this.#values.get(register) ?? 0) + 1;
+    const value = (this.#values.get(register) ?? this.#valuesAfter) + 1;
     this.#values.set(register, value);
     return value;
   }

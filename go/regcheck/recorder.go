@@ -17,10 +17,14 @@ type Recorder struct {
 	Clock  func() int64 // nanoseconds; if nil, those of the machine's monotonic clock
 	Folder string       // where Assert leaves what it found; if empty, regcheck-failures
 
+	// ValuesAfter is what the values of a register's writes come after. Where several processes record one run, give each a
+	// number of its own, far from the others.
+	ValuesAfter int64
+
 	lock      sync.Mutex
 	history   bytes.Buffer
 	processes int
-	values    map[string]int64 // the latest value of each register
+	values    map[string]int64 // how many writes each register has
 	reads     int              // completed ones
 	mistakes  []*Mistake
 }
@@ -159,7 +163,7 @@ func (recorder *Recorder) next(register string) int64 {
 		recorder.values = map[string]int64{}
 	}
 	recorder.values[register]++
-	return recorder.values[register]
+	return recorder.ValuesAfter + recorder.values[register]
 }
 
 // append adds a line with who and when. The caller holds the lock, so that the times ascend.

@@ -115,6 +115,18 @@ func TestNames(t *testing.T) {
 	}
 }
 
+func TestValuesAfter(t *testing.T) {
+	recorder := &regcheck.Recorder{ValuesAfter: 1000}
+	for want := int64(1001); want < 1004; want++ {
+		_ = recorder.Client("one").Write("x", func(have int64) error {
+			if have != want {
+				t.Errorf("%d, not %d", have, want)
+			}
+			return nil
+		})
+	}
+}
+
 type full struct{}
 
 func (full) Write([]byte) (int, error) { return 0, errors.New("the disk is full") }

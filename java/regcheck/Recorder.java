@@ -41,6 +41,7 @@ public final class Recorder {
     private final LongSupplier clock;
     private final Map<String, Long> values = new HashMap<>(); // the latest value of each register
     private final List<Mistake> mistakes = new ArrayList<>();
+    private long valuesAfter;
     private Path folder = Path.of("regcheck-failures");
     private long processes;
     private long reads; // completed ones
@@ -59,6 +60,15 @@ public final class Recorder {
     /** Says where assertLinearizable leaves what it found, in place of {@code regcheck-failures}. */
     public Recorder keepIn(Path folder) {
         this.folder = folder;
+        return this;
+    }
+
+    /**
+     * Says what the values of a register's writes come after, in place of 0. Where several processes record one run, give
+     * each a number of its own, far from the others.
+     */
+    public Recorder valuesAfter(long number) {
+        valuesAfter = number;
         return this;
     }
 
@@ -223,8 +233,8 @@ public final class Recorder {
                     process = ++recorder.processes;
                 }
                 open = spent = true;
-                long value = op.equals("write") ? recorder.values.merge(register, 1L, Long::sum) : 0;
-                String said = value > 0 ? ",\"value\":" + value : "";
+                long value = op.equals("write") ? recorder.next(register) : 0;
+                String said = op.equals("write") ? ",\"value\":" + value : "";
                 append("\"event\":\"call\",\"op\":\"" + op + "\",\"register\":" + name + said);
                 return value;
             }
@@ -247,6 +257,11 @@ public final class Recorder {
         private void append(String members) {
             recorder.append("{\"process\":" + process + "," + members + who);
         }
+    }
+
+    /** A value that the register never had. */
+    private long next(String register) {
+        return values.merge(register, valuesAfter + 1, (latest, first) -> latest + 1);
     }
 
     /** Adds a line, which lacks its time and its end. The caller holds the lock, so that the times ascend. */

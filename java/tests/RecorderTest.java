@@ -132,6 +132,14 @@ final class RecorderTest {
         recorder.assertLinearizable("little");
     }
 
+    static void valuesAfter() {
+        Recorder.Client client = new Recorder().valuesAfter(1000).client("one");
+        for (long want = 1001; want < 1004; want++) {
+            long wanted = want;
+            client.write("x", value -> expect(value == wanted, value + ", not " + wanted));
+        }
+    }
+
     static void faultWithoutRegkit() throws Exception {
         Recorder recorder = new Recorder().keepIn(folder);
         recorder.client("one").read("x", () -> 7);
@@ -180,7 +188,7 @@ final class RecorderTest {
     public static void main(String[] none) throws Exception {
         folder = Files.createTempDirectory("regcheck-");
         Map<String, Action> tests = Map.of("lines", RecorderTest::lines, "mistakes", RecorderTest::mistakes,
-                "threads", RecorderTest::threads, "evidence", RecorderTest::evidence,
+                "threads", RecorderTest::threads, "evidence", RecorderTest::evidence, "valuesAfter", RecorderTest::valuesAfter,
                 "faultWithoutRegkit", RecorderTest::faultWithoutRegkit, "noVerdict", RecorderTest::noVerdict);
         int failed = 0;
         for (Map.Entry<String, Action> test : tests.entrySet()) {

@@ -66,6 +66,13 @@ test("each line says what happened, who called, and when", async () => {
   assert.deepStrictEqual(recorder.mistakes, []);
 });
 
+test("processes that record one run write values of their own", async () => {
+  const client = new Recorder({ valuesAfter: 1000 }).client("one");
+  const written = [];
+  for (let round = 0; round < 3; round++) await client.write("x", (value) => written.push(value));
+  assert.deepStrictEqual(written, [1001, 1002, 1003]);
+});
+
 test("a wrong use is a mistake, also for who doesn't look", async (t) => {
   const rows = [
     ["no name", (client) => client.write("", () => {}), "is no register"],

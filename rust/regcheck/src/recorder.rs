@@ -44,6 +44,7 @@ struct Journal {
     output: Option<Box<dyn io::Write + Send>>,
     clock: Option<Clock>,
     processes: u32,
+    values_after: i64,
     values: HashMap<String, i64>, // the latest of each register
     reads: u64,                   // completed ones
     mistakes: Vec<String>,
@@ -54,6 +55,14 @@ impl Journal {
     fn mistake(&mut self, words: String) -> String {
         self.mistakes.push(words.clone());
         words
+    }
+
+    /// A value that the register never had.
+    fn next(&mut self, register: &str) -> i64 {
+        let after = self.values_after;
+        let latest = self.values.entry(register.to_owned()).or_insert(after);
+        *latest += 1;
+        *latest
     }
 
     /// Adds a line with its time. All lines pass here, one at a time, so that the times ascend.
@@ -109,6 +118,13 @@ impl Recorder {
     /// Takes the times from this clock, in nanoseconds.
     pub fn clock(self, clock: impl FnMut() -> i64 + Send + 'static) -> Recorder {
         locked(&self.journal).clock = Some(Box::new(clock));
+        self
+    }
+
+    /// Says what the values of a register's writes come after, in place of 0. Where several processes record one run, give
+    /// each a number of its own, far from the others.
+    pub fn values_after(self, number: i64) -> Recorder {
+        locked(&self.journal).values_after = number;
         self
     }
 
@@ -206,9 +222,8 @@ impl Client {
         let name = self.expect(quoted(register, "register"));
         let journal = Arc::clone(&self.journal);
         let mut journal = locked(&journal);
-        let value = journal.values.entry(register.to_owned()).or_default();
-        *value += 1;
-        let (value, said) = (*value, format!(",\"value\":{value}"));
+        let value = journal.next(register);
+        let said = format!(",\"value\":{value}");
         let call = Call::begin(self, &mut journal, "write", name, &said);
         Write { call, value }
     }

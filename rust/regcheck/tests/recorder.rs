@@ -90,6 +90,16 @@ fn each_line_says_what_happened_who_called_and_when() {
 }
 
 #[test]
+fn processes_that_record_one_run_write_values_of_their_own() {
+    let mut client = Recorder::new().values_after(1000).client("one");
+    for want in 1001..1004 {
+        let write = client.write("x");
+        assert_eq!(write.value(), want);
+        write.replied();
+    }
+}
+
+#[test]
 fn a_wrong_use_is_a_mistake_also_for_who_does_not_look() {
     type Use = fn(&Recorder);
     let rows: [(Use, &str); 4] = [
