@@ -25,6 +25,9 @@ VERSION := $(shell cat VERSION)
 SONAME := libregcheck.so.1
 SOURCES := $(shell find crates -name out -prune -o -type f \( -name '*.rt' -o -name '*.antt' \) -print)
 PYTHON := $(shell find python/regkit -name '*.py')
+# What other languages have of their own. Somebody may have built it in its folder.
+PACKAGES := $(shell find clojure go java javascript rust -name target -prune -o -type f \( -name '*.clj' -o -name '*.go' -o -name go.mod \
+	-o -name '*.java' -o -name '*.cjs' -o -name '*.rs' -o -name Cargo.toml -o -name README.md \) -print | sort)
 PROGRAM := bin/regcheck
 DOCUMENTS = $(DESTDIR)$(PREFIX)/share/doc/regcheck
 
@@ -126,6 +129,7 @@ install-programs: bin/regcheck bin/regkit bin/completions
 	install -D -m 755 -t $(DOCUMENTS)/examples examples/recorder.py
 	install -D -m 644 -t $(DOCUMENTS)/examples/tutorial examples/tutorial/*.py
 	install -D -m 755 -t $(DOCUMENTS)/engines engines/*
+	for file in $(PACKAGES); do install -D -m 644 $$file $(DOCUMENTS)/$$file || exit 1; done
 
 install-library: library
 	install -D -m 644 -t $(DESTDIR)$(PREFIX)/include library/regcheck.h
@@ -151,7 +155,7 @@ LIBRARY_TREE := bin/library/libregcheck-$(VERSION)-x86_64-linux
 dist-library:
 	rm -rf bin/library
 	$(MAKE) --no-print-directory -s install-library DESTDIR=$(LIBRARY_TREE) PREFIX=
-	cp -r --parents $$(git ls-files clojure go java javascript rust docs/embedding.md docs/format.md) $(LIBRARY_TREE)
+	cp --parents $(PACKAGES) docs/embedding.md docs/format.md $(LIBRARY_TREE)
 	mkdir -p dist
 	tar --sort=name --owner=root --group=root --mtime=@0 --mode=u+rw,go=rX -C bin/library -c . | gzip -9n > dist/$(notdir $(LIBRARY_TREE)).tar.gz
 
