@@ -215,11 +215,10 @@ function notFound(variable, name) {
   return `${name} was not found: put it on PATH, or set ${variable} to its path`;
 }
 
-/** The path of regkit, which stands beside regcheck where a release was unpacked; else undefined. */
+/** The path of regkit: the one in its variable, the one beside regcheck, as a release has it, or that on PATH. */
 function findRegkit() {
-  const found = find("REGKIT", "regkit");
   const beside = path.join(path.dirname(find("REGCHECK", "regcheck") ?? ""), "regkit");
-  return found ?? (fs.existsSync(beside) ? beside : undefined);
+  return !process.env.REGKIT && fs.existsSync(beside) ? beside : find("REGKIT", "regkit");
 }
 
 /** The exit status and the output of a program, as texts. Throws NotChecked if it can't be run. */

@@ -21,21 +21,14 @@ func program(variable, name string) (string, error) {
 	return "", fmt.Errorf("%s was not found: put it on PATH, or set %s to its path", name, variable)
 }
 
-// regkit gives the path of regkit, which stands beside regcheck where a release was unpacked.
+// regkit gives the path of regkit: the one in its variable, the one beside regcheck, as a release has it, or that on PATH.
 func regkit() (string, error) {
-	path, missing := program("REGKIT", "regkit")
-	if missing == nil {
-		return path, nil
-	}
 	checker, err := program("REGCHECK", "regcheck")
-	if err != nil {
-		return "", missing
-	}
 	beside := filepath.Join(filepath.Dir(checker), "regkit")
-	if _, err := os.Stat(beside); err != nil {
-		return "", missing
+	if _, missing := os.Stat(beside); err == nil && missing == nil && os.Getenv("REGKIT") == "" {
+		return beside, nil
 	}
-	return beside, nil
+	return program("REGKIT", "regkit")
 }
 
 // run gives the exit status and the output of a program.

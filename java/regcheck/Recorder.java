@@ -13,6 +13,7 @@ import java.util.ArrayList;
 import java.util.HashMap;
 import java.util.List;
 import java.util.Map;
+import java.util.Optional;
 import java.util.function.LongSupplier;
 import java.util.stream.Collectors;
 import java.util.stream.Stream;
@@ -328,25 +329,26 @@ public final class Recorder {
     /** Where the programs are. */
     private static final class Programs {
         static String regcheck() {
-            return find("REGCHECK", "regcheck").findFirst().orElseThrow(() -> missing("REGCHECK", "regcheck"));
+            return find("REGCHECK", "regcheck").orElseThrow(() -> missing("REGCHECK", "regcheck"));
         }
 
-        /** It stands beside regcheck where a release was unpacked. */
+        /** The one that is named, the one beside regcheck, as a release has it, or that on PATH. */
         static String regkit() {
-            Stream<String> beside = find("REGCHECK", "regcheck").map(place -> Path.of(place).resolveSibling("regkit"))
-                    .filter(Files::isExecutable).map(Path::toString);
-            return Stream.concat(find("REGKIT", "regkit"), beside).findFirst()
-                    .orElseThrow(() -> missing("REGKIT", "regkit"));
+            return named("REGKIT")
+                    .or(() -> find("REGCHECK", "regcheck").map(checker -> Path.of(checker).resolveSibling("regkit"))
+                            .filter(Files::isExecutable).map(Path::toString))
+                    .or(() -> find("REGKIT", "regkit")).orElseThrow(() -> missing("REGKIT", "regkit"));
         }
 
-        /** The path in the system property or the variable of this name, or those of the programs on PATH. */
-        private static Stream<String> find(String variable, String name) {
-            String named = System.getProperty(variable.toLowerCase(), System.getenv().getOrDefault(variable, ""));
-            if (!named.isEmpty()) {
-                return Stream.of(named);
-            }
-            return Stream.of(System.getenv().getOrDefault("PATH", "").split(":"))
-                    .map(folder -> Path.of(folder, name)).filter(Files::isExecutable).map(Path::toString);
+        private static Optional<String> find(String variable, String name) {
+            return named(variable).or(() -> Stream.of(System.getenv().getOrDefault("PATH", "").split(":"))
+                    .map(folder -> Path.of(folder, name)).filter(Files::isExecutable).map(Path::toString).findFirst());
+        }
+
+        /** The path in the system property or the variable of this name. */
+        private static Optional<String> named(String variable) {
+            String named = System.getProperty(variable.toLowerCase(), System.getenv(variable));
+            return Optional.ofNullable(named).filter(path -> !path.isEmpty());
         }
 
         private static NotChecked missing(String variable, String name) {

@@ -6,30 +6,37 @@
             [regcheck.history :refer [unknown!]])
   (:import (java.io File IOException)))
 
-(defn- find-program
-  "The path that is given, the one in the variable, or that of the program on PATH; else nil."
-  [given variable program]
-  (let [places (map #(io/file % program) (str/split (or (System/getenv "PATH") "") #":"))]
-    (or given
-        (not-empty (System/getenv variable))
-        (some (fn [^File place] (when (.canExecute place) (str place))) places))))
+(defn- named
+  "The path that is given, or the one in the variable; else nil."
+  [given variable]
+  (or given (not-empty (System/getenv variable))))
 
-(defn- missing [variable program]
-  (str program " was not found: put it on PATH, or set " variable " to its path"))
+(defn- on-path
+  "The path of the program on PATH; else nil."
+  [program]
+  (some (fn [folder]
+          (let [^File place (io/file folder program)]
+            (when (.canExecute place) (str place))))
+        (str/split (or (System/getenv "PATH") "") #":")))
+
+(defn- missing! [variable program]
+  (unknown! program " was not found: put it on PATH, or set " variable " to its path"))
 
 (defn regcheck
   "The path of regcheck."
   [opts]
-  (or (find-program (:regcheck opts) "REGCHECK" "regcheck")
-      (unknown! (missing "REGCHECK" "regcheck"))))
+  (or (named (:regcheck opts) "REGCHECK")
+      (on-path "regcheck")
+      (missing! "REGCHECK" "regcheck")))
 
 (defn regkit
-  "The path of regkit, which stands beside regcheck where a release was unpacked."
+  "The path of regkit: the one that is named, the one beside regcheck, as a release has it, or that on PATH."
   [opts]
-  (let [beside (io/file (.getParentFile (.getAbsoluteFile (io/file (regcheck opts)))) "regkit")]
-    (or (find-program (:regkit opts) "REGKIT" "regkit")
-        (when (.canExecute beside) (str beside))
-        (unknown! (missing "REGKIT" "regkit")))))
+  (or (named (:regkit opts) "REGKIT")
+      (let [beside (io/file (.getParentFile (.getAbsoluteFile (io/file (regcheck opts)))) "regkit")]
+        (when (.canExecute beside) (str beside)))
+      (on-path "regkit")
+      (missing! "REGKIT" "regkit")))
 
 (defn run
   "The :exit status, and what the program wrote to :out and :err."

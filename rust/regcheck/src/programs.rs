@@ -7,10 +7,15 @@ use std::{
     process::{Command, Output, Stdio},
 };
 
+/// The path in the variable.
+fn named(variable: &str) -> Option<PathBuf> {
+    let path = env::var_os(variable).map(PathBuf::from);
+    path.filter(|path| !path.as_os_str().is_empty())
+}
+
 /// The path in the variable, or that of the program on PATH.
 fn find(variable: &str, name: &str) -> Option<PathBuf> {
-    let named = env::var_os(variable).filter(|named| !named.is_empty());
-    named.map(PathBuf::from).or_else(|| {
+    named(variable).or_else(|| {
         env::split_paths(&env::var_os("PATH")?)
             .map(|folder| folder.join(name))
             .find(|place| place.is_file())
@@ -21,13 +26,14 @@ fn missing(variable: &str, name: &str) -> String {
     format!("{name} was not found: put it on PATH, or set {variable} to its path")
 }
 
-/// The path of regkit, which stands beside regcheck where a release was unpacked.
+/// The path of regkit: the one in its variable, the one beside regcheck, as a release has it, or that on PATH.
 pub fn regkit() -> Result<PathBuf, String> {
-    find("REGKIT", "regkit")
+    named("REGKIT")
         .or_else(|| {
             let beside = find("REGCHECK", "regcheck")?.with_file_name("regkit");
             Some(beside).filter(|place| place.is_file())
         })
+        .or_else(|| find("REGKIT", "regkit"))
         .ok_or_else(|| missing("REGKIT", "regkit"))
 }
 
