@@ -12,7 +12,8 @@
 # make bench: time it on generated histories, in three to fifteen minutes.
 # make bench-compare: time it and an older build, OLD=..., in turn.
 # make install: all of the next two below PREFIX, within DESTDIR.
-# make install-programs: the programs, man pages, documents, examples and completions. make install-library: the library.
+# make install-programs: the programs, man pages, documents, examples, completions, and the packages for other languages.
+# make install-library: the library.
 # make dist: the release in dist/: a tarball, a Debian package, their bill of materials and their sums.
 # make dist-library: a tarball of the library in dist/, with the packages for other languages.
 FILE ?= examples/new_old_inversion.jsonl
@@ -25,7 +26,7 @@ VERSION := $(shell cat VERSION)
 SONAME := libregcheck.so.1
 SOURCES := $(shell find crates -name out -prune -o -type f \( -name '*.rt' -o -name '*.antt' \) -print)
 PYTHON := $(shell find python/regkit -name '*.py')
-# What other languages have of their own. Somebody may have built it in its folder.
+# The packages for other languages, without what somebody built in their folders.
 PACKAGES := $(shell find clojure go java javascript rust -name target -prune -o -type f \( -name '*.clj' -o -name '*.go' -o -name go.mod \
 	-o -name '*.java' -o -name '*.cjs' -o -name '*.rs' -o -name Cargo.toml -o -name README.md \) -print | sort)
 PROGRAM := bin/regcheck
