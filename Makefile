@@ -16,6 +16,7 @@
 # make install-library: the library.
 # make dist: the release in dist/: a tarball, a Debian package, their bill of materials and their sums.
 # make dist-library: a tarball of the library in dist/, with the packages for other languages.
+# make wheel: regkit, the program and the library in one file in dist/, for pip.
 FILE ?= examples/new_old_inversion.jsonl
 PREFIX ?= /usr/local
 SECONDS ?= 600
@@ -32,7 +33,7 @@ PACKAGES := $(shell find clojure go java javascript rust -name target -prune -o 
 PROGRAM := bin/regcheck
 DOCUMENTS = $(DESTDIR)$(PREFIX)/share/doc/regcheck
 
-.PHONY: all run try test edits costs fuzz picture-test bench bench-compare library embed-test bench-library install install-programs install-library dist dist-library clean
+.PHONY: all run try test edits costs fuzz picture-test bench bench-compare library embed-test bench-library install install-programs install-library dist dist-library wheel clean
 
 all: bin/regcheck
 
@@ -159,6 +160,11 @@ dist-library:
 	cp --parents $(PACKAGES) docs/embedding.md docs/format.md $(LIBRARY_TREE)
 	mkdir -p dist
 	tar --sort=name --owner=root --group=root --mtime=@0 --mode=u+rw,go=rX -C bin/library -c . | gzip -9n > dist/$(notdir $(LIBRARY_TREE)).tar.gz
+	packaging/write_sums dist
+
+wheel: bin/static/regcheck bin/libregcheck.so
+	packaging/make_wheel bin/static/regcheck bin/$(SONAME) dist
+	packaging/write_sums dist
 
 clean:
-	rm -rf bin dist crates/*/out
+	rm -rf bin dist crates/*/out python/build python/*.egg-info

@@ -28,7 +28,7 @@ class Answer(NamedTuple):
 
 
 def beside() -> List[pathlib.Path]:
-    """Where the program may be: next to the installed command, or in bin/ of the repository."""
+    """Where the program may be: next to the command, in bin/ of the repository, or where pip puts commands."""
     places = []
     started = pathlib.Path(sys.argv[0])
     if started.is_file():
@@ -36,6 +36,8 @@ def beside() -> List[pathlib.Path]:
     package = pathlib.Path(__file__).resolve().parent
     if (package.parent / "pyproject.toml").is_file():
         places.append(package.parent.parent / "bin" / "regcheck")
+    if package.parent.name in ("site-packages", "dist-packages"):
+        places.append(package.parents[3] / "bin" / "regcheck")
     return places
 
 

@@ -69,7 +69,10 @@ class Library:
 
 
 def _places() -> Iterator[str]:
-    """Where the library may be: below the prefix of the installed command, or where the system looks for it."""
+    """Where the library may be: in the package, below the installed command's prefix, or where the system looks."""
+    within = pathlib.Path(__file__).resolve().parent / FILE
+    if within.is_file():
+        yield str(within)
     started = pathlib.Path(sys.argv[0])
     beside = started.resolve().parent.parent / "lib" / FILE
     if started.is_file() and beside.is_file():
