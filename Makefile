@@ -17,10 +17,12 @@
 # make dist: the release in dist/: a tarball, a Debian package, their bill of materials and their sums.
 # make dist-library: a tarball of the library in dist/, with the packages for other languages.
 # make wheel: regkit, the program and the library in one file in dist/, for pip.
+# make stores: record real stores and check them, those whose servers are installed, with pages in STORES=...
 FILE ?= examples/new_old_inversion.jsonl
 PREFIX ?= /usr/local
 SECONDS ?= 600
 SHOTS ?= /tmp/regkit-shots
+STORES ?= /tmp/regkit-stores
 COUNT ?= 10000
 VERSION := $(shell cat VERSION)
 # The number behind .so is that of the interface.
@@ -33,7 +35,7 @@ PACKAGES := $(shell find clojure go java javascript rust -name target -prune -o 
 PROGRAM := bin/regcheck
 DOCUMENTS = $(DESTDIR)$(PREFIX)/share/doc/regcheck
 
-.PHONY: all run try test edits costs fuzz picture-test bench bench-compare library embed-test bench-library install install-programs install-library dist dist-library wheel clean
+.PHONY: all run try test edits costs fuzz picture-test bench bench-compare library embed-test bench-library install install-programs install-library dist dist-library wheel stores clean
 
 all: bin/regcheck
 
@@ -127,9 +129,12 @@ install-programs: bin/regcheck bin/regkit bin/completions
 	install -D -m 644 -t $(DESTDIR)$(PREFIX)/share/fish/vendor_completions.d bin/completions/fish/*
 	install -D -m 644 -t $(DOCUMENTS) README.md CHANGELOG.md
 	install -D -m 644 -t $(DOCUMENTS)/docs docs/*.md
+	install -D -m 644 -t $(DOCUMENTS)/docs/stores docs/stores/*
 	install -D -m 644 -t $(DOCUMENTS)/examples examples/README.md examples/*.jsonl examples/*.report examples/*.refusal
 	install -D -m 755 -t $(DOCUMENTS)/examples examples/recorder.py
 	install -D -m 644 -t $(DOCUMENTS)/examples/tutorial examples/tutorial/*.py
+	install -D -m 644 -t $(DOCUMENTS)/examples/stores examples/stores/harness.py
+	install -D -m 755 -t $(DOCUMENTS)/examples/stores $(addprefix examples/stores/,redis.py postgresql.py etcd.py)
 	install -D -m 755 -t $(DOCUMENTS)/engines engines/*
 	for file in $(PACKAGES); do install -D -m 644 $$file $(DOCUMENTS)/$$file || exit 1; done
 
@@ -165,6 +170,12 @@ dist-library:
 wheel: bin/static/regcheck bin/libregcheck.so
 	packaging/make_wheel bin/static/regcheck bin/$(SONAME) dist
 	packaging/write_sums dist
+
+# Status 5 is that of a store whose server isn't here.
+stores: bin/regcheck
+	@right=0; for store in redis postgresql etcd; do \
+	    examples/stores/$$store.py $(STORES); status=$$?; test $$status = 0 -o $$status = 5 || right=1; \
+	done; exit $$right
 
 clean:
 	rm -rf bin dist crates/*/out python/build python/*.egg-info
