@@ -134,7 +134,7 @@ class _Log:
             function = self._function(event, line)
             self.pairing.call(Operation(line, client, function, event.get(":key"), event.get(":value")))
             return
-        if folded(kind) in self.choices.outcomes:
+        if self.choices.outcomes and folded(kind) in self.choices.outcomes:
             ending = ENDINGS[self.choices.outcomes[folded(kind)]] or "crash"
         elif kind in _TYPES:
             ending = _TYPES[kind]

@@ -86,6 +86,9 @@ class Ended(NamedTuple):
     found_nothing: bool = False  # a read of null
 
 
+_WELL = Ended("reply")
+
+
 class Outcomes:
     """What --ok-when and --outcomes make of operations that the form takes for completed."""
 
@@ -96,7 +99,7 @@ class Outcomes:
     def of(self, members: Mapping[Any, Any], is_read: bool) -> Ended:
         """By its members. What isn't said to be well or to have failed is unknown."""
         if not self.choices.ok_when:
-            return Ended("reply")
+            return _WELL
         members = by_folded_name(members)
         endings: Set[Optional[str]] = {"reply"}
         for name, well in self.choices.ok_when.items():
