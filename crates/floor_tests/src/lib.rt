@@ -1,10 +1,10 @@
 //! Tests of `history_text`, `reg_arena` and `reg_pieces` by their public calls alone.
 //!
-//! They are a crate of their own, so that none of these is proved once more with them. What a whole run shows is tested by
-//! tests/answers over the built program.
+//! They are a crate of their own, so that none of these is proved once more with them. What a whole run
+//! shows is tested by tests/answers over the built program.
 //!
-//! Read it in this order: `text`, the lines of inputs; `short`, histories in a few letters; `walks`, `operations`, `values`
-//! and `keys`, what an arena tells of them; `pieces`, the work over them.
+//! Read it in this order: `text`, the lines of inputs; `short`, histories in a few letters; `walks`,
+//! `operations`, `values` and `keys`, what an arena tells of them; `pieces`, the work over them.
 #![tactic(auto)]
 
 #[cfg(test)]

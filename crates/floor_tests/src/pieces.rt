@@ -1,7 +1,8 @@
-//! The pieces of a history: how many there are, and that workers and threads of the callers' own do each once.
+//! The pieces of a history: how many there are, and that workers and threads of the callers' own do each
+//! once.
 //!
-//! A test hands its body's work to small functions that ask for the rights they need: those are proved in a fraction
-//! of the time that one long test over the whole `HostRuntime` takes.
+//! A test hands its body's work to small functions that ask for the rights they need: those are proved in a
+//! fraction of the time that one long test over the whole `HostRuntime` takes.
 ghost use Rattle.std.specs.Prelude.{◌≡◌, false, IfOk};
 ghost use Rattle.reg_pieces.specs.Plan.{IsSomePlan};
 ghost use Rattle.reg_pieces.specs.Work.{IsSeatFor};
@@ -47,8 +48,8 @@ fn count_in_parts(rt: &(impl Threads + AllocGlobal + Sync), arena: &Arena) -> Re
     Ok(plan_in_parts(rt, rt.alloc(), arena, settings(1, 1)?)?.len())
 }
 
-// Each register has a piece, and with a single writer one for each cut of its reads, whoever lists them; and one piece
-// alone if only the first register that isn't atomic is asked for.
+// Each register has a piece, and with a single writer one for each cut of its reads, whoever lists them;
+// and one piece alone if only the first register that isn't atomic is asked for.
 fn expect_counts(
     rt: &(impl Threads + AllocGlobal + Abort + Sync),
     arena: &Arena,

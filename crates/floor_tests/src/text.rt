@@ -7,7 +7,8 @@ use std::process::Abort;
 use std::test::Fail;
 use std::thread::Threads;
 
-// Names of the same length that differ are different, on both sides of the length that is kept without memory.
+// Names of the same length that differ are different, on both sides of the length that is kept without
+// memory.
 #[test]
 fn names_give_their_text(rt: HostRuntime) -> Result<(), Fail> {
     let alloc = rt.alloc();

@@ -1,10 +1,11 @@
 //! Runs of whole histories in memory: tests of what `reg_report` gives, by its public calls alone.
 //!
-//! They are a crate of their own, so that `reg_report` isn't proved once more with them. What the built program answers is
-//! tested by tests/answers.
+//! They are a crate of their own, so that `reg_report` isn't proved once more with them. What the built
+//! program answers is tested by tests/answers.
 //!
-//! Read it in this order: `rows`, some histories with their answers; `answer`, which runs them; `messages`, what is said of
-//! lines of other numbers; `failing_ends`, where little comes at a time or something fails; `workers`, where several work at once.
+//! Read it in this order: `rows`, some histories with their answers; `answer`, which runs them; `messages`,
+//! what is said of lines of other numbers; `failing_ends`, where little comes at a time or something fails;
+//! `workers`, where several work at once.
 #![tactic(auto)]
 
 #[cfg(test)]

@@ -27,7 +27,8 @@ pub(crate) const TWO_WRITES: Report = (
     Outcome::Atomic,
 );
 
-/// Four pieces of work in cuts of one read: a new value is read before the old one, and several processes write the second register.
+/// Four pieces of work in cuts of one read: a new value is read before the old one, and several processes
+/// write the second register.
 pub(crate) const TWO_FAULTY: Report = (
     "two registers that are not atomic",
     r#"{"process":1,"event":"call","op":"write","register":"x","value":1}
@@ -54,7 +55,8 @@ pub(crate) const TWO_FAULTY: Report = (
     Outcome::NotAtomic,
 );
 
-/// The first register is atomic, and the two others have reads of what nobody wrote. This is the answer of `--first`.
+/// The first register is atomic, and the two others have reads of what nobody wrote. This is the answer of
+/// `--first`.
 pub(crate) const SECOND_OF_THREE: Report = (
     "the second of three registers",
     r#"{"process":1,"event":"call","op":"write","register":"a","value":1}
@@ -70,7 +72,8 @@ pub(crate) const SECOND_OF_THREE: Report = (
     Outcome::NotAtomic,
 );
 
-/// The second register's fault is over before the first one's: the first by appearance counts, whatever was found sooner.
+/// The second register's fault is over before the first one's: the first by appearance counts, whatever was
+/// found sooner.
 pub(crate) const FIRST_BY_APPEARANCE: Report = (
     "the first register by appearance",
     r#"{"process":1,"event":"call","op":"read","register":"a"}
