@@ -4,7 +4,8 @@ import pathlib
 import shutil
 import subprocess
 import sys
-from typing import List, NamedTuple, Optional, Sequence
+from types import TracebackType
+from typing import Any, BinaryIO, List, NamedTuple, Optional, Sequence, Type, Union
 
 from regkit.library import MOST_BYTES, NoLibrary, find_library
 
@@ -55,32 +56,87 @@ def find_checker() -> str:
     return found
 
 
+def held(history: bytes) -> BinaryIO:
+    """The bytes as a file of no name, which another process reads while this one is at work."""
+    if hasattr(os, "memfd_create"):
+        stream: Any = open(os.memfd_create("history"), "w+b", buffering=0)
+    else:
+        from tempfile import TemporaryFile  # only other systems than Linux wait for this
+
+        stream = TemporaryFile(buffering=0)
+    left = memoryview(history)
+    while left:
+        left = left[stream.write(left):]
+    stream.seek(0)
+    return stream  # type: ignore[no-any-return]
+
+
+class Run:
+    """A run of the program that has begun. Whoever began it may work until it asks for the answer."""
+
+    def __init__(self, history: bytes, options: Sequence[str] = (), program: Optional[str] = None) -> None:
+        """Raises NoChecker if the program can't be started."""
+        path = program or find_checker()
+        try:
+            with held(history) as stream:
+                self.process = subprocess.Popen([path, *options], stdin=stream, stdout=subprocess.PIPE,
+                                                stderr=subprocess.PIPE)
+        except OSError as error:
+            raise NoChecker(f"{path} could not be started: {error.strerror}. Is REGCHECK right?") from error
+
+    def answer(self) -> Answer:
+        report, words = self.process.communicate()
+        return Answer(self.process.returncode, report, words.decode("utf-8", "replace").rstrip("\n"))
+
+    def __enter__(self) -> "Run":
+        return self
+
+    def __exit__(self, kind: Optional[Type[BaseException]], error: Optional[BaseException],
+                 trace: Optional[TracebackType]) -> None:
+        """Ends the program if nobody waited for it."""
+        if self.process.poll() is None:
+            self.process.kill()
+            self.process.communicate()
+
+
+class Told:
+    """An answer that was there at once, in the place of a run."""
+
+    def __init__(self, answer: Answer) -> None:
+        self._answer = answer
+
+    def answer(self) -> Answer:
+        return self._answer
+
+    def __enter__(self) -> "Told":
+        return self
+
+    def __exit__(self, *_: object) -> None:
+        pass
+
+
 def run_checker(history: bytes, options: Sequence[str] = (), program: Optional[str] = None) -> Answer:
     """Runs the checker on a history. Raises NoChecker if it can't be started."""
-    path = program or find_checker()
-    try:
-        ran = subprocess.run([path, *options], input=history, capture_output=True, check=False)
-    except OSError as error:
-        raise NoChecker(f"{path} could not be started: {error.strerror}. Is REGCHECK right?") from error
-    refusal = ran.stderr.decode("utf-8", "replace").rstrip("\n")
-    return Answer(ran.returncode, ran.stdout, refusal)
+    with Run(history, options, program) as run:
+        return run.answer()
 
 
-def judge(history: bytes, options: Sequence[str] = ()) -> Answer:
-    """The library's answer if the history is small and there are no options, else the program's: they are the same."""
+def begin(history: bytes, options: Sequence[str] = ()) -> Union[Run, Told]:
+    """Begins to judge a history: by the library if the history is small and there are no options, else by the
+    program. Their answers are the same."""
     if options or len(history) > MOST_BYTES:
-        return run_checker(history, options)
+        return Run(history, options)
     try:
         library = find_library()
     except NoLibrary as error:
         raise NoChecker(str(error)) from error
     if library is None:
-        return run_checker(history)
+        return Run(history)
     told = library.check(history)
-    return Answer(told.status, told.report, told.refusal)
+    return Told(Answer(told.status, told.report, told.refusal))
 
 
-def judge_first(history: bytes) -> Answer:
-    """The answer up to the first faulty register, or the whole one if the checker doesn't know `--first`."""
-    answer = judge(history, ["--first"])
-    return judge(history) if answer.status == COMMAND_LINE else answer
+def judge(history: bytes, options: Sequence[str] = ()) -> Answer:
+    """The answer to a history, when it is there."""
+    with begin(history, options) as run:
+        return run.answer()

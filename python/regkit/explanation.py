@@ -3,17 +3,19 @@ import textwrap
 from typing import List, NamedTuple, Optional, Set
 
 from regkit import timeline
+from regkit.causes import StalePair, lost_in_words, lost_writes, questions, stale_pair
 from regkit.colour import Painter
 from regkit.history import History, Operation, read_history
 from regkit.quoting import quoted
 from regkit.report import Report, Row, read_report
 from regkit.sentences import (capital, contradiction, counted, early, failed_write, fault_of, inversion,
-                              named, unwritten, value_of)
+                              named, pairs_of, unwritten, value_of)
 from regkit.surroundings import SUSPECT, Bystander, Scene, find_scene, role_of, writes_of
 from regkit.unexplained import Unexplained, find_unexplained
 
 MOST_BYSTANDERS = 6
-READ_SIGN, ACTOR_SIGN, SUSPECT_SIGN = "X", "*", "?"
+MOST_LOST = 6  # writes that are named
+READ_SIGN, STALE_SIGN, FRESH_SIGN, ACTOR_SIGN, SUSPECT_SIGN = "X", "S", "F", "*", "?"
 
 
 class Page:
@@ -55,13 +57,21 @@ def completed_reads(calls: List[Operation]) -> int:
     return sum(call.kind == "read" and call.completed for call in calls)
 
 
-def told_in_words(history: History, told: Unexplained) -> List[str]:
+def told_in_words(history: History, told: Unexplained, pair: Optional[StalePair]) -> List[str]:
     """What a read that can't be explained contradicts."""
     if told.write is None:
         return unwritten(history, told.read)
     if told.other is None:
         return early(told.read, told.write)
-    return contradiction(told.pairs, (value_of(told.write), value_of(told.other)))
+    return (contradiction(told.pairs, (value_of(told.write), value_of(told.other)))
+            + ([pair.in_words()] if pair else []))
+
+
+def pair_of(history: History, row: Row) -> Optional[StalePair]:
+    """The stale read that the fault of a register's line of the report names, if it names one."""
+    if row["fault"]["kind"] != "zones":
+        return None
+    return stale_pair(pairs_of(history, row), history.registers[row["register"]])
 
 
 def named_lines(fault: Row) -> Set[int]:
@@ -72,7 +82,7 @@ def named_lines(fault: Row) -> Set[int]:
 def as_reported(told: Unexplained, history: History, row: Row) -> Optional[Unexplained]:
     """The read with the report's own contradiction, if that is about this read, the same writes, and nothing
     that was called later."""
-    fault, name = row["fault"], row["register"]
+    fault = row["fault"]
     lines = named_lines(fault)
     if told.read.line not in lines or told.kind != fault["kind"] or max(lines) > (told.read.end_line or 0):
         return None
@@ -81,9 +91,7 @@ def as_reported(told: Unexplained, history: History, row: Row) -> Optional[Unexp
     assert told.write is not None and told.other is not None
     if {told.write.line, told.other.line} != set(fault["writes"]):
         return None
-    pairs = [(history.operation(name, before), history.operation(name, after))
-             for before, after in (fault["first"], fault["second"])]
-    return told._replace(pairs=pairs)
+    return told._replace(pairs=pairs_of(history, row))
 
 
 def how_many(count: int, reads: int) -> str:
@@ -93,15 +101,15 @@ def how_many(count: int, reads: int) -> str:
             "next is looked at")
 
 
-def add_first(page: Page, history: History, told: Unexplained, is_reported: bool) -> None:
+def add_first(page: Page, history: History, told: Unexplained, said: bool, pair: Optional[StalePair]) -> None:
     """The first read that can't be explained, and why, unless that was said before."""
     read = told.read
     assert read.end_line is not None
     page.heading("The first read that can't be explained")
     page.sentence(f"{named(read)}: the answers up to line {read.end_line - 1} fit some order in which each "
                   f"read gives the latest write, and with line {read.end_line} they fit none", "bad")
-    if not is_reported:
-        for sentence in told_in_words(history, told):
+    if not said:
+        for sentence in told_in_words(history, told, pair):
             page.sentence(sentence)
 
 
@@ -121,22 +129,27 @@ def entry_of(bystander: Bystander) -> timeline.Entry:
     return timeline.Entry(bystander.call, SUSPECT_SIGN if suspect else "", "look" if suspect else "")
 
 
-def entries(history: History, scene: Scene) -> List[timeline.Entry]:
+def entries(history: History, scene: Scene, pairs: List[StalePair]) -> List[timeline.Entry]:
     """The calls of the time line: the contradiction, the writes of its values, and the first bystanders."""
     shown = {bystander.call.line: entry_of(bystander) for bystander in scene.bystanders[:MOST_BYSTANDERS]}
     failed = failed_write(history, scene.told.read)
     for actor in scene.actors + writes_of(scene.told) + ([failed] if failed is not None else []):
         shown[actor.line] = timeline.Entry(actor, ACTOR_SIGN, "bold")
+    for pair in pairs:
+        if pair.fresh.kind == "read":
+            shown[pair.fresh.line] = timeline.Entry(pair.fresh, FRESH_SIGN, "bold")
+        shown[pair.stale.line] = timeline.Entry(pair.stale, STALE_SIGN, "bad")
     shown[scene.told.read.line] = timeline.Entry(scene.told.read, READ_SIGN, "bad")
     return list(shown.values())
 
 
-SIGNS = {READ_SIGN: "can't be explained", ACTOR_SIGN: "what it contradicts", SUSPECT_SIGN: "look here first"}
+SIGNS = {READ_SIGN: "can't be explained", STALE_SIGN: "stale read", FRESH_SIGN: "fresh read",
+         ACTOR_SIGN: "what it contradicts", SUSPECT_SIGN: "look here first"}
 
 
-def add_timeline(page: Page, history: History, scene: Scene) -> None:
+def add_timeline(page: Page, history: History, scene: Scene, pairs: List[StalePair]) -> None:
     page.heading("Time line: a column for each line where one of these begins or ends")
-    shown = entries(history, scene)
+    shown = entries(history, scene, pairs)
     for line in timeline.draw(shown, page.width - 2):
         page.lines.append("  " + page.paint(line.style, line.text.rstrip()))
     used = {entry.sign for entry in shown}
@@ -145,23 +158,43 @@ def add_timeline(page: Page, history: History, scene: Scene) -> None:
                    page.paint("faint", "  " + "   ".join(timeline.legend(shown)))]
 
 
+def add_causes(page: Page, history: History, told: Unexplained, calls: List[Operation]) -> None:
+    """The writes that were lost, and what to ask."""
+    lost = lost_writes(told, calls)
+    if lost:
+        page.heading("Lost writes")
+        page.sentence(lost_in_words(told, lost, calls))
+        for write in lost[:MOST_LOST]:
+            page.sentence(named(write))
+        if len(lost) > MOST_LOST:
+            page.sentence(f"and {counted(len(lost) - MOST_LOST, 'more write')}")
+    asked = questions(history, told, lost)
+    if asked:
+        page.heading("Ask first")
+    for question in asked:
+        page.sentence(question)
+
+
 def explain_register(page: Page, history: History, row: Row) -> None:
     """Adds the whole explanation of one register that isn't atomic. Raises NotOfHistory."""
     calls = history.registers[row["register"]]
     page.heading(f"Register {quoted(row['register'])} is not linearizable")
     page.sentence(level(history, row))
     page.heading("The contradiction")
-    for sentence in fault_of(history, row) + inversion(history, row):
+    pair = pair_of(history, row)
+    for sentence in fault_of(history, row) + inversion(history, row) + ([pair.in_words()] if pair else []):
         page.sentence(sentence)
     told, count = find_unexplained(calls)
     if told is None:
         raise NotOfHistory
     reported = as_reported(told, history, row)
-    add_first(page, history, told, reported is not None)
+    own = pair if reported else stale_pair(told.pairs, calls, told.read)
+    add_first(page, history, told, reported is not None, own)
     page.sentence(how_many(count, completed_reads(calls)))
+    add_causes(page, history, told, calls)
     scene = find_scene(reported or told, calls)
     add_bystanders(page, scene)
-    add_timeline(page, history, scene)
+    add_timeline(page, history, scene, [each for each in (pair, own) if each is not None])
 
 
 class NotOfHistory(ValueError):

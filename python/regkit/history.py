@@ -1,5 +1,5 @@
 """An accepted history as its operations, for everything that explains or draws."""
-from typing import Callable, Dict, Iterable, List, Optional
+from typing import Callable, Dict, Iterable, List, Optional, Tuple
 
 from regkit import lines
 from regkit.quoting import quoted
@@ -85,12 +85,18 @@ class History:
 def read_history(data: bytes, watch: Optional[Callable[[int], None]] = None) -> History:
     """The history in some bytes that `regcheck` accepted. What it would refuse is not looked for here, and
     may raise NotAHistory. `watch` is told the number of the line from time to time."""
+    return history_of(lines.events(data), watch)
+
+
+def history_of(events: Iterable[Tuple[int, lines.Event]],
+               watch: Optional[Callable[[int], None]] = None) -> History:
+    """The history of some events, each with the number of its line. Raises NotAHistory."""
     calls: List[Operation] = []
     open_calls: Dict[int, Operation] = {}
     crashes: Dict[int, int] = {}
     count = line = 0
     try:
-        for line, event in lines.events(data):
+        for line, event in events:
             count += 1
             if watch is not None and count % TELL_EVERY == 0:
                 watch(line)

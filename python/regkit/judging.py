@@ -3,18 +3,19 @@ import gc
 import pathlib
 from contextlib import contextmanager
 from itertools import chain, count
-from typing import Iterator, NamedTuple, Optional, Set
+from typing import Iterator, List, NamedTuple, Optional, Set
 
-from regkit.advice import advice
-from regkit.checker import Answer, NoChecker, judge, judge_first
+from regkit.checker import COMMAND_LINE, Answer, NoChecker, begin, judge
+from regkit.counting import Reads, Unusual, count_reads
 from regkit.evidence import Evidence, count_evidence
-from regkit.history import History, NotAHistory, read_history
+from regkit.history import NotAHistory, read_history
+from regkit.lines import NotJson
 from regkit.inputs import STANDARD_INPUT, TooLong, read_input, shown_name
-from regkit.outcome import (ATOMIC, FAILED, NOT_ATOMIC, REFUSED, TOO_LITTLE, Outcome, evidence_in_words,
+from regkit.outcome import (ATOMIC, FAILED, NOT_ATOMIC, REFUSED, TOO_LITTLE, Fault, Outcome, evidence_in_words,
                             faults_of, lacks)
 from regkit.progress import Progress
 from regkit.quoting import plain
-from regkit.report import Report, read_report
+from regkit.report import Report, read_verdict
 from regkit.sentences import counted
 
 
@@ -44,6 +45,13 @@ def many_objects() -> Iterator[None]:
             gc.enable()
 
 
+def advice(history: bytes, refusal: str, name: str) -> str:
+    """What to do about a refusal."""
+    from regkit import advice as adviser  # only a refusal waits for this
+
+    return adviser.advice(history, refusal, name)
+
+
 def failure_of(answer: Answer) -> str:
     if answer.status < 0:
         return f"regcheck was ended by signal {-answer.status}: was there too little memory?"
@@ -61,11 +69,30 @@ def failure(name: str, error: OSError) -> str:
 
 
 def parsed(written: bytes) -> Report:
-    """The report as regcheck wrote it. Raises Untrue if it isn't one."""
+    """The verdict as regcheck wrote it. Raises Untrue if it isn't one."""
     try:
-        return read_report(written)
+        return read_verdict(written)
     except (ValueError, KeyError) as error:
         raise Untrue(str(error)) from error
+
+
+def told_faults(data: bytes, report: Report, most: int) -> List[Fault]:
+    """The faults in sentences. Raises Untrue if they can't be of this history."""
+    from regkit.excerpt import excerpt  # only a fault waits for this
+
+    rows = report.faulty[:most]
+    try:
+        return faults_of(excerpt(data, rows), rows)
+    except (KeyError, TypeError, ValueError, NotJson) as error:
+        raise Untrue("its faults aren't those of the history") from error
+
+
+def reads_of(data: bytes) -> Optional[Reads]:
+    """The completed reads; None if a line is unusual."""
+    try:
+        return count_reads(data)
+    except Unusual:
+        return None
 
 
 def verify(data: bytes, written: bytes) -> None:
@@ -119,36 +146,46 @@ class Judge:
     def judge_data(self, name: str, data: bytes) -> Outcome:
         # A picture needs the whole report.
         early = self.wishes.first and self.wishes.draw is None
-        answer = judge_first(data) if early else judge(data)
+        with begin(data, ["--first"] if early else []) as run:
+            reads = reads_of(data)  # while the checker is at work
+            answer = run.answer()
+        if early and answer.status == COMMAND_LINE:  # a checker that doesn't know `--first`
+            answer = judge(data)
         if answer.status in (ATOMIC, NOT_ATOMIC):
-            return self.judge_report(name, data, answer)
+            return self.judge_report(name, data, answer, reads)
         if answer.status != REFUSED:
             return Outcome(name, FAILED, failure_of(answer), advice(b"", answer.refusal, name))
         if self.wishes.verify:
             verify_refusal(data, answer.refusal)
         return Outcome(name, REFUSED, plain(answer.refusal), advice(data, answer.refusal, name))
 
-    def judge_report(self, name: str, data: bytes, answer: Answer) -> Outcome:
+    def judge_report(self, name: str, data: bytes, answer: Answer, reads: Optional[Reads]) -> Outcome:
         """The outcome of a history that was accepted."""
         written = answer.report
-        self.progress.step(f"{self.label}: reading", data.count(b"\n"))
-        history = read_history(data, self.progress.reach)
+        report = parsed(written)
         if self.wishes.verify:
             self.progress.step(f"{self.label}: verifying")
             verify(data, written)
-        outcome = self.verdict(name, history, parsed(written), count_evidence(history))
+        outcome = self.verdict(name, data, report, self.evidence(data, report, reads))
         if self.wishes.verify:
             outcome = outcome._replace(verified=True, words=f"{outcome.words}; the report was verified")
         if self.wishes.draw is not None:
             outcome = outcome._replace(drawing=str(self.draw(name, data, written)))
         return outcome
 
-    def verdict(self, name: str, history: History, report: Report, evidence: Evidence) -> Outcome:
+    def evidence(self, data: bytes, report: Report, reads: Optional[Reads]) -> Evidence:
+        """What the verdict rests on. The history is read in whole if a line of it is unusual."""
+        if reads is not None:
+            return Evidence(report.summary["operations"], report.summary["registers"], *reads)
+        self.progress.step(f"{self.label}: reading", data.count(b"\n"))
+        return count_evidence(read_history(data, self.progress.reach))
+
+    def verdict(self, name: str, data: bytes, report: Report, evidence: Evidence) -> Outcome:
         words = evidence_in_words(evidence)
         if report.faulty:
             known = 1 if self.wishes.first else len(report.faulty)
             number = "the first faulty register" if self.wishes.first else counted(known, "faulty register")
-            faults = faults_of(history, report, 1 if self.wishes.first else self.wishes.most)
+            faults = told_faults(data, report, 1 if self.wishes.first else self.wishes.most)
             return Outcome(name, NOT_ATOMIC, f"{number}; {words}", "", evidence, known, faults)
         lack, hint = lacks(evidence, self.wishes.least_reads, self.wishes.least_overlaps)
         if lack:

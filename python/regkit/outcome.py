@@ -4,7 +4,7 @@ from typing import Any, Dict, List, NamedTuple, Optional, Tuple
 from regkit.evidence import Evidence
 from regkit.history import History
 from regkit.quoting import plain, quoted
-from regkit.report import Report, Row
+from regkit.report import Row
 from regkit.sentences import counted, fault_of, inversion
 
 ATOMIC, NOT_ATOMIC, REFUSED, COMMAND_LINE, FAILED, TOO_LITTLE = range(6)
@@ -59,9 +59,9 @@ def lacks(evidence: Evidence, least_reads: int, least_overlaps: int) -> Tuple[st
     return "", ""
 
 
-def faults_of(history: History, report: Report, most: int) -> List[Fault]:
-    return [Fault(row["register"], row, fault_of(history, row) + inversion(history, row))
-            for row in report.faulty[:most]]
+def faults_of(history: History, rows: List[Row]) -> List[Fault]:
+    """The faults of some registers' lines of the report."""
+    return [Fault(row["register"], row, fault_of(history, row) + inversion(history, row)) for row in rows]
 
 
 def text_of(outcome: Outcome) -> List[str]:

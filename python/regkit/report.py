@@ -3,6 +3,8 @@ import json
 from typing import Any, Dict, List
 
 Row = Dict[str, Any]
+ATOMIC_ROW = b'{"atomic":"yes",'  # how the line of an atomic register begins
+ORDER = b'"order":['
 
 
 class Report:
@@ -30,3 +32,19 @@ def read_report(data: bytes) -> Report:
     if not rows or not are_lines or "registers" not in rows[-1]:
         raise ValueError("it doesn't end with a summary, as a report of regcheck does")
     return Report(rows[:-1], rows[-1])
+
+
+def read_verdict(data: bytes) -> Report:
+    """The same with the lines of the faulty registers alone, and a summary without its order. The numbers of an
+    order are nearly all of a report, and a verdict doesn't need them."""
+    last = data.rfind(b"\n", 0, len(data) - 1) + 1
+    faulty, begin = [], 0
+    while begin < last:
+        end = data.find(b"\n", begin) + 1
+        if not data.startswith(ATOMIC_ROW, begin):
+            faulty.append(data[begin:end])
+        begin = end
+    begin = data.find(ORDER, last)
+    end = data.find(b"],", begin) if begin >= 0 else -1
+    summary = data[last:] if end < 0 else data[last:begin] + data[end + 2:]
+    return read_report(b"".join([*faulty, summary]))

@@ -87,12 +87,16 @@ def early(read: Operation, write: Operation) -> List[str]:
     return [f"{named(read)} ended before the write of its value began: {named(write)}"]
 
 
-def zones(history: History, row: Row) -> List[str]:
+def pairs_of(history: History, row: Row) -> List[Tuple[Operation, Operation]]:
+    """The two precedences of a conflict: of each, the operation that ended before the other one began."""
     fault, register = row["fault"], row["register"]
-    pairs = [(history.operation(register, begin), history.operation(register, end))
-             for begin, end in (fault["first"], fault["second"])]
-    old, new = (value_of(history.operation(register, line)) for line in fault["writes"])
-    return contradiction(pairs, (old, new))
+    return [(history.operation(register, begin), history.operation(register, end))
+            for begin, end in (fault["first"], fault["second"])]
+
+
+def zones(history: History, row: Row) -> List[str]:
+    old, new = (value_of(history.operation(row["register"], line)) for line in row["fault"]["writes"])
+    return contradiction(pairs_of(history, row), (old, new))
 
 
 def fault_of(history: History, row: Row) -> List[str]:

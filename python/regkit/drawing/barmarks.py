@@ -10,8 +10,10 @@ from regkit.drawing.svg import tag
 from regkit.sentences import capital, named
 
 SIGNS: Dict[str, Callable[[float, float], str]] = {
-    "stale": shapes.exclamation, "overlapped": shapes.parallel, "failed": shapes.cross}
-SIGN_WORDS = {"stale": "the first read that can't be explained",
+    "unexplained": shapes.exclamation, "stale": shapes.exclamation, "fresh": shapes.tick,
+    "overlapped": shapes.parallel, "failed": shapes.cross}
+SIGN_WORDS = {"unexplained": "the first read that can't be explained",
+              "stale": "the stale read: it gave the older value", "fresh": "the fresh read: it gave the newer value",
               "overlapped": "it was open at the same time as the first read that can't be explained",
               "failed": "it surely had no effect"}
 
@@ -19,7 +21,7 @@ SIGN_WORDS = {"stale": "the first read that can't be explained",
 def classes(bar: Bar) -> str:
     call = bar.operation
     state = "failed" if call.failed else "pending" if call.pending else ""
-    colour = bar.cluster or ("stale" if "stale" in bar.signs else "")
+    colour = bar.cluster or ("stale" if {"unexplained", "stale"} & set(bar.signs) else "")
     return " ".join(filter(None, ["bar", call.kind, colour, "strong" if bar.strong else "", state]))
 
 

@@ -23,7 +23,7 @@ class Bar(NamedTuple):
     process: str  # beside the label, if the lane doesn't say it
     place: str  # in the order, if there is one
     cluster: str
-    signs: List[str]  # of "stale", "overlapped", "failed"
+    signs: List[str]  # of "unexplained", "stale", "fresh", "overlapped", "failed"
     strong: bool  # the contradiction rests on it
 
     @property
@@ -49,8 +49,12 @@ def label_of(operation: Operation) -> str:
 
 def signs_of(operation: Operation, marks: Marks) -> List[str]:
     signs = []
-    if marks.stale is not None and operation.line == marks.stale.line:
+    if marks.unexplained is not None and operation.line == marks.unexplained.line:
+        signs.append("unexplained")
+    elif marks.pair is not None and operation is marks.pair.stale:
         signs.append("stale")
+    if marks.pair is not None and operation is marks.pair.fresh and operation.kind == "read":
+        signs.append("fresh")
     if operation.line in marks.overlapped_lines:
         signs.append("overlapped")
     if operation.failed:

@@ -1,9 +1,10 @@
 """What a picture points at: the two clusters that contradict each other, the precedences between them, the
-first read that can't be explained, and the writes that were open beside it."""
+first read that can't be explained, the writes that were open beside it, and a stale read with the fresh one."""
 from typing import Any, Dict, List, NamedTuple, Optional, Set, Tuple
 
+from regkit.causes import StalePair, stale_pair
 from regkit.history import History, Operation
-from regkit.sentences import value_of
+from regkit.sentences import pairs_of, value_of
 from regkit.unexplained import Unexplained
 
 Row = Dict[str, Any]
@@ -37,8 +38,9 @@ class Marks:
         self.named: Dict[int, Operation] = {}  # by line, the operations that the contradiction rests on
         self.arrows: List[Arrow] = []
         self.zones: List[Zone] = []
-        self.stale: Optional[Operation] = None
-        self.overlapped: List[Operation] = []  # the writes that were open while the stale read was
+        self.unexplained: Optional[Operation] = None
+        self.pair: Optional[StalePair] = None
+        self.overlapped: List[Operation] = []  # the writes that were open while the unexplained read was
         self.overlapped_lines: Set[int] = set()
 
     def name(self, operation: Operation) -> None:
@@ -56,8 +58,15 @@ class Marks:
             for operation in pair:
                 self.name(operation)
 
-    def add_stale(self, read: Operation, calls: List[Operation]) -> None:
-        self.stale = read
+    def add_pair(self, pair: Optional[StalePair]) -> None:
+        """Adds a stale read and what shows that it is one."""
+        self.pair = pair
+        if pair is not None:
+            self.name(pair.fresh)
+            self.name(pair.stale)
+
+    def add_unexplained(self, read: Operation, calls: List[Operation]) -> None:
+        self.unexplained = read
         self.overlapped = overlapped_writes(read, calls)
         self.overlapped_lines = {write.line for write in self.overlapped}
         self.name(read)
@@ -65,7 +74,7 @@ class Marks:
     def without_arrows(self) -> "Marks":
         """The same for the pictures of the whole register, which repeat no arrow and no zone."""
         marks = Marks()
-        marks.clusters, marks.stale = self.clusters, self.stale
+        marks.clusters, marks.unexplained, marks.pair = self.clusters, self.unexplained, self.pair
         marks.overlapped, marks.overlapped_lines = self.overlapped, self.overlapped_lines
         marks.named = {line: operation for line, operation in self.named.items() if line}
         return marks
@@ -89,8 +98,8 @@ def marks_of_fault(history: History, row: Row) -> Marks:
         for write, cluster in zip(writes, (FIRST, SECOND)):
             marks.clusters[write.value] = cluster
             marks.name(write)
-        marks.add_pairs([(history.operation(register, begin), history.operation(register, end))
-                         for begin, end in (fault["first"], fault["second"])])
+        marks.add_pairs(pairs_of(history, row))
+        marks.add_pair(stale_pair(pairs_of(history, row), history.registers[register]))
         marks.zones = [zone_of(write, history.registers[register], cluster)
                        for write, cluster in zip(writes, (FIRST, SECOND))]
         return marks
@@ -114,7 +123,8 @@ def marks_of_read(found: Unexplained, calls: List[Operation]) -> Marks:
     marks.add_pairs(found.pairs)
     if found.kind == "early" and found.write is not None:
         marks.add_pairs([(found.read, found.write)])
-    marks.add_stale(found.read, calls)
+    marks.add_pair(stale_pair(found.pairs, calls, found.read))
+    marks.add_unexplained(found.read, calls)
     return marks
 
 

@@ -10,7 +10,8 @@ from regkit.drawing.svg import tag
 from regkit.drawing.text import attribute, name, words
 from regkit.history import History
 from regkit.report import Report, Row
-from regkit.sentences import counted
+from regkit.outcome import ATOMIC, NOT_ATOMIC, VERDICTS
+from regkit.sentences import capital, counted
 
 MOST_LISTED = 12  # names of registers that aren't drawn
 TICK, CROSS = "M7 12.5 l3.5 3.5 l6.5 -8", "M8 8 l8 8 m0 -8 l-8 8"
@@ -46,11 +47,16 @@ def chosen_rows(history: History, report: Report, asked: Asked) -> List[Row]:
     return (report.faulty or rows)[:asked.most]
 
 
+def verdict_word(report: Report) -> str:
+    """The verdict in the terminal's words."""
+    return VERDICTS[ATOMIC if report.atomic else NOT_ATOMIC]
+
+
 def verdict(report: Report, title: str) -> str:
-    kind, text, mark = ("yes", "Atomic", TICK) if report.atomic else ("no", "Not atomic", CROSS)
+    kind, mark = ("yes", TICK) if report.atomic else ("no", CROSS)
     icon = tag("svg", tag("circle", cx=12, cy=12, r=11) + tag("path", d=mark), viewBox="0 0 24 24",
                aria_hidden="true")
-    return tag("h1", f"{icon}{text}: {name(title)}", class_=f"verdict {kind}")
+    return tag("h1", f"{icon}{capital(verdict_word(report))}: {name(title)}", class_=f"verdict {kind}")
 
 
 def summary(history: History, report: Report) -> str:
@@ -59,9 +65,9 @@ def summary(history: History, report: Report) -> str:
     failed, crashed = len(history.calls) - operations, len(history.crashes)
     parts = [f"{counted(operations, 'operation')} on {counted(len(history.registers), 'register')}"]
     if len(report.rows) < len(history.registers):
-        parts.append("an early answer, which names the first register that isn't atomic and no other")
+        parts.append("an early answer, which names the first register that isn't linearizable and no other")
     elif len(history.registers) > 1 and report.faulty:
-        parts.append(f"{len(report.faulty):,} of them not atomic")
+        parts.append(f"{len(report.faulty):,} of them not linearizable")
     if failed:
         parts.append(f"{counted(failed, 'call')} failed")
     if crashed:
@@ -79,7 +85,7 @@ def page(history: History, report: Report, title: str, asked: Asked) -> str:
     for number, each in enumerate(sections):
         body.append(tag("section", each.heading + (key if number == 0 else "") + each.pictures))
     body.append(left_out(history, report, rows))
-    return document(f"{'Atomic' if report.atomic else 'Not atomic'}: {title}", "\n".join(body))
+    return document(f"{capital(verdict_word(report))}: {title}", "\n".join(body))
 
 
 def left_out(history: History, report: Report, rows: List[Row]) -> str:
@@ -88,7 +94,7 @@ def left_out(history: History, report: Report, rows: List[Row]) -> str:
     faulty = {row["register"] for row in report.faulty}
     hidden = [register for register in history.registers if register not in shown]
     text = ""
-    for names, kind, state in (([each for each in hidden if each in faulty], "more", "not atomic"),
+    for names, kind, state in (([each for each in hidden if each in faulty], "more", "not linearizable"),
                                ([each for each in hidden if each not in faulty], "other", "not drawn")):
         if names:
             verb = "is" if len(names) == 1 else "are"

@@ -79,11 +79,11 @@ def lines_of(operations: Iterable[Operation]) -> List[int]:
 
 
 def near_lines(marks: Marks, register: Register) -> List[int]:
-    """The lines of the writes beside the stale read, if they are near its own. Farther ones are drawn
+    """The lines of the writes beside the unexplained read, if they are near its own. Farther ones are drawn
     anyway, as bars that come from beyond the window."""
-    if marks.stale is None:
+    if marks.unexplained is None:
         return []
-    own = [bisect_left(register.events, line) for line in lines_of([marks.stale])]
+    own = [bisect_left(register.events, line) for line in lines_of([marks.unexplained])]
     least, most = max(0, min(own) - NEAR), max(own) + NEAR
     near = set(register.events[least:most + 1]) if most - least <= 4 * NEAR else set()
     return [line for line in lines_of(marks.overlapped) if line in near]
@@ -93,7 +93,7 @@ def lines_that_matter(marks: Marks, register: Register) -> List[List[int]]:
     """The lines that windows are drawn around: all that are of interest; then fewer, if the page has no
     room."""
     arrows = [line for arrow in marks.arrows for line in (arrow.before.end_line, arrow.after.line) if line]
-    least = arrows + lines_of([marks.stale] if marks.stale else [])
+    least = arrows + lines_of([marks.unexplained] if marks.unexplained else [])
     calls = least + [line for line in marks.named if line]
     named = calls + lines_of(marks.named.values())
     return [lines for lines in (named + near_lines(marks, register), named, calls, least) if lines]

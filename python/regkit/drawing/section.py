@@ -1,7 +1,7 @@
 """What the page says and shows of one register."""
 from typing import List, NamedTuple
 
-from regkit import sentences
+from regkit import causes, sentences
 from regkit.drawing import shapes
 from regkit.drawing.figure import PAGE_WIDTH, RIGHT, Figure, gutter_of
 from regkit.drawing.marks import FIRST, SECOND, Marks, marks_of_fault, marks_of_read
@@ -15,7 +15,7 @@ from regkit.unexplained import Unexplained, find_unexplained
 
 WHOLE = 600  # events; a register of no more is drawn whole, below its fault
 FIRST_EVENTS = 400  # of a register that is atomic, so many are drawn
-MOST_NAMED = 3  # writes beside the stale read that are named in words
+MOST_NAMED = 3  # writes beside the unexplained read, or lost, that are named in words
 
 
 class Section(NamedTuple):
@@ -44,19 +44,30 @@ class Author:
         heading += reasons(sentences.fault_of(self.history, self.row), numbered=bool(marks.arrows))
         for sentence in sentences.inversion(self.history, self.row):
             heading += tag("p", words(capital(sentence) + "."))
+        if marks.pair is not None:
+            heading += tag("p", words(capital(marks.pair.in_words()) + "."))
         found, count = find_unexplained(self.calls)
         pictures = ""
         if found is not None:
             own_marks = marks_of_read(found, self.calls)
-            heading += tag("p", words(stale_words(found, count, own_marks.overlapped)))
+            heading += tag("p", words(unexplained_words(found, count, own_marks.overlapped)))
+            heading += self.causes(found)
             if self.is_near(found.read, marks):
-                marks.add_stale(found.read, self.calls)
+                marks.add_unexplained(found.read, self.calls)
             else:
                 pictures = self.first_read(found, own_marks)
         pictures = self.windows(marks, "the fault of the register") + pictures
         if len(self.register.events) <= WHOLE and all(scene.left_out for scene in self.scenes):
             pictures += tag("h3", "The whole register") + self.whole(marks.without_arrows(), WHOLE)
         return Section(heading, pictures, self.scenes)
+
+    def causes(self, found: Unexplained) -> str:
+        """The writes that were lost, and what to ask."""
+        lost = causes.lost_writes(found, self.calls)
+        said = causes.questions(self.history, found, lost)
+        if lost:
+            said.insert(0, f"{causes.lost_in_words(found, lost, self.calls)}: {listed(lost)}")
+        return "".join(tag("p", words(capital(sentence) + "."), class_="ask") for sentence in said)
 
     def is_near(self, read: Operation, marks: Marks) -> bool:
         """Whether the first read that can't be explained is in the picture of the fault anyway."""
@@ -75,6 +86,8 @@ class Author:
         fault."""
         title = tag("h3", "The first read that can't be explained")
         why = reasons(self.reasons_of(found), numbered=bool(marks.arrows))
+        if marks.pair is not None:
+            why += tag("p", words(capital(marks.pair.in_words()) + "."))
         return title + why + self.windows(marks, "the first read that can't be explained")
 
     def reasons_of(self, found: Unexplained) -> List[str]:
@@ -130,11 +143,11 @@ def figure(drawn: Figure, label: str, caption: str) -> str:
 def facts(row: Row) -> str:
     """The three answers, with the first read that breaks each."""
     parts = []
-    for level in ("atomic", "regular", "safe"):
+    for level, word in (("atomic", "linearizable"), ("regular", "regular"), ("safe", "safe")):
         if level in row:
             read = row.get(f"{level}_read")
             where = f" (first broken by the read of line {read})" if read is not None else ""
-            parts.append(f"{level} {tag('b', words(str(row[level])))}{words(where)}")
+            parts.append(f"{word} {tag('b', words(str(row[level])))}{words(where)}")
     return tag("p", " &#183; ".join(parts), class_="facts") if parts else ""
 
 
@@ -150,18 +163,21 @@ def reasons(told: List[str], numbered: bool) -> str:
     return tag("ol", "".join(items), class_="reasons") if items else ""
 
 
-def stale_words(found: Unexplained, count: int, overlapped: List[Operation]) -> str:
+def listed(writes: List[Operation]) -> str:
+    """The first few writes, and how many more there are."""
+    shown = [named(write) for write in writes[:MOST_NAMED]]
+    if len(writes) > MOST_NAMED:
+        shown.append(counted(len(writes) - MOST_NAMED, "more write"))
+    before = ", ".join(shown[:-1]) + " and " if len(shown) > 1 else ""
+    return before + shown[-1]
+
+
+def unexplained_words(found: Unexplained, count: int, overlapped: List[Operation]) -> str:
     """The first read that can't be explained, how many there are, and the writes that were open beside it."""
     text = f"The first read that can't be explained is {named(found.read)}."
     if count > 1:
         text += f" {count:,} reads in all can't be explained."
-    if not overlapped:
-        return text + " It overlaps no write."
-    shown = [named(write) for write in overlapped[:MOST_NAMED]]
-    if len(overlapped) > MOST_NAMED:
-        shown.append(counted(len(overlapped) - MOST_NAMED, "more write"))
-    before = ", ".join(shown[:-1]) + " and " if len(shown) > 1 else ""
-    return f"{text} It overlaps {before}{shown[-1]}."
+    return f"{text} It overlaps {listed(overlapped) if overlapped else 'no write'}."
 
 
 def section(history: History, row: Row) -> Section:

@@ -45,9 +45,15 @@ def cross(x: float, y: float) -> str:
 
 
 def exclamation(x: float, y: float) -> str:
-    """The sign of the read that can't be explained: an exclamation mark in a disc."""
+    """The sign of a stale read, or one that can't be explained: an exclamation mark in a disc."""
     return (tag("circle", class_="alarm", cx=x, cy=y, r=7) +
             tag("path", class_="alarm-mark", d=path("M", x, y - 4, "v 5 m 0 2 v 1.2")))
+
+
+def tick(x: float, y: float) -> str:
+    """The sign of the fresh read: a tick in a disc."""
+    return (tag("circle", class_="fine", cx=x, cy=y, r=7) +
+            tag("path", class_="fine-mark", d=path("M", x - 3.5, y + 0.2, "l 2.5 2.8 l 4.5 -5.6")))
 
 
 def parallel(x: float, y: float) -> str:

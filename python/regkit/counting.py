@@ -1,0 +1,179 @@
+"""Counts the completed reads of a history in one pass over its lines, without building operations.
+
+Most lines of a recording differ from others in their value and their time alone. So each line is cut before its
+value, and what stands before it is understood once. What stands behind it mustn't say anything that counts. A
+line that is made otherwise is `Unusual`, and the history is then read in whole."""
+import io
+import json
+from typing import Any, Dict, List, NamedTuple, Optional, Set, Tuple
+
+READ, WRITE, REPLY, FAIL, NOTHING = range(5)
+Token = Tuple[int, int, int]  # what a line says, and the numbers of its process and its register
+
+VALUE, TIME, REGISTER = b'"value"', b'"time"', b'"register"'
+QUOTE, BACKSLASH, BLANK = b'"', b"\\", b" \t\r\n"
+AROUND = b" \t\r\n:,}"  # what stands around a name
+TO_ONES = bytes.maketrans(b"0123456789", b"1111111111")
+MEMBERS = {"process", "event", "op", "register"}  # those that count here
+SHORTEST = len(':1,"op":"read"}')  # the shortest rest behind a value that says something that counts
+MOST_KEPT = 65_536  # beginnings that are remembered
+BUSY = float("nan")  # it isn't equal to anything, itself included
+
+
+class Unusual(Exception):
+    """A line that is made otherwise than a recorder makes it. It may be no event at all."""
+
+
+class Reads(NamedTuple):
+    """The completed reads of a history."""
+
+    completed: int
+    overlapping: int  # those of them that overlap a write of their register
+
+
+def object_of(text: bytes) -> Dict[str, Any]:
+    """The object of a line's beginning, which a comma may end."""
+    text = text.strip(BLANK)
+    try:
+        found = json.loads(text if text.endswith(b"}") else text.rstrip(b",") + b"}")
+    except (ValueError, RecursionError) as error:
+        raise Unusual from error
+    if not isinstance(found, dict):
+        raise Unusual
+    return found
+
+
+class Tokens:
+    """What the beginnings of lines say."""
+
+    def __init__(self) -> None:
+        self.events: Dict[bytes, Tuple[int, int]] = {}  # what stands before a register
+        self.names: Dict[bytes, int] = {}  # what stands behind the word `register`
+        self.processes: Dict[int, int] = {}
+        self.registers: Dict[bytes, int] = {}  # by their names in quotes, without escapes
+        self.idle: Set[bytes] = set()  # what stands behind a value, with a 1 for each digit
+        self.failed = False  # whether a call failed
+
+    def learn(self, beginning: bytes, known: Dict[bytes, Token]) -> Token:
+        """What a beginning says that isn't known. It is known then, but for its time."""
+        timeless, _, rest = beginning.partition(TIME)
+        if rest:
+            self.pass_by(rest)
+            token = known.get(timeless)
+            if token is not None:
+                return token
+        before, _, name = timeless.partition(REGISTER)
+        kind, process = self.events.get(before) or self.event(before)
+        number = self.names.get(name)
+        token = kind, process, self.register(name, kind) if number is None else number
+        if len(known) < MOST_KEPT:
+            known[timeless] = token
+        return token
+
+    def event(self, text: bytes) -> Tuple[int, int]:
+        """What happens, and the number of the process."""
+        said = object_of(text) if text.strip(BLANK) else {"event": "crash", "process": 0}
+        process, event, op = said.get("process"), said.get("event"), said.get("op")
+        kind = {"call": {"read": READ, "write": WRITE}.get(str(op)), "reply": REPLY, "fail": FAIL,
+                "crash": NOTHING}.get(str(event))
+        if type(process) is not int or kind is None:
+            raise Unusual
+        self.failed = self.failed or kind == FAIL
+        self.events[text] = kind, self.processes.setdefault(process, len(self.processes))
+        return self.events[text]
+
+    def register(self, text: bytes, kind: int) -> int:
+        """The number of a register, of which only a call has to tell the name."""
+        if not text and kind > WRITE:
+            return 0
+        name = text.strip(AROUND)
+        if name.count(QUOTE) != 2 or BACKSLASH in name:
+            name = spelled_out(text)
+        self.names[text] = self.registers.setdefault(name, len(self.registers))
+        return self.names[text]
+
+    def pass_by(self, rest: bytes) -> None:
+        """Raises Unusual if a member that counts stands behind a value or a time."""
+        alike = rest.translate(TO_ONES)
+        if QUOTE not in rest or alike in self.idle:
+            return
+        if BACKSLASH in rest or MEMBERS & object_of(b'{""' + alike).keys():
+            raise Unusual
+        self.idle.add(alike)
+
+
+def spelled_out(text: bytes) -> bytes:
+    """A register's name in quotes, without escapes. Behind it there may be members that don't count."""
+    said = object_of(b"{" + REGISTER + text)
+    name = said.pop("register")
+    if type(name) is not str or MEMBERS & said.keys():
+        raise Unusual
+    return b'"%s"' % name.encode("utf-8", "surrogatepass")
+
+
+def tokens_of(data: bytes, tokens: Tokens) -> List[Token]:
+    """What each line says. Raises Unusual."""
+    value, shortest = VALUE, SHORTEST  # local names: this loop is nearly all of the time that the count takes
+    known: Dict[bytes, Token] = {}
+    found: List[Token] = []
+    add = found.append
+    for line in io.BytesIO(data):
+        beginning, _, rest = line.partition(value)
+        if len(rest) >= shortest:
+            tokens.pass_by(rest)
+        try:
+            add(known[beginning])
+        except KeyError:
+            add(tokens.learn(beginning, known))
+    return found
+
+
+def without_failed(found: List[Token], processes: int) -> List[Token]:
+    """The same without the calls that failed."""
+    kept, called = list(found), [0] * processes
+    for place, (kind, process, _) in enumerate(found):
+        if kind <= WRITE:
+            called[process] = place
+        elif kind == FAIL:
+            kept[called[process]] = NOTHING, 0, 0
+    return kept
+
+
+def count(found: List[Token], processes: int, registers: int) -> Reads:
+    """Counts the reads. One overlaps no write if its register is idle from its call to its reply.
+
+    `idle` has another number each time that a register becomes idle, and BUSY while a write is open. A write whose
+    process crashed, or that nothing answers, is open for good."""
+    idle: List[float] = [0] * registers
+    opened, quiet = [0] * registers, 0  # the open writes of each register; how often a register became idle
+    was_idle: List[Optional[float]] = [None] * processes  # `idle` when the read was called; None for a write
+    register_of = [0] * processes
+    completed = alone = 0
+    for kind, process, register in found:
+        if kind == REPLY:
+            before, register = was_idle[process], register_of[process]
+            if before is not None:
+                completed += 1
+                if before == idle[register]:
+                    alone += 1
+            else:
+                opened[register] -= 1
+                if not opened[register]:
+                    quiet += 1
+                    idle[register] = quiet
+        elif kind == READ:
+            was_idle[process], register_of[process] = idle[register], register
+        elif kind == WRITE:
+            was_idle[process], register_of[process] = None, register
+            opened[register] += 1
+            idle[register] = BUSY
+    return Reads(completed, completed - alone)
+
+
+def count_reads(data: bytes) -> Reads:
+    """Counts the completed reads of an accepted history. Raises Unusual, or any number if it isn't accepted."""
+    tokens = Tokens()
+    found = tokens_of(data, tokens)
+    if tokens.failed:
+        found = without_failed(found, len(tokens.processes))
+    return count(found, len(tokens.processes), max(1, len(tokens.registers)))
