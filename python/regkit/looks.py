@@ -98,8 +98,17 @@ def nearly(history: bytes, file: str) -> Optional[str]:
     return None
 
 
+def binary(beginning: bytes) -> Optional[str]:
+    """Bytes of which a tenth are no text, as in an image or a database's own file."""
+    text = beginning.decode("utf-8", "replace")
+    odd = sum(each == "\ufffd" or (ord(each) < 32 and each not in "\t\r\n") for each in text)
+    if odd * 10 <= len(text):
+        return None
+    return "this looks like binary data: a history is text, with one JSON object on each line"
+
+
 def looks_like(history: bytes, name: str) -> Optional[str]:
     """What the input looks like and what to do about it, or None if it looks like lines of JSON."""
     beginning, file = history[:ENOUGH], shell_name(name)
     return (packed(beginning, file) or encoded(beginning, file) or converted(beginning, file)
-            or nearly(history, file))
+            or nearly(history, file) or binary(beginning))

@@ -278,20 +278,22 @@ class Signs(unittest.TestCase):
     def test_inversion(self) -> None:
         page = self.page(INVERSION, zones([1, 4], [4, 6], [1, 3]))
         words = self.words(page)
-        for sentence in ["Not atomic: ", "4 operations on 1 register.",
+        for sentence in ["Not linearizable: ", "4 operations on 1 register.",
                          "The write of 1 by process 1 (lines 1 to 2) ended before the read of 2 by process 2 "
                          "(lines 4 to 5) began, so 1 comes before 2.",
                          "The read of 2 by process 2 (lines 4 to 5) ended before the read of 1 by process 2 "
                          "(lines 6 to 7) began, so 2 comes before 1.",
-                         "new-old inversion",
+                         "new-old inversion", "linearizable  no ",
+                         "The read of 2 by process 2 (lines 4 to 5) is the fresh read, and the read of 1 by "
+                         "process 2 (lines 6 to 7) the stale one: it began later, and gave the older value.",
                          "The first read that can't be explained is the read of 1 by process 2 (lines 6 to "
                          "7). It overlaps the write of 2 by process 1 (lines 3 to 8).",
                          "zone of 1", "zone of 2", "1 \u2192 2", "2 \u2192 1"]:
             self.assertIn(sentence, words)
         # In the picture and in the legend. The numbers stand before their sentences too. Four bars are
         # strong, and their eight lines.
-        for word, count in [("zone", 2 + 1), ("badge", 2 + 2 + 1), ("alarm", 1 + 1), ("parallel", 1 + 1),
-                            ("strong", 4 + 8)]:
+        for word, count in [("zone", 2 + 1), ("badge", 2 + 2 + 1), ("alarm", 1 + 1), ("fine", 1 + 1),
+                            ("parallel", 1 + 1), ("strong", 4 + 8)]:
             self.assertEqual(page.count(word), count, word)
 
     def test_numbers_and_colours(self) -> None:
@@ -315,6 +317,24 @@ class Signs(unittest.TestCase):
                       "5, and one moment in it is enough for them."]:
             self.assertIn(title, titles)
 
+    def test_the_fresh_read_is_far_from_the_write(self) -> None:
+        """The fault names the write of the newer value. The last read of it is marked as the fresh one."""
+        lines = [write(1, 1), reply(1), write(1, 2), reply(1), read(3), gave(3, 2), read(2), gave(2, 1)]
+        page = self.page(lines, zones([1, 3], [3, 7], [1, 3]))
+        titles = [words for tag, words in page.texts if tag == "title"]
+        self.assertIn("The read of 2 by process 3 (lines 5 to 6); the fresh read: it gave the newer value.", titles)
+        self.assertEqual((page.count("fine"), page.count("alarm")), (1 + 1, 1 + 1))
+
+    def test_what_to_ask(self) -> None:
+        early = {"atomic": "no", "register": "x", "fault": {"kind": "early", "read": 1, "write": 3}}
+        page = self.page([read(2), gave(2, 5), write(1, 5), reply(1)], early)
+        self.assertIn("Was the store empty when the recording began?", self.words(page))
+        lines = [write(1, 1), reply(1), write(1, 2), reply(1), write(1, 3), reply(1), read(2), gave(2, 1)]
+        page = self.page(lines, zones([1, 3], [3, 7], [1, 3]))
+        self.assertIn("2 answered writes may be lost: the read of line 7 ignored them, and no read came after it: the "
+                      "write of 2 by process 1 (lines 3 to 4) and the write of 3 by process 1 (lines 5 to 6).",
+                      self.words(page))
+
     def test_endings(self) -> None:
         lines = [write(1, 1), reply(1), write(2, 2), fail(2), write(3, 3), crash(3), write(4, 4), read(5),
                  read(6), gave(6, 3), read(6), gave(6, 1), crash(6), read(7), gave(7, 1)]
@@ -329,7 +349,7 @@ class Signs(unittest.TestCase):
         lines = [read(1), write(2, 1), gave(1, 1), reply(2), read(1), gave(1, 1), write(3, 2)]
         row = {"atomic": "yes", "order": [2, 1, 5], "points": [2, 2, 5], "register": "x"}
         page = self.page(lines, row, atomic="yes")
-        self.assertIn("Atomic: ", self.words(page))
+        self.assertIn("Linearizable: ", self.words(page))
         self.assertEqual(page.count("point"), 3 + 1)
         self.assertEqual([data for tag, data in page.texts if tag == "tspan"], ["2", "1", "3"])
         self.assertEqual(page.count("thread"), 1)
@@ -356,7 +376,7 @@ class Signs(unittest.TestCase):
                       "2 reads in all can't be explained. It overlaps no write.", words)
         self.assertEqual(page.count("left-out"), 2, "a number and two words, over one gap")
         self.assertIn("all lines", words)
-        self.assertEqual(page.count("alarm"), 1 + 1)
+        self.assertEqual(page.count("alarm"), 2 + 2, "the stale read of the fault has the mark too")
 
     def test_read_of_its_own(self) -> None:
         lines = [write(1, 1), reply(1), write(1, 2), reply(1), read(2), gave(2, 1)]
@@ -377,8 +397,8 @@ class Signs(unittest.TestCase):
         page = self.page(lines, *rows, {"atomic": "yes", "register": "fine", "order": [121], "points": [121]})
         words = self.words(page)
         self.assertEqual([tag for tag, _ in page.found].count("figure"), 5)
-        self.assertIn("61 operations on 31 registers; 30 of them not atomic.", words)
-        self.assertIn("25 more registers are not atomic", words)
+        self.assertIn("61 operations on 31 registers; 30 of them not linearizable.", words)
+        self.assertIn("25 more registers are not linearizable", words)
         self.assertIn(", and 13 more.", words)
         self.assertIn("1 other register is not drawn", words)
 

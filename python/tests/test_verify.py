@@ -557,7 +557,7 @@ class Command(unittest.TestCase):
     def test_statuses(self) -> None:
         events, rows = CASES["null after a write"]
         h, r = self.file("h.jsonl", events), self.file("h.report", report(*rows))
-        holds = "holds: not atomic: 2 operations on 1 register, 1 of which is not atomic\n"
+        holds = "holds: not linearizable: 2 operations on 1 register, 1 of which is not linearizable\n"
         self.assertEqual(self.run_command(h, r), (0, holds))
         self.assertEqual(self.run_command(h, "-", given=report(*rows)), (0, holds))
         self.assertEqual(self.run_command("-", r, given=events), (0, holds))

@@ -10,7 +10,7 @@ from regkit.colour import CHOICES, painter
 from regkit.explanation import NotOfHistory, Wishes, explain
 from regkit.history import History, NoRegister, NotAHistory, read_history
 from regkit.inputs import MOST_BYTES, STANDARD_INPUT, TooLong, read_input, shown_name
-from regkit.judging import failure_of, many_objects
+from regkit.judging import failure, failure_of, many_objects
 from regkit.options import count
 from regkit.outcome import ATOMIC, COMMAND_LINE, FAILED, NOT_ATOMIC, REFUSED
 from regkit.progress import Progress
@@ -28,8 +28,10 @@ examples:
   regkit convert --from csv log.csv -o h.jsonl --map h.map; regkit explain --map h.map h.jsonl
 
 For each register that isn't linearizable:
-  - the contradiction, with the values, the processes and the lines of each operation;
+  - the contradiction, with the values, the processes and the lines of each operation; of a stale read, the
+    fresh one too;
   - the first read that can't be explained, and how many there are;
+  - the writes that were answered and then lost, and what to ask before the store is blamed;
   - the calls that were open at the same time, the likely culprit first;
   - a time line.
 
@@ -139,7 +141,7 @@ def answer_to(arguments: argparse.Namespace) -> Tuple[int, str]:
     except (NotAHistory, NotAMap, NotOfHistory) as error:
         raise Stop(REFUSED, str(error)) from error
     except OSError as error:
-        raise Stop(FAILED, f"{error.filename or 'input'}: {error.strerror}") from error
+        raise Stop(FAILED, failure(arguments.history, error)) from error
     except NoChecker as error:
         raise Stop(FAILED, str(error)) from error
 

@@ -92,10 +92,10 @@ def in_words(found: verify.Verified) -> str:
         return f"the history is refused: {found.refusal}"
     size = f"{counted(found.operations, 'operation')} on {counted(found.registers, 'register')}"
     if found.early:
-        return f"{'atomic' if found.atomic else 'not atomic'}, by an early answer: {size}"
+        return f"{'linearizable' if found.atomic else 'not linearizable'}, by an early answer: {size}"
     if found.atomic:
-        return f"atomic: {size}"
-    return f"not atomic: {size}, {found.faulty} of which {'is' if found.faulty == 1 else 'are'} not atomic"
+        return f"linearizable: {size}"
+    return f"not linearizable: {size}, {found.faulty} of which {'is' if found.faulty == 1 else 'are'} not linearizable"
 
 
 def counted(count: int, what: str) -> str:
