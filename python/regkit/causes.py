@@ -3,6 +3,7 @@ from typing import List, NamedTuple, Optional, Tuple
 
 from regkit.history import History, Operation
 from regkit.sentences import counted, failed_write, named
+from regkit.surroundings import SUSPECT, find_scene
 from regkit.unexplained import Unexplained
 
 EMPTY = ("was the store empty when the recording began? A value that an earlier run wrote looks like this: start "
@@ -21,7 +22,7 @@ class StalePair(NamedTuple):
 
     def in_words(self) -> str:
         if self.fresh.kind == "write":
-            return f"{named(self.stale)} is stale: it began after {named(self.fresh)} had ended"
+            return f"so {named(self.stale)} is stale"
         return (f"{named(self.fresh)} is the fresh read, and {named(self.stale)} the stale one: it began later, and "
                 "gave the older value")
 
@@ -48,13 +49,15 @@ def later_reads(told: Unexplained, calls: List[Operation]) -> List[Operation]:
 
 def lost_writes(told: Unexplained, calls: List[Operation]) -> List[Operation]:
     """The completed writes that a stale read ignored, and whose values no later read gave. One write alone isn't
-    taken for lost unless there is a later read."""
+    taken for lost if there is no later read, or if another read may have put the old value back."""
     old = told.write
     if told.kind != "zones" or old is None or not old.completed:
         return []
     lost = [call for call in calls if call.kind == "write" and ended_before(old, call) and ended_before(call, told.read)]
     later, values = later_reads(told, calls), {write.value for write in lost}
-    return lost if len(lost) + len(later) > 1 and all(read.value not in values for read in later) else []
+    if len(lost) == 1 and (not later or any(each.rank == SUSPECT for each in find_scene(told, calls).bystanders)):
+        return []
+    return lost if all(read.value not in values for read in later) else []
 
 
 def lost_in_words(told: Unexplained, lost: List[Operation], calls: List[Operation]) -> str:

@@ -189,7 +189,7 @@ def explain_register(page: Page, history: History, row: Row) -> None:
         raise NotOfHistory
     reported = as_reported(told, history, row)
     own = pair if reported else stale_pair(told.pairs, calls, told.read)
-    add_first(page, history, told, reported is not None, own)
+    add_first(page, history, told, reported is not None, own if own != pair else None)
     page.sentence(how_many(count, completed_reads(calls)))
     add_causes(page, history, told, calls)
     scene = find_scene(reported or told, calls)

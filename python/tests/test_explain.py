@@ -144,8 +144,7 @@ class Sentences(unittest.TestCase):
                   "with line 6 they fit none. The write of 1 by process 1 (lines 1 to 2) ended before the "
                   "write of 2 by process 1 (lines 3 to 4) began, so 1 comes before 2. The write of 2 by "
                   "process 1 (lines 3 to 4) ended before the read of 1 by process 2 (lines 5 to 6) began, so "
-                  "2 comes before 1. The read of 1 by process 2 (lines 5 to 6) is stale: it began after the "
-                  "write of 2 by process 1 (lines 3 to 4) had ended. 2 of 3 completed reads can't be explained, each left out before the "
+                  "2 comes before 1. So the read of 1 by process 2 (lines 5 to 6) is stale. 2 of 3 completed reads can't be explained, each left out before the "
                   "next is looked at.")
 
     def test_its_own_contradiction_if_the_report_names_another_read_of_the_time(self) -> None:
@@ -204,7 +203,8 @@ class Causes(unittest.TestCase):
              "Lost writes 2 answered writes may be lost: the read of line 19 ignored them, and no read came after it."),
             ([read(2), gave(2, 8)], ""),
             ([read(2), gave(2, 1), read(2), gave(2, 9)], ""),
-            ([read(2), gave(2, 99)], "")]
+            ([read(2), gave(2, 99)], ""),
+            ([read(4), write(1, 10), reply(1), gave(4, 9), read(2), gave(2, 9), read(2), gave(2, 9)], "")]
         for events, said in table:
             page = self.page([*begin, *events])
             with self.subTest(said):
