@@ -8,7 +8,7 @@ from typing import List, NoReturn, Optional, TextIO
 from regkit import __version__
 
 # Each module has HELP, EPILOG, add_arguments(parser) and run(arguments), which returns the exit status.
-COMMANDS = ["check", "explain", "draw", "verify", "convert", "merge", "split", "join"]
+COMMANDS = ["check", "explain", "draw", "index", "verify", "convert", "merge", "split", "join"]
 
 COMMAND_LINE = 3  # the exit status of a wrong command line, as regcheck's own
 FAILED = 4  # the exit status if input or output failed, as regcheck's own

@@ -36,6 +36,13 @@ class Outcome(NamedTuple):
     drawing: str = ""
 
 
+class Timed(NamedTuple):
+    """An outcome, and how long it took."""
+
+    outcome: Outcome
+    seconds: float
+
+
 def gravest(statuses: List[int]) -> int:
     """The status of several histories together: 4, 3, 2, 1, 5, 0, whichever of these comes first."""
     return max(statuses, default=ATOMIC, key=GRAVITY.index)

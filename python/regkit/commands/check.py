@@ -3,14 +3,15 @@ import argparse
 import json
 import pathlib
 import sys
+import time
 from typing import List
 
 from regkit.colour import CHOICES, Painter, painter
 from regkit.inputs import STANDARD_INPUT, shown_name
 from regkit.judging import Judge, Wishes
 from regkit.options import count
-from regkit.outcome import (COMMAND_LINE, FAILED, REFUSED, STYLES, VERDICTS, Outcome, gravest, json_of,
-                            text_of)
+from regkit.outcome import (ATOMIC, COMMAND_LINE, FAILED, REFUSED, STYLES, VERDICTS, Outcome, Timed, gravest,
+                            json_of, text_of)
 from regkit.progress import Progress
 from regkit.quoting import plain
 
@@ -22,6 +23,7 @@ examples:
   ./record_a_run | regkit check
   regkit check --json --verify runs/*.jsonl > verdicts.jsonl
   regkit check --draw pages runs/*.jsonl
+  regkit check --annotate --junit results.xml runs/*.jsonl    in CI: docs/recipes.md has the whole file
 
 A history that says nothing is no success: a yes needs at least one completed read, or what --least-reads and
 --least-overlaps ask for.
@@ -50,6 +52,10 @@ def add_arguments(parser: argparse.ArgumentParser) -> None:
                         help="check each claim of regcheck's answer, as `regkit verify` does")
     parser.add_argument("--draw", metavar="DIR", type=pathlib.Path,
                         help="draw each history, as `regkit draw` does, to a page in DIR")
+    parser.add_argument("--junit", metavar="FILE",
+                        help="write the outcomes to FILE in JUnit's XML too, a test for each history")
+    parser.add_argument("--annotate", action="store_true",
+                        help="print a line for each fault, which GitHub Actions shows beside the history's line")
     output = parser.add_mutually_exclusive_group()
     output.add_argument("--quiet", action="store_true",
                         help="print no verdicts, only what went wrong: the exit status tells the rest")
@@ -69,25 +75,43 @@ def tell(outcome: Outcome, arguments: argparse.Namespace, progress: Progress) ->
         progress.say(json.dumps(json_of(outcome)).replace("\x7f", "\\u007f"), sys.stdout)
         return
     wrong = outcome.status in (REFUSED, FAILED)
-    if arguments.quiet and not wrong:
-        return
-    stream = sys.stderr if wrong else sys.stdout
-    progress.say("\n".join([heading(outcome, painter(arguments.color, stream)), *text_of(outcome)]), stream)
+    if wrong or not arguments.quiet:
+        stream = sys.stderr if wrong else sys.stdout
+        progress.say("\n".join([heading(outcome, painter(arguments.color, stream)), *text_of(outcome)]), stream)
+    if arguments.annotate and outcome.status != ATOMIC:
+        from regkit.annotations import annotations  # only who asks for them waits for this
+
+        progress.say("\n".join(annotations(outcome)), sys.stdout)
+
+
+def wrong_words(arguments: argparse.Namespace) -> str:
+    """What is wrong with the command line, if anything is."""
+    if arguments.files.count(STANDARD_INPUT) > 1:
+        return "standard input can be read once: give - once"
+    if arguments.annotate and arguments.json:
+        return "--annotate prints lines that are no JSON: leave out one of --annotate and --json"
+    return ""
 
 
 def run(arguments: argparse.Namespace) -> int:
-    files: List[str] = arguments.files or [STANDARD_INPUT]
-    if files.count(STANDARD_INPUT) > 1:
-        print("regkit check: standard input can be read once: give - once", file=sys.stderr)
+    wrong = wrong_words(arguments)
+    if wrong:
+        print(f"regkit check: {wrong}", file=sys.stderr)
         return COMMAND_LINE
+    files: List[str] = arguments.files or [STANDARD_INPUT]
     wishes = Wishes(arguments.most, arguments.least_reads, arguments.least_overlaps, arguments.first,
                     arguments.verify, arguments.draw)
-    statuses = []
+    told: List[Timed] = []
     with Progress() as progress:
         judge = Judge(wishes, progress)
         for place, name in enumerate(files, 1):
             label = plain(shown_name(name)) + (f" ({place} of {len(files)})" if len(files) > 1 else "")
+            began = time.monotonic()
             outcome = judge.judge(name, label)
-            statuses.append(outcome.status)
+            told.append(Timed(outcome, time.monotonic() - began))
             tell(outcome, arguments, progress)
-    return gravest(statuses)
+    if arguments.junit is not None:
+        from regkit.junit import document  # only who asks for it waits for this
+
+        pathlib.Path(arguments.junit).write_text(document(told), encoding="utf-8")
+    return gravest([timed.outcome.status for timed in told])

@@ -1,0 +1,44 @@
+"""Outcomes as annotations: lines that GitHub Actions shows beside the history's lines, and in the summary of a run."""
+from typing import List, Optional
+
+from regkit.inputs import STANDARD_INPUT
+from regkit.outcome import ATOMIC, NOT_ATOMIC, TOO_LITTLE, VERDICTS, Fault, Outcome
+from regkit.quoting import plain, quoted
+from regkit.refusals import read_refusal
+
+
+def data(lines: List[str]) -> str:
+    """The text of an annotation."""
+    return "%0A".join(plain(line).replace("%", "%25") for line in lines)
+
+
+def member(text: str) -> str:
+    """The value of a member of an annotation."""
+    return data([text]).replace(":", "%3A").replace(",", "%2C")
+
+
+def annotation(level: str, outcome: Outcome, line: Optional[int], lines: List[str]) -> str:
+    where = [] if outcome.file == STANDARD_INPUT else [f"file={member(outcome.file)}"]
+    if where and line:
+        where.append(f"line={line}")
+    title = f"title={member('regkit: ' + VERDICTS[outcome.status])}"
+    return f"::{level} {','.join([*where, title])}::{data(lines)}"
+
+
+def line_of(fault: Fault) -> int:
+    """The line of the call that a fault blames: that of a read if it can be."""
+    told = fault.row["fault"]
+    return int(told["second"][1] if told["kind"] == "zones" else told["read"])
+
+
+def annotations(outcome: Outcome) -> List[str]:
+    """An annotation for each fault that is shown; one for a history that has another verdict than linearizable."""
+    if outcome.status == ATOMIC:
+        return []
+    if outcome.status == NOT_ATOMIC and outcome.faults:
+        return [annotation("error", outcome, line_of(fault), [f"register {quoted(fault.register)}:", *fault.sentences])
+                for fault in outcome.faults]
+    refusal = read_refusal(outcome.words, lambda line: line)
+    level = "warning" if outcome.status == TOO_LITTLE else "error"
+    lines = [outcome.words, outcome.advice] if outcome.advice else [outcome.words]
+    return [annotation(level, outcome, refusal.line if refusal else None, lines)]

@@ -1,0 +1,64 @@
+"""`regkit index`: a page that lists the runs of a folder, newest first, with a picture of each."""
+import argparse
+import pathlib
+import sys
+from typing import List
+
+from regkit.judging import Judge, Wishes
+from regkit.options import count
+from regkit.outcome import NOT_ATOMIC
+from regkit.progress import Progress
+from regkit.quoting import plain
+from regkit.runs import PICTURES, Run, page, runs_in
+from regkit.sentences import counted
+
+HELP = "check and draw the histories of a folder, and list them on a page, newest first"
+EPILOG = """\
+examples:
+  regkit index runs                           writes runs/index.html, with the pictures in runs/pictures
+  regkit index --most 20 runs -o latest.html  lists the newest 20 histories of runs alone
+
+A history is a file whose name ends with .jsonl or .jsonl.gz. Its picture is drawn anew only if the history
+is newer. The page and the pictures load nothing and have no script.
+
+exit status:
+  0  the page was written, whatever it says
+  3  the command line is wrong
+  4  the folder couldn't be read, or the page or a picture couldn't be written
+"""
+
+WRITTEN = 0
+
+
+def add_arguments(parser: argparse.ArgumentParser) -> None:
+    parser.add_argument("folder", metavar="DIR", type=pathlib.Path, help="where the histories are")
+    parser.add_argument("-o", "--output", metavar="OUT.html", type=pathlib.Path,
+                        help="the page (default: index.html in DIR)")
+    parser.add_argument("--most", metavar="N", type=count, default=100,
+                        help="list at most N histories, the newest (default %(default)s)")
+
+
+def judged(paths: List[pathlib.Path], pictures: pathlib.Path, progress: Progress) -> List[Run]:
+    """The runs with their outcomes. A picture that is older than its history is drawn."""
+    judge = Judge(Wishes(1, 1, 0, False, False, None), progress)
+    runs = []
+    for place, path in enumerate(paths, 1):
+        picture, changed = pictures / f"{path.stem}.html", path.stat().st_mtime
+        fresh = picture.exists() and picture.stat().st_mtime >= changed
+        judge.wishes = judge.wishes._replace(draw=None if fresh else pictures)
+        outcome = judge.judge(str(path), f"{plain(path.name)} ({place} of {len(paths)})")
+        drawn = pathlib.Path(outcome.drawing) if outcome.drawing else picture
+        runs.append(Run(path, changed, outcome, drawn if outcome.evidence is not None else None))
+    return runs
+
+
+def run(arguments: argparse.Namespace) -> int:
+    folder: pathlib.Path = arguments.folder
+    output: pathlib.Path = arguments.output or folder / "index.html"
+    paths = runs_in(folder)
+    with Progress() as progress:
+        runs = judged(paths[:arguments.most], folder / PICTURES, progress)
+    output.write_text(page(runs, len(paths), folder, output), encoding="utf-8", errors="surrogateescape")
+    wrong = sum(each.outcome.status == NOT_ATOMIC for each in runs)
+    print(f"{plain(str(output))}: {counted(len(runs), 'run')}, {wrong:,} not linearizable", file=sys.stdout)
+    return WRITTEN
