@@ -3,7 +3,7 @@ from typing import List, NamedTuple, Optional, Tuple
 
 from regkit.history import History, Operation
 from regkit.sentences import counted, failed_write, named
-from regkit.surroundings import SUSPECT, find_scene
+from regkit.surroundings import FOREVER, SUSPECT, end_of, find_scene
 from regkit.unexplained import Unexplained
 
 EMPTY = ("was the store empty when the recording began? A value that an earlier run wrote looks like this: start "
@@ -23,8 +23,7 @@ class StalePair(NamedTuple):
     def in_words(self) -> str:
         if self.fresh.kind == "write":
             return f"so {named(self.stale)} is stale"
-        return (f"{named(self.fresh)} is the fresh read, and {named(self.stale)} the stale one: it began later, and "
-                "gave the older value")
+        return f"{named(self.fresh)} is the fresh read, and {named(self.stale)} the stale one"
 
 
 def ended_before(call: Operation, other: Operation) -> bool:
@@ -43,35 +42,45 @@ def stale_pair(pairs: List[Tuple[Operation, Operation]], calls: List[Operation],
     return StalePair(reads[-1] if reads else fresh, stale)
 
 
-def later_reads(told: Unexplained, calls: List[Operation]) -> List[Operation]:
-    return [call for call in calls if call.kind == "read" and call.completed and call.line > told.read.line]
+class Lost(NamedTuple):
+    """Completed writes that a stale read ignored, and whose values no later read gave."""
+
+    read: Operation
+    writes: List[Operation]
+    surely: bool  # another read ignored them too, before there was another write
+
+    def in_words(self) -> str:
+        """How many they are."""
+        one = len(self.writes) == 1
+        if self.surely:
+            verb, after = "was" if one else "were", f"no later read gave {'its value' if one else 'their values'}"
+        else:
+            verb, after = "may be", "nothing came after it"
+        return (f"{counted(len(self.writes), 'answered write')} {verb} lost: the read of line {self.read.line} ignored "
+                f"{'it' if one else 'them'}, and {after}")
 
 
-def lost_writes(told: Unexplained, calls: List[Operation]) -> List[Operation]:
-    """The completed writes that a stale read ignored, and whose values no later read gave. One write alone isn't
-    taken for lost if there is no later read, or if another read may have put the old value back."""
-    old = told.write
+def find_lost(told: Unexplained, calls: List[Operation]) -> Optional[Lost]:
+    """The writes that were lost. None if they may as well be overwritten, or if another read may have put the old
+    value back."""
+    old, read = told.write, told.read
     if told.kind != "zones" or old is None or not old.completed:
-        return []
-    lost = [call for call in calls if call.kind == "write" and ended_before(old, call) and ended_before(call, told.read)]
-    later, values = later_reads(told, calls), {write.value for write in lost}
-    if len(lost) == 1 and (not later or any(each.rank == SUSPECT for each in find_scene(told, calls).bystanders)):
-        return []
-    return lost if all(read.value not in values for read in later) else []
+        return None
+    writes = [call for call in calls if call.kind == "write" and ended_before(old, call) and ended_before(call, read)]
+    values = {write.value for write in writes}
+    later = [call for call in calls if call.kind == "read" and call.completed and call.line > read.line]
+    if not writes or any(call.value in values for call in later):
+        return None
+    others = [call.line for call in calls if call.kind == "write" and not call.failed and end_of(call) > read.line]
+    following = min(others, default=FOREVER)
+    surely = any(end_of(call) < following for call in later)
+    if following < end_of(read) or not (surely or not (later or others)):
+        return None
+    suspect = any(each.rank == SUSPECT for each in find_scene(told, calls).bystanders)
+    return None if suspect and len(writes) == 1 else Lost(read, writes, surely)
 
 
-def lost_in_words(told: Unexplained, lost: List[Operation], calls: List[Operation]) -> str:
-    """How many writes were lost, as far as the later reads tell."""
-    one = len(lost) == 1
-    if later_reads(told, calls):
-        verb, after = "was" if one else "were", f"no later read gave {'its value' if one else 'their values'}"
-    else:
-        verb, after = "may be", "no read came after it"
-    return (f"{counted(len(lost), 'answered write')} {verb} lost: the read of line {told.read.line} ignored "
-            f"{'it' if one else 'them'}, and {after}")
-
-
-def questions(history: History, told: Unexplained, lost: List[Operation]) -> List[str]:
+def questions(history: History, told: Unexplained, lost: Optional[Lost]) -> List[str]:
     """What to ask before the store is blamed."""
     asked = []
     if told.kind in ("unwritten", "early") and failed_write(history, told.read) is None:

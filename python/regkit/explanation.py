@@ -3,7 +3,7 @@ import textwrap
 from typing import List, NamedTuple, Optional, Set
 
 from regkit import timeline
-from regkit.causes import StalePair, lost_in_words, lost_writes, questions, stale_pair
+from regkit.causes import StalePair, find_lost, questions, stale_pair
 from regkit.colour import Painter
 from regkit.history import History, Operation, read_history
 from regkit.quoting import quoted
@@ -160,14 +160,14 @@ def add_timeline(page: Page, history: History, scene: Scene, pairs: List[StalePa
 
 def add_causes(page: Page, history: History, told: Unexplained, calls: List[Operation]) -> None:
     """The writes that were lost, and what to ask."""
-    lost = lost_writes(told, calls)
-    if lost:
+    lost = find_lost(told, calls)
+    if lost is not None:
         page.heading("Lost writes")
-        page.sentence(lost_in_words(told, lost, calls))
-        for write in lost[:MOST_LOST]:
+        page.sentence(lost.in_words())
+        for write in lost.writes[:MOST_LOST]:
             page.sentence(named(write))
-        if len(lost) > MOST_LOST:
-            page.sentence(f"and {counted(len(lost) - MOST_LOST, 'more write')}")
+        if len(lost.writes) > MOST_LOST:
+            page.sentence(f"and {counted(len(lost.writes) - MOST_LOST, 'more write')}")
     asked = questions(history, told, lost)
     if asked:
         page.heading("Ask first")

@@ -285,7 +285,7 @@ class Signs(unittest.TestCase):
                          "(lines 6 to 7) began, so 2 comes before 1.",
                          "new-old inversion", "linearizable  no ",
                          "The read of 2 by process 2 (lines 4 to 5) is the fresh read, and the read of 1 by "
-                         "process 2 (lines 6 to 7) the stale one: it began later, and gave the older value.",
+                         "process 2 (lines 6 to 7) the stale one.",
                          "The first read that can't be explained is the read of 1 by process 2 (lines 6 to "
                          "7). It overlaps the write of 2 by process 1 (lines 3 to 8).",
                          "zone of 1", "zone of 2", "1 \u2192 2", "2 \u2192 1"]:
@@ -331,7 +331,7 @@ class Signs(unittest.TestCase):
         self.assertIn("Was the store empty when the recording began?", self.words(page))
         lines = [write(1, 1), reply(1), write(1, 2), reply(1), write(1, 3), reply(1), read(2), gave(2, 1)]
         page = self.page(lines, zones([1, 3], [3, 7], [1, 3]))
-        self.assertIn("2 answered writes may be lost: the read of line 7 ignored them, and no read came after it: the "
+        self.assertIn("2 answered writes may be lost: the read of line 7 ignored them, and nothing came after it: the "
                       "write of 2 by process 1 (lines 3 to 4) and the write of 3 by process 1 (lines 5 to 6).",
                       self.words(page))
 

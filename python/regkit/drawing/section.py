@@ -63,10 +63,10 @@ class Author:
 
     def causes(self, found: Unexplained) -> str:
         """The writes that were lost, and what to ask."""
-        lost = causes.lost_writes(found, self.calls)
+        lost = causes.find_lost(found, self.calls)
         said = causes.questions(self.history, found, lost)
-        if lost:
-            said.insert(0, f"{causes.lost_in_words(found, lost, self.calls)}: {listed(lost)}")
+        if lost is not None:
+            said.insert(0, f"{lost.in_words()}: {listed(lost.writes)}")
         return "".join(tag("p", words(capital(sentence) + "."), class_="ask") for sentence in said)
 
     def is_near(self, read: Operation, marks: Marks) -> bool:

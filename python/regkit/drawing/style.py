@@ -50,6 +50,7 @@ table.runs{border-collapse:collapse;margin-top:18px}
 .runs th{color:var(--dim);font-weight:600}
 .runs td{overflow-wrap:anywhere}
 .runs .when,.runs .yes,.runs .no{white-space:nowrap;overflow-wrap:normal}
+.runs td:nth-child(3){min-width:15em}
 .runs .when{color:var(--dim)}
 .runs .yes{color:var(--good-ink)}
 .runs .no{color:var(--two);font-weight:600}
