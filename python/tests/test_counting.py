@@ -2,7 +2,7 @@
 import json
 import random
 import unittest
-from typing import Any, Dict, List
+from typing import Any, Dict, List, Set
 
 from regkit.checker import run_checker
 from regkit.counting import Reads, Unusual, count_reads
@@ -22,7 +22,7 @@ def run_of(chance: random.Random, count: int, registers: List[str]) -> List[Line
     lines: List[Line] = []
     written = {register: 0 for register in registers}
     opened: Dict[int, Line] = {}
-    gone = set()
+    gone: Set[int] = set()
     lies = chance.choice([0.02, 0.2, 0.8])
     while len(lines) < count:
         process = chance.randrange(1, 6) + (100 * (len(gone) // 2))
@@ -52,8 +52,10 @@ def spelled(lines: List[Line], **how: Any) -> bytes:
 
 
 def with_members(chance: random.Random, lines: List[Line]) -> List[Line]:
-    """The same by clients and nodes, at some time."""
-    return [{**line, **dict(zip(WHO, [f"c{line['process']}", "n", chance.randrange(10**9)]))} for line in lines]
+    """The same by clients and nodes, at times that don't go back."""
+    begin = chance.randrange(10**9)
+    return [{**line, **dict(zip(WHO, [f"c{line['process']}", "n", begin + 999_999 * place]))}
+            for place, line in enumerate(lines)]
 
 
 def counted(history: bytes) -> Reads:
@@ -129,7 +131,8 @@ class Excerpts(unittest.TestCase):
         for seed in range(250):
             chance = random.Random(seed)
             lines = run_of(chance, chance.randrange(4, 60), ["x", "y\u00e4", "z"][:chance.randrange(1, 4)])
-            history = spelled(with_members(chance, lines) if seed % 3 else lines, **[{}, {"separators": (",", ":")}][seed % 2])
+            history = spelled(with_members(chance, lines) if seed % 3 else lines,
+                              separators=(",", ":") if seed % 2 else (", ", ": "))
             answer = run_checker(history)
             rows = read_report(answer.report).faulty
             self.assertEqual(read_verdict(answer.report).faulty, rows)
