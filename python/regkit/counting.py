@@ -5,7 +5,11 @@ value, and what stands before it is understood once. What stands behind it mustn
 line that is made otherwise is `Unusual`, and the history is then read in whole."""
 import io
 import json
-from typing import Any, Dict, List, NamedTuple, Optional, Set, Tuple
+import marshal
+from array import array
+from typing import Any, Dict, Iterable, Iterator, List, NamedTuple, Optional, Set, Tuple
+
+from regkit.sharing import Helper, may_share
 
 READ, WRITE, REPLY, FAIL, NOTHING = range(5)
 Token = Tuple[int, int, int]  # what a line says, and the numbers of its process and its register
@@ -16,6 +20,7 @@ AROUND = b" \t\r\n:,}"  # what stands around a name
 TO_ONES = bytes.maketrans(b"0123456789", b"1111111111")
 MEMBERS = {"process", "event", "op", "register"}  # those that count here
 SHORTEST = len(':1,"op":"read"}')  # the shortest rest behind a value that says something that counts
+LONG = 8_388_608  # bytes of a history that is worth two processes
 MOST_KEPT = 65_536  # beginnings that are remembered
 BUSY = float("nan")  # it isn't equal to anything, itself included
 
@@ -111,13 +116,13 @@ def spelled_out(text: bytes) -> bytes:
     return b'"%s"' % name.encode("utf-8", "surrogatepass")
 
 
-def tokens_of(data: bytes, tokens: Tokens) -> List[Token]:
+def tokens_of(lines: Iterable[bytes], tokens: Tokens) -> List[Token]:
     """What each line says. Raises Unusual."""
     value, shortest = VALUE, SHORTEST  # local names: this loop is nearly all of the time that the count takes
     known: Dict[bytes, Token] = {}
     found: List[Token] = []
     add = found.append
-    for line in io.BytesIO(data):
+    for line in lines:
         beginning, _, rest = line.partition(value)
         if len(rest) >= shortest:
             tokens.pass_by(rest)
@@ -125,6 +130,44 @@ def tokens_of(data: bytes, tokens: Tokens) -> List[Token]:
             add(known[beginning])
         except KeyError:
             add(tokens.learn(beginning, known))
+    return found
+
+
+def packed(lines: Iterable[bytes]) -> bytes:
+    """What each line says, for another process, which has numbers of its own. Raises Unusual."""
+    tokens = Tokens()
+    found = tokens_of(lines, tokens)
+    places = {token: place for place, token in enumerate(set(found))}
+    processes, names = list(tokens.processes), list(tokens.registers) or [b""]
+    said = [(kind, processes[process], names[register]) for kind, process, register in places]
+    return marshal.dumps((tokens.failed, said, array("I", map(places.__getitem__, found)).tobytes()))
+
+
+def unpacked(pack: bytes, tokens: Tokens) -> Iterator[Token]:
+    """What was packed, with the numbers of this process."""
+    failed, said, places = marshal.loads(pack)
+    tokens.failed = tokens.failed or failed
+    own = [(kind, tokens.processes.setdefault(process, len(tokens.processes)),
+            tokens.registers.setdefault(name, len(tokens.registers))) for kind, process, name in said]
+    return map(own.__getitem__, memoryview(places).cast("I"))
+
+
+def shared_tokens(data: bytes, tokens: Tokens) -> List[Token]:
+    """What each line says. Of a long history another process reads the second half. Raises Unusual."""
+    half = data.find(b"\n", len(data) // 2) + 1 if len(data) >= LONG and may_share() else 0
+    if not half:
+        return tokens_of(io.BytesIO(data), tokens)
+    stream = io.BytesIO(data)
+    stream.seek(half)
+    try:
+        with Helper(lambda: packed(stream)) as helper:
+            found = tokens_of(io.BytesIO(data[:half]), tokens)
+            pack = helper.result()
+    except OSError:
+        return tokens_of(io.BytesIO(data), tokens)
+    if pack is None:
+        raise Unusual
+    found.extend(unpacked(pack, tokens))
     return found
 
 
@@ -173,7 +216,7 @@ def count(found: List[Token], processes: int, registers: int) -> Reads:
 def count_reads(data: bytes) -> Reads:
     """Counts the completed reads of an accepted history. Raises Unusual, or any number if it isn't accepted."""
     tokens = Tokens()
-    found = tokens_of(data, tokens)
+    found = shared_tokens(data, tokens)
     if tokens.failed:
         found = without_failed(found, len(tokens.processes))
     return count(found, len(tokens.processes), max(1, len(tokens.registers)))

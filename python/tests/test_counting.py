@@ -3,7 +3,9 @@ import json
 import random
 import unittest
 from typing import Any, Dict, List, Set
+from unittest import mock
 
+from regkit import counting
 from regkit.checker import run_checker
 from regkit.counting import Reads, Unusual, count_reads
 from regkit.evidence import count_evidence
@@ -82,6 +84,28 @@ class Counts(unittest.TestCase):
             seen["fail"] += b'"fail"' in history
             seen["crash"] += b'"crash"' in history
         self.assertTrue(all(count > 100 for count in seen.values()), seen)
+
+    def test_shared_by_two_processes(self) -> None:
+        """The half that another process reads is counted with the other one, and is as unusual."""
+        unusual = 0
+        with mock.patch.object(counting, "LONG", 0), mock.patch.object(counting, "may_share", lambda: True):
+            self.assertEqual(count_reads(b""), Reads(0, 0))
+            for seed in range(60):
+                chance = random.Random(seed)
+                lines = run_of(chance, chance.randrange(2, 200), ["x", "y", "z"][:chance.randrange(1, 4)])
+                history = spelled(with_members(chance, lines))
+                self.assertEqual(count_reads(history), counted(history), f"seed {seed}")
+                try:
+                    count_reads(history + b'{"value":7}\n')
+                except Unusual:
+                    unusual += 1
+        self.assertEqual(unusual, 60)
+
+    def test_a_copy_that_cannot_be_made(self) -> None:
+        history = spelled(run_of(random.Random(1), 80, ["x", "y"]))
+        with mock.patch.object(counting, "LONG", 0), mock.patch.object(counting, "may_share", lambda: True), \
+                mock.patch("os.fork", side_effect=OSError):
+            self.assertEqual(count_reads(history), counted(history))
 
     def test_any_order_of_members(self) -> None:
         """Members in another order are read, or are unusual. They are never misread."""
