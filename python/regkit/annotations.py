@@ -1,4 +1,4 @@
-"""Outcomes as annotations: lines that GitHub Actions shows beside the history's lines, and in the summary of a run."""
+"""Outcomes as annotations: lines that GitHub Actions shows beside the history's own."""
 from typing import List, Optional
 
 from regkit.inputs import STANDARD_INPUT
@@ -32,11 +32,12 @@ def line_of(fault: Fault) -> int:
 
 
 def annotations(outcome: Outcome) -> List[str]:
-    """An annotation for each fault that is shown; one for a history that has another verdict than linearizable."""
+    """An annotation for each fault that is shown; one for any other verdict than linearizable."""
     if outcome.status == ATOMIC:
         return []
     if outcome.status == NOT_ATOMIC and outcome.faults:
-        return [annotation("error", outcome, line_of(fault), [f"register {quoted(fault.register)}:", *fault.sentences])
+        return [annotation("error", outcome, line_of(fault),
+                           [f"register {quoted(fault.register)}:", *fault.sentences])
                 for fault in outcome.faults]
     refusal = read_refusal(outcome.words, lambda line: line)
     level = "warning" if outcome.status == TOO_LITTLE else "error"

@@ -1,4 +1,4 @@
-"""What may be behind a fault: the fresh read beside the stale one, the writes that were lost, and what to ask."""
+"""What may be behind a fault: the fresh read beside the stale one, lost writes, and what to ask."""
 from typing import List, NamedTuple, Optional, Tuple
 
 from regkit.history import History, Operation
@@ -6,16 +6,16 @@ from regkit.sentences import counted, failed_write, named
 from regkit.surroundings import FOREVER, SUSPECT, end_of, find_scene
 from regkit.unexplained import Unexplained
 
-EMPTY = ("was the store empty when the recording began? A value that an earlier run wrote looks like this: start "
-         "with an empty store, or with keys that no run has used")
-FORGETS = ("may the store forget, by expiry (TTL) or when its memory is full (maxmemory)? A value that it forgot reads "
-           "as null: docs/recipes.md says how to test a cache that may forget")
-FAILOVER = ("did a server stop, or another one take its place? Writes that are answered before they are on disk, or on "
-            "the other servers, are lost then")
+EMPTY = ("was the store empty when the recording began? A value that an earlier run wrote looks like this: "
+         "start with an empty store, or with keys that no run has used")
+FORGETS = ("may the store forget, by expiry (TTL) or when its memory is full (maxmemory)? A value that it "
+           "forgot reads as null: docs/recipes.md says how to test a cache that may forget")
+FAILOVER = ("did a server stop, or another one take its place? Writes that are answered before they are on "
+            "disk, or on the other servers, are lost then")
 
 
 class StalePair(NamedTuple):
-    """A read that gave an older value, and the operation that had ended with the newer one before it began."""
+    """A read that gave an older value, and an operation that had ended with the newer one before it began."""
 
     fresh: Operation
     stale: Operation
@@ -32,13 +32,15 @@ def ended_before(call: Operation, other: Operation) -> bool:
 
 def stale_pair(pairs: List[Tuple[Operation, Operation]], calls: List[Operation],
                read: Optional[Operation] = None) -> Optional[StalePair]:
-    """The stale read of a contradiction: `read` if that is one, else the later read of the second precedence. The
-    fresh operation is the last read of the newer value that ended before it, or else the one of the precedence."""
+    """The stale read of a contradiction: `read` if that is one, else the later read of the second precedence.
+    The fresh operation is the last read of the newer value that ended before it, or else that of the
+    precedence."""
     found = [(before, after) for before, after in reversed(pairs) if after.kind == "read" and before.line]
     if not found:
         return None
     fresh, stale = next((pair for pair in found if pair[1] is read), found[0])
-    reads = [call for call in calls if call.kind == "read" and call.value == fresh.value and ended_before(call, stale)]
+    reads = [call for call in calls
+             if call.kind == "read" and call.value == fresh.value and ended_before(call, stale)]
     return StalePair(reads[-1] if reads else fresh, stale)
 
 
@@ -53,25 +55,29 @@ class Lost(NamedTuple):
         """How many they are."""
         one = len(self.writes) == 1
         if self.surely:
-            verb, after = "was" if one else "were", f"no later read gave {'its value' if one else 'their values'}"
+            verb = "was" if one else "were"
+            after = f"no later read gave {'its value' if one else 'their values'}"
         else:
             verb, after = "may be", "nothing came after it"
-        return (f"{counted(len(self.writes), 'answered write')} {verb} lost: the read of line {self.read.line} ignored "
-                f"{'it' if one else 'them'}, and {after}")
+        number = counted(len(self.writes), "answered write")
+        return (f"{number} {verb} lost: the read of line {self.read.line} ignored {'it' if one else 'them'}, "
+                f"and {after}")
 
 
 def find_lost(told: Unexplained, calls: List[Operation]) -> Optional[Lost]:
-    """The writes that were lost. None if they may as well be overwritten, or if another read may have put the old
-    value back."""
+    """The writes that were lost. None if they may as well be overwritten, or if another read may have put the
+    old value back."""
     old, read = told.write, told.read
     if told.kind != "zones" or old is None or not old.completed:
         return None
-    writes = [call for call in calls if call.kind == "write" and ended_before(old, call) and ended_before(call, read)]
+    writes = [call for call in calls
+              if call.kind == "write" and ended_before(old, call) and ended_before(call, read)]
     values = {write.value for write in writes}
     later = [call for call in calls if call.kind == "read" and call.completed and call.line > read.line]
     if not writes or any(call.value in values for call in later):
         return None
-    others = [call.line for call in calls if call.kind == "write" and not call.failed and end_of(call) > read.line]
+    others = [call.line for call in calls
+              if call.kind == "write" and not call.failed and end_of(call) > read.line]
     following = min(others, default=FOREVER)
     surely = any(end_of(call) < following for call in later)
     if following < end_of(read) or not (surely or not (later or others)):

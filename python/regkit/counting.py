@@ -1,8 +1,8 @@
 """Counts the completed reads of a history in one pass over its lines, without building operations.
 
-Most lines of a recording differ from others in their value and their time alone. So each line is cut before its
-value, and what stands before it is understood once. What stands behind it mustn't say anything that counts. A
-line that is made otherwise is `Unusual`, and the history is then read in whole."""
+Most lines of a recording differ from others in their value and their time alone. So each line is cut before
+its value, and what stands before it is understood once. What stands behind it mustn't say anything that
+counts. A line that is made otherwise is `Unusual`, and the history is then read in whole."""
 import io
 import json
 import marshal
@@ -185,8 +185,8 @@ def without_failed(found: List[Token], processes: int) -> List[Token]:
 def count(found: List[Token], processes: int, registers: int) -> Reads:
     """Counts the reads. One overlaps no write if its register is idle from its call to its reply.
 
-    `idle` has another number each time that a register becomes idle, and BUSY while a write is open. A write whose
-    process crashed, or that nothing answers, is open for good."""
+    `idle` has another number each time that a register becomes idle, and BUSY while a write is open. A write
+    whose process crashed, or that nothing answers, is open for good."""
     idle: List[float] = [0] * registers
     opened, quiet = [0] * registers, 0  # the open writes of each register; how often a register became idle
     was_idle: List[Optional[float]] = [None] * processes  # `idle` when the read was called; None for a write
@@ -214,7 +214,7 @@ def count(found: List[Token], processes: int, registers: int) -> Reads:
 
 
 def count_reads(data: bytes) -> Reads:
-    """Counts the completed reads of an accepted history. Raises Unusual, or any number if it isn't accepted."""
+    """Counts the completed reads of an accepted history. Raises Unusual. Other bytes may give any number."""
     tokens = Tokens()
     found = shared_tokens(data, tokens)
     if tokens.failed:

@@ -90,8 +90,8 @@ def unwritten_value(searcher: Searcher, row: Row) -> Optional[int]:
 
 
 def excerpt(data: bytes, rows: List[Row]) -> History:
-    """A history of what the sentences about some faults need: the operations that they name, the first one, and
-    the writes of values that nobody wrote to the register."""
+    """A history of what the sentences about some faults need: the operations that they name, the first one,
+    from which times are counted, and the writes of values that nobody wrote to the register."""
     if b"\\" in data and DISGUISED.search(data):
         return read_history(data)
     searcher = Searcher(data)

@@ -11,8 +11,8 @@ from regkit.evidence import Evidence, count_evidence
 from regkit.history import NotAHistory, read_history
 from regkit.lines import NotJson
 from regkit.inputs import STANDARD_INPUT, TooLong, read_input, shown_name
-from regkit.outcome import (ATOMIC, FAILED, NOT_ATOMIC, REFUSED, TOO_LITTLE, Fault, Outcome, evidence_in_words,
-                            faults_of, lacks)
+from regkit.outcome import (ATOMIC, FAILED, NOT_ATOMIC, REFUSED, TOO_LITTLE, Fault, Outcome,
+                            evidence_in_words, faults_of, lacks)
 from regkit.progress import Progress
 from regkit.quoting import plain
 from regkit.report import Report, read_verdict

@@ -16,7 +16,7 @@ def content(lines: List[str]) -> str:
 
 
 def test_case(timed: Timed) -> str:
-    """A history as a test: an error if it was refused or the check failed, else a failure unless it is linearizable."""
+    """A history as a test: an error if it was refused or the check failed, a failure unless it is a yes."""
     outcome = timed.outcome
     begin = (f'  <testcase classname="regkit check" name="{attribute(shown_name(outcome.file))}" '
              f'time="{timed.seconds:.3f}">')
@@ -36,4 +36,5 @@ def document(told: List[Timed]) -> str:
     suite = f'tests="{len(told)}" failures="{failures}" errors="{errors}" time="{seconds:.3f}"'
     cases = "".join(test_case(timed) + "\n" for timed in told)
     return ('<?xml version="1.0" encoding="UTF-8"?>\n'
-            f'<testsuites {suite}>\n<testsuite name="regkit check" {suite}>\n{cases}</testsuite>\n</testsuites>\n')
+            f'<testsuites {suite}>\n<testsuite name="regkit check" {suite}>\n{cases}</testsuite>\n'
+            "</testsuites>\n")

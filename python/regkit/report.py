@@ -35,8 +35,8 @@ def read_report(data: bytes) -> Report:
 
 
 def read_verdict(data: bytes) -> Report:
-    """The same with the lines of the faulty registers alone, and a summary without its order. The numbers of an
-    order are nearly all of a report, and a verdict doesn't need them."""
+    """The same with the lines of the faulty registers alone, and a summary without its order. The numbers of
+    an order are nearly all of a report, and a verdict doesn't need them."""
     last = data.rfind(b"\n", 0, len(data) - 1) + 1
     faulty, begin = [], 0
     while begin < last:

@@ -51,9 +51,11 @@ def row(run: Run, page: pathlib.Path) -> str:
 def page(runs: List[Run], found: int, folder: pathlib.Path, output: pathlib.Path) -> str:
     """The whole page, which will stand at `output`. There may be more runs in the folder than are listed."""
     wrong = sum(run.outcome.status == NOT_ATOMIC for run in runs)
-    listed = f"The newest {len(runs):,} of {counted(found, 'run')}" if len(runs) < found else counted(found, "run")
-    head = tag("tr", "".join(tag("th", words(each)) for each in ("Written", "Verdict", "Run", "What came out")))
+    listed = ("" if len(runs) == found else f"The newest {len(runs):,} of ") + counted(found, "run")
+    head = "".join(tag("th", words(each)) for each in ("Written", "Verdict", "Run", "What came out"))
     title = folder.resolve().name
-    body = [tag("h1", f"Runs of {name(title)}"), tag("p", words(f"{listed}; {wrong:,} not linearizable."), class_="sub"),
-            tag("table", head + "\n".join(row(run, output) for run in runs), class_="runs")]
+    rows = "\n".join(row(run, output) for run in runs)
+    body = [tag("h1", f"Runs of {name(title)}"),
+            tag("p", words(f"{listed}; {wrong:,} not linearizable."), class_="sub"),
+            tag("table", tag("tr", head) + rows, class_="runs")]
     return document(f"Runs of {title}", "\n".join(body))

@@ -10,7 +10,7 @@ SPARE = 2.0  # processors that have nothing to do, as the load average has it
 
 
 def may_share() -> bool:
-    """Whether a copy can be made and has a processor of its own. A process with several threads isn't copied."""
+    """Whether a copy can be made and has a processor to itself. A process with threads isn't copied."""
     if not hasattr(os, "fork") or not hasattr(os, "sched_getaffinity") or threading.active_count() > 1:
         return False
     return len(os.sched_getaffinity(0)) - os.getloadavg()[0] >= SPARE

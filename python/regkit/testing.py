@@ -53,7 +53,8 @@ def assert_atomic(history: Recorded, *, least_reads: int = 1, least_overlaps: in
     for least, seen, what in [(least_reads, reads, "completed reads"),
                               (least_overlaps, overlaps, "completed reads that overlap a write")]:
         if seen < least:
-            raise TooLittleEvidence(f"{name}: linearizable, but that rests on {seen} {what}; the least is {least}")
+            raise TooLittleEvidence(f"{name}: linearizable, but that rests on {seen} {what}; the least is "
+                                    f"{least}")
     return evidence
 
 

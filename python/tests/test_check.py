@@ -226,9 +226,11 @@ class Refusals(unittest.TestCase):
 
     def test_binary_data(self) -> None:
         chance = random.Random(1)
-        for data in (bytes(chance.randrange(256) for _ in range(5000)), b"\x7fELF\x02\x01\x01" + bytes(90), b"\xfe" * 70_000):
+        for data in (bytes(chance.randrange(256) for _ in range(5000)), b"\x7fELF\x02\x01\x01" + bytes(90),
+                     b"\xfe" * 70_000):
             self.assertIn("this looks like binary data: a history is text", self.told(data))
-        for data in (b"caf\xe9 au lait, with sugar\n", "\u00e4\u00f6\u00fc\n".encode(), b"\x1b[31mred\x1b[0m and so on, for a line\n"):
+        for data in (b"caf\xe9 au lait, with sugar\n", "\u00e4\u00f6\u00fc\n".encode(),
+                     b"\x1b[31mred\x1b[0m and so on, for a line\n"):
             self.assertNotIn("binary", self.told(data))
 
     def test_the_advice_does_it(self) -> None:

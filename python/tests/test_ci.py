@@ -48,11 +48,12 @@ class JUnit(Files):
         self.assertEqual([suite.get(key) for key in ("tests", "failures", "errors")], ["5", "2", "2"])
         self.assertEqual([case.get("name") for case in suite], names)
         self.assertEqual([(case[0].tag, case[0].get("type")) for case in suite],
-                         [("system-out", None), ("failure", "not linearizable"), ("failure", "too little evidence"),
-                          ("error", "refused"), ("error", "failed")])
+                         [("system-out", None), ("failure", "not linearizable"),
+                          ("failure", "too little evidence"), ("error", "refused"), ("error", "failed")])
         self.assertEqual(suite[0][0].text, "2 operations on 1 register; 1 completed read, 0 overlap a write")
-        self.assertEqual(suite[1][0].get("message"), "not linearizable: 1 faulty register; 4 operations on 1 register; "
-                                                     "2 completed reads, 2 overlap a write")
+        self.assertEqual(suite[1][0].get("message"),
+                         "not linearizable: 1 faulty register; 4 operations on 1 register; 2 completed reads, "
+                         "2 overlap a write")
         self.assertIn("this is a new-old inversion", suite[1][0].text or "")
         self.assertIn("one JSON object", suite[3][0].text or "")
         self.assertTrue(all(float(case.get("time", "")) >= 0 for case in suite))
@@ -79,8 +80,8 @@ class Annotations(Files):
                   str(self.folder / "none.jsonl"))
         lines = ran.out.splitlines()
         self.assertEqual(len(lines), 3)
-        self.assertTrue(lines[0].startswith(f"::error file={wrong},line=6,title=regkit%3A not linearizable::register "
-                                            '"x":%0Athe write of 1 by process 1'), lines[0])
+        begin = f"::error file={wrong},line=6,title=regkit%3A not linearizable::"
+        self.assertTrue(lines[0].startswith(begin + 'register "x":%0Athe write of 1 by process 1'), lines[0])
         self.assertIn("::warning file=", lines[1])
         self.assertIn("title=regkit%3A too little evidence::0 operations", lines[1])
         self.assertIn("none.jsonl,line=5,title=regkit%3A refused::line 5: not JSON%0A", lines[2])
@@ -88,7 +89,8 @@ class Annotations(Files):
     def test_each_fault_and_standard_input(self) -> None:
         ran = run("check", "--annotate", "--most", "2", given=text(*stale("a", "b", "c")))
         found = [line for line in ran.out.splitlines() if line.startswith("::")]
-        self.assertEqual([line.split("::")[1] for line in found], ["error title=regkit%3A not linearizable"] * 2)
+        self.assertEqual([line.split("::")[1] for line in found],
+                         ["error title=regkit%3A not linearizable"] * 2)
         ran = run("check", "--annotate", "--most", "0", given=text(*stale("a")))
         self.assertIn("::error title=regkit%3A not linearizable::1 faulty register; 2 operations", ran.out)
         self.assertNotIn("::", run("check", "--annotate", given=text(*FINE)).out)
@@ -113,8 +115,9 @@ class Index(Files):
     def runs(self) -> None:
         """Four runs, written one minute after the other."""
         hostile = os.fsdecode(b"<b> #%? \xff.jsonl")
-        for minute, (name, events) in enumerate([("old.jsonl", FINE), (hostile, INVERSION), ("index.jsonl", FINE),
-                                                 ("refused.jsonl", [reply(1)])]):
+        written = [("old.jsonl", FINE), (hostile, INVERSION), ("index.jsonl", FINE),
+                   ("refused.jsonl", [reply(1)])]
+        for minute, (name, events) in enumerate(written):
             os.utime(self.file(name, events), (60.0 * minute, 60.0 * minute))
 
     def test_newest_first_with_their_pictures(self) -> None:
@@ -126,16 +129,19 @@ class Index(Files):
         page = self.page()
         elements = Elements(page.replace("<br>", " "))
         self.assertEqual((elements.odd, elements.open), ([], []))
-        self.assertEqual(elements.names[1:], ["refused.jsonl", "index.jsonl", "<b> #%? \\udcff.jsonl", "old.jsonl"])
+        self.assertEqual(elements.names[1:],
+                         ["refused.jsonl", "index.jsonl", "<b> #%? \\udcff.jsonl", "old.jsonl"])
         self.assertEqual(re.findall(r"1970-01-01 00:0(\d) UTC", page), ["3", "2", "1", "0"])
-        links = [self.folder / unquote(link, errors="surrogateescape") for link in re.findall('href="(.*?)"', page)]
+        links = [self.folder / unquote(link, errors="surrogateescape")
+                 for link in re.findall('href="(.*?)"', page)]
         self.assertEqual([link.name for link in links],
                          ["index.html", os.fsdecode(b"<b> #%? \xff.html"), "old.html"])
         for link in links:
             self.assertIn("<svg", link.read_text("utf-8", "surrogateescape"))
         verdicts = re.findall('<td class="(?:yes|no)">(.*?)</td>', page)
         self.assertEqual(verdicts, ["refused", "linearizable", "not linearizable", "linearizable"])
-        for words in ("4 runs; 1 not linearizable.", "The write of 1 by process 1", "line 1: reply without an open call"):
+        for words in ("4 runs; 1 not linearizable.", "The write of 1 by process 1",
+                      "line 1: reply without an open call"):
             self.assertIn(words, page)
         self.assertNotIn("<script", page)
 
@@ -165,7 +171,8 @@ class Index(Files):
         self.assertEqual(run("index", str(self.folder)).status, 0)
         self.assertIn("0 runs; 0 not linearizable.", self.page())
         ran = run("index", str(self.folder / "none"))
-        self.assertEqual((ran.status, ran.err), (4, f"regkit: {self.folder}/none: No such file or directory\n"))
+        self.assertEqual((ran.status, ran.err),
+                         (4, f"regkit: {self.folder}/none: No such file or directory\n"))
 
 
 if __name__ == "__main__":

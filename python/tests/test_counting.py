@@ -20,7 +20,7 @@ WHO = ["client", "node", "time"]
 
 
 def run_of(chance: random.Random, count: int, registers: List[str]) -> List[Line]:
-    """The clients of some registers. Calls fail, are never answered, and lose their processes; reads may lie."""
+    """The clients of some registers. Calls fail or are never answered, processes crash, and reads may lie."""
     lines: List[Line] = []
     written = {register: 0 for register in registers}
     opened: Dict[int, Line] = {}
@@ -72,8 +72,9 @@ class Counts(unittest.TestCase):
             chance = random.Random(seed)
             registers = ["x", "value", "\u00e4\"", "time", "y}"][:chance.randrange(1, 6)]
             lines = run_of(chance, chance.randrange(1, 120), registers)
-            for history in (spelled(lines), spelled(lines, separators=(",", ":")), spelled(lines, ensure_ascii=False),
-                            spelled(lines).replace(b"\n", b"\r\n\n"), spelled(with_members(chance, lines)),
+            for history in (spelled(lines), spelled(lines, separators=(",", ":")),
+                            spelled(lines, ensure_ascii=False), spelled(lines).replace(b"\n", b"\r\n\n"),
+                            spelled(with_members(chance, lines)),
                             spelled(with_members(chance, lines), separators=(",", ":"))):
                 expected = counted(history)
                 try:
@@ -124,7 +125,8 @@ class Counts(unittest.TestCase):
     def test_members_that_occur_twice(self) -> None:
         """The last one counts, so a line with one behind its value, its name or its time is unusual."""
         begin = text(write(1, 1), read(2))
-        for line in (b'{"process":1,"event":"reply","value":1,"process":2}', b'{"process":2,"event":"reply","value":1,"event":"fail"}',
+        for line in (b'{"process":1,"event":"reply","value":1,"process":2}',
+                     b'{"process":2,"event":"reply","value":1,"event":"fail"}',
                      b'{"process":2,"event":"reply","value":1,"op":"read"}',
                      b'{"process":2,"event":"reply","value":1,"proces\\u0073":1}',
                      b'{"process":2,"event":"reply","register":"x","event":"fail"}',
@@ -135,8 +137,9 @@ class Counts(unittest.TestCase):
 
     def test_what_is_no_event(self) -> None:
         for line in (b"", b"7", b"[]", b"{}", b'{"process":1}', b'{"process":"1","event":"reply"}', b"\xff",
-                     b'{"process":1,"event":"call","op":"read"}', b'{"process":1,"event":"call","op":"cas","register":"x"}',
-                     b'{"process":1,"event":"ok"}', b'{"a":{"value":1},"process":1,"event":"reply"}', b"[" * 9999):
+                     b'{"process":1,"event":"call","op":"read"}', b'{"process":1,"event":"ok"}', b"[" * 9999,
+                     b'{"process":1,"event":"call","op":"cas","register":"x"}',
+                     b'{"a":{"value":1},"process":1,"event":"reply"}'):
             with self.subTest(line[:40]):
                 if line:
                     self.assertRaises(Unusual, count_reads, line)
@@ -171,7 +174,7 @@ class Excerpts(unittest.TestCase):
 
     def test_names_of_members_in_escapes(self) -> None:
         history = b'\n'.join([b'{"process":1,"event":"call","op":"write","register":"x","value":5}',
-                              b'{"proces\\u0073":1,"event":"reply"}', *text(read(1), gave(1, None)).splitlines()])
+                              b'{"proces\\u0073":1,"event":"reply"}', text(read(1), gave(1, None))])
         rows = read_report(run_checker(history).report).faulty
         self.assertEqual(excerpt(history, rows).by_line[1].end_line, 2)
         self.assertEqual(count_reads(history), counted(history))

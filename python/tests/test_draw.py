@@ -322,7 +322,8 @@ class Signs(unittest.TestCase):
         lines = [write(1, 1), reply(1), write(1, 2), reply(1), read(3), gave(3, 2), read(2), gave(2, 1)]
         page = self.page(lines, zones([1, 3], [3, 7], [1, 3]))
         titles = [words for tag, words in page.texts if tag == "title"]
-        self.assertIn("The read of 2 by process 3 (lines 5 to 6); the fresh read: it gave the newer value.", titles)
+        self.assertIn("The read of 2 by process 3 (lines 5 to 6); the fresh read: it gave the newer value.",
+                      titles)
         self.assertEqual((page.count("fine"), page.count("alarm")), (1 + 1, 1 + 1))
 
     def test_what_to_ask(self) -> None:
@@ -331,9 +332,9 @@ class Signs(unittest.TestCase):
         self.assertIn("Was the store empty when the recording began?", self.words(page))
         lines = [write(1, 1), reply(1), write(1, 2), reply(1), write(1, 3), reply(1), read(2), gave(2, 1)]
         page = self.page(lines, zones([1, 3], [3, 7], [1, 3]))
-        self.assertIn("2 answered writes may be lost: the read of line 7 ignored them, and nothing came after it: the "
-                      "write of 2 by process 1 (lines 3 to 4) and the write of 3 by process 1 (lines 5 to 6).",
-                      self.words(page))
+        self.assertIn("2 answered writes may be lost: the read of line 7 ignored them, and nothing came after "
+                      "it: the write of 2 by process 1 (lines 3 to 4) and the write of 3 by process 1 (lines 5 to "
+                      "6).", self.words(page))
 
     def test_endings(self) -> None:
         lines = [write(1, 1), reply(1), write(2, 2), fail(2), write(3, 3), crash(3), write(4, 4), read(5),

@@ -144,7 +144,8 @@ class Sentences(unittest.TestCase):
                   "with line 6 they fit none. The write of 1 by process 1 (lines 1 to 2) ended before the "
                   "write of 2 by process 1 (lines 3 to 4) began, so 1 comes before 2. The write of 2 by "
                   "process 1 (lines 3 to 4) ended before the read of 1 by process 2 (lines 5 to 6) began, so "
-                  "2 comes before 1. So the read of 1 by process 2 (lines 5 to 6) is stale. 2 of 3 completed reads can't be explained, each left out before the "
+                  "2 comes before 1. So the read of 1 by process 2 (lines 5 to 6) is stale. 2 of 3 completed "
+                  "reads can't be explained, each left out before the "
                   "next is looked at.")
 
     def test_its_own_contradiction_if_the_report_names_another_read_of_the_time(self) -> None:
@@ -177,32 +178,36 @@ class Causes(unittest.TestCase):
         return unfolded(explain_text(text(*events), run_checker(text(*events)).report))
 
     def test_the_pair(self) -> None:
-        """The fresh read and the stale one have a sign each, also if the fault names a write in the place of one."""
-        page = self.page([write(1, 1), reply(1), write(1, 2), reply(1), read(3), gave(3, 2), read(2), gave(2, 1)])
-        self.assertIn("The read of 2 by process 3 (lines 5 to 6) is the fresh read, and the read of 1 by process 2 "
-                      "(lines 7 to 8) the stale one.", page)
-        self.assertIn("5 to 6 process 3 read 2 F [===] 7 to 8 process 2 read 1 X [===] X can't be explained F fresh "
-                      "read * what", page)
+        """The fresh read and the stale one have a sign each, also if the fault names a write for one."""
+        page = self.page([write(1, 1), reply(1), write(1, 2), reply(1), read(3), gave(3, 2), read(2),
+                          gave(2, 1)])
+        self.assertIn("The read of 2 by process 3 (lines 5 to 6) is the fresh read, and the read of 1 by "
+                      "process 2 (lines 7 to 8) the stale one.", page)
+        self.assertIn("5 to 6 process 3 read 2 F [===] 7 to 8 process 2 read 1 X [===] X can't be explained F "
+                      "fresh read * what", page)
 
     def test_a_stale_read_that_is_not_the_first_unexplained_one(self) -> None:
         events = [write(1, 1), reply(1), write(1, 2), reply(1), read(2), gave(2, 1), read(2), gave(2, 2),
                   read(3), gave(3, 1)]
         page = explained(events, row(zones([1, 3], [1, 7], [3, 9])))
-        self.assertIn("5 to 6 process 2 read 1 X [===] 7 to 8 process 2 read 2 F [===] 9 to 10 process 3 read 1 S "
-                      "[===] X can't be explained S stale read F fresh read", page)
+        self.assertIn("5 to 6 process 2 read 1 X [===] 7 to 8 process 2 read 2 F [===] 9 to 10 process 3 read 1 "
+                      "S [===] X can't be explained S stale read F fresh read", page)
 
     def test_lost_writes(self) -> None:
         begin = [each for value in range(1, 10) for each in (write(1, value), reply(1))]
         table: List[Tuple[List[Line], str]] = [
             ([read(2), gave(2, 1), read(2), gave(2, 1)],
-             "Lost writes 8 answered writes were lost: the read of line 19 ignored them, and no later read gave their "
-             "values. The write of 2 by process 1 (lines 3 to 4)."),
+             "Lost writes 8 answered writes were lost: the read of line 19 ignored them, and no later read gave "
+             "their values. The write of 2 by process 1 (lines 3 to 4)."),
             ([read(2), gave(2, 8), read(2), gave(2, 8), write(1, 10), reply(1), read(2), gave(2, 10)],
-             "Lost writes 1 answered write was lost: the read of line 19 ignored it, and no later read gave its value."),
+             "Lost writes 1 answered write was lost: the read of line 19 ignored it, and no later read gave its "
+             "value."),
             ([read(2), gave(2, 7)],
-             "Lost writes 2 answered writes may be lost: the read of line 19 ignored them, and nothing came after it."),
+             "Lost writes 2 answered writes may be lost: the read of line 19 ignored them, and nothing came "
+             "after it."),
             ([read(2), gave(2, 8)],
-             "Lost writes 1 answered write may be lost: the read of line 19 ignored it, and nothing came after it."),
+             "Lost writes 1 answered write may be lost: the read of line 19 ignored it, and nothing came after "
+             "it."),
             ([read(2), gave(2, 8), write(1, 10), reply(1), read(2), gave(2, 10)], ""),
             ([write(1, 10), read(2), gave(2, 1), reply(1), read(2), gave(2, 10)], ""),
             ([read(2), gave(2, 1), read(2), gave(2, 9)], ""),
@@ -219,7 +224,8 @@ class Causes(unittest.TestCase):
     def test_a_store_that_was_not_empty(self) -> None:
         question = "Was the store empty when the recording began?"
         early, failed = [read(2), gave(2, 5), write(1, 5), reply(1)], [*FAILED]
-        for events, asked in [(early, True), ([read(2), gave(2, 5)], True), (failed, False), (STALE_FILL, False)]:
+        for events, asked in [(early, True), ([read(2), gave(2, 5)], True), (failed, False),
+                              (STALE_FILL, False)]:
             self.assertEqual(question in self.page(events), asked)
 
     def test_a_store_that_forgets(self) -> None:
@@ -501,7 +507,8 @@ class Command(unittest.TestCase):
         self.assertEqual((ran.status, ran.out), (2, ""))
         self.assertIn("refused: line 1: not JSON\n  this looks like CSV", ran.err)
         ran = run("explain", str(self.folder / "none"))
-        self.assertEqual((ran.status, ran.err), (4, f"regkit explain: {self.folder}/none: No such file or directory\n"))
+        self.assertEqual((ran.status, ran.err),
+                         (4, f"regkit explain: {self.folder}/none: No such file or directory\n"))
         ran = run("explain", self.file("h.jsonl", text(*INVERSION)), str(self.folder / "none"))
         self.assertIn(f"h.jsonl: {self.folder}/none: No such file or directory\n", ran.err)
 

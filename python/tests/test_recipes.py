@@ -3,11 +3,13 @@ import argparse
 import pathlib
 import re
 import shlex
+import textwrap
 import unittest
-from typing import List
+from typing import List, Optional
 
 from regkit.checker import run_checker
 from regkit.commands import convert
+from regkit.record import Recorder
 from tests.convert_support import run
 
 RECIPES = pathlib.Path(__file__).parents[2] / "docs" / "recipes.md"
@@ -46,6 +48,27 @@ class Recipes(unittest.TestCase):
             ran = run(machines, words[words.index("--from") + 1], *words[2:])
             statuses.append(run_checker(ran.history.encode()).status)
         self.assertEqual(statuses, [1, 0])
+
+
+class Cache(unittest.TestCase):
+    def checked(self, answers: List[Optional[str]]) -> int:
+        """The verdict on a write of 1 and one of 2, and then reads by the page's own lines."""
+        page = RECIPES.read_text(encoding="utf-8")
+        snippet = re.search(r"## A cache that may forget\n.*?```python\n(.*?)```", page, re.S)
+        assert snippet is not None
+        lines = compile(textwrap.dedent(snippet[1]), "recipes.md", "exec")
+        recorder = Recorder()
+        with recorder.client() as client:
+            for _ in range(2):
+                with client.write("x") as write:
+                    self.assertIsNotNone(write.value)
+            for answer in answers:
+                exec(lines, {"client": client, "cache": {"x": answer}})
+        return run_checker(recorder.history()).status
+
+    def test_a_miss_is_no_fault_and_an_old_value_is_one(self) -> None:
+        self.assertEqual(self.checked(["2", None, "2"]), 0)
+        self.assertEqual(self.checked([None, "1"]), 1)
 
 
 if __name__ == "__main__":

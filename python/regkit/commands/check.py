@@ -55,7 +55,7 @@ def add_arguments(parser: argparse.ArgumentParser) -> None:
     parser.add_argument("--junit", metavar="FILE",
                         help="write the outcomes to FILE in JUnit's XML too, a test for each history")
     parser.add_argument("--annotate", action="store_true",
-                        help="print a line for each fault, which GitHub Actions shows beside the history's line")
+                        help="print a line for each fault, which GitHub Actions shows beside the history's")
     output = parser.add_mutually_exclusive_group()
     output.add_argument("--quiet", action="store_true",
                         help="print no verdicts, only what went wrong: the exit status tells the rest")
@@ -77,7 +77,8 @@ def tell(outcome: Outcome, arguments: argparse.Namespace, progress: Progress) ->
     wrong = outcome.status in (REFUSED, FAILED)
     if wrong or not arguments.quiet:
         stream = sys.stderr if wrong else sys.stdout
-        progress.say("\n".join([heading(outcome, painter(arguments.color, stream)), *text_of(outcome)]), stream)
+        lines = [heading(outcome, painter(arguments.color, stream)), *text_of(outcome)]
+        progress.say("\n".join(lines), stream)
     if arguments.annotate and outcome.status != ATOMIC:
         from regkit.annotations import annotations  # only who asks for them waits for this
 

@@ -95,7 +95,8 @@ def in_words(found: verify.Verified) -> str:
         return f"{'linearizable' if found.atomic else 'not linearizable'}, by an early answer: {size}"
     if found.atomic:
         return f"linearizable: {size}"
-    return f"not linearizable: {size}, {found.faulty} of which {'is' if found.faulty == 1 else 'are'} not linearizable"
+    verb = "is" if found.faulty == 1 else "are"
+    return f"not linearizable: {size}, {found.faulty} of which {verb} not linearizable"
 
 
 def counted(count: int, what: str) -> str:

@@ -13,7 +13,8 @@ SIGNS: Dict[str, Callable[[float, float], str]] = {
     "unexplained": shapes.exclamation, "stale": shapes.exclamation, "fresh": shapes.tick,
     "overlapped": shapes.parallel, "failed": shapes.cross}
 SIGN_WORDS = {"unexplained": "the first read that can't be explained",
-              "stale": "the stale read: it gave the older value", "fresh": "the fresh read: it gave the newer value",
+              "stale": "the stale read: it gave the older value",
+              "fresh": "the fresh read: it gave the newer value",
               "overlapped": "it was open at the same time as the first read that can't be explained",
               "failed": "it surely had no effect"}
 

@@ -1,5 +1,5 @@
 """What a picture points at: the two clusters that contradict each other, the precedences between them, the
-first read that can't be explained, the writes that were open beside it, and a stale read with the fresh one."""
+first read that can't be explained, the writes that were open beside it, and a stale read and a fresh one."""
 from typing import Any, Dict, List, NamedTuple, Optional, Set, Tuple
 
 from regkit.causes import StalePair, stale_pair

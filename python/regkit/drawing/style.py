@@ -46,7 +46,8 @@ figcaption{font-size:13px;color:var(--dim);margin-top:4px}
 .legend li{display:flex;align-items:center;gap:7px}
 .legend svg{display:block}
 table.runs{border-collapse:collapse;margin-top:18px}
-.runs th,.runs td{text-align:left;vertical-align:top;padding:7px 18px 7px 0;border-bottom:1px solid var(--faint)}
+.runs th,.runs td{text-align:left;vertical-align:top;padding:7px 18px 7px 0;
+  border-bottom:1px solid var(--faint)}
 .runs th{color:var(--dim);font-weight:600}
 .runs td{overflow-wrap:anywhere}
 .runs .when,.runs .yes,.runs .no{white-space:nowrap;overflow-wrap:normal}
