@@ -77,12 +77,13 @@ class Run:
     def __init__(self, history: bytes, options: Sequence[str] = (), program: Optional[str] = None) -> None:
         """Raises NoChecker if the program can't be started."""
         path = program or find_checker()
-        try:
-            with held(history) as stream:
+        with held(history) as stream:
+            try:
                 self.process = subprocess.Popen([path, *options], stdin=stream, stdout=subprocess.PIPE,
                                                 stderr=subprocess.PIPE)
-        except OSError as error:
-            raise NoChecker(f"{path} could not be started: {error.strerror}. Is REGCHECK right?") from error
+            except OSError as error:
+                words = f"{path} could not be started: {error.strerror}. Is REGCHECK right?"
+                raise NoChecker(words) from error
 
     def answer(self) -> Answer:
         report, words = self.process.communicate()

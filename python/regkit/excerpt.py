@@ -6,11 +6,10 @@ from itertools import islice
 from typing import Any, Dict, Iterable, Iterator, List, Optional, Set, Tuple
 
 from regkit.history import History, history_of, read_history
-from regkit.lines import Event, NotJson, json_of, numbered_lines
+from regkit.lines import BLANK, Event, NotJson, json_of
 from regkit.report import Row
 
 DISGUISED = re.compile(rb"\\u00[67]")  # a letter of a member's name may be written so
-BEGINNING = 131_072  # bytes in which the first event is looked for
 Found = Dict[int, Event]  # by line
 
 
@@ -96,7 +95,7 @@ def excerpt(data: bytes, rows: List[Row]) -> History:
         return read_history(data)
     searcher = Searcher(data)
     lines = {line for row in rows for line in named_lines(row)}
-    first = next((number for number, _ in numbered_lines(data[:BEGINNING])), 1)
+    first = next(number for number, line in enumerate(io.BytesIO(data), 1) if line.strip(BLANK + b"\n"))
     for number, begin in searcher.offsets(lines | {first}).items():
         searcher.add_call(number, begin)
     for value in {unwritten_value(searcher, row) for row in rows}:

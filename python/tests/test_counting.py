@@ -172,6 +172,14 @@ class Excerpts(unittest.TestCase):
                 kinds[row["fault"]["kind"]] += 1
         self.assertTrue(all(count > 15 for count in kinds.values()), kinds)
 
+    def test_where_the_first_event_stands(self) -> None:
+        """Blank lines, however many and long, and a crash before the first call."""
+        for begin in (b"", b"\n" * 200_000, b" " * 70_000 + b"\r\n\t\n", text(crash(7))):
+            history = begin + text(write(1, 5), reply(1), read(2), gave(2, None)).rstrip(b"\n")
+            rows = read_report(run_checker(history).report).faulty
+            self.assertEqual([fault.sentences for fault in faults_of(excerpt(history, rows), rows)],
+                             [fault.sentences for fault in faults_of(read_history(history), rows)])
+
     def test_names_of_members_in_escapes(self) -> None:
         history = b'\n'.join([b'{"process":1,"event":"call","op":"write","register":"x","value":5}',
                               b'{"proces\\u0073":1,"event":"reply"}', text(read(1), gave(1, None))])
