@@ -68,7 +68,8 @@ fn expect_counts(
 
 #[test]
 fn counts_of_pieces(rt: HostRuntime) -> Result<(), Fail> {
-    expect_counts(&rt, &arena_of(&rt, rt.alloc(), TWO_REGISTERS)?)
+    let arena = arena_of(&rt, rt.alloc(), TWO_REGISTERS)?;
+    expect_counts(&rt, &arena)
 }
 
 // What one worker does alone past a gate.
@@ -100,7 +101,8 @@ fn expect_skips(rt: &(impl AllocGlobal + Abort), arena: &Arena) -> Result<(), Fa
 // A worker that found the first register not to be atomic skips the second, and makes no order.
 #[test]
 fn registers_above_a_fault_are_skipped(rt: HostRuntime) -> Result<(), Fail> {
-    expect_skips(&rt, &arena_of(&rt, rt.alloc(), TWO_REGISTERS)?)
+    let arena = arena_of(&rt, rt.alloc(), TWO_REGISTERS)?;
+    expect_skips(&rt, &arena)
 }
 
 // Counts how often the piece of one number arrives, or each piece if there is no such number.
@@ -168,7 +170,8 @@ fn expect_once_by_all(
 // However many workers there are, each piece passes the gate once.
 #[test]
 fn each_piece_passes_the_gate_once(rt: HostRuntime) -> Result<(), Fail> {
-    expect_once_by_all(&rt, &arena_of(&rt, rt.alloc(), TWO_REGISTERS)?)
+    let arena = arena_of(&rt, rt.alloc(), TWO_REGISTERS)?;
+    expect_once_by_all(&rt, &arena)
 }
 
 // What two threads of the callers' own do, each with one of these seats.
@@ -223,7 +226,8 @@ fn expect_done_by_two<R: Threads + AllocGlobal + Abort + Sync>(
 
 #[test]
 fn callers_threads_do_each_piece_once(rt: HostRuntime) -> Result<(), Fail> {
-    expect_done_by_two(&rt, &arena_of(&rt, rt.alloc(), TWO_REGISTERS)?)
+    let arena = arena_of(&rt, rt.alloc(), TWO_REGISTERS)?;
+    expect_done_by_two(&rt, &arena)
 }
 
 // How many pieces pass the gate of one worker alone, and how many it draws.
@@ -245,5 +249,6 @@ fn expect_all_passed(rt: &(impl AllocGlobal + Abort), arena: &Arena) -> Result<(
 // tests/gate_comes_first that refuses memory to this test.
 #[test]
 fn each_drawn_piece_has_passed_the_gate(rt: HostRuntime) -> Result<(), Fail> {
-    expect_all_passed(&rt, &arena_of(&rt, rt.alloc(), TWO_ORDERS)?)
+    let arena = arena_of(&rt, rt.alloc(), TWO_ORDERS)?;
+    expect_all_passed(&rt, &arena)
 }

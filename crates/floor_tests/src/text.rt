@@ -7,8 +7,7 @@ use std::process::Abort;
 use std::test::Fail;
 use std::thread::Threads;
 
-// Names of the same length that differ are different, on both sides of the length that is kept without
-// memory.
+// Names of one length that differ are different, whether they are kept within the name or in memory.
 #[test]
 fn names_give_their_text(rt: HostRuntime) -> Result<(), Fail> {
     let alloc = rt.alloc();
@@ -55,18 +54,22 @@ fn inputs() -> &'static [(&'static str, &'static str)] {
     ]
 }
 
-#[test]
-fn lines_of_inputs(rt: HostRuntime) -> Result<(), Fail> {
+fn expect_spans(rt: &(impl AllocGlobal + Abort)) -> Result<(), Fail> {
     for (text, want) in inputs() {
-        let got = spans_of(&rt, rt.alloc(), text)?;
+        let got = spans_of(rt, rt.alloc(), text)?;
         assert_eq!(rt; got.as_str(), *want, "{text}");
     }
     Ok(())
 }
 
+#[test]
+fn lines_of_inputs(rt: HostRuntime) -> Result<(), Fail> {
+    expect_spans(&rt)
+}
+
 // The whole lines, if the first has number 7, and where the next one begins.
 fn shown_whole(
-    rt: &(impl Abort + Sync),
+    rt: &impl Abort,
     alloc: Global,
     bytes: &[u8],
     is_ended: bool,
@@ -93,13 +96,17 @@ fn byte_rows() -> &'static [(&'static str, bool, &'static str)] {
     ]
 }
 
-#[test]
-fn whole_lines_of_bytes(rt: HostRuntime) -> Result<(), Fail> {
+fn expect_whole(rt: &(impl AllocGlobal + Abort)) -> Result<(), Fail> {
     for (text, is_ended, want) in byte_rows() {
-        let got = shown_whole(&rt, rt.alloc(), text.as_bytes(), *is_ended)?;
+        let got = shown_whole(rt, rt.alloc(), text.as_bytes(), *is_ended)?;
         assert_eq!(rt; got.as_str(), *want, "{text} {is_ended}");
     }
     Ok(())
+}
+
+#[test]
+fn whole_lines_of_bytes(rt: HostRuntime) -> Result<(), Fail> {
+    expect_whole(&rt)
 }
 
 // Lines of replies, every seventh torn, and what is read of them: each line with its process or its fault.
@@ -146,8 +153,7 @@ fn expect_in_order(
 // Lines of one part, of two, and for as many threads as there are.
 #[test]
 fn many_lines_stay_in_order(rt: HostRuntime) -> Result<(), Fail> {
-    for count in [100, 10_000, 140_000] {
-        expect_in_order(&rt, count)?;
-    }
-    Ok(())
+    expect_in_order(&rt, 100)?;
+    expect_in_order(&rt, 10_000)?;
+    expect_in_order(&rt, 140_000)
 }
