@@ -1,0 +1,19 @@
+-- What the definitions make of bytes once they have been read, or refused.
+use Rattle.std.proofs.Common.{◌≡◌, List, ℕ, ◌≤◌, length, false, Some, None, Err, refl, arith}
+use Rattle.std.specs.Prelude.{nat_lt}
+use Rattle.std.proofs.lemmas.Bool.Decides.{nat_tests}
+use Rattle.serde_json.specs.Data.{Data}
+use Rattle.history_text.specs.declared.limits.TheConstants.{MAX_LINE}
+use Rattle.history_text.specs.Reading.{json_of}
+use Rattle.cas_text.specs.declared.fault.FaultKind.TheVariants.{NotJson}
+use Rattle.cas_text.specs.Reading.{event_of, line_event}
+
+-- the line is not too long
+short : (bytes : List ℕ) → length bytes ≤ MAX_LINE → nat_lt MAX_LINE (length bytes) ≡ false
+short bytes le = grind (arith, nat_tests)
+
+pub line_event-read : (n : ℕ) (bytes : List ℕ) (d : Data) → length bytes ≤ MAX_LINE → json_of bytes ≡ Some d → line_event n bytes ≡ event_of n d
+line_event-read n bytes d le e = rw (short bytes le, e) refl
+
+pub line_event-refused : (n : ℕ) (bytes : List ℕ) → length bytes ≤ MAX_LINE → json_of bytes ≡ None → line_event n bytes ≡ Err NotJson
+line_event-refused n bytes le e = rw (short bytes le, e) refl
