@@ -26,7 +26,7 @@ abbrev pub or_fault : {A B : Type 0} → Option A → FaultKind → (A → Resul
 or_fault None fault next = Err fault
 or_fault (Some x) fault next = next x
 
--- what the call of a cas asks: it has no value, but the value `from` that it looks for and the number `to` that it writes
+-- what the call of a cas asks: it has no `value`, and has the value `from` at which it takes place and the number `to` that it writes
 abbrev pub cas_asked : Data → Result Asked FaultKind
 cas_asked d = if has_no_value (get (codes "value") d)
     then or_fault (value_form (get (codes "from") d)) BadFromOrTo (λ from.
@@ -61,7 +61,7 @@ abbrev pub with_parts : (EndParts → Happening) → Result EndParts FaultKind �
 with_parts end (Ok parts) = Ok (end parts)
 with_parts end (Err fault) = Err fault
 
--- what happened, by the word of the event; a reply says besides what stands under its `ok`, and of a crash no other member is read
+-- what happened, by the word of the event; a reply also says what stands under its `ok`, and of a crash no other member is read
 abbrev pub happening_of : Data → EventWord → Result Happening FaultKind
 happening_of d word.Call = call_of d
 happening_of d word.Reply = with_parts (λ parts. Reply parts (ok_member (get (codes "ok") d))) (parts_of d)

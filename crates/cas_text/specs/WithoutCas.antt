@@ -30,7 +30,7 @@ same_op WriteOp = op.Write
 abbrev pub same_parts : ReplyParts → EndParts
 same_parts parts = record { op = option_map same_op parts.op; register = parts.register; value = parts.value }
 
--- the same happening; a reply says besides what stands under its `ok`
+-- the same happening; a reply also says what stands under its `ok`
 abbrev pub same_happening : OkMember → Kind → Happening
 same_happening ok (kind.CallRead name) = Call name asked.Read
 same_happening ok (kind.CallWrite name value) = Call name (asked.Write value)

@@ -8,7 +8,7 @@ pub enum OpWord {
     Read,
     /// A write of one number.
     Write,
-    /// A cas, which writes one number if it finds another value.
+    /// A cas, which writes one number if its register holds the value that it names.
     Cas,
 }
 
