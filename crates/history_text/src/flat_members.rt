@@ -1,16 +1,17 @@
 //! The members of a flat object, one after another, read from its text with no tree.
 //!
 //! An object is flat here if it has one to eight members, in any order, each with a name that the
-//! format knows and with a plain value of that member: a number, a word, a string or null; `client`, `node` and
-//! `time`, which say who called and when, are passed over. Spaces may
-//! stand wherever JSON allows them, except before a colon: hardly any writer puts them there, and looking
-//! for them would cost time on every line. As in `members`, the last of equal names counts.
+//! format knows and with a plain value of that member: a number, a word, a string or null. The members
+//! `client`, `node` and `time`, which say who called and when, are passed over. Spaces may stand wherever
+//! JSON allows them, except before a colon: hardly any writer puts them there, and looking for them would
+//! cost time on every line. As in `members`, the last of equal names counts.
 //!
 //! Each function gives what it read and the text behind that. `None` tells nothing of the text.
 ghost use Rattle.std.specs.Prelude.{◌≤◌, IfSome};
 ghost use Rattle.serde_json.specs.Data.{string};
 ghost use Rattle.history_text.specs.Limits.{MAX_PROCESS};
-ghost use Rattle.history_text.specs.Flat.{Scalar, Named, Adds, Passes, IsFlat, whole_data, event_data, op_data, value_data};
+ghost use Rattle.history_text.specs.Flat.{Scalar, Named, Adds, Passes, IsFlat};
+ghost use Rattle.history_text.specs.Flat.{whole_data, event_data, op_data, value_data};
 
 use crate::event::{EventWord, OpKind, Val};
 use crate::scan::{after, next_byte, plain_string, signed, skip_spaces, unsigned};
