@@ -1,0 +1,9 @@
+pub mod Filters
+pub mod Values
+pub mod Operations
+pub mod InTurn
+pub mod Placed
+pub mod Merging
+pub mod Locality
+pub mod WithoutCas
+pub mod Rows

@@ -1,0 +1,43 @@
+-- The test on values decides their equality, and what an act that changes the register gives.
+use Rattle.std.proofs.Common.{◌≡◌, is_some, unwrap_or, true, false, Option, Some, None, refl, sym, ap}
+use Rattle.std.specs.Prelude.{IsSomeAnd}
+use Rattle.std.proofs.lemmas.Bool.{false≢true}
+use Rattle.std.proofs.lemmas.Bool.Decides.{Decides-int_eq}
+use Rattle.history_text.specs.Values.{value_eq}
+use Rattle.history_text.specs.declared.event.Val.TheVariants.{Null, Int}
+use Rattle.history_text.specs.declared.event.Val.{Val}
+use Rattle.cas_model.specs.Acts.{suits, asks}
+use Rattle.cas_model.specs.declared.act.Act.{Act}
+use Rattle.cas_model.specs.declared.act.Act.TheVariants.{Read, Write, Cas, Miss}
+
+pub value-true : (a b : Val) → value_eq a b ≡ true → a ≡ b
+value-true Null Null h = refl
+value-true Null (Int j) h = absurd (false≢true h)
+value-true (Int i) Null h = absurd (false≢true h)
+value-true (Int i) (Int j) h = ap (λ k. Int k) ((Decides-int_eq i j).0 h)
+
+pub value-refl : (a : Val) → value_eq a a ≡ true
+value-refl Null = refl
+value-refl (Int i) = (Decides-int_eq i i).1 refl
+
+-- what suits the value after an act that gives one suits the given one, and the other way round
+pub given-suits : (P : Val → Type 0) (o : Option Val) (v : Val) → is_some o ≡ true → P (unwrap_or o v) → IsSomeAnd o P
+given-suits P None v c p = absurd (false≢true c)
+given-suits P (Some u) v c p = p
+
+pub suits-given : (P : Val → Type 0) (o : Option Val) (v : Val) → IsSomeAnd o P → P (unwrap_or o v)
+suits-given P None v p = absurd p
+suits-given P (Some u) v p = p
+
+-- an act that gives none leaves the value
+pub left-same : (o : Option Val) (v : Val) → is_some o ≡ false → unwrap_or o v ≡ v
+left-same None v c = refl
+left-same (Some u) v c = absurd (false≢true (sym c))
+
+-- whoever asks nothing is suited by any value
+pub unasking-suits : (a : Act) (v : Val) → asks a ≡ false → suits a v ≡ true
+unasking-suits (Read None) v n = refl
+unasking-suits (Read (Some given)) v n = absurd (false≢true (sym n))
+unasking-suits (Write written) v n = refl
+unasking-suits (Cas from to) v n = absurd (false≢true (sym n))
+unasking-suits (Miss from) v n = absurd (false≢true (sym n))

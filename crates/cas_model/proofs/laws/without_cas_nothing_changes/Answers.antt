@@ -1,0 +1,8 @@
+use Rattle.cas_model.proofs.WithoutCas.{whole, each}
+use Rattle.cas_model.proofs.laws.without_cas_nothing_changes.Goals as goal
+
+pub returns-clause-whole : goal.returns-clause-whole
+returns-clause-whole c h rec = whole h rec
+
+pub returns-clause-register : goal.returns-clause-register
+returns-clause-register c h r rec = each h rec r

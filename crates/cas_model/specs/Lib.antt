@@ -1,0 +1,6 @@
+pub mod Acts
+pub mod Operations
+pub mod Legal
+pub mod InTurn
+pub mod Placed
+pub mod WithoutCas
