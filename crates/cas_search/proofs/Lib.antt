@@ -1,0 +1,10 @@
+pub mod Lists
+pub mod Numbered
+pub mod Better
+pub mod Delay
+pub mod Explained
+pub mod Settling
+pub mod Takes
+pub mod Stepping
+pub mod Linked
+pub mod Checking

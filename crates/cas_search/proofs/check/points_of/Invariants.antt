@@ -1,0 +1,11 @@
+use Rattle.std.proofs.Common.{◌≡◌, ◌++◌, drop}
+use Rattle.cas_model.specs.Placed.{placed_from, placed}
+use Rattle.cas_search.specs.Timeline.{operations_at}
+use Rattle.cas_search.proofs.Checking.{points, AreUnreplied}
+use Rattle.cas_search.proofs.check.points_of.Given as goal
+
+abbrev pub invariant-loop-number : goal.invariant-loop-number
+invariant-loop-number l = record {
+  is : points (placed (operations_at l.ops l.order)) ≡ l.points.items ++ points (placed_from l.last (operations_at l.ops (drop l.number-index l.order)));
+  unreplied : AreUnreplied (placed_from l.last (operations_at l.ops (drop l.number-index l.order))) → AreUnreplied (placed (operations_at l.ops l.order));
+}

@@ -1,0 +1,6 @@
+pub mod Taking
+pub mod Runs
+pub mod Configs
+pub mod Timeline
+pub mod Checked
+pub mod Verdicts

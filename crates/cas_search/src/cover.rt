@@ -1,0 +1,99 @@
+//! When one configuration stands for another.
+ghost use Rattle.std.specs.Prelude.{◌≡◌, ◌⊎◌, IsTrue, IfOk, List, ℕ};
+ghost use Rattle.history_model.specs.Lists.{In};
+ghost use Rattle.cas_search.specs.Configs.{IsAnyLive, IsIdle, IsLive, IsServed};
+ghost use Rattle.cas_search.specs.declared.config.Config.{Config as AConfig};
+ghost use Rattle.cas_search.specs.declared.happening.Happening.{Happening as AHappening};
+
+use crate::bounds::Bound;
+use crate::config::Config;
+use crate::numbers::has;
+use crate::work::{Stop, Work};
+use cas_model::Operation;
+
+/// Puts a configuration behind the others, unless one of them can explain whatever it can.
+pub(crate) fn add(
+    work: &mut Work,
+    ops: &[Operation],
+    configs: &mut Vec<Config>,
+    config: Config,
+) -> Result<(), Stop>
+    ensures kept { IfOk result (λ _. (c : AConfig) → In c configs.old.items → In c configs.new.items) }
+    ensures there { IfOk result (λ _. (es : List AHappening) → IsLive ops.now config.value config.waiting.items es → IsAnyLive ops.now configs.new.items es) }
+{
+    work.spend(configs.len())?;
+    if is_covered(ops, configs, &config) {
+        return Ok(());
+    }
+    if configs.len() >= work.configurations() {
+        return Err(Stop::Bound(Bound::Configurations));
+    }
+    configs.push(config)?;
+    Ok(())
+}
+
+/// Whether one of them can explain whatever this one can.
+fn is_covered(ops: &[Operation], configs: &[Config], config: &Config) -> bool
+    ensures { IsTrue result → (es : List AHappening) → IsLive ops.now config.now.value config.now.waiting.items es → IsAnyLive ops.now configs.now es }
+{
+    for other in configs {
+        if covers(ops, other, config) {
+            return true;
+        }
+    }
+    false
+}
+
+/// Whether the first can explain whatever the second can: they have the same value, and differ in reads and misses that only
+/// the second one owes.
+fn covers(ops: &[Operation], first: &Config, second: &Config) -> bool
+    ensures { IsTrue result → IsServed ops.now second.now.value second.now.waiting.items first.now }
+{
+    if first.value == second.value {
+        if is_within(&first.waiting, &second.waiting) {
+            return is_within_but_looks(ops, &second.waiting, &first.waiting);
+        }
+    }
+    false
+}
+
+/// Whether the numbers are all among others.
+fn is_within(numbers: &[u32], others: &[u32]) -> bool
+    ensures { IsTrue result → (j : ℕ) → In j numbers.now → In j others.now }
+{
+    for number in numbers {
+        if !has(others, *number) {
+            return false;
+        }
+    }
+    true
+}
+
+/// Whether the numbers that aren't of reads or misses are all among others.
+fn is_within_but_looks(ops: &[Operation], numbers: &[u32], others: &[u32]) -> bool
+    ensures { IsTrue result → (j : ℕ) → In j numbers.now → In j others.now ⊎ IsIdle ops.now j }
+{
+    for number in numbers {
+        if !has_or_looks(ops, others, *number) {
+            return false;
+        }
+    }
+    true
+}
+
+/// Whether the number is there, or that of a read or a miss.
+fn has_or_looks(ops: &[Operation], numbers: &[u32], number: u32) -> bool
+    ensures { IsTrue result → In number numbers.now ⊎ IsIdle ops.now number }
+{
+    has(numbers, number) || is_idle(ops, number)
+}
+
+/// Whether the call leaves each value as it is.
+fn is_idle(ops: &[Operation], number: u32) -> bool
+    ensures { IsTrue result → IsIdle ops.now number }
+{
+    match ops.get(number as usize) {
+        Some(op) => !op.act.changes(),
+        None => true,
+    }
+}

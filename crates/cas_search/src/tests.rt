@@ -1,0 +1,174 @@
+use super::*;
+use cas_model::{Act, Operation};
+use history_model::RegId;
+use history_text::Val;
+use std::alloc::{AllocError, Global};
+use std::test::Fail;
+
+const ONE: Val = Val::Int(1);
+
+const TWO: Val = Val::Int(2);
+
+const THREE: Val = Val::Int(3);
+
+fn write(call: u32, reply: Option<u32>, value: Val) -> Operation {
+    operation(call, reply, Act::Write(value))
+}
+
+fn read(call: u32, reply: u32, value: Val) -> Operation {
+    operation(call, Some(reply), Act::Read(Some(value)))
+}
+
+fn cas(call: u32, reply: Option<u32>, from: Val, to: i64) -> Operation {
+    operation(call, reply, Act::Cas { from, to })
+}
+
+fn miss(call: u32, reply: u32, from: Val) -> Operation {
+    operation(call, Some(reply), Act::Miss { from })
+}
+
+fn operation(call: u32, reply: Option<u32>, act: Act) -> Operation {
+    Operation {
+        line: call,
+        call,
+        reply,
+        process: Some(1),
+        register: RegId(0),
+        act,
+    }
+}
+
+/// The calls and the replies of operations, all of which have times below 64.
+fn timeline(alloc: Global, ops: &[Operation]) -> Result<Vec<Happening>, AllocError> {
+    let mut events = Vec::new(alloc);
+    for time in 0u32..64 {
+        let mut number = 0u32;
+        for op in ops {
+            if op.call == time {
+                events.push(Happening::Call(number))?;
+            }
+            if op.reply == Some(time) {
+                events.push(Happening::Reply(number))?;
+            }
+            number = number.wrapping_add(1);
+        }
+    }
+    Ok(events)
+}
+
+/// `yes` if the search finds an order, `no` with the time of the event after which there is none, or `unknown`.
+fn answer(alloc: Global, ops: &[Operation], bounds: Bounds) -> Result<String, AllocError> {
+    let events = timeline(alloc, ops)?;
+    match decide(alloc, ops, &events, bounds)? {
+        Verdict::Yes { .. } => String::from_str(alloc, "yes"),
+        Verdict::No { place } => format!(in alloc; "no after {place}"),
+        Verdict::Unknown(Bound::Steps) => String::from_str(alloc, "steps"),
+        Verdict::Unknown(Bound::Configurations) => String::from_str(alloc, "configurations"),
+    }
+}
+
+#[test]
+fn verdicts(rt: HostRuntime) -> Result<(), Fail> {
+    let rows: [(&str, &[Operation], &str); 12] = [
+        (
+            "a cas takes place, and its value is read",
+            &[
+                write(2, Some(3), ONE),
+                cas(4, Some(5), ONE, 2),
+                read(6, 7, TWO),
+            ],
+            "yes",
+        ),
+        (
+            "the same value twice, the second time pending",
+            &[write(2, Some(3), ONE), write(4, None, ONE)],
+            "yes",
+        ),
+        (
+            "a value that is over, written between two equal ones",
+            &[
+                write(2, Some(3), ONE),
+                write(4, Some(5), TWO),
+                write(6, Some(7), ONE),
+                read(8, 9, TWO),
+            ],
+            "no after 7",
+        ),
+        (
+            "a cas misses since the value is another",
+            &[write(2, Some(3), ONE), miss(4, 5, THREE)],
+            "yes",
+        ),
+        (
+            "a cas misses though the value is its own",
+            &[write(2, Some(3), ONE), miss(4, 5, ONE)],
+            "no after 3",
+        ),
+        (
+            "two cas from one value, one after the other",
+            &[
+                write(2, Some(3), ONE),
+                cas(4, Some(5), ONE, 2),
+                cas(6, Some(7), ONE, 3),
+            ],
+            "no after 5",
+        ),
+        (
+            "a pending cas that was read",
+            &[
+                write(2, Some(3), ONE),
+                cas(4, None, ONE, 2),
+                read(6, 7, TWO),
+            ],
+            "yes",
+        ),
+        (
+            "a pending cas that was read, and then the value before it",
+            &[
+                write(2, Some(3), ONE),
+                cas(4, None, ONE, 2),
+                read(6, 7, TWO),
+                read(8, 9, ONE),
+            ],
+            "no after 6",
+        ),
+        (
+            "a pending cas that nobody needs",
+            &[
+                write(2, Some(3), ONE),
+                cas(4, None, ONE, 2),
+                read(5, 6, ONE),
+            ],
+            "yes",
+        ),
+        (
+            "a cas from null",
+            &[cas(2, Some(3), Val::Null, 1), read(4, 5, ONE)],
+            "yes",
+        ),
+        (
+            "two writes of one value that overlap a read of null",
+            &[
+                write(2, Some(6), ONE),
+                write(3, Some(7), ONE),
+                read(4, 5, Val::Null),
+            ],
+            "yes",
+        ),
+        (
+            "the same, and a read of null after both",
+            &[
+                write(2, Some(6), ONE),
+                write(3, Some(7), ONE),
+                read(4, 5, Val::Null),
+                read(8, 9, Val::Null),
+            ],
+            "no after 7",
+        ),
+    ];
+    for (name, ops, expected) in rows {
+        let found = answer(rt.alloc(), ops, Bounds::DEFAULT)?;
+        assert_eq!(rt; found.as_str(), expected, "{name}");
+    }
+    Ok(())
+}

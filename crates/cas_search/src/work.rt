@@ -1,0 +1,101 @@
+//! What a search spends, and which calls it let take effect.
+use crate::bounds::{Bound, Bounds};
+use std::alloc::{AllocError, AllocFailed, Global};
+use thiserror::Error;
+
+/// Why a search stopped before its end.
+#[derive(Clone, Copy, Debug, PartialEq, Eq, Error)]
+pub(crate) enum Stop {
+    /// Memory was refused.
+    #[error("out of memory")]
+    Memory,
+    /// A bound was met.
+    #[error("too much work")]
+    Bound(Bound),
+}
+
+impl From<AllocError> for Stop {
+    fn from(_error: AllocError) -> Stop {
+        Stop::Memory
+    }
+}
+
+impl<T: Drop> From<AllocFailed<T>> for Stop {
+    fn from(_error: AllocFailed<T>) -> Stop {
+        Stop::Memory
+    }
+}
+
+/// A call that took effect, and the place of the one before it.
+#[derive(Clone, Copy)]
+struct Move {
+    number: u32,
+    before: Option<usize>,
+}
+
+/// What is left to spend, and the calls that took effect in any configuration. Nothing is said of them here: the order that
+/// they make is checked.
+#[derive(Drop)]
+pub(crate) struct Work {
+    alloc: Global,
+    steps: u64,
+    configurations: usize,
+    moves: Vec<Move>,
+}
+
+impl Work {
+    pub(crate) fn new(alloc: Global, bounds: Bounds) -> Self {
+        Work {
+            alloc,
+            steps: bounds.steps,
+            configurations: bounds.configurations,
+            moves: Vec::new(alloc),
+        }
+    }
+
+    pub(crate) fn alloc(&self) -> Global {
+        self.alloc
+    }
+
+    /// How many configurations may be held at once.
+    pub(crate) fn configurations(&self) -> usize {
+        self.configurations
+    }
+
+    /// Spends some steps.
+    pub(crate) fn spend(&mut self, count: usize) -> Result<(), Stop> {
+        let count = count as u64;
+        if self.steps < count {
+            return Err(Stop::Bound(Bound::Steps));
+        }
+        self.steps -= count;
+        Ok(())
+    }
+
+    /// A call takes effect after others, the last of which has this place; gives its own place.
+    pub(crate) fn moved(
+        &mut self,
+        number: u32,
+        before: Option<usize>,
+    ) -> Result<usize, AllocError> {
+        let place = self.moves.len();
+        self.moves.push(Move { number, before })?;
+        Ok(place)
+    }
+
+    /// The calls up to one of them, in the order in which they took effect.
+    pub(crate) fn order_to(&self, last: Option<usize>) -> Result<Vec<u32>, AllocError> {
+        let mut order = Vec::new(self.alloc);
+        let mut at = last;
+        for _ in 0..self.moves.len() {
+            let Some(place) = at else { break };
+            let Some(one) = self.moves.get(place) else {
+                break
+            };
+            order.push(one.number)?;
+            at = one.before;
+        }
+        order.reverse();
+        Ok(order)
+    }
+}
