@@ -8,3 +8,4 @@ pub mod Takes
 pub mod Stepping
 pub mod Linked
 pub mod Checking
+pub mod Needed

@@ -4,3 +4,4 @@ pub mod Configs
 pub mod Timeline
 pub mod Checked
 pub mod Verdicts
+pub mod Unwritten

@@ -2,14 +2,14 @@
 //!
 //! What the floor above may rely on: [`decide`] answers yes only with a legal order, no only if there is none, and otherwise
 //! which bound the search met. [`check_order`] is what a yes rests on: it says by the definitions whether an order is legal,
-//! whoever made it. Nothing rests on how the search found it.
+//! whoever made it. Nothing rests on how the search found it. [`first_unwritten`] finds a value that nobody gave the register.
 //!
 //! A no rests on one step. A configuration is the value of the register and the open calls that have not taken effect; a set of
 //! them goes forward over the calls and the replies (Lowe, Testing for linearizability, 2017), and whatever could still be
 //! explained before an event can be explained from one of the set after it. If none is left, no order is legal.
 //!
 //! Read it in this order: `happening`, `bounds` and `work`; `config`, `cover` and `step`, one event; `forward`, all of them;
-//! `check`, which checks an order; `verdict`, which answers.
+//! `check`, which checks an order; `verdict`, which answers; `unwritten` by itself.
 #![tactic(auto)]
 
 mod bounds;
@@ -20,12 +20,12 @@ mod forward;
 mod happening;
 mod numbers;
 mod step;
-#[cfg(test)]
-mod tests;
+mod unwritten;
 mod verdict;
 mod work;
 
 pub use bounds::{Bound, Bounds};
 pub use check::check_order;
 pub use happening::Happening;
+pub use unwritten::first_unwritten;
 pub use verdict::{Verdict, decide};

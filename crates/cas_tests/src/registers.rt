@@ -1,5 +1,6 @@
-use super::*;
+//! Which registers with a cas are atomic: small ones, by the times of their calls and replies.
 use cas_model::{Act, Operation};
+use cas_search::{Bound, Bounds, Happening, Verdict, decide, first_unwritten};
 use history_model::RegId;
 use history_text::Val;
 use std::alloc::{AllocError, Global};
@@ -170,5 +171,41 @@ fn verdicts(rt: HostRuntime) -> Result<(), Fail> {
         let found = answer(rt.alloc(), ops, Bounds::DEFAULT)?;
         assert_eq!(rt; found.as_str(), expected, "{name}");
     }
+    Ok(())
+}
+
+#[test]
+fn bounds(rt: HostRuntime) -> Result<(), Fail> {
+    let ops = [
+        write(2, None, ONE),
+        write(3, None, TWO),
+        write(4, None, THREE),
+        read(5, 6, TWO),
+    ];
+    let steps = Bounds {
+        steps: 1,
+        ..Bounds::DEFAULT
+    };
+    let found = answer(rt.alloc(), &ops, steps)?;
+    assert_eq!(rt; found.as_str(), "steps");
+    let configurations = Bounds {
+        configurations: 1,
+        ..Bounds::DEFAULT
+    };
+    let found = answer(rt.alloc(), &ops, configurations)?;
+    assert_eq!(rt; found.as_str(), "configurations");
+    Ok(())
+}
+
+#[test]
+fn unwritten(rt: HostRuntime) -> Result<(), Fail> {
+    let ops = [
+        read(2, 3, Val::Null),
+        cas(4, None, THREE, 1),
+        read(5, 6, ONE),
+        cas(7, Some(8), TWO, 3),
+    ];
+    assert_eq!(rt; first_unwritten(rt.alloc(), &ops)?, Some(3));
+    assert_eq!(rt; first_unwritten(rt.alloc(), &ops[..3])?, None);
     Ok(())
 }
