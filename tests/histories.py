@@ -6,7 +6,7 @@ lines are odd, and some wrong, so that each refusal comes up.
 """
 import json
 import random
-from typing import Any, Dict, List, Optional
+from typing import Any, Dict, List, Optional, Set
 
 Line = Dict[str, Any]
 
@@ -33,10 +33,10 @@ class Store:
         self.lies = chance.choice([0, 0, 0.1, 0.4])  # how often a read gives some other value
         self.weak = chance.random() < 0.4  # a read gives the old value or that of an open write, at random
         self.hasty = chance.choice([0.2, 0.5, 0.9])  # how often a process ends its open call when it can
-        self.values = {register: None for register in self.registers}
+        self.values: Dict[str, Optional[int]] = {register: None for register in self.registers}
         self.written = {register: 0 for register in self.registers}
         self.open: Dict[int, Call] = {}
-        self.crashed: set = set()
+        self.crashed: Set[int] = set()
         self.lines: List[Line] = []
 
     def step(self) -> None:

@@ -157,7 +157,7 @@ def event_of(number: int, line: bytes, options: Options) -> Event:
     if not isinstance(value, Members):
         raise Refused(3, number)
     members: Dict[str, Any] = dict(value)
-    process, what = members.get("process"), members.get("event")
+    process, what = members.get("process", ABSENT), members.get("event", ABSENT)
     if not is_whole(process, 0, MAX_PROCESS):
         raise Refused(4, number)
     if what not in (("call", "reply", "fail", "crash") if options.fail else ("call", "reply")):
@@ -208,19 +208,20 @@ def agrees(event: Event, call: Event) -> bool:
 def refusal_of(event: Event, before: Sequence[Event]) -> Optional[Refused]:
     """The lowest-numbered reason of 9 to 14 and 19 that applies."""
     last = last_of_process(before, event.process)
-    is_open = last is not None and last.what == "call"
+    open_call = last if last is not None and last.what == "call" else None
     if event.what == "call":
-        if is_open:
-            return Refused(9, event.line, last.line)
+        if open_call is not None:
+            return Refused(9, event.line, open_call.line)
         for earlier in before:
             if event.op == "write" == earlier.op and earlier.what == "call" and same_written(event, earlier):
                 return Refused(13, event.line, earlier.line)
     elif event.what != "crash":
         if last is None or last.what in ("reply", "fail"):
             return Refused(10, event.line)
-        if is_open and not agrees(event, last):
+        if open_call is not None and not agrees(event, open_call):
             return Refused(11, event.line)
-        if is_open and event.what == "reply" and last.op == "read" and event.value is ABSENT:
+        is_read = open_call is not None and open_call.op == "read"
+        if is_read and event.what == "reply" and event.value is ABSENT:
             return Refused(12, event.line)
     if len(before) >= MAX_EVENTS:
         return Refused(14, event.line)
@@ -230,7 +231,7 @@ def refusal_of(event: Event, before: Sequence[Event]) -> Optional[Refused]:
 
 
 def same_written(one: Event, other: Event) -> bool:
-    return one.register == other.register and one.value == other.value
+    return (one.register, one.value) == (other.register, other.value)
 
 
 def events_of(history: bytes, options: Options) -> List[Event]:
@@ -271,13 +272,13 @@ def operations_of(events: Sequence[Event]) -> List[Operation]:
     for at, event in enumerate(events):
         if event.what != "call":
             continue
-        end = next((i for i in range(at + 1, len(events)) if events[i].process == event.process), None)
-        what = None if end is None else events[end].what
+        end = next((i for i in range(at + 1, len(events)) if events[i].process == event.process), len(events))
+        what = events[end].what if end < len(events) else None
         if what == "fail":
             continue
         replied = what == "reply"
         value = event.value if event.op == "write" else events[end].value if replied else None
-        reply = end + 2 if replied else len(events) + 2
+        reply = (end if replied else len(events)) + 2
         name = event.register
         found.append(Operation(event.line, event.process, name, event.op, value, at + 2, reply, not replied))
     return found
@@ -368,11 +369,11 @@ def conflict(c: Cluster, d: Cluster) -> bool:
 
 def fault_of(register: Register) -> Optional[Dict[str, Any]]:
     """The first kind that applies: unwritten, early, zones."""
-    unwritten = [read for read in register.reads if register.write_of(read.value) is None]
+    reads = [(read, register.write_of(read.value)) for read in register.reads]
+    unwritten = [read for read, write in reads if write is None]
     if unwritten:
         return {"kind": "unwritten", "read": min(unwritten, key=lambda read: read.call).line}
-    early = [(read, register.write_of(read.value)) for read in register.reads]
-    early = [(read, write) for read, write in early if precedes(read, write)]
+    early = [(read, write) for read, write in reads if write is not None and precedes(read, write)]
     if early:
         read, write = min(early, key=lambda pair: pair[0].call)
         return {"kind": "early", "read": read.line, "write": write.line}
@@ -667,9 +668,9 @@ def read_file(name: str) -> bytes:
 def words() -> argparse.Namespace:
     top = argparse.ArgumentParser(description=__doc__, formatter_class=argparse.RawDescriptionHelpFormatter)
     commands = top.add_subparsers(dest="command", required=True)
-    for name, more in (("answer", []), ("judge", ["report"])):
+    for name, files in (("answer", ["history"]), ("judge", ["history", "report"])):
         command = commands.add_parser(name)
-        for file in ["history", *more]:
+        for file in files:
             command.add_argument(file)
         command.add_argument("--first", action="store_true", help="the early answer")
         command.add_argument("--without-inversion", action="store_true", help="no inversion is named")

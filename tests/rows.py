@@ -4,7 +4,7 @@ They are written in a short form: `p1 W x 5` calls a write, `p2 R x` a read, `p1
 `p1 fail` and `p1 crash` are events of these names."""
 import json
 import os
-from typing import List, NamedTuple, Tuple
+from typing import Any, Dict, List, NamedTuple, Tuple
 
 import reference
 
@@ -23,7 +23,7 @@ For more information, try '--help'.
 def event(words: str) -> str:
     """The line of one event in short form."""
     process, what, *rest = words.split()
-    members = {"process": int(process[1:])}
+    members: Dict[str, Any] = {"process": int(process[1:])}
     if what == "W":
         members.update(event="call", op="write", register=rest[0], value=int(rest[1]))
     elif what == "R":

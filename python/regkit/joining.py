@@ -55,7 +55,9 @@ def outcomes(directory: str, manifest: Manifest) -> Iterator[Outcome]:
 
 
 def line_map(directory: str, part: int, manifest: Manifest) -> LineOf:
-    return LineMap(file_of(directory, part, "lines")) if manifest.lines == MAP else same_line
+    if manifest.lines == MAP:
+        return LineMap(file_of(directory, part, "lines"))
+    return same_line
 
 
 def allow_open_files(count: int) -> None:

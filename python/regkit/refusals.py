@@ -53,4 +53,5 @@ def read_refusal(words: str, line_of: Callable[[int], int]) -> Optional[Refusal]
 
 
 def first_refusal(refusals: Iterable[Refusal]) -> Optional[Refusal]:
-    return min(refusals, default=None, key=lambda refusal: (refusal.line, refusal.number))
+    ordered = sorted(refusals, key=lambda refusal: (refusal.line, refusal.number))
+    return ordered[0] if ordered else None

@@ -1,5 +1,6 @@
 """Cuts a history into parts that keep each register whole, in one pass over its lines."""
 import os
+import pathlib
 from contextlib import suppress
 from typing import BinaryIO, Callable, Iterator, List, NamedTuple, Optional
 
@@ -41,7 +42,7 @@ class PartWriter:
         for path in self.paths():
             open(path, "xb").close()
 
-    def paths(self) -> List[os.PathLike]:
+    def paths(self) -> List[pathlib.Path]:
         return [self.history, self.map] if self.by_map else [self.history]
 
     def put(self, number: int, line: bytes) -> None:

@@ -43,11 +43,12 @@ def run_command(module: Any, *words: str) -> Ran:
     """Runs a command in this process."""
     parser = argparse.ArgumentParser()
     module.add_arguments(parser)
-    out, err = io.TextIOWrapper(io.BytesIO(), encoding="utf-8", newline=""), io.StringIO()
+    report, err = io.BytesIO(), io.StringIO()
+    out = io.TextIOWrapper(report, encoding="utf-8", newline="")
     with redirect_stdout(out), redirect_stderr(err):
         status = module.run(parser.parse_args(words))
     out.flush()
-    return Ran(status, out.buffer.getvalue(), err.getvalue())  # type: ignore[attr-defined]
+    return Ran(status, report.getvalue(), err.getvalue())
 
 
 def check_part(directory: str, part: int, check: Check = run_checker) -> None:
@@ -242,9 +243,10 @@ class Maker:
     def event_of_someone(self, at: int) -> None:
         """An event that may not fit: a call while one is open, a reply to nothing, another value."""
         name, value = self.chance.choice(self.names), self.chance.randrange(1, 4)
-        said = self.chance.choice([{"event": "call", "op": "read", "register": name}, {"event": "reply"},
-                                   {"event": "call", "op": "write", "register": name, "value": value},
-                                   {"event": "reply", "value": value}, {"event": "reply", "register": name}])
+        events: List[Line] = [{"event": "call", "op": "read", "register": name}, {"event": "reply"},
+                              {"event": "call", "op": "write", "register": name, "value": value},
+                              {"event": "reply", "value": value}, {"event": "reply", "register": name}]
+        said = self.chance.choice(events)
         self.lines.insert(at, json.dumps({"process": self.chance.randrange(7), **said}))
 
     def write_again(self, at: int) -> None:
@@ -260,9 +262,10 @@ class Maker:
         if self.ends:
             self.lines.insert(at, json.dumps({"process": process, "event": "crash"}))
         name, value = self.chance.choice(self.names), self.chance.randrange(1, 3)
-        said = self.chance.choice([{"event": "call", "op": "write", "register": name, "value": value},
-                                   {"event": "call", "op": "read", "register": name},
-                                   {"event": "reply"}, {"event": "fail"}, {"event": "crash"}])
+        events: List[Line] = [{"event": "call", "op": "write", "register": name, "value": value},
+                              {"event": "call", "op": "read", "register": name},
+                              {"event": "reply"}, {"event": "fail"}, {"event": "crash"}]
+        said = self.chance.choice(events)
         place = self.chance.randrange(at, len(self.lines)) + 1
         self.lines.insert(place, json.dumps({"process": process, **said}))
 

@@ -265,7 +265,8 @@ class Refusals(unittest.TestCase):
         call: Line = {"process": 1, "event": "call", "op": "write", "register": "x", "value": 5}
         with tempfile.TemporaryDirectory() as folder:
             path, made = pathlib.Path(folder) / "source", pathlib.Path(folder) / "made"
-            for said in ({"process": "alice"}, {"value": "v1"}, {"value": [1, 2]}, {"value": True}):
+            odd: List[Line] = [{"process": "alice"}, {"value": "v1"}, {"value": [1, 2]}, {"value": True}]
+            for said in odd:
                 path.write_bytes(json.dumps({**call, **said}).encode() + b"\n")
                 with self.subTest(said):
                     self.assertIn("`regkit convert --from jsonl`", self.told(path.read_bytes(), str(path)))

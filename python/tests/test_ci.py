@@ -52,8 +52,8 @@ class JUnit(Files):
                           ("failure", "too little evidence"), ("error", "refused"), ("error", "failed")])
         self.assertEqual(suite[0][0].text, "2 operations on 1 register; 1 completed read, 0 overlap a write")
         self.assertEqual(suite[1][0].get("message"),
-                         "not linearizable: 1 faulty register; 4 operations on 1 register; 2 completed reads, "
-                         "2 overlap a write")
+                         "not linearizable: 1 faulty register; 4 operations on 1 register; "
+                         "2 completed reads, 2 overlap a write")
         self.assertIn("this is a new-old inversion", suite[1][0].text or "")
         self.assertIn("one JSON object", suite[3][0].text or "")
         self.assertTrue(all(float(case.get("time", "")) >= 0 for case in suite))

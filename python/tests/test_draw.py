@@ -15,11 +15,11 @@ from regkit.checker import run_checker
 from regkit.draw import Mismatch, draw_page, page_of
 from regkit.drawing import svg, text
 from regkit.drawing.figure import PAGE_WIDTH, RIGHT, gutter_of
-from regkit.drawing.lanes import MOST_LANES
+from regkit.drawing.lanes import MOST_LANES, Span
 from regkit.drawing.marks import Marks, marks_of_fault, overlapped_writes
 from regkit.drawing.page import Asked
 from regkit.drawing.scene import Register, Scene, fitted, strips
-from regkit.drawing.windows import count_left_out, windows_around
+from regkit.drawing.windows import Window, count_left_out, windows_around
 from regkit.history import History, NoRegister, read_history
 from regkit.report import read_report
 
@@ -209,7 +209,8 @@ class Layout(unittest.TestCase):
     """Labels fit, bars don't overlap, windows hold what they must."""
 
     def check(self, scene: Scene, say: str) -> None:
-        axis, spans = scene.axis, {}
+        axis = scene.axis
+        spans: Dict[int, List[Span]] = {}  # of each lane
         for bar in scene.bars:
             span = axis.begin_at(bar.begin), axis.end_at(bar.end)
             if axis.has(bar.begin) and (axis.has(bar.end) or bar.end is None):
@@ -252,9 +253,11 @@ class Layout(unittest.TestCase):
 
     def test_windows(self) -> None:
         events = list(range(10, 1010, 10))
-        for lines, expected in [([500], [(47, 52)]), ([500, 540], [(47, 56)]), ([10], [(0, 3)]), ([], []),
-                                ([500, 580], [(47, 60)]), ([500, 590], [(47, 52), (56, 61)]),
-                                ([60], [(0, 8)]), ([950], [(92, 100)])]:
+        table: List[Tuple[List[int], List[Window]]] = [
+            ([500], [(47, 52)]), ([500, 540], [(47, 56)]), ([10], [(0, 3)]), ([], []),
+            ([500, 580], [(47, 60)]), ([500, 590], [(47, 52), (56, 61)]), ([60], [(0, 8)]),
+            ([950], [(92, 100)])]
+        for lines, expected in table:
             self.assertEqual(windows_around(events, lines, 2), expected)
         self.assertEqual(count_left_out([(47, 52), (56, 61)], 100), 90)
 
@@ -332,9 +335,9 @@ class Signs(unittest.TestCase):
         self.assertIn("Was the store empty when the recording began?", self.words(page))
         lines = [write(1, 1), reply(1), write(1, 2), reply(1), write(1, 3), reply(1), read(2), gave(2, 1)]
         page = self.page(lines, zones([1, 3], [3, 7], [1, 3]))
-        self.assertIn("2 answered writes may be lost: the read of line 7 ignored them, and nothing came after "
-                      "it: the write of 2 by process 1 (lines 3 to 4) and the write of 3 by process 1 (lines 5 to "
-                      "6).", self.words(page))
+        self.assertIn("2 answered writes may be lost: the read of line 7 ignored them, and nothing came "
+                      "after it: the write of 2 by process 1 (lines 3 to 4) and the write of 3 by process 1 "
+                      "(lines 5 to 6).", self.words(page))
 
     def test_endings(self) -> None:
         lines = [write(1, 1), reply(1), write(2, 2), fail(2), write(3, 3), crash(3), write(4, 4), read(5),

@@ -183,31 +183,31 @@ class Causes(unittest.TestCase):
                           gave(2, 1)])
         self.assertIn("The read of 2 by process 3 (lines 5 to 6) is the fresh read, and the read of 1 by "
                       "process 2 (lines 7 to 8) the stale one.", page)
-        self.assertIn("5 to 6 process 3 read 2 F [===] 7 to 8 process 2 read 1 X [===] X can't be explained F "
-                      "fresh read * what", page)
+        self.assertIn("5 to 6 process 3 read 2 F [===] 7 to 8 process 2 read 1 X [===] X can't be explained "
+                      "F fresh read * what", page)
 
     def test_a_stale_read_that_is_not_the_first_unexplained_one(self) -> None:
         events = [write(1, 1), reply(1), write(1, 2), reply(1), read(2), gave(2, 1), read(2), gave(2, 2),
                   read(3), gave(3, 1)]
         page = explained(events, row(zones([1, 3], [1, 7], [3, 9])))
-        self.assertIn("5 to 6 process 2 read 1 X [===] 7 to 8 process 2 read 2 F [===] 9 to 10 process 3 read 1 "
-                      "S [===] X can't be explained S stale read F fresh read", page)
+        self.assertIn("5 to 6 process 2 read 1 X [===] 7 to 8 process 2 read 2 F [===] 9 to 10 process 3 "
+                      "read 1 S [===] X can't be explained S stale read F fresh read", page)
 
     def test_lost_writes(self) -> None:
         begin = [each for value in range(1, 10) for each in (write(1, value), reply(1))]
         table: List[Tuple[List[Line], str]] = [
             ([read(2), gave(2, 1), read(2), gave(2, 1)],
-             "Lost writes 8 answered writes were lost: the read of line 19 ignored them, and no later read gave "
-             "their values. The write of 2 by process 1 (lines 3 to 4)."),
+             "Lost writes 8 answered writes were lost: the read of line 19 ignored them, and no later read "
+             "gave their values. The write of 2 by process 1 (lines 3 to 4)."),
             ([read(2), gave(2, 8), read(2), gave(2, 8), write(1, 10), reply(1), read(2), gave(2, 10)],
-             "Lost writes 1 answered write was lost: the read of line 19 ignored it, and no later read gave its "
-             "value."),
+             "Lost writes 1 answered write was lost: the read of line 19 ignored it, and no later read gave "
+             "its value."),
             ([read(2), gave(2, 7)],
              "Lost writes 2 answered writes may be lost: the read of line 19 ignored them, and nothing came "
              "after it."),
             ([read(2), gave(2, 8)],
-             "Lost writes 1 answered write may be lost: the read of line 19 ignored it, and nothing came after "
-             "it."),
+             "Lost writes 1 answered write may be lost: the read of line 19 ignored it, and nothing came "
+             "after it."),
             ([read(2), gave(2, 8), write(1, 10), reply(1), read(2), gave(2, 10)], ""),
             ([write(1, 10), read(2), gave(2, 1), reply(1), read(2), gave(2, 10)], ""),
             ([read(2), gave(2, 1), read(2), gave(2, 9)], ""),

@@ -5,7 +5,7 @@ import pathlib
 import subprocess
 import tempfile
 import unittest
-from typing import List, Optional, Sequence
+from typing import List, Optional, Sequence, Tuple
 from unittest import mock
 
 from regkit.commands import join as command
@@ -85,7 +85,7 @@ class Reports(HandMade):
 
     def test_not_atomic(self) -> None:
         self.two_parts()
-        fault = {"atomic": "no", "fault": {"kind": "unwritten", "read": 3}, "register": "y", **YES}
+        fault: Row = {"atomic": "no", "fault": {"kind": "unwritten", "read": 3}, "register": "y", **YES}
         self.part(1, "1", [fault, summary("no", 1, 1)])
         rows = [row("x", [1, 8], [1, 8]), fault, row("z", [6, 5], [6, 6]), summary("no", 5, 3)]
         self.assertEqual((1, b"".join(map(line_of, rows)), ""), self.join("--order", "always"))
@@ -93,18 +93,20 @@ class Reports(HandMade):
     def test_lines_of_the_whole(self) -> None:
         """By a map every line number changes, and nothing else does; the initial write stays 0."""
         name = "".join(map(chr, range(0x20))) + "\x7f\"\\/<\u2028\u00e9\U0001f600"
-        zones = {"first": [0, 2], "kind": "zones", "second": [2, 3], "writes": [0, 1]}
-        fault = {"atomic": "no", "fault": zones, "inversion": [2, 3], "regular_read": 3, "safe_read": 2,
-                 "register": name, **YES}
-        early = {"atomic": "no", "fault": {"kind": "early", "read": 4, "write": 5}, "register": "3", **YES}
-        good = {**row("z", [5, 4], [4, 5]), "reads": 4}
+        zones: Row = {"first": [0, 2], "kind": "zones", "second": [2, 3], "writes": [0, 1]}
+        fault: Row = {"atomic": "no", "fault": zones, "inversion": [2, 3], "regular_read": 3, "safe_read": 2,
+                      "register": name, **YES}
+        early: Row = {"atomic": "no", "fault": {"kind": "early", "read": 4, "write": 5},
+                      "register": "3", **YES}
+        good: Row = {**row("z", [5, 4], [4, 5]), "reads": 4}
         self.manifest(1, [0, 0, 0], MAP)
         self.map_of(0, [10, 20, 30, 123456789012, 50])
         self.part(0, "1", [fault, early, good, summary("no", 9, 3)])
         zones = {"first": [0, 20], "kind": "zones", "second": [20, 30], "writes": [0, 10]}
-        rows = [{**fault, "fault": zones, "inversion": [20, 30], "regular_read": 30, "safe_read": 20},
-                {**early, "fault": {"kind": "early", "read": 123456789012, "write": 50}},
-                {**good, "order": [50, 123456789012], "points": [123456789012, 50]}, summary("no", 9, 3)]
+        rows: List[Row] = [
+            {**fault, "fault": zones, "inversion": [20, 30], "regular_read": 30, "safe_read": 20},
+            {**early, "fault": {"kind": "early", "read": 123456789012, "write": 50}},
+            {**good, "order": [50, 123456789012], "points": [123456789012, 50]}, summary("no", 9, 3)]
         self.assertEqual((1, b"".join(map(line_of, rows)), ""), self.join())
 
     def test_no_registers(self) -> None:
@@ -201,14 +203,15 @@ class Unanswered(HandMade):
 
     def test_report_that_is_not_whole(self) -> None:
         y, z, last = self.good
-        for why, rows in [
+        table: List[Tuple[str, List[Row]]] = [
             ("4 lines", [y, y, z, last]),
             ("2 lines", [z, last]),
             ("0 lines", []),
             ("does not end with the summary", [y, z, z]),
             ("does not end with the summary", [y, z, {**last, "registers": 3}]),
             ("does not fit its status", [y, z, {**last, "atomic": "no"}]),
-        ]:
+        ]
+        for why, rows in table:
             with self.subTest(why):
                 self.part(1, "0", rows)
                 self.must_name(why)

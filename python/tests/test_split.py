@@ -11,6 +11,7 @@ from unittest import mock
 from regkit import cli, routing, splitting
 from regkit.checker import NoChecker, find_checker
 from regkit.commands import split as command
+from regkit.joining import line_map
 from regkit.parts import BLANK, MAP, LineMap, file_of, read_manifest
 from regkit.routing import CertainRefusal, Router
 from regkit.splitting import Plan, lines_of, split
@@ -65,7 +66,7 @@ class Folder(unittest.TestCase):
         """Each line of each part that isn't blank, with its line number in the whole."""
         found = []
         for part in range(parts):
-            line_of = command.line_map(self.directory, part, read_manifest(self.directory))
+            line_of = line_map(self.directory, part, read_manifest(self.directory))
             for number, line in enumerate(self.part(part).split(b"\n"), 1):
                 if line.strip(b" \t\r"):
                     found.append((line_of(number), line))
@@ -88,7 +89,7 @@ class Routes(unittest.TestCase):
 
     def test_accepted(self) -> None:
         start = [call(1, "x"), call(2, "y"), call(3, "z")]
-        for name, lines, expected in [
+        table: List[Tuple[str, List[str], List[Optional[int]]]] = [
             ("a reply goes to the part of its call", [end(3), end(1), end(2)], [2, 0, 1]),
             ("a fail too", [end(3, "fail"), call(3, "x"), end(3)], [2, 0, 0]),
             ("a reply that names another register", [end(3, register="x", op="read")], [2]),
@@ -99,7 +100,8 @@ class Routes(unittest.TestCase):
             ("other orders of members", ['{"value":null,"event":"reply","process":2,"op":"read"}'], [1]),
             ("the last of equal members counts", ['{"process":1,"process":3,"event":"reply"}'], [2]),
             ("spaces and other members", [' { "process" : 2 , "event":"reply", "x":{"process":3}} '], [1]),
-        ]:
+        ]
+        for name, lines, expected in table:
             with self.subTest(name):
                 found, refused = self.routed(*start, *lines)
                 if expected:

@@ -161,6 +161,12 @@ class Code(unittest.TestCase):
                 file = ROOT / "examples" / "tutorial" / str(block.title)
                 self.assertIn(block.text, file.read_text(encoding="utf-8"))
 
+    def recorder(self, *arguments: Any, **options: Any) -> Recorder:
+        """The code leaves its recorders open, so each is closed after the test."""
+        made = Recorder(*arguments, **options)
+        self.addCleanup(made.close)
+        return made
+
     def test_the_code_that_has_no_file_runs(self) -> None:
         """Each piece runs after the others, with a store, a recorder and a client at hand."""
         pieces = [block.text for block in blocks("python") if not block.title]
@@ -168,8 +174,8 @@ class Code(unittest.TestCase):
         with tempfile.TemporaryDirectory() as directory:
             first = Recorder()
             names: Dict[str, Any] = {
-                "suppress": suppress, "Recorder": Recorder, "assert_atomic": assert_atomic, "Store": Store,
-                "store": Store(), "recorder": first, "client": first.client()}
+                "suppress": suppress, "Recorder": self.recorder, "assert_atomic": assert_atomic,
+                "Store": Store, "store": Store(), "recorder": first, "client": first.client()}
             here = os.getcwd()
             os.chdir(directory)
             try:

@@ -4,7 +4,6 @@ import io
 import os
 import stat
 import sys
-from contextlib import ExitStack
 from typing import BinaryIO, Optional
 
 from regkit.checker import NoChecker, run_checker
@@ -69,12 +68,10 @@ def run(arguments: argparse.Namespace) -> int:
 
 
 def split_named(arguments: argparse.Namespace) -> Manifest:
-    with ExitStack() as stack:
-        stream = stack.enter_context(opened(arguments.history))
+    with opened(arguments.history) as stream, Progress() as progress:
         size = size_of(stream)
         lines = line_form(arguments.lines, size)
         plan = Plan(arguments.history, arguments.directory, arguments.parts, lines)
-        progress = stack.enter_context(Progress())
         progress.step("splitting", size or 0)
         return split(stream, plan, progress.reach)
 

@@ -74,11 +74,12 @@ def verified(arguments: argparse.Namespace) -> verify.Verified:
 
 def refusal_file(arguments: argparse.Namespace) -> Optional[str]:
     """The file with a refusal's text: the one named as such, or NAME.err beside an empty report."""
-    if arguments.refusal is not None or arguments.report == "-":
-        return arguments.refusal
+    named: Optional[str] = arguments.refusal
+    if named is not None or arguments.report == "-":
+        return named
     report = pathlib.Path(arguments.report)
     if report.suffix in REFUSALS:
-        return arguments.report
+        return str(report)
     beside = report.with_suffix(".err")
     return str(beside) if report.stat().st_size == 0 and beside.is_file() else None
 

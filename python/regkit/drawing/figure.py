@@ -59,7 +59,7 @@ class Figure:
         self.gutter = gutter_of(scene.marks, labels, scene.lanes.details)
         self.arrows_top = TOP + ZONE_ROW * len(scene.marks.zones)
         self.lanes_top = self.arrows_top + ARROW_ROW * len(scene.marks.arrows) + 4
-        self.lanes_end = self.lanes_top + LANE_ROW * scene.lanes.count
+        self.lanes_end = self.lanes_top + LANE_ROW * scene.lanes.size
         self.height = self.lanes_end + ruler_height(scene)
         self.width = self.gutter + scene.axis.right + RIGHT
         self.drawn = [bar for bar in scene.bars if bar.begin in scene.lanes.lane_of]

@@ -14,7 +14,7 @@ class Lanes(NamedTuple):
     """The lane of each bar that is drawn, by the line of its call."""
 
     lane_of: Dict[int, int]
-    count: int
+    size: int  # how many lanes
     labels: List[str]  # of the lanes, if they belong to processes
     details: List[str]  # below the labels: the client and the node
     crowded_out: int  # bars for which there was no lane

@@ -28,11 +28,11 @@ def need(holds: bool, why: str) -> None:
 def read_rows(report: bytes) -> List[Row]:
     """The lines of a report: those of registers, then the summary. Raises Unreadable."""
     try:
-        rows = [_row(line) for line in report.decode("utf-8").split("\n")]
+        *rows, end = [_row(line) for line in report.decode("utf-8").split("\n")]
     except (ValueError, RecursionError) as error:
         raise Unreadable(f"this is no report of regcheck: {error}") from error
-    *lines, end = rows  # behind the last line feed there is nothing
-    if end is not None or None in lines or not lines:
+    lines = [row for row in rows if row is not None]
+    if end is not None or len(lines) < len(rows) or not lines:  # behind the last line feed there is nothing
         raise Unreadable("this is no report of regcheck: it is empty, or was cut short, or has an empty line")
     if "registers" not in lines[-1]:
         raise Unreadable("this is no report of regcheck: its last line isn't a summary")
@@ -65,7 +65,7 @@ def _row(line: str) -> Optional[Row]:
 
 def lines_of(row: Row, key: str) -> Lines:
     """A list of line numbers. In Python `true` equals 1, so its type is looked at too."""
-    lines = row[key]
+    lines: Lines = row[key]
     need(type(lines) is list and set(map(type, lines)) <= {int}, f"`{key}` is not a list of lines")
     return lines
 

@@ -125,10 +125,10 @@ class History:
             raise Refused(12, line)
 
     def begin(self, line: int, event: Dict[str, Any]) -> None:
-        register, is_write = event["register"], event["op"] == "write"
+        process, register, is_write = event["process"], event["register"], event["op"] == "write"
         call = Operation(line, register, is_write, event.get("value"))
-        call.process = event["process"]
-        self.open_calls[call.process] = call
+        call.process = process
+        self.open_calls[process] = call
         self.registers.setdefault(register, []).append(call)
         if is_write:
             self.written.setdefault(register, {})[event["value"]] = line
