@@ -1,4 +1,5 @@
--- What an operation asks of the value that it meets, and what it gives: a register with compare-and-swap, cas for short (Herlihy and Wing, Linearizability: A Correctness Condition for Concurrent Objects, 1990, section 2.2, for a register; Lowe, Testing for linearizability, 2017, for the search over it).
+-- What an operation asks of the value that it meets, and what it gives: a register with compare-and-swap, cas for short.
+-- A sequential specification as Herlihy and Wing give them (Linearizability: A Correctness Condition for Concurrent Objects, 1990, section 2.2); that of cas is this project's own.
 use Rattle.std.specs.Prelude.{◌≡◌, not, is_some, unwrap_or, Bool, true, false, Option, Some, None}
 use Rattle.history_text.specs.Values.{value_eq}
 use Rattle.history_text.specs.declared.event.Val.{Val}

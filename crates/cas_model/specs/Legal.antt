@@ -22,7 +22,7 @@ pub record IsNearestChange (order : List Operation) (w r : Operation) : Type 0 w
 abbrev pub IsMet : List Operation → Operation → Type 0
 IsMet order r = (w : Operation) × IsNearestChange order w r × IsSomeAnd (given_by w.act) (Suits r.act)
 
--- A legal order of a completion: no operation stands after one that it precedes, and each that asks something of the value meets one that suits it (Herlihy and Wing, 1990, section 2.2, for the sequential specification of a register with compare-and-swap).
+-- A legal order of a completion: no operation stands after one that it precedes, and each that asks something of the value meets one that suits it (Herlihy and Wing, 1990, section 2.2; with cas this project's own). The initial writes are among the operations, or no read of null is met.
 -- A pending read in the order carries no condition, as without cas.
 pub record IsLegal (ops order : List Operation) : Type 0 where
   pub completion : IsCompletion ops order

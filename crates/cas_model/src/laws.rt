@@ -11,8 +11,8 @@ ghost use Rattle.cas_model.specs.Legal.{IsAtomic, IsLegal, IsMet};
 ghost use Rattle.cas_model.specs.Operations.{AreTimed, IsAsking, initial_write, of_register};
 ghost use Rattle.cas_model.specs.WithoutCas.{plain_operations};
 
-/// A history of reads and writes alone is atomic here exactly if it is by the definition of `history_model`, and so is each
-/// of its registers.
+/// A history that `regcheck` accepts, of reads and writes alone and without repeated values, is atomic here exactly if it
+/// is by the definition of `history_model`, and so is each of its registers.
 pub fn without_cas_nothing_changes()
     ensures whole { (h : History) → IsRecorded h → (IsAtomic (plain_operations (operations h)) ↔ IsPlainAtomic (operations h)) }
     ensures register { (h : History) (r : ℕ) → IsRecorded h

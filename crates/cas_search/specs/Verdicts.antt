@@ -10,7 +10,7 @@ use Rattle.cas_search.specs.declared.verdict.Verdict.{Verdict}
 use Rattle.cas_search.specs.declared.verdict.Verdict.TheVariants.{Yes, No, Unknown}
 use Rattle.cas_search.specs.Checked.{IsCheckedOrder}
 
--- the operations of register r, its initial write among them, have no legal order, which the search knew after the event at this place
+-- the operations of register r, its initial write among them, have no legal order; the place is that of some event, and no more is said of it
 pub record IsRefuted (r : ℕ) (ops : List Operation) (events : List Happening) (place : ℕ) : Type 0 where
   pub within : place < length events
   pub none : IsAtomic (initial_write r ∷ ops) → ⊥

@@ -15,7 +15,7 @@ pub enum Bound {
 pub struct Bounds {
     /// How often a call may take effect or a configuration may be compared with another.
     pub steps: u64,
-    /// How many configurations may be held at once.
+    /// How many configurations one list may hold.
     pub configurations: usize,
 }
 

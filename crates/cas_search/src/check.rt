@@ -11,7 +11,7 @@ use cas_model::Operation;
 use history_text::Val;
 use std::alloc::{AllocError, Global};
 
-/// The points of an order, if it is a legal order of the operations of a register with the initial write before them. The order
+/// The points of an order, only if it is a legal order of the operations of a register with the initial write before them. The order
 /// has the operations by their places, the points are times.
 pub fn check_order(
     alloc: Global,

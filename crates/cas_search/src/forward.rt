@@ -13,7 +13,7 @@ use history_text::Val;
 /// What a search found.
 #[derive(Drop)]
 pub(crate) enum Found {
-    /// No order is legal, and none of the events up to the one at this place.
+    /// No order is legal; no configuration was left after the event at this place, of which nothing is proved.
     None(usize),
     /// The calls that took effect in a configuration that is left. The order is to be checked.
     Order(Vec<u32>),

@@ -1,8 +1,9 @@
 //! Whether a register with reads, writes and cas is atomic: a search for a legal order, and a check of the order that it finds.
 //!
-//! What the floor above may rely on: [`decide`] answers yes only with a legal order, no only if there is none, and otherwise
-//! which bound the search met. [`check_order`] is what a yes rests on: it says by the definitions whether an order is legal,
-//! whoever made it. Nothing rests on how the search found it. [`first_unwritten`] finds a value that nobody gave the register.
+//! What the floor above may rely on: [`decide`] answers yes only with a legal order, no only if there is none, and
+//! otherwise gives up. [`check_order`] is what a yes rests on: it gives the points of an order only if that is legal by
+//! the definitions, whoever made it. Nothing rests on how the search found it. [`first_unwritten`] finds a value that
+//! nobody gave the register.
 //!
 //! A no rests on one step. A configuration is the value of the register and the open calls that have not taken effect; a set of
 //! them goes forward over the calls and the replies (Lowe, Testing for linearizability, 2017), and whatever could still be

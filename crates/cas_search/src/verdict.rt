@@ -18,7 +18,7 @@ pub enum Verdict {
     /// It is: a legal order, by the places of the operations, and the point of each. The initial write, which comes first, is
     /// left out.
     Yes { order: Vec<u32>, points: Vec<u32> },
-    /// It isn't. After the event at this place the search had no configuration left.
+    /// It isn't. The search had no configuration left after the event at this place; of the place nothing is proved.
     No { place: usize },
     /// The search gave up.
     Unknown(Bound),

@@ -57,7 +57,7 @@ impl Work {
         self.alloc
     }
 
-    /// How many configurations may be held at once.
+    /// How many configurations one list may hold.
     pub(crate) fn configurations(&self) -> usize {
         self.configurations
     }
