@@ -2,8 +2,8 @@
 use Rattle.std.proofs.Common.{◌≡◌, ℕ, true, List, [], ◌∷◌, ◌⊎◌, inl, inr, refl, ap, subst, ◌∙◌}
 use Rattle.history_text.specs.declared.event.Val.{Val}
 use Rattle.cas_model.specs.declared.operation.Operation.{Operation}
-use Rattle.cas_search.specs.declared.happening.Happening.{Happening}
-use Rattle.cas_search.specs.declared.happening.Happening.TheVariants.{Call, Reply}
+use Rattle.cas_search.specs.declared.moment.Moment.{Moment}
+use Rattle.cas_search.specs.declared.moment.Moment.TheVariants.{Call, Reply}
 use Rattle.history_model.specs.Lists.{In}
 use Rattle.cas_search.specs.Taking.{suits_at, left_at}
 use Rattle.cas_search.specs.Configs.{IsLive, IsIdle}
@@ -11,12 +11,12 @@ use Rattle.cas_search.specs.Runs.{Alive, over, called, replied, takes, without}
 use Rattle.cas_search.proofs.Lists.{without-In, In-without, In-or}
 
 -- What p can do, q can: it may lack calls that change nothing (reads), and have more of those that never reply (crashed ones).
-pub record IsAsGood (ops : List Operation) (es : List Happening) (p q : List ℕ) : Type 0 where
+pub record IsAsGood (ops : List Operation) (es : List Moment) (p q : List ℕ) : Type 0 where
   pub keeps : (j : ℕ) → In j p → In j q ⊎ ((s : Val) → left_at ops j s ≡ s)
   pub extra : (j : ℕ) → In j q → In j p ⊎ (In (Reply j) es → ⊥)
 
 module _ (ops : List Operation) where
-  pub as_good : (es : List Happening) (s t : Val) (p q : List ℕ) → s ≡ t → IsAsGood ops es p q → Alive ops s p es → Alive ops t q es
+  pub as_good : (es : List Moment) (s t : Val) (p q : List ℕ) → s ≡ t → IsAsGood ops es p q → Alive ops s p es → Alive ops t q es
   as_good [] s t p q e g over = over
   as_good (Call k ∷ es) s t p q e g (called r) = called (as_good es s t (k ∷ p) (k ∷ q) e (record {
     keeps = λ j i. elim i [ inl h ↦ inl (inl h) | inr h ↦ elim (g.keeps j h) [ inl a ↦ inl (inr a) | inr a ↦ inr a ] ];
@@ -38,7 +38,7 @@ module _ (ops : List Operation) where
         }) r
   ]
 
-  pub live_as_good : (es : List Happening) (s t : Val) (p q : List ℕ) → s ≡ t → ((j : ℕ) → In j p → In j q ⊎ IsIdle ops j) → ((j : ℕ) → In j q → In j p) → IsLive ops s p es → IsLive ops t q es
+  pub live_as_good : (es : List Moment) (s t : Val) (p q : List ℕ) → s ≡ t → ((j : ℕ) → In j p → In j q ⊎ IsIdle ops j) → ((j : ℕ) → In j q → In j p) → IsLive ops s p es → IsLive ops t q es
   live_as_good es s t p q e keeps fewer l = record {
     run = as_good es s t p q e (record { keeps = keeps; extra = λ j i. inl (fewer j i) }) l.run;
     ahead = λ j i. l.ahead j (fewer j i);

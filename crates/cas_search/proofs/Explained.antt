@@ -3,8 +3,8 @@ use Rattle.std.proofs.Common.{ℕ, List, [], ◌∷◌, ◌⊎◌, inl, inr, ref
 use Rattle.history_text.specs.declared.event.Val.{Val}
 use Rattle.history_text.specs.declared.event.Val.TheVariants.{Null}
 use Rattle.cas_model.specs.declared.operation.Operation.{Operation}
-use Rattle.cas_search.specs.declared.happening.Happening.{Happening}
-use Rattle.cas_search.specs.declared.happening.Happening.TheVariants.{Call, Reply}
+use Rattle.cas_search.specs.declared.moment.Moment.{Moment}
+use Rattle.cas_search.specs.declared.moment.Moment.TheVariants.{Call, Reply}
 use Rattle.history_model.specs.Lists.{In, Before}
 use Rattle.cas_search.specs.Taking.{left_at}
 use Rattle.cas_search.specs.Runs.{Alive, over, called, replied, takes, without}
@@ -12,7 +12,7 @@ use Rattle.cas_search.proofs.Lists.{without-In, In-without, In-or}
 use Rattle.cas_search.proofs.Numbered.{MeetsAt, IsNumbered}
 
 -- Of a legal order the operations `todo` have not taken effect, and those of them that were called are in p.
-record Stands (ops : List Operation) (es : List Happening) (todo : List ℕ) (s : Val) (p : List ℕ) : Type 0 where
+record Stands (ops : List Operation) (es : List Moment) (todo : List ℕ) (s : Val) (p : List ℕ) : Type 0 where
   meets : MeetsAt ops s todo
   here : (a : ℕ) → In a todo → In a p ⊎ In (Call a) es
   owed : (a : ℕ) → In a p → In (Reply a) es → In a todo
@@ -24,7 +24,7 @@ record Stands (ops : List Operation) (es : List Happening) (todo : List ℕ) (s 
   replies : (a : ℕ) → Before (Reply a) (Call a) es → ⊥
 
 module _ (ops : List Operation) where
-  after_call : (k : ℕ) (es : List Happening) (todo : List ℕ) (s : Val) (p : List ℕ) → Stands ops (Call k ∷ es) todo s p → Stands ops es todo s (k ∷ p)
+  after_call : (k : ℕ) (es : List Moment) (todo : List ℕ) (s : Val) (p : List ℕ) → Stands ops (Call k ∷ es) todo s p → Stands ops es todo s (k ∷ p)
   after_call k es todo s p f = record {
     meets = f.meets;
     here = λ a i. elim (f.here a i) [ inl h ↦ inl (inr h) | inr h ↦ elim h [ inl e ↦ inl (inl (cc)) | inr c ↦ inr c ] ];
@@ -43,7 +43,7 @@ module _ (ops : List Operation) where
     replies = λ a h. f.replies a (inr h);
   }
 
-  after_reply : (k : ℕ) (es : List Happening) (todo : List ℕ) (s : Val) (p : List ℕ) → Stands ops (Reply k ∷ es) todo s p → Stands ops es todo s p
+  after_reply : (k : ℕ) (es : List Moment) (todo : List ℕ) (s : Val) (p : List ℕ) → Stands ops (Reply k ∷ es) todo s p → Stands ops es todo s p
   after_reply k es todo s p f = record {
     meets = f.meets;
     here = λ a i. elim (f.here a i) [ inl h ↦ inl h | inr h ↦ elim h [ inl e ↦ absurd (cc) | inr c ↦ inr c ] ];
@@ -57,7 +57,7 @@ module _ (ops : List Operation) where
   }
 
   -- the first of those that are left takes effect
-  after_taking : (j : ℕ) (es : List Happening) (todo : List ℕ) (s : Val) (p : List ℕ) → In j p → Stands ops es (j ∷ todo) s p → Stands ops es todo (left_at ops j s) (without j p)
+  after_taking : (j : ℕ) (es : List Moment) (todo : List ℕ) (s : Val) (p : List ℕ) → In j p → Stands ops es (j ∷ todo) s p → Stands ops es todo (left_at ops j s) (without j p)
   after_taking j es todo s p i f = record {
     meets = f.meets.1;
     here = λ a h. elim (f.here a (inr h)) [
@@ -74,7 +74,7 @@ module _ (ops : List Operation) where
   }
 
   -- up to a reply the operations of the order take effect, until the one that replies has
-  taking : (k : ℕ) (es : List Happening) → ((todo : List ℕ) (s : Val) (p : List ℕ) → Stands ops es todo s p → Alive ops s p es) → (todo : List ℕ) (s : Val) (p : List ℕ) → Stands ops (Reply k ∷ es) todo s p → Alive ops s p (Reply k ∷ es)
+  taking : (k : ℕ) (es : List Moment) → ((todo : List ℕ) (s : Val) (p : List ℕ) → Stands ops es todo s p → Alive ops s p es) → (todo : List ℕ) (s : Val) (p : List ℕ) → Stands ops (Reply k ∷ es) todo s p → Alive ops s p (Reply k ∷ es)
   taking k es next [] s p f = replied (λ i. f.owed k i (inl refl)) (next [] s p (after_reply k es [] s p f))
   taking k es next (j ∷ todo) s p f = elim (In-or k p) [
     | inr n ↦ replied n (next (j ∷ todo) s p (after_reply k es (j ∷ todo) s p f))
@@ -92,13 +92,13 @@ module _ (ops : List Operation) where
         takes j open_first f.meets.0 (taking k es next todo (left_at ops j s) (without j p) (after_taking j (Reply k ∷ es) todo s p open_first f))
   ]
 
-  explained : (es : List Happening) (todo : List ℕ) (s : Val) (p : List ℕ) → Stands ops es todo s p → Alive ops s p es
+  explained : (es : List Moment) (todo : List ℕ) (s : Val) (p : List ℕ) → Stands ops es todo s p → Alive ops s p es
   explained [] todo s p f = over
   explained (Call k ∷ es) todo s p f = called (explained es todo s (k ∷ p) (after_call k es todo s p f))
   explained (Reply k ∷ es) todo s p f = taking k es (explained es) todo s p f
 
   -- a legal order explains all events
-  pub legal_explained : (events : List Happening) (order : List ℕ) → IsNumbered ops events order → Alive ops Null [] events
+  pub legal_explained : (events : List Moment) (order : List ℕ) → IsNumbered ops events order → Alive ops Null [] events
   legal_explained events order l = explained events order Null [] (record {
     meets = l.meets;
     here = λ a i. inr (l.only a i);

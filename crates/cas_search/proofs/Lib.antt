@@ -8,4 +8,5 @@ pub mod Takes
 pub mod Stepping
 pub mod Linked
 pub mod Checking
+pub mod Timed
 pub mod Needed

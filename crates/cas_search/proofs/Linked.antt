@@ -10,8 +10,8 @@ use Rattle.cas_model.specs.InTurn.{Meets}
 use Rattle.cas_model.specs.Legal.{IsLegal, IsMet, IsAtomic}
 use Rattle.cas_model.specs.Operations.{IsAsking, Precedes, initial_write}
 use Rattle.cas_model.proofs.InTurn.{in-turn}
-use Rattle.cas_search.specs.declared.happening.Happening.{Happening}
-use Rattle.cas_search.specs.declared.happening.Happening.TheVariants.{Call, Reply}
+use Rattle.cas_search.specs.declared.moment.Moment.{Moment}
+use Rattle.cas_search.specs.declared.moment.Moment.TheVariants.{Call, Reply}
 use Rattle.cas_search.specs.Taking.{option_suits, option_left_by, left_at}
 use Rattle.cas_search.specs.Timeline.{AreCalls, IsTimeline, time_by}
 use Rattle.cas_search.proofs.Numbered.{MeetsAt, IsNumbered}
@@ -110,7 +110,7 @@ module _ (r : ℕ) (ops order : List Operation) (called : (a : Operation) → In
 
 -- ---- the events
 
-module _ (r : ℕ) (ops : List Operation) (events : List Happening) (t : IsTimeline r ops events) where
+module _ (r : ℕ) (ops : List Operation) (events : List Moment) (t : IsTimeline r ops events) where
   in-range : (k : ℕ) → In (Call k) events → (a : Operation) × (slice_get ops k ≡ Some a)
   in-range k i = go (slice_get ops k) refl (t.only (Call k) i)
     where

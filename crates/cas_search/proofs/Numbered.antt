@@ -4,8 +4,8 @@ use Rattle.history_text.specs.declared.event.Val.{Val}
 use Rattle.history_text.specs.declared.event.Val.TheVariants.{Null}
 use Rattle.history_model.specs.Lists.{In, Before}
 use Rattle.cas_model.specs.declared.operation.Operation.{Operation}
-use Rattle.cas_search.specs.declared.happening.Happening.{Happening}
-use Rattle.cas_search.specs.declared.happening.Happening.TheVariants.{Call, Reply}
+use Rattle.cas_search.specs.declared.moment.Moment.{Moment}
+use Rattle.cas_search.specs.declared.moment.Moment.TheVariants.{Call, Reply}
 use Rattle.cas_search.specs.Taking.{suits_at, left_at}
 
 -- one after another, each meets a value that suits it
@@ -14,7 +14,7 @@ MeetsAt ops v [] = Unit {0}
 MeetsAt ops v (k ∷ ks) = (suits_at ops k v ≡ true) × MeetsAt ops (left_at ops k v) ks
 
 -- the events have each call once, and its reply after it; the order has each number once, those of calls only, and all that replied; none stands after one that replied before its call
-pub record IsNumbered (ops : List Operation) (events : List Happening) (order : List ℕ) : Type 0 where
+pub record IsNumbered (ops : List Operation) (events : List Moment) (order : List ℕ) : Type 0 where
   pub calls : (a : ℕ) → Before (Call a) (Call a) events → ⊥
   pub replies : (a : ℕ) → Before (Reply a) (Call a) events → ⊥
   pub once : (a : ℕ) → Before a a order → ⊥

@@ -3,8 +3,8 @@ use Rattle.std.proofs.Common.{◌≡◌, ℕ, List, [], ◌∷◌, ◌++◌, ◌
 use Rattle.std.proofs.Math.Seq.{drop-cons}
 use Rattle.history_text.specs.declared.event.Val.TheVariants.{Null}
 use Rattle.cas_model.specs.declared.operation.Operation.{Operation}
-use Rattle.cas_search.specs.declared.happening.Happening.{Happening}
-use Rattle.cas_search.specs.declared.happening.Happening.TheVariants.{Call, Reply}
+use Rattle.cas_search.specs.declared.moment.Moment.{Moment}
+use Rattle.cas_search.specs.declared.moment.Moment.TheVariants.{Call, Reply}
 use Rattle.cas_search.specs.declared.config.Config.{Config}
 use Rattle.history_model.specs.Lists.{In}
 use Rattle.cas_search.specs.Configs.{IsTaken, IsLive, IsAnyLive, IsServed, IsAdvanced, AreAdvanced, IsStep}
@@ -20,7 +20,7 @@ use Rattle.cas_search.proofs.Explained.{legal_explained}
 pub advanced_in : (ops : List Operation) (c : Config) (k : ℕ) (deeper next : List Config) → In k c.waiting.items → ((j : ℕ) → In j c.waiting.items → IsTaken ops c j deeper) → IsAdvanced ops c k deeper next
 advanced_in ops c k deeper next i all = λ es l. go es l l.run
   where
-    go : (es : List Happening) → IsLive ops c.value c.waiting.items (Reply k ∷ es) → Alive ops c.value c.waiting.items (Reply k ∷ es) → IsAnyLive ops deeper (Reply k ∷ es) ⊎ IsAnyLive ops next es
+    go : (es : List Moment) → IsLive ops c.value c.waiting.items (Reply k ∷ es) → Alive ops c.value c.waiting.items (Reply k ∷ es) → IsAnyLive ops deeper (Reply k ∷ es) ⊎ IsAnyLive ops next es
     go es l (replied n r) = absurd (n i)
     go es l (takes j h f r) =
         inl (all j h f (Reply k ∷ es) (record {
@@ -30,7 +30,7 @@ advanced_in ops c k deeper next i all = λ es l. go es l l.run
         }))
 
 -- one in which it has
-pub advanced_out : (ops : List Operation) (c d : Config) (k : ℕ) (deeper next : List Config) → (In k c.waiting.items → ⊥) → d.value ≡ c.value → d.waiting.items ≡ c.waiting.items → ((es : List Happening) → IsLive ops d.value d.waiting.items es → IsAnyLive ops next es) → IsAdvanced ops c k deeper next
+pub advanced_out : (ops : List Operation) (c d : Config) (k : ℕ) (deeper next : List Config) → (In k c.waiting.items → ⊥) → d.value ≡ c.value → d.waiting.items ≡ c.waiting.items → ((es : List Moment) → IsLive ops d.value d.waiting.items es → IsAnyLive ops next es) → IsAdvanced ops c k deeper next
 advanced_out ops c d k deeper next n v w there = λ es l.
     let r : Alive ops c.value c.waiting.items es = settled ops es c.value c.waiting.items k n (λ j h z. l.ahead j h (inr z)) l.run in
     inr (there es (record {
@@ -39,7 +39,7 @@ advanced_out ops c d k deeper next n v w there = λ es l.
       once = λ a b. l.once a (inr b);
     }))
 
-pub any_more : (ops : List Operation) (cs ds : List Config) (es : List Happening) → ((c : Config) → In c cs → In c ds) → IsAnyLive ops cs es → IsAnyLive ops ds es
+pub any_more : (ops : List Operation) (cs ds : List Config) (es : List Moment) → ((c : Config) → In c cs → In c ds) → IsAnyLive ops cs es → IsAnyLive ops ds es
 any_more ops cs ds es m a = (a.0, m a.0 a.1, a.2)
 
 pub still_advanced : (ops : List Operation) (c : Config) (k : ℕ) (deeper next deeper' next' : List Config) → ((c : Config) → In c deeper → In c deeper') → ((c : Config) → In c next → In c next') → IsAdvanced ops c k deeper next → IsAdvanced ops c k deeper' next'
@@ -52,7 +52,7 @@ more_advanced ops cs i k c deeper next deeper' next' g m n a b x h = elim (In-ta
 ]
 
 -- the call of number k is open from now on
-pub step_call : (ops : List Operation) (c : Config) (k : ℕ) (p : List ℕ) (es : List Happening) → p ≡ c.waiting.items ++ (k ∷ []) → IsLive ops c.value c.waiting.items (Call k ∷ es) → IsLive ops c.value p es
+pub step_call : (ops : List Operation) (c : Config) (k : ℕ) (p : List ℕ) (es : List Moment) → p ≡ c.waiting.items ++ (k ∷ []) → IsLive ops c.value c.waiting.items (Call k ∷ es) → IsLive ops c.value p es
 step_call ops c k p es w l = go l.run
   where
     go : Alive ops c.value c.waiting.items (Call k ∷ es) → IsLive ops c.value p es
@@ -69,14 +69,14 @@ step_call ops c k p es w l = go l.run
     }
 
 -- an order by numbers is explained from the first configuration
-pub live_at_first : (ops : List Operation) (events : List Happening) (order : List ℕ) (c : Config) → c.value ≡ Null → c.waiting.items ≡ [] → IsNumbered ops events order → IsLive ops c.value c.waiting.items events
+pub live_at_first : (ops : List Operation) (events : List Moment) (order : List ℕ) (c : Config) → c.value ≡ Null → c.waiting.items ≡ [] → IsNumbered ops events order → IsLive ops c.value c.waiting.items events
 live_at_first ops events order c v w n = record {
   run = subst (λ x. Alive ops x c.waiting.items events) (sym v) (subst (λ x. Alive ops Null x events) (sym w) (legal_explained ops events order n));
   ahead = λ j i _. subst (λ x. In j x) w i;
   once = n.calls;
 }
 
-pub more_called : (ops : List Operation) (cs : List Config) (i k : ℕ) (c e : Config) (p : List ℕ) (before after : List Config) (es : List Happening) → slice_get cs i ≡ Some c → p ≡ c.waiting.items ++ (k ∷ []) → IsServed ops c.value p e → ((x : Config) → In x before → In x after) → (IsLive ops e.value e.waiting.items es → IsAnyLive ops after es) → (IsAnyLive ops (take i cs) (Call k ∷ es) → IsAnyLive ops before es) → IsAnyLive ops (take (i + 1) cs) (Call k ∷ es) → IsAnyLive ops after es
+pub more_called : (ops : List Operation) (cs : List Config) (i k : ℕ) (c e : Config) (p : List ℕ) (before after : List Config) (es : List Moment) → slice_get cs i ≡ Some c → p ≡ c.waiting.items ++ (k ∷ []) → IsServed ops c.value p e → ((x : Config) → In x before → In x after) → (IsLive ops e.value e.waiting.items es → IsAnyLive ops after es) → (IsAnyLive ops (take i cs) (Call k ∷ es) → IsAnyLive ops before es) → IsAnyLive ops (take (i + 1) cs) (Call k ∷ es) → IsAnyLive ops after es
 more_called ops cs i k c e p before after es g w served kept there f a = elim (In-take_more a.0 i cs a.1) [
   | inl y ↦ any_more ops before after es kept (f (a.0, y, a.2))
   | inr y ↦
@@ -84,14 +84,14 @@ more_called ops cs i k c e p before after es g w served kept there f a = elim (I
       there (served es (step_call ops c k p es w (subst (λ x. IsLive ops x.value x.waiting.items (Call k ∷ es)) same a.2)))
 ]
 
-pub more_rounds : (ops : List Operation) (cs : List Config) (k : ℕ) (level deeper next next' : List Config) (es : List Happening) → ((c : Config) → In c next → In c next') → AreAdvanced ops level k deeper next' → (IsAnyLive ops cs (Reply k ∷ es) → IsAnyLive ops level (Reply k ∷ es) ⊎ IsAnyLive ops next es) → IsAnyLive ops cs (Reply k ∷ es) → IsAnyLive ops deeper (Reply k ∷ es) ⊎ IsAnyLive ops next' es
+pub more_rounds : (ops : List Operation) (cs : List Config) (k : ℕ) (level deeper next next' : List Config) (es : List Moment) → ((c : Config) → In c next → In c next') → AreAdvanced ops level k deeper next' → (IsAnyLive ops cs (Reply k ∷ es) → IsAnyLive ops level (Reply k ∷ es) ⊎ IsAnyLive ops next es) → IsAnyLive ops cs (Reply k ∷ es) → IsAnyLive ops deeper (Reply k ∷ es) ⊎ IsAnyLive ops next' es
 more_rounds ops cs k level deeper next next' es m a f x = elim (f x) [ inl y ↦ a y.0 y.1 es y.2 | inr y ↦ inr (any_more ops next next' es m y) ]
 
-pub none_live : (ops : List Operation) (cs : List Config) (es : List Happening) → cs ≡ [] → IsAnyLive ops cs es → ⊥
+pub none_live : (ops : List Operation) (cs : List Config) (es : List Moment) → cs ≡ [] → IsAnyLive ops cs es → ⊥
 none_live ops cs es e a = subst (λ x. In a.0 x) e a.1
 
-pub first_live : (ops : List Operation) (events : List Happening) (order : List ℕ) (c : Config) (before cs : List Config) → cs ≡ before ++ (c ∷ []) → c.value ≡ Null → c.waiting.items ≡ [] → IsNumbered ops events order → IsAnyLive ops cs events
+pub first_live : (ops : List Operation) (events : List Moment) (order : List ℕ) (c : Config) (before cs : List Config) → cs ≡ before ++ (c ∷ []) → c.value ≡ Null → c.waiting.items ≡ [] → IsNumbered ops events order → IsAnyLive ops cs events
 first_live ops events order c before cs e v w n = (c, subst (λ x. In c x) (sym e) (In-right c before (c ∷ []) (inl refl)), live_at_first ops events order c v w n)
 
-pub more_events : (ops : List Operation) (events : List Happening) (i : ℕ) (d : Happening) (before after : List Config) → i < length events → IsStep ops before (get_or events i d) after → IsAnyLive ops before (drop i events) → IsAnyLive ops after (drop (i + 1) events)
+pub more_events : (ops : List Operation) (events : List Moment) (i : ℕ) (d : Moment) (before after : List Config) → i < length events → IsStep ops before (get_or events i d) after → IsAnyLive ops before (drop i events) → IsAnyLive ops after (drop (i + 1) events)
 more_events ops events i d before after lt s a = subst (λ n. IsAnyLive ops after (drop n events)) (sym (add-one i)) (s (drop (suc i) events) (subst (λ x. IsAnyLive ops before x) (drop-cons events i d lt) a))

@@ -3,7 +3,7 @@ use Rattle.std.proofs.Common.{◌≡◌, ℕ, ◌+◌, false, List, [], ◌∷�
 use Rattle.std.proofs.lemmas.Bool.{false≢true}
 use Rattle.history_text.specs.declared.event.Val.{Val}
 use Rattle.cas_model.specs.declared.operation.Operation.{Operation}
-use Rattle.cas_search.specs.declared.happening.Happening.{Happening}
+use Rattle.cas_search.specs.declared.moment.Moment.{Moment}
 use Rattle.cas_search.specs.declared.config.Config.{Config}
 use Rattle.history_model.specs.Lists.{In}
 use Rattle.history_model.proofs.Lists.{In-left}
@@ -19,7 +19,7 @@ suits-at ops k s o e = ap (λ x. option_suits x s) e
 pub left-at : (ops : List Operation) (k : ℕ) (s : Val) (o : Operation) → slice_get ops k ≡ Some o → left_at ops k s ≡ left_by o.act s
 left-at ops k s o e = ap (λ x. option_left_by x s) e
 
-pub taken : (ops : List Operation) (k : ℕ) (o : Operation) (c d : Config) (p : List ℕ) (v : Val) (after : List Config) → slice_get ops k ≡ Some o → v ≡ left_by o.act c.value → p ≡ without k c.waiting.items → IsServed ops v p d → ((es : List Happening) → IsLive ops d.value d.waiting.items es → IsAnyLive ops after es) → IsTaken ops c k after
+pub taken : (ops : List Operation) (k : ℕ) (o : Operation) (c d : Config) (p : List ℕ) (v : Val) (after : List Config) → slice_get ops k ≡ Some o → v ≡ left_by o.act c.value → p ≡ without k c.waiting.items → IsServed ops v p d → ((es : List Moment) → IsLive ops d.value d.waiting.items es → IsAnyLive ops after es) → IsTaken ops c k after
 taken ops k o c d p v after e w q s a = λ _ es l. a es (s es (subst (λ x. IsLive ops x p es) (sym (w ∙ sym (left-at ops k c.value o e))) (subst (λ x. IsLive ops (left_at ops k c.value) x es) (sym q) l)))
 
 pub not_taken : (ops : List Operation) (k : ℕ) (o : Operation) (c : Config) (ds : List Config) → slice_get ops k ≡ Some o → suits o.act c.value ≡ false → IsTaken ops c k ds

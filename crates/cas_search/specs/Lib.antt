@@ -2,6 +2,7 @@ pub mod Taking
 pub mod Runs
 pub mod Configs
 pub mod Timeline
+pub mod Timed
 pub mod Checked
 pub mod Verdicts
 pub mod Unwritten

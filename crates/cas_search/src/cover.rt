@@ -3,7 +3,7 @@ ghost use Rattle.std.specs.Prelude.{◌≡◌, ◌⊎◌, IsTrue, IfOk, List, �
 ghost use Rattle.history_model.specs.Lists.{In};
 ghost use Rattle.cas_search.specs.Configs.{IsAnyLive, IsIdle, IsLive, IsServed};
 ghost use Rattle.cas_search.specs.declared.config.Config.{Config as AConfig};
-ghost use Rattle.cas_search.specs.declared.happening.Happening.{Happening as AHappening};
+ghost use Rattle.cas_search.specs.declared.moment.Moment.{Moment as AMoment};
 
 use crate::bounds::Bound;
 use crate::config::Config;
@@ -19,7 +19,7 @@ pub(crate) fn add(
     config: Config,
 ) -> Result<(), Stop>
     ensures kept { IfOk result (λ _. (c : AConfig) → In c configs.old.items → In c configs.new.items) }
-    ensures there { IfOk result (λ _. (es : List AHappening) → IsLive ops.now config.value config.waiting.items es → IsAnyLive ops.now configs.new.items es) }
+    ensures there { IfOk result (λ _. (es : List AMoment) → IsLive ops.now config.value config.waiting.items es → IsAnyLive ops.now configs.new.items es) }
 {
     work.spend(configs.len())?;
     if is_covered(ops, configs, &config) {
@@ -34,7 +34,7 @@ pub(crate) fn add(
 
 /// Whether one of them can explain whatever this one can.
 fn is_covered(ops: &[Operation], configs: &[Config], config: &Config) -> bool
-    ensures { IsTrue result → (es : List AHappening) → IsLive ops.now config.now.value config.now.waiting.items es → IsAnyLive ops.now configs.now es }
+    ensures { IsTrue result → (es : List AMoment) → IsLive ops.now config.now.value config.now.waiting.items es → IsAnyLive ops.now configs.now es }
 {
     for other in configs {
         if covers(ops, other, config) {

@@ -2,14 +2,14 @@
 //!
 //! What the floor above may rely on: [`decide`] answers yes only with a legal order, no only if there is none, and
 //! otherwise gives up. [`check_order`] is what a yes rests on: it gives the points of an order only if that is legal by
-//! the definitions, whoever made it. Nothing rests on how the search found it. [`first_unwritten`] finds a value that
-//! nobody gave the register.
+//! the definitions, whoever made it. Nothing rests on how the search found it. [`timeline`] puts the calls and the replies in
+//! order. [`first_unwritten`] finds a value that nobody gave the register.
 //!
 //! A no rests on one step. A configuration is the value of the register and the open calls that have not taken effect; a set of
 //! them goes forward over the calls and the replies (Lowe, Testing for linearizability, 2017), and whatever could still be
 //! explained before an event can be explained from one of the set after it. If none is left, no order is legal.
 //!
-//! Read it in this order: `happening`, `bounds` and `work`; `config`, `cover` and `step`, one event; `forward`, all of them;
+//! Read it in this order: `moment` and `times`, which puts them in order; `bounds` and `work`; `config`, `cover` and `step`, one event; `forward`, all of them;
 //! `check`, which checks an order; `verdict`, which answers; `unwritten` by itself.
 #![tactic(auto)]
 
@@ -18,15 +18,17 @@ mod check;
 mod config;
 mod cover;
 mod forward;
-mod happening;
+mod moment;
 mod numbers;
 mod step;
+mod times;
 mod unwritten;
 mod verdict;
 mod work;
 
 pub use bounds::{Bound, Bounds};
 pub use check::check_order;
-pub use happening::Happening;
+pub use moment::Moment;
+pub use times::timeline;
 pub use unwritten::first_unwritten;
 pub use verdict::{Verdict, decide};

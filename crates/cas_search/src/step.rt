@@ -3,12 +3,12 @@ ghost use Rattle.std.specs.Prelude.{◌≡◌, ◌↔◌, IsTrue, [], IfOk, ℕ}
 ghost use Rattle.history_model.specs.Lists.{In};
 ghost use Rattle.cas_search.specs.Configs.{AreAdvanced, IsAdvanced, IsStep, IsTaken};
 ghost use Rattle.cas_search.specs.declared.config.Config.{Config as AConfig};
-ghost use Rattle.cas_search.specs.declared.happening.Happening.TheVariants.{Call as ACall, Reply as AReply};
+ghost use Rattle.cas_search.specs.declared.moment.Moment.TheVariants.{Call as ACall, Reply as AReply};
 
 use crate::bounds::Bound;
 use crate::config::{Config, copy, opened, settled};
 use crate::cover::add;
-use crate::happening::Happening;
+use crate::moment::Moment;
 use crate::numbers::{has, without};
 use crate::work::{Stop, Work};
 use cas_model::Operation;
@@ -144,12 +144,12 @@ pub(crate) fn stepped(
     work: &mut Work,
     ops: &[Operation],
     configs: Vec<Config>,
-    event: Happening,
+    event: Moment,
 ) -> Result<Vec<Config>, Stop>
     ensures { IfOk result (λ next. IsStep ops.now configs.items event next.items) }
 {
     match event {
-        Happening::Call(number) => call(work, ops, &configs, number),
-        Happening::Reply(number) => reply(work, ops, configs, number),
+        Moment::Call(number) => call(work, ops, &configs, number),
+        Moment::Reply(number) => reply(work, ops, configs, number),
     }
 }

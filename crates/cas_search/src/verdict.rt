@@ -1,13 +1,13 @@
 //! Whether a register is atomic, where the bounds allow an answer.
 ghost use Rattle.std.specs.Prelude.{IfOk, List, ℕ};
-ghost use Rattle.cas_search.specs.declared.happening.Happening.{Happening as AHappening};
+ghost use Rattle.cas_search.specs.declared.moment.Moment.{Moment as AMoment};
 ghost use Rattle.cas_search.specs.Timeline.{IsTimeline};
 ghost use Rattle.cas_search.specs.Verdicts.{IsVerdict};
 
 use crate::bounds::{Bound, Bounds};
 use crate::check::check_order;
 use crate::forward::{Found, forward};
-use crate::happening::Happening;
+use crate::moment::Moment;
 use crate::work::{Stop, Work};
 use cas_model::Operation;
 use std::alloc::{AllocError, Global};
@@ -28,14 +28,14 @@ pub enum Verdict {
 pub fn decide(
     alloc: Global,
     ops: &[Operation],
-    events: &[Happening],
+    events: &[Moment],
     bounds: Bounds,
 ) -> Result<Verdict, AllocError>
     ensures { IfOk result (λ verdict. (r : ℕ) → IsTimeline r ops.now events.now → IsVerdict r ops.now events.now verdict) }
 {
     let mut work = Work::new(alloc, bounds);
     match forward(&mut work, ops, events) {
-        Ok(Found::None(place)) => Ok(Verdict::No { place }),
+        Ok(Found::Hopeless(place)) => Ok(Verdict::No { place }),
         Ok(Found::Order(order)) => checked(alloc, ops, order),
         Err(Stop::Bound(bound)) => Ok(Verdict::Unknown(bound)),
         Err(Stop::Memory) => Err(AllocError),
@@ -44,7 +44,7 @@ pub fn decide(
 
 /// An order that a search found is checked. One that isn't legal never comes, but no yes rests on that.
 fn checked(alloc: Global, ops: &[Operation], order: Vec<u32>) -> Result<Verdict, AllocError>
-    ensures { IfOk result (λ verdict. (r : ℕ) (events : List AHappening) → IsTimeline r ops.now events → IsVerdict r ops.now events verdict) }
+    ensures { IfOk result (λ verdict. (r : ℕ) (events : List AMoment) → IsTimeline r ops.now events → IsVerdict r ops.now events verdict) }
 {
     match check_order(alloc, ops, &order)? {
         Some(points) => Ok(Verdict::Yes { order, points }),

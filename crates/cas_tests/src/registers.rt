@@ -1,6 +1,6 @@
 //! Which registers with a cas are atomic: small ones, by the times of their calls and replies.
 use cas_model::{Act, Operation};
-use cas_search::{Bound, Bounds, Happening, Verdict, decide, first_unwritten};
+use cas_search::{Bound, Bounds, Moment, Verdict, decide, first_unwritten};
 use history_model::RegId;
 use history_text::Val;
 use std::alloc::{AllocError, Global};
@@ -40,16 +40,16 @@ fn operation(call: u32, reply: Option<u32>, act: Act) -> Operation {
 }
 
 /// The calls and the replies of operations, all of which have times below 64.
-fn timeline(alloc: Global, ops: &[Operation]) -> Result<Vec<Happening>, AllocError> {
+fn timeline(alloc: Global, ops: &[Operation]) -> Result<Vec<Moment>, AllocError> {
     let mut events = Vec::new(alloc);
     for time in 0u32..64 {
         let mut number = 0u32;
         for op in ops {
             if op.call == time {
-                events.push(Happening::Call(number))?;
+                events.push(Moment::Call(number))?;
             }
             if op.reply == Some(time) {
-                events.push(Happening::Reply(number))?;
+                events.push(Moment::Reply(number))?;
             }
             number = number.wrapping_add(1);
         }

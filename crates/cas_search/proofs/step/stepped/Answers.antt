@@ -1,5 +1,5 @@
 use Rattle.std.proofs.Common.{sym, subst, IfOk}
-use Rattle.cas_search.specs.declared.happening.Happening.TheVariants.{Call}
+use Rattle.cas_search.specs.declared.moment.Moment.TheVariants.{Call}
 use Rattle.cas_search.specs.Configs.{IsStep}
 use Rattle.cas_search.proofs.step.stepped.Goals as goal
 

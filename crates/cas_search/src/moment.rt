@@ -1,8 +1,8 @@
-//! What happens to the operations of a register.
+//! The moments of a register: calls and replies.
 
 /// The call of an operation or its reply, by the operation's place in the list of operations.
 #[derive(Clone, Copy, Debug, PartialEq, Eq)]
-pub enum Happening {
+pub enum Moment {
     Call(u32),
     Reply(u32),
 }
