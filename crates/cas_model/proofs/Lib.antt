@@ -3,6 +3,7 @@ pub mod Values
 pub mod Operations
 pub mod InTurn
 pub mod Placed
+pub mod Cut
 pub mod Merging
 pub mod Locality
 pub mod WithoutCas

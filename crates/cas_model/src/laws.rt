@@ -6,6 +6,7 @@ ghost use Rattle.history_model.specs.Legal.{IsAtomic as IsPlainAtomic};
 ghost use Rattle.history_model.specs.Lists.{In, Before};
 ghost use Rattle.history_model.specs.Operations.{operations, register_of};
 ghost use Rattle.cas_model.specs.declared.operation.Operation.{Operation as AnOperation};
+ghost use Rattle.cas_model.specs.Cut.{cut_at};
 ghost use Rattle.cas_model.specs.InTurn.{Meets};
 ghost use Rattle.cas_model.specs.Legal.{IsAtomic, IsLegal, IsMet};
 ghost use Rattle.cas_model.specs.Operations.{AreTimed, IsAsking, initial_write, of_register};
@@ -38,4 +39,11 @@ pub fn met_in_turn()
         → ((a : AnOperation) → In a order → a.register.0 ≡ r)
         → (((a : AnOperation) → In a (initial_write r ∷ order) → IsAsking a → IsMet (initial_write r ∷ order) a)
         ↔ Meets Null order) }
+{}
+
+/// What is known at some time of operations that are atomic is atomic too: a no of a beginning is a no of the whole. No two of
+/// them have one call.
+pub fn a_beginning_is_atomic()
+    ensures { (ops : List AnOperation) (t : ℕ) → AreTimed ops
+        → ((a b : AnOperation) → In a ops → In b ops → a.call ≡ b.call → a ≡ b) → IsAtomic ops → IsAtomic (cut_at t ops) }
 {}

@@ -6,8 +6,9 @@
 //!
 //! Read the definitions in this order: `Acts`, what an operation asks of the value that it meets and what it gives;
 //! `Operations`, their times and their order; `Legal` (Herlihy and Wing, 1990), the property; `InTurn`, the same one operation
-//! after another; `Placed`, the points of an order; `WithoutCas`, the operations of a history of reads and writes. `laws` says
-//! why there is one meaning of atomic with `history_model`, and why each register may be decided by itself.
+//! after another; `Placed`, the points of an order; `Cut`, what is known at a time; `WithoutCas`, the operations of a history of
+//! reads and writes. `laws` says why there is one meaning of atomic with `history_model`, why each register may be decided by
+//! itself, and why a no of a beginning is a no of the whole.
 #![tactic(auto)]
 
 mod act;
