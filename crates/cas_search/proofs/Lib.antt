@@ -7,6 +7,8 @@ pub mod Settling
 pub mod Takes
 pub mod Stepping
 pub mod Linked
+pub mod Known
+pub mod Beginnings
 pub mod Checking
 pub mod Timed
 pub mod Needed

@@ -118,7 +118,7 @@ module _ (r : ℕ) (ops : List Operation) (events : List Moment) (t : IsTimeline
       go None e x = absurd (let f = sym (ap (option_map (λ (a : Operation). a.call)) e) ∙ x.1 in cc)
       go (Some a) e x = (a, e)
 
-  reply-of : (k : ℕ) → In (Reply k) events → (a : Operation) × (s : ℕ) × (slice_get ops k ≡ Some a) × (a.reply ≡ Some s)
+  pub reply-of : (k : ℕ) → In (Reply k) events → (a : Operation) × (s : ℕ) × (slice_get ops k ≡ Some a) × (a.reply ≡ Some s)
   reply-of k i = go (slice_get ops k) refl (t.only (Reply k) i)
     where
       go : (o : Option Operation) → slice_get ops k ≡ o → (s : ℕ) × (time_by ops (Reply k) ≡ Some s) → (a : Operation) × (s : ℕ) × (slice_get ops k ≡ Some a) × (a.reply ≡ Some s)
@@ -128,7 +128,7 @@ module _ (r : ℕ) (ops : List Operation) (events : List Moment) (t : IsTimeline
   call-time : (k : ℕ) (a : Operation) → slice_get ops k ≡ Some a → time_by ops (Call k) ≡ Some a.call
   call-time k a e = ap (option_map (λ (a : Operation). a.call)) e
 
-  reply-time : (k : ℕ) (a : Operation) (s : ℕ) → slice_get ops k ≡ Some a → a.reply ≡ Some s → time_by ops (Reply k) ≡ Some s
+  pub reply-time : (k : ℕ) (a : Operation) (s : ℕ) → slice_get ops k ≡ Some a → a.reply ≡ Some s → time_by ops (Reply k) ≡ Some s
   reply-time k a s e f = ap (option_and_then (λ (a : Operation). a.reply)) e ∙ f
 
   called-once : (k : ℕ) → Before (Call k) (Call k) events → ⊥

@@ -1,20 +1,16 @@
 -- The step over one event.
-use Rattle.std.proofs.Common.{◌≡◌, ℕ, List, [], ◌∷◌, ◌++◌, ◌⊎◌, ◌+◌, inl, inr, refl, sym, subst, Some, slice_get, take, drop, get_or, length, ◌<◌, suc, add-one}
-use Rattle.std.proofs.Math.Seq.{drop-cons}
-use Rattle.history_text.specs.declared.event.Val.TheVariants.{Null}
+use Rattle.std.proofs.Common.{◌≡◌, ℕ, List, [], ◌∷◌, ◌++◌, ◌⊎◌, ◌+◌, inl, inr, refl, sym, subst, Some, slice_get, take}
 use Rattle.cas_model.specs.declared.operation.Operation.{Operation}
 use Rattle.cas_search.specs.declared.moment.Moment.{Moment}
 use Rattle.cas_search.specs.declared.moment.Moment.TheVariants.{Call, Reply}
 use Rattle.cas_search.specs.declared.config.Config.{Config}
 use Rattle.history_model.specs.Lists.{In}
-use Rattle.cas_search.specs.Configs.{IsTaken, IsLive, IsAnyLive, IsServed, IsAdvanced, AreAdvanced, IsStep}
+use Rattle.cas_search.specs.Configs.{IsTaken, IsLive, IsAnyLive, IsServed, IsAdvanced, AreAdvanced}
 use Rattle.cas_search.specs.Runs.{Alive, called, replied, takes}
 use Rattle.history_model.proofs.Lists.{append-In, In-left, In-right}
 use Rattle.cas_search.proofs.Lists.{without-In, In-take_more}
-use Rattle.cas_search.proofs.Numbered.{IsNumbered}
 use Rattle.cas_search.proofs.Better.{as_good}
 use Rattle.cas_search.proofs.Delay.{settled}
-use Rattle.cas_search.proofs.Explained.{legal_explained}
 
 -- a configuration in which the call that replies has not taken effect: another call does
 pub advanced_in : (ops : List Operation) (c : Config) (k : ℕ) (deeper next : List Config) → In k c.waiting.items → ((j : ℕ) → In j c.waiting.items → IsTaken ops c j deeper) → IsAdvanced ops c k deeper next
@@ -68,14 +64,6 @@ step_call ops c k p es w l = go l.run
       once = λ j b. l.once j (inr b);
     }
 
--- an order by numbers is explained from the first configuration
-pub live_at_first : (ops : List Operation) (events : List Moment) (order : List ℕ) (c : Config) → c.value ≡ Null → c.waiting.items ≡ [] → IsNumbered ops events order → IsLive ops c.value c.waiting.items events
-live_at_first ops events order c v w n = record {
-  run = subst (λ x. Alive ops x c.waiting.items events) (sym v) (subst (λ x. Alive ops Null x events) (sym w) (legal_explained ops events order n));
-  ahead = λ j i _. subst (λ x. In j x) w i;
-  once = n.calls;
-}
-
 pub more_called : (ops : List Operation) (cs : List Config) (i k : ℕ) (c e : Config) (p : List ℕ) (before after : List Config) (es : List Moment) → slice_get cs i ≡ Some c → p ≡ c.waiting.items ++ (k ∷ []) → IsServed ops c.value p e → ((x : Config) → In x before → In x after) → (IsLive ops e.value e.waiting.items es → IsAnyLive ops after es) → (IsAnyLive ops (take i cs) (Call k ∷ es) → IsAnyLive ops before es) → IsAnyLive ops (take (i + 1) cs) (Call k ∷ es) → IsAnyLive ops after es
 more_called ops cs i k c e p before after es g w served kept there f a = elim (In-take_more a.0 i cs a.1) [
   | inl y ↦ any_more ops before after es kept (f (a.0, y, a.2))
@@ -89,9 +77,3 @@ more_rounds ops cs k level deeper next next' es m a f x = elim (f x) [ inl y ↦
 
 pub none_live : (ops : List Operation) (cs : List Config) (es : List Moment) → cs ≡ [] → IsAnyLive ops cs es → ⊥
 none_live ops cs es e a = subst (λ x. In a.0 x) e a.1
-
-pub first_live : (ops : List Operation) (events : List Moment) (order : List ℕ) (c : Config) (before cs : List Config) → cs ≡ before ++ (c ∷ []) → c.value ≡ Null → c.waiting.items ≡ [] → IsNumbered ops events order → IsAnyLive ops cs events
-first_live ops events order c before cs e v w n = (c, subst (λ x. In c x) (sym e) (In-right c before (c ∷ []) (inl refl)), live_at_first ops events order c v w n)
-
-pub more_events : (ops : List Operation) (events : List Moment) (i : ℕ) (d : Moment) (before after : List Config) → i < length events → IsStep ops before (get_or events i d) after → IsAnyLive ops before (drop i events) → IsAnyLive ops after (drop (i + 1) events)
-more_events ops events i d before after lt s a = subst (λ n. IsAnyLive ops after (drop n events)) (sym (add-one i)) (s (drop (suc i) events) (subst (λ x. IsAnyLive ops before x) (drop-cons events i d lt) a))

@@ -1,27 +1,40 @@
 -- What a search says of a register.
-use Rattle.std.specs.Prelude.{ℕ, ◌<◌, ◌∷◌, List, length}
+use Rattle.std.specs.Prelude.{◌≡◌, ℕ, ◌-◌, ◌∷◌, List, slice_get, Some, IfSome}
 use Rattle.cas_model.specs.declared.operation.Operation.{Operation}
+use Rattle.cas_model.specs.Cut.{cut_at}
 use Rattle.cas_model.specs.Legal.{IsAtomic}
 use Rattle.cas_model.specs.Operations.{initial_write}
-use Rattle.cas_search.specs.declared.moment.Moment.{Moment}
 use Rattle.cas_search.specs.declared.forward.Found.{Found}
 use Rattle.cas_search.specs.declared.forward.Found.TheVariants.{Hopeless, Order}
 use Rattle.cas_search.specs.declared.verdict.Verdict.{Verdict}
 use Rattle.cas_search.specs.declared.verdict.Verdict.TheVariants.{Yes, No, Unknown}
 use Rattle.cas_search.specs.Checked.{IsCheckedOrder}
 
--- the operations of register r, its initial write among them, have no legal order; the place is that of some event, and no more is said of it
-pub record IsRefuted (r : ℕ) (ops : List Operation) (events : List Moment) (place : ℕ) : Type 0 where
-  pub within : place < length events
-  pub none : IsAtomic (initial_write r ∷ ops) → ⊥
+-- the operation at place k replies at time t
+abbrev pub RepliesAt : List Operation → ℕ → ℕ → Type 0
+RepliesAt ops k t = (a : Operation) × (slice_get ops k ≡ Some a) × (a.reply ≡ Some t)
+
+-- What is known of register r at the reply of the operation at place k, its initial write among it, has no legal order, and so neither have all its operations.
+pub record IsRefuted (r : ℕ) (ops : List Operation) (k : ℕ) : Type 0 where
+  pub time : ℕ
+  pub replies : RepliesAt ops k time
+  pub beginning : IsAtomic (cut_at time (initial_write r ∷ ops)) → ⊥
+  pub whole : IsAtomic (initial_write r ∷ ops) → ⊥
+
+-- the order, by the places of the operations, is a legal order of what is known just before the reply of the operation at place k
+pub record IsBefore (r : ℕ) (ops : List Operation) (k : ℕ) (order : List ℕ) : Type 0 where
+  pub time : ℕ
+  pub replies : RepliesAt ops k time
+  pub points : List ℕ
+  pub legal : IsCheckedOrder r (cut_at (time - 1) ops) order points
 
 -- an order that was found promises nothing until it is checked
-abbrev pub IsFound : ℕ → List Operation → List Moment → Found → Type 0
-IsFound r ops events (Hopeless place) = IsRefuted r ops events place
-IsFound r ops events (Order order) = Unit {0}
+abbrev pub IsFound : ℕ → List Operation → Found → Type 0
+IsFound r ops (Hopeless reply before) = IsRefuted r ops reply
+IsFound r ops (Order order) = Unit {0}
 
--- a yes has a legal order and its points, a no is right, and whoever gave up says nothing
-abbrev pub IsVerdict : ℕ → List Operation → List Moment → Verdict → Type 0
-IsVerdict r ops events (Yes order points) = IsCheckedOrder r ops order.items points.items
-IsVerdict r ops events (No place) = IsRefuted r ops events place
-IsVerdict r ops events (Unknown bound) = Unit {0}
+-- a yes has a legal order and its points, a no is right, as is the order before it, and whoever gave up says nothing
+abbrev pub IsVerdict : ℕ → List Operation → Verdict → Type 0
+IsVerdict r ops (Yes order points) = IsCheckedOrder r ops order.items points.items
+IsVerdict r ops (No reply before) = IsRefuted r ops reply × IfSome before (λ order. IsBefore r ops reply order.items)
+IsVerdict r ops (Unknown bound) = Unit {0}

@@ -1,5 +1,11 @@
 //! How far a search may go.
 
+/// The most steps that a program may let a search take.
+pub const MAX_STEPS: u64 = 1_000_000_000_000;
+
+/// The most configurations that a program may let a search hold at once.
+pub const MAX_CONFIGURATIONS: usize = 1_048_576;
+
 /// What a search met when it gave up.
 #[derive(Clone, Copy, Debug, PartialEq, Eq)]
 pub enum Bound {
@@ -13,7 +19,8 @@ pub enum Bound {
 /// same answer anywhere.
 #[derive(Clone, Copy, Debug, PartialEq, Eq)]
 pub struct Bounds {
-    /// How often a call may take effect or a configuration may be compared with another.
+    /// How often a call may take effect or a configuration may be compared with another. Each call that takes effect is
+    /// remembered, so this bounds memory too.
     pub steps: u64,
     /// How many configurations one list may hold.
     pub configurations: usize,
@@ -22,7 +29,7 @@ pub struct Bounds {
 impl Bounds {
     /// What a search may do if nobody says otherwise.
     pub const DEFAULT: Bounds = Bounds {
-        steps: 1 << 32,
-        configurations: 1 << 16,
+        steps: 100_000_000,
+        configurations: 65_536,
     };
 }

@@ -63,7 +63,7 @@ fn looked(
     value: Val,
     numbers: &[u32],
     last: Option<usize>,
-) -> Result<Option<usize>, AllocError> {
+) -> Result<Option<usize>, Stop> {
     let mut last = last;
     for number in numbers {
         if is_content(ops, *number, value) {

@@ -13,15 +13,16 @@ use history_text::Val;
 /// What a search found.
 #[derive(Drop)]
 pub(crate) enum Found {
-    /// No order is legal; no configuration was left after the event at this place, of which nothing is proved.
-    Hopeless(usize),
+    /// No configuration was left after the reply of the operation at this place. Before it the calls of `before` had taken
+    /// effect in one that was left; that order is to be checked.
+    Hopeless { reply: u32, before: Vec<u32> },
     /// The calls that took effect in a configuration that is left. The order is to be checked.
     Order(Vec<u32>),
 }
 
 /// Goes forward over all events.
 pub(crate) fn forward(work: &mut Work, ops: &[Operation], events: &[Moment]) -> Result<Found, Stop>
-    ensures { IfOk result (λ found. (r : ℕ) → IsTimeline r ops.now events.now → IsFound r ops.now events.now found) }
+    ensures { IfOk result (λ found. (r : ℕ) → IsTimeline r ops.now events.now → IsFound r ops.now found) }
 {
     let mut configs = Vec::new(work.alloc());
     configs.push(Config {
@@ -29,12 +30,21 @@ pub(crate) fn forward(work: &mut Work, ops: &[Operation], events: &[Moment]) -> 
         waiting: Vec::new(work.alloc()),
         last: None,
     })?;
-    for (place, event) in events.iter().enumerate() {
+    for event in events {
+        let last = first_last(&configs);
         configs = stepped(work, ops, configs, *event)?;
-        if is_none(&configs) {
-            return Ok(Found::Hopeless(place));
+        if let Moment::Reply(reply) = *event {
+            if is_none(&configs) {
+                let before = work.order_to(last)?;
+                return Ok(Found::Hopeless { reply, before });
+            }
         }
     }
-    let last = configs.first().and_then(|config| config.last);
+    let last = first_last(&configs);
     Ok(Found::Order(work.order_to(last)?))
+}
+
+/// The place of the last call that took effect in the first configuration.
+fn first_last(configs: &[Config]) -> Option<usize> {
+    configs.first().and_then(|config| config.last)
 }

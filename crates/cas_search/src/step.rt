@@ -26,7 +26,6 @@ fn take(
 {
     if let Some(op) = ops.get(number as usize) {
         if op.act.suits(config.value) {
-            work.spend(1)?;
             let rest = without(work.alloc(), &config.waiting, number)?;
             let place = work.moved(number, config.last)?;
             let settled = settled(work, ops, op.act.left(config.value), &rest, Some(place))?;

@@ -72,12 +72,10 @@ impl Work {
         Ok(())
     }
 
-    /// A call takes effect after others, the last of which has this place; gives its own place.
-    pub(crate) fn moved(
-        &mut self,
-        number: u32,
-        before: Option<usize>,
-    ) -> Result<usize, AllocError> {
+    /// A call takes effect after others, the last of which has this place; gives its own place. That spends a step, so no
+    /// more calls are remembered than there are steps.
+    pub(crate) fn moved(&mut self, number: u32, before: Option<usize>) -> Result<usize, Stop> {
+        self.spend(1)?;
         let place = self.moves.len();
         self.moves.push(Move { number, before })?;
         Ok(place)

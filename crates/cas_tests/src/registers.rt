@@ -1,6 +1,6 @@
 //! Which registers with a cas are atomic: small ones, by the times of their calls and replies.
 use cas_model::{Act, Operation};
-use cas_search::{Bound, Bounds, Moment, Verdict, decide, first_unwritten};
+use cas_search::{Bound, Bounds, Moment, Verdict, decide, first_unwritten, timeline};
 use history_model::RegId;
 use history_text::Val;
 use std::alloc::{AllocError, Global};
@@ -39,38 +39,47 @@ fn operation(call: u32, reply: Option<u32>, act: Act) -> Operation {
     }
 }
 
-/// The calls and the replies of operations, all of which have times below 64.
-fn timeline(alloc: Global, ops: &[Operation]) -> Result<Vec<Moment>, AllocError> {
-    let mut events = Vec::new(alloc);
-    for time in 0u32..64 {
-        let mut number = 0u32;
-        for op in ops {
-            if op.call == time {
-                events.push(Moment::Call(number))?;
-            }
-            if op.reply == Some(time) {
-                events.push(Moment::Reply(number))?;
-            }
-            number = number.wrapping_add(1);
-        }
-    }
-    Ok(events)
+/// What the search says of a register.
+fn verdict(alloc: Global, ops: &[Operation], bounds: Bounds) -> Result<Verdict, AllocError> {
+    let events = timeline(alloc, ops)?;
+    decide(alloc, ops, &events, bounds)
 }
 
-/// `yes` if the search finds an order, `no` with the time of the event after which there is none, or `unknown`.
+/// `yes` if the search finds an order, `no` with the place of the operation whose reply is hopeless, or the bound that it met.
 fn answer(alloc: Global, ops: &[Operation], bounds: Bounds) -> Result<String, AllocError> {
-    let events = timeline(alloc, ops)?;
-    match decide(alloc, ops, &events, bounds)? {
+    match verdict(alloc, ops, bounds)? {
         Verdict::Yes { .. } => String::from_str(alloc, "yes"),
-        Verdict::No { place } => format!(in alloc; "no after {place}"),
+        Verdict::No { reply, .. } => format!(in alloc; "no at {reply}"),
         Verdict::Unknown(Bound::Steps) => String::from_str(alloc, "steps"),
         Verdict::Unknown(Bound::Configurations) => String::from_str(alloc, "configurations"),
     }
 }
 
 #[test]
+fn moments(rt: HostRuntime) -> Result<(), Fail> {
+    let ops = [
+        write(2, Some(7), ONE),
+        write(3, None, TWO),
+        read(4, 5, TWO),
+        read(6, 8, ONE),
+    ];
+    let expected = [
+        Moment::Call(0),
+        Moment::Call(1),
+        Moment::Call(2),
+        Moment::Reply(2),
+        Moment::Call(3),
+        Moment::Reply(0),
+        Moment::Reply(3),
+    ];
+    let found = timeline(rt.alloc(), &ops)?;
+    assert_eq!(rt; found.as_slice(), expected.as_slice());
+    Ok(())
+}
+
+#[test]
 fn verdicts(rt: HostRuntime) -> Result<(), Fail> {
-    let rows: [(&str, &[Operation], &str); 12] = [
+    let rows: [(&str, &[Operation], &str); 14] = [
         (
             "a cas takes place, and its value is read",
             &[
@@ -93,7 +102,7 @@ fn verdicts(rt: HostRuntime) -> Result<(), Fail> {
                 write(6, Some(7), ONE),
                 read(8, 9, TWO),
             ],
-            "no after 7",
+            "no at 3",
         ),
         (
             "a cas misses since the value is another",
@@ -103,7 +112,7 @@ fn verdicts(rt: HostRuntime) -> Result<(), Fail> {
         (
             "a cas misses though the value is its own",
             &[write(2, Some(3), ONE), miss(4, 5, ONE)],
-            "no after 3",
+            "no at 1",
         ),
         (
             "two cas from one value, one after the other",
@@ -112,7 +121,7 @@ fn verdicts(rt: HostRuntime) -> Result<(), Fail> {
                 cas(4, Some(5), ONE, 2),
                 cas(6, Some(7), ONE, 3),
             ],
-            "no after 5",
+            "no at 2",
         ),
         (
             "a pending cas that was read",
@@ -131,7 +140,7 @@ fn verdicts(rt: HostRuntime) -> Result<(), Fail> {
                 read(6, 7, TWO),
                 read(8, 9, ONE),
             ],
-            "no after 6",
+            "no at 3",
         ),
         (
             "a pending cas that nobody needs",
@@ -164,12 +173,67 @@ fn verdicts(rt: HostRuntime) -> Result<(), Fail> {
                 read(4, 5, Val::Null),
                 read(8, 9, Val::Null),
             ],
-            "no after 7",
+            "no at 3",
+        ),
+        (
+            "two reads of what nobody wrote: the first one is named",
+            &[read(2, 4, ONE), read(3, 5, TWO)],
+            "no at 0",
+        ),
+        (
+            "a cas that misses later is a miss from its call on, so the read before its reply can't be",
+            &[write(2, Some(3), ONE), miss(4, 9, ONE), read(5, 6, TWO)],
+            "no at 2",
         ),
     ];
     for (name, ops, expected) in rows {
         let found = answer(rt.alloc(), ops, Bounds::DEFAULT)?;
         assert_eq!(rt; found.as_str(), expected, "{name}");
+    }
+    Ok(())
+}
+
+/// Rows in which one order alone is legal before the hopeless reply.
+#[test]
+fn orders_before(rt: HostRuntime) -> Result<(), Fail> {
+    let rows: [(&str, &[Operation], &[u32]); 4] = [
+        (
+            "nothing has taken effect",
+            &[read(2, 4, ONE), read(3, 5, TWO)],
+            &[],
+        ),
+        (
+            "a pending cas that was read took effect, and then the read",
+            &[
+                write(2, Some(3), ONE),
+                cas(4, None, ONE, 2),
+                read(6, 7, TWO),
+                read(8, 9, ONE),
+            ],
+            &[0, 1, 2],
+        ),
+        (
+            "what replies later isn't completed before",
+            &[write(2, Some(3), ONE), miss(4, 9, ONE), read(5, 6, TWO)],
+            &[0],
+        ),
+        (
+            "a read of null during a write comes first",
+            &[
+                write(2, Some(6), ONE),
+                read(3, 4, Val::Null),
+                read(7, 8, Val::Null),
+            ],
+            &[1, 0],
+        ),
+    ];
+    for (name, ops, expected) in rows {
+        let before = match verdict(rt.alloc(), ops, Bounds::DEFAULT)? {
+            Verdict::No { before, .. } => before,
+            _ => None,
+        };
+        let order = before.ok_or(name)?;
+        assert_eq!(rt; order.as_slice(), expected, "{name}");
     }
     Ok(())
 }

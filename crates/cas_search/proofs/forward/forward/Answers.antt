@@ -1,18 +1,14 @@
 use Rattle.std.proofs.Common.{◌≡◌, [], rules, refl}
-use Rattle.cas_search.proofs.Linked.{numbered}
-use Rattle.cas_search.proofs.Stepping.{first_live, more_events, none_live}
+use Rattle.cas_search.proofs.Beginnings.{first-live, more-events, refuted}
 use Rattle.cas_search.proofs.forward.forward.Goals as goal
 
-pub loop-place-init : goal.loop-place-init
-loop-place-init c = λ r t a. let n = numbered r c.args.ops.now c.args.events.now t a in first_live c.args.ops.now c.args.events.now n.0 _ _ c.push.new.self.items c.in_ok-push.ensures.items refl c.new.ensures.items n.1
+pub loop-event-init : goal.loop-event-init
+loop-event-init c = λ es l. first-live c.args.ops.now es _ _ c.push.new.self.items c.in_ok-push.ensures.items refl c.new.ensures.items l
 
-pub loop-place-preserved : goal.loop-place-preserved
-loop-place-preserved c = λ r t a. more_events c.args.ops.now c.args.events.now c.loop-place.place _ c.loop-place.configs.items c.in_ok-configs.configs.items c.loop-place-test.true c.in_ok-configs.ensures (c.loop-place.invariant r t a)
+pub loop-event-preserved : goal.loop-event-preserved
+loop-event-preserved c = more-events c.args.ops.now c.args.events.now c.loop-event.event-index _ c.loop-event.configs.items c.in_ok-configs.configs.items c.loop-event-test.true c.in_ok-configs.ensures c.loop-event.invariant
 
 pub returns-then-is_none : goal.returns-then-is_none
 returns-then-is_none c =
     let none : c.in_ok-configs.configs.items ≡ [] = search rules in
-    λ r t. record {
-      within = c.loop-place-test.true;
-      none = λ a. none_live c.args.ops.now c.in_ok-configs.configs.items _ none (more_events c.args.ops.now c.args.events.now c.loop-place.place _ c.loop-place.configs.items c.in_ok-configs.configs.items c.loop-place-test.true c.in_ok-configs.ensures (c.loop-place.invariant r t a));
-    }
+    λ r t. refuted r c.args.ops.now c.args.events.now t c.loop-event.event-index c.in-Reply.reply _ c.in_ok-configs.configs.items c.loop-event-test.true c.in-Reply.is none (more-events c.args.ops.now c.args.events.now c.loop-event.event-index _ c.loop-event.configs.items c.in_ok-configs.configs.items c.loop-event-test.true c.in_ok-configs.ensures c.loop-event.invariant)

@@ -1,9 +1,8 @@
-use Rattle.std.proofs.Common.{ℕ, ◌∷◌, drop}
-use Rattle.cas_model.specs.Legal.{IsAtomic}
-use Rattle.cas_model.specs.Operations.{initial_write}
-use Rattle.cas_search.specs.Configs.{IsAnyLive}
-use Rattle.cas_search.specs.Timeline.{IsTimeline}
+use Rattle.std.proofs.Common.{List, [], ◌++◌, take}
+use Rattle.history_text.specs.declared.event.Val.TheVariants.{Null}
+use Rattle.cas_search.specs.declared.moment.Moment.{Moment}
+use Rattle.cas_search.specs.Configs.{IsAnyLive, IsLive}
 use Rattle.cas_search.proofs.forward.forward.Given as goal
 
-abbrev pub invariant-loop-place : goal.invariant-loop-place
-invariant-loop-place l = (r : ℕ) → IsTimeline r l.ops l.events → IsAtomic (initial_write r ∷ l.ops) → IsAnyLive l.ops l.configs.items (drop l.place l.events)
+abbrev pub invariant-loop-event : goal.invariant-loop-event
+invariant-loop-event l = (es : List Moment) → IsLive l.ops Null [] (take l.event-index l.events ++ es) → IsAnyLive l.ops l.configs.items es
