@@ -5,3 +5,5 @@
 
 #[cfg(test)]
 mod registers;
+#[cfg(test)]
+mod small;

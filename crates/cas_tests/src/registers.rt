@@ -6,9 +6,9 @@ use history_text::Val;
 use std::alloc::{AllocError, Global};
 use std::test::Fail;
 
-const ONE: Val = Val::Int(1);
+pub(crate) const ONE: Val = Val::Int(1);
 
-const TWO: Val = Val::Int(2);
+pub(crate) const TWO: Val = Val::Int(2);
 
 const THREE: Val = Val::Int(3);
 
@@ -28,7 +28,7 @@ fn miss(call: u32, reply: u32, from: Val) -> Operation {
     operation(call, Some(reply), Act::Miss { from })
 }
 
-fn operation(call: u32, reply: Option<u32>, act: Act) -> Operation {
+pub(crate) fn operation(call: u32, reply: Option<u32>, act: Act) -> Operation {
     Operation {
         line: call,
         call,
@@ -40,7 +40,11 @@ fn operation(call: u32, reply: Option<u32>, act: Act) -> Operation {
 }
 
 /// What the search says of a register.
-fn verdict(alloc: Global, ops: &[Operation], bounds: Bounds) -> Result<Verdict, AllocError> {
+pub(crate) fn verdict(
+    alloc: Global,
+    ops: &[Operation],
+    bounds: Bounds,
+) -> Result<Verdict, AllocError> {
     let events = timeline(alloc, ops)?;
     decide(alloc, ops, &events, bounds)
 }

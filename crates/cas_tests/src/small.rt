@@ -1,0 +1,103 @@
+//! All registers of three operations with a few acts and times: the search against each order of them.
+use crate::registers::{ONE, TWO, operation, verdict};
+use cas_model::{Act, Operation};
+use cas_search::{Bounds, Verdict, check_order};
+use history_text::Val;
+use std::alloc::{AllocError, Global};
+use std::test::Fail;
+
+/// A call and a reply.
+type Times = (u32, Option<u32>);
+
+const ACTS: u32 = 6;
+
+fn act(number: u32) -> Act {
+    match number % ACTS {
+        0 => Act::Write(ONE),
+        1 => Act::Write(TWO),
+        2 => Act::Read(Some(ONE)),
+        3 => Act::Read(Some(Val::Null)),
+        4 => Act::Cas { from: ONE, to: 2 },
+        _ => Act::Miss { from: ONE },
+    }
+}
+
+/// Whether some order of some of three operations is legal. A digit of a code is a place, or 3 for none.
+fn has_order(alloc: Global, ops: &[Operation]) -> Result<bool, AllocError> {
+    for code in 0u32..64 {
+        let mut order = Vec::new(alloc);
+        for digit in [code % 4, code / 4 % 4, code / 16] {
+            if digit < 3 {
+                order.push(digit)?;
+            }
+        }
+        if check_order(alloc, ops, &order)?.is_some() {
+            return Ok(true);
+        }
+    }
+    Ok(false)
+}
+
+/// The operations that were called up to a time, without later replies.
+fn known(alloc: Global, ops: &[Operation], time: u32) -> Result<Vec<Operation>, AllocError> {
+    let mut known = Vec::new(alloc);
+    for op in ops {
+        if op.call <= time {
+            known.push(Operation {
+                reply: op.reply.filter(|reply| *reply <= time),
+                ..*op
+            })?;
+        }
+    }
+    Ok(known)
+}
+
+/// Whether the search says what the orders say: yes if one is legal; else no at a reply at which none is, with one before it.
+fn agrees(alloc: Global, ops: &[Operation]) -> Result<bool, AllocError> {
+    match verdict(alloc, ops, Bounds::DEFAULT)? {
+        Verdict::Yes { .. } => has_order(alloc, ops),
+        Verdict::No { reply, before } => {
+            let Some(time) = ops.get(reply as usize).and_then(|op| op.reply) else {
+                return Ok(false);
+            };
+            let at_reply = known(alloc, ops, time)?;
+            Ok(before.is_some() && !has_order(alloc, &at_reply)? && !has_order(alloc, ops)?)
+        }
+        Verdict::Unknown(_) => Ok(false),
+    }
+}
+
+#[test]
+fn three_operations(rt: HostRuntime) -> Result<(), Fail> {
+    let rows: [(&str, [Times; 3]); 5] = [
+        ("all overlap", [(2, Some(5)), (3, Some(6)), (4, Some(7))]),
+        (
+            "each before the next",
+            [(2, Some(3)), (4, Some(5)), (6, Some(7))],
+        ),
+        (
+            "two overlap, then one",
+            [(2, Some(5)), (3, Some(4)), (6, Some(7))],
+        ),
+        (
+            "the first before the last",
+            [(2, Some(4)), (3, Some(7)), (5, Some(6))],
+        ),
+        (
+            "the first is pending",
+            [(2, None), (3, Some(4)), (5, Some(6))],
+        ),
+    ];
+    for (name, times) in rows {
+        let [first, second, third] = times;
+        for code in 0..ACTS * ACTS * ACTS {
+            let ops = [
+                operation(first.0, first.1, act(code)),
+                operation(second.0, second.1, act(code / ACTS)),
+                operation(third.0, third.1, act(code / ACTS / ACTS)),
+            ];
+            assert!(rt; agrees(rt.alloc(), &ops)?, "{name}: {ops:?}");
+        }
+    }
+    Ok(())
+}
