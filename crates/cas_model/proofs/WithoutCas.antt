@@ -17,7 +17,7 @@ use Rattle.history_model.proofs.Recorded.{accepted-history, initials-In, of_regi
 use Rattle.cas_model.specs.declared.operation.Operation.{Operation}
 use Rattle.cas_model.specs.Acts.{Suits, asks, changes, given_by}
 use Rattle.cas_model.specs.Legal.{IsLegal, IsMet, IsAtomic}
-use Rattle.cas_model.specs.WithoutCas.{plain_act, plain_operation, plain_operations}
+use Rattle.cas_model.specs.WithoutCas.{HaveTimesAndValues, plain_act, plain_operation, plain_operations}
 use Rattle.cas_model.proofs.Values.{value-true, value-refl}
 
 -- ---- one operation
@@ -179,6 +179,11 @@ module _ (ops : List PlainOperation)
 
   pub same-meaning : IsAtomic (plain_operations ops) ↔ IsPlainAtomic ops
   same-meaning = (to-plain, λ a. (plain_operations a.0, from-plain-legal a.0 a.1))
+
+pub repeated : (ops : List PlainOperation) → HaveTimesAndValues ops → (IsAtomic (plain_operations ops) ↔ IsPlainAtomic ops)
+repeated ops h = same-meaning ops h.pending
+    (λ a b i j e. h.calls a b i j (ap (λ (o : Operation). o.register.0) e) (ap (λ (o : Operation). o.call) e))
+    h.values
 
 -- ---- accepted histories
 

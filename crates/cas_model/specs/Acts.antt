@@ -7,7 +7,7 @@ use Rattle.history_text.specs.declared.event.Val.TheVariants.{Int}
 use Rattle.cas_model.specs.declared.act.Act.{Act}
 use Rattle.cas_model.specs.declared.act.Act.TheVariants.{Read, Write, Cas, Miss}
 
--- Which value suits an operation: a completed read meets the value that it gives; a cas that took place, or a pending one that stands in an order, meets `from`; a cas that missed meets another value. A write and a pending read ask nothing.
+-- Which value suits an operation: a read meets the value that it gives, where that is known; a cas that took place, or a pending one that stands in an order, meets `from`; a cas that missed meets another value. A write, and a read whose value isn't known, ask nothing.
 abbrev pub suits : Act → Val → Bool
 suits (Read None) v = true
 suits (Read (Some given)) v = value_eq v given

@@ -5,7 +5,7 @@ use Rattle.cas_model.specs.declared.operation.Operation.{Operation}
 use Rattle.cas_model.specs.Acts.{Suits, given_by}
 use Rattle.cas_model.specs.Operations.{Precedes, IsCompleted, IsChange, IsAsking}
 
--- A completion of the operations, in some order: each operation once, no other, and each completed one. Pending ones are there by choice; a pending cas is there if it took place (Herlihy and Wing, Linearizability: A Correctness Condition for Concurrent Objects, 1990, section 2.2).
+-- A completion of the operations, in some order: each operation once, no other, and each completed one. Pending ones are there by choice: a cas without an outcome is there if it took place, and one whose outcome is known by a later reply (see `Cut`) did what that says (Herlihy and Wing, Linearizability: A Correctness Condition for Concurrent Objects, 1990, section 2.2).
 pub record IsCompletion (ops order : List Operation) : Type 0 where
   pub once : (a : Operation) → Before a a order → ⊥
   pub only : (a : Operation) → In a order → In a ops
@@ -23,7 +23,7 @@ abbrev pub IsMet : List Operation → Operation → Type 0
 IsMet order r = (w : Operation) × IsNearestChange order w r × IsSomeAnd (given_by w.act) (Suits r.act)
 
 -- A legal order of a completion: no operation stands after one that it precedes, and each that asks something of the value meets one that suits it (Herlihy and Wing, 1990, section 2.2; with cas this project's own). The initial writes are among the operations, or no read of null is met.
--- A pending read in the order carries no condition, as without cas.
+-- A read whose value isn't known carries no condition, as a pending read without cas.
 pub record IsLegal (ops order : List Operation) : Type 0 where
   pub completion : IsCompletion ops order
   pub keeps : (a b : Operation) → Before a b order → Precedes b a → ⊥

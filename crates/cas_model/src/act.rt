@@ -7,7 +7,7 @@ use history_text::Val;
 /// What an operation does to its register.
 #[derive(Clone, Copy, Debug, PartialEq, Eq)]
 pub enum Act {
-    /// It gives this value; a read without a reply gives none.
+    /// It gives this value, if that is known; of a read without a reply it isn't.
     Read(Option<Val>),
     /// It gives the register this value.
     Write(Val),

@@ -4,17 +4,19 @@ ghost use Rattle.history_text.specs.declared.event.Val.TheVariants.{Null};
 ghost use Rattle.history_model.specs.History.{History, IsRecorded};
 ghost use Rattle.history_model.specs.Legal.{IsAtomic as IsPlainAtomic};
 ghost use Rattle.history_model.specs.Lists.{In, Before};
-ghost use Rattle.history_model.specs.Operations.{operations, register_of};
+ghost use Rattle.history_model.specs.Operations.{Operation as PlainOperation, operations, register_of};
 ghost use Rattle.cas_model.specs.declared.operation.Operation.{Operation as AnOperation};
 ghost use Rattle.cas_model.specs.Cut.{cut_at};
 ghost use Rattle.cas_model.specs.InTurn.{Meets};
 ghost use Rattle.cas_model.specs.Legal.{IsAtomic, IsLegal, IsMet};
 ghost use Rattle.cas_model.specs.Operations.{AreTimed, IsAsking, initial_write, of_register};
-ghost use Rattle.cas_model.specs.WithoutCas.{plain_operations};
+ghost use Rattle.cas_model.specs.WithoutCas.{HaveTimesAndValues, plain_operations};
 
-/// A history that `regcheck` accepts, of reads and writes alone and without repeated values, is atomic here exactly if it
-/// is by the definition of `history_model`, and so is each of its registers.
+/// Reads and writes alone, whether their values repeat or not, are atomic here exactly if they are by the definition of
+/// `history_model`. So is each history that `regcheck` accepts, and each register of it.
 pub fn without_cas_nothing_changes()
+    ensures repeated { (ops : List PlainOperation) → HaveTimesAndValues ops
+        → (IsAtomic (plain_operations ops) ↔ IsPlainAtomic ops) }
     ensures whole { (h : History) → IsRecorded h → (IsAtomic (plain_operations (operations h)) ↔ IsPlainAtomic (operations h)) }
     ensures register { (h : History) (r : ℕ) → IsRecorded h
         → (IsAtomic (plain_operations (register_of h r)) ↔ IsPlainAtomic (register_of h r)) }

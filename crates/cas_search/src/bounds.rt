@@ -3,13 +3,13 @@
 /// The most steps that a program may let a search take.
 pub const MAX_STEPS: u64 = 1_000_000_000_000;
 
-/// The most configurations that a program may let a search hold at once.
+/// The most configurations that a program may let a search hold in one list.
 pub const MAX_CONFIGURATIONS: usize = 1_048_576;
 
 /// What a search met when it gave up.
 #[derive(Clone, Copy, Debug, PartialEq, Eq)]
 pub enum Bound {
-    /// Too many configurations at once.
+    /// Too many configurations in one list.
     Configurations,
     /// Too much work.
     Steps,
@@ -19,17 +19,17 @@ pub enum Bound {
 /// same answer anywhere.
 #[derive(Clone, Copy, Debug, PartialEq, Eq)]
 pub struct Bounds {
-    /// How often a call may take effect or a configuration may be compared with another. Each call that takes effect is
-    /// remembered, so this bounds memory too.
+    /// How often an open call may be looked at when configurations are made and compared. That a call takes effect counts as 256,
+    /// since it is remembered.
     pub steps: u64,
-    /// How many configurations one list may hold.
+    /// How many configurations one list may hold; half as many if they have 64 open calls or more, a third from 128 on.
     pub configurations: usize,
 }
 
 impl Bounds {
     /// What a search may do if nobody says otherwise.
     pub const DEFAULT: Bounds = Bounds {
-        steps: 100_000_000,
+        steps: 10_000_000_000,
         configurations: 65_536,
     };
 }

@@ -7,7 +7,6 @@ ghost use Rattle.cas_search.specs.declared.moment.Moment.{Moment as AMoment};
 
 use crate::bounds::Bound;
 use crate::config::Config;
-use crate::numbers::has;
 use crate::work::{Stop, Work};
 use cas_model::Operation;
 
@@ -21,11 +20,11 @@ pub(crate) fn add(
     ensures kept { IfOk result (λ _. (c : AConfig) → In c configs.old.items → In c configs.new.items) }
     ensures there { IfOk result (λ _. (es : List AMoment) → IsLive ops.now config.value config.waiting.items es → IsAnyLive ops.now configs.new.items es) }
 {
-    work.spend(configs.len())?;
+    work.compare(configs.len(), config.waiting.len())?;
     if is_covered(ops, configs, &config) {
         return Ok(());
     }
-    if configs.len() >= work.configurations() {
+    if work.is_full(configs.len(), config.waiting.len()) {
         return Err(Stop::Bound(Bound::Configurations));
     }
     configs.push(config)?;
@@ -57,35 +56,55 @@ fn covers(ops: &[Operation], first: &Config, second: &Config) -> bool
     false
 }
 
-/// Whether the numbers are all among others.
+/// The first place, from one place on, whose number isn't below this one.
+fn skipped(numbers: &[u32], from: usize, number: u32) -> usize {
+    let mut at = from;
+    while at < numbers.len() && numbers[at] < number {
+        at += 1;
+    }
+    at
+}
+
+/// Whether this number stands at this place.
+fn is_at(numbers: &[u32], place: usize, number: u32) -> bool
+    ensures { IsTrue result → In number numbers.now }
+{
+    place < numbers.len() && numbers[place] == number
+}
+
+/// Whether the numbers are all among others. Both ascend, so one pass over them finds out.
 fn is_within(numbers: &[u32], others: &[u32]) -> bool
     ensures { IsTrue result → (j : ℕ) → In j numbers.now → In j others.now }
 {
+    let mut at = 0;
     for number in numbers {
-        if !has(others, *number) {
+        at = skipped(others, at, *number);
+        if !is_at(others, at, *number) {
             return false;
         }
     }
     true
 }
 
-/// Whether the numbers that aren't of reads or misses are all among others.
+/// Whether the numbers that aren't of reads or misses are all among others. Both ascend.
 fn is_within_but_looks(ops: &[Operation], numbers: &[u32], others: &[u32]) -> bool
     ensures { IsTrue result → (j : ℕ) → In j numbers.now → In j others.now ⊎ IsIdle ops.now j }
 {
+    let mut at = 0;
     for number in numbers {
-        if !has_or_looks(ops, others, *number) {
+        at = skipped(others, at, *number);
+        if !is_at_or_looks(ops, others, at, *number) {
             return false;
         }
     }
     true
 }
 
-/// Whether the number is there, or that of a read or a miss.
-fn has_or_looks(ops: &[Operation], numbers: &[u32], number: u32) -> bool
+/// Whether the number stands at this place, or is that of a read or a miss.
+fn is_at_or_looks(ops: &[Operation], numbers: &[u32], place: usize, number: u32) -> bool
     ensures { IsTrue result → In number numbers.now ⊎ IsIdle ops.now number }
 {
-    has(numbers, number) || is_idle(ops, number)
+    is_at(numbers, place, number) || is_idle(ops, number)
 }
 
 /// Whether the call leaves each value as it is.

@@ -65,6 +65,7 @@ fn advance(
     ensures next_kept { IfOk result (λ _. (c : AConfig) → In c next.old.items → In c next.new.items) }
     ensures all { IfOk result (λ _. IsAdvanced ops.now config.now number deeper.new.items next.new.items) }
 {
+    work.compare(0, config.waiting.len())?;
     if has(&config.waiting, number) {
         expand(work, ops, config, deeper)?;
         Ok(())

@@ -3,6 +3,12 @@ use crate::bounds::{Bound, Bounds};
 use std::alloc::{AllocError, AllocFailed, Global};
 use thiserror::Error;
 
+/// How many steps it spends to remember that a call took effect. By default some 40 million are remembered, in 1 GB.
+const STEPS_OF_A_MOVE: usize = 256;
+
+/// With so many open calls or more a list holds half as many configurations, so that the bound holds for memory too.
+const CALLS_OF_ONE: usize = 64;
+
 /// Why a search stopped before its end.
 #[derive(Clone, Copy, Debug, PartialEq, Eq, Error)]
 pub(crate) enum Stop {
@@ -57,13 +63,22 @@ impl Work {
         self.alloc
     }
 
-    /// How many configurations one list may hold.
-    pub(crate) fn configurations(&self) -> usize {
-        self.configurations
+    /// Whether a list of so many configurations, of which one has so many open calls, may hold no more.
+    pub(crate) fn is_full(&self, held: usize, open: usize) -> bool {
+        held.saturating_mul(1 + open / CALLS_OF_ONE) >= self.configurations
+    }
+
+    /// Spends the steps of comparing a configuration, with so many open calls, with others and of making it.
+    pub(crate) fn compare(&mut self, others: usize, open: usize) -> Result<(), Stop> {
+        self.spend(
+            others
+                .saturating_add(1)
+                .saturating_mul(open.saturating_add(1)),
+        )
     }
 
     /// Spends some steps.
-    pub(crate) fn spend(&mut self, count: usize) -> Result<(), Stop> {
+    fn spend(&mut self, count: usize) -> Result<(), Stop> {
         let count = count as u64;
         if self.steps < count {
             return Err(Stop::Bound(Bound::Steps));
@@ -72,10 +87,10 @@ impl Work {
         Ok(())
     }
 
-    /// A call takes effect after others, the last of which has this place; gives its own place. That spends a step, so no
-    /// more calls are remembered than there are steps.
+    /// A call takes effect after others, the last of which has this place; gives its own place. What is remembered of it stays to
+    /// the end, so it spends more than what it takes to do.
     pub(crate) fn moved(&mut self, number: u32, before: Option<usize>) -> Result<usize, Stop> {
-        self.spend(1)?;
+        self.spend(STEPS_OF_A_MOVE)?;
         let place = self.moves.len();
         self.moves.push(Move { number, before })?;
         Ok(place)
