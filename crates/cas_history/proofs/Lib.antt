@@ -1,0 +1,9 @@
+pub mod Kept
+pub mod Named
+pub mod Backward
+pub mod Parted
+pub mod Described
+pub mod Ascending
+pub mod Timed
+pub mod Initials
+pub mod Rows

@@ -1,0 +1,5 @@
+use Rattle.cas_history.proofs.Timed.{timed}
+use Rattle.cas_history.proofs.laws.calls_are_timed.Goals as goal
+
+pub returns : goal.returns
+returns c = timed

@@ -1,0 +1,5 @@
+pub mod Events
+pub mod Refusals
+pub mod History
+pub mod Timed
+pub mod Kept

@@ -1,0 +1,118 @@
+//! The operations of the calls, each by the next event of its process.
+ghost use Rattle.std.specs.Prelude.{◌≡◌, ◌≤◌, length, reverse, IfOk, option_map};
+ghost use Rattle.std.specs.Ordering.{nat_cmp};
+ghost use Rattle.std.specs.BTreeMap.{get};
+ghost use Rattle.cas_history.specs.History as defined;
+ghost use Rattle.cas_history.specs.Kept.{event_at};
+
+use crate::act::{pending_act, replied_act};
+use crate::naming::Naming;
+use cas_model::{Act, Operation};
+use cas_text::{Asked, CasEvent, Happening};
+use history_text::MAX_EVENTS;
+use std::alloc::{AllocError, Global};
+use std::collections::BTreeMap;
+
+/// The calls that didn't fail, the last first: the events are gone through from the last one back, so that
+/// the next
+/// event of each process is known.
+pub(crate) fn calls_backward(
+    alloc: Global,
+    events: &[CasEvent],
+    naming: &Naming,
+) -> Result<Vec<Operation>, AllocError>
+    requires events_few { length events.now ≤ MAX_EVENTS }
+    requires names_few { length naming.now ≤ MAX_EVENTS }
+    ensures { IfOk result (λ calls. reverse calls.items ≡ defined.calls_from naming.now 2 events.now) }
+{
+    let mut calls = Vec::new(alloc);
+    let mut next_places = BTreeMap::new(alloc);
+    for place in (0..events.len()).rev() {
+        let event = &events[place];
+        let next = next_event(events, &next_places, event.process);
+        if let Some(operation) = operation_at(naming, place as u32 + 2, event, next) {
+            calls.push(operation)?;
+        }
+        next_places.insert(event.process, place)?;
+    }
+    Ok(calls)
+}
+
+/// The next event of a process, with its time, where these are the places of the next events.
+fn next_event<'a>(
+    events: &'a [CasEvent],
+    next_places: &BTreeMap<u32, usize>,
+    process: u32,
+) -> Option<(u32, &'a CasEvent)>
+    requires { length events.now ≤ MAX_EVENTS }
+    ensures { option_map (λ next. (next.0, next.1.now)) result
+        ≡ event_at events.now (get nat_cmp next_places.now process) }
+{
+    let place = *next_places.get(&process)?;
+    let event = events.get(place)?;
+    Some((place as u32 + 2, event))
+}
+
+/// The operation that an event at this time begins, if it is a call that didn't fail: by the next event of
+/// its process.
+fn operation_at(
+    naming: &Naming,
+    time: u32,
+    event: &CasEvent,
+    next: Option<(u32, &CasEvent)>,
+) -> Option<Operation>
+    requires { length naming.now ≤ MAX_EVENTS }
+    ensures { result ≡ defined.operation_at naming.now time event.now
+        (option_map (λ next. (next.0, next.1.now)) next.entry) }
+{
+    let Happening::Call(name, asked) = &event.happening else {
+        return None;
+    };
+    if has_failed(next) {
+        return None;
+    }
+    Some(Operation {
+        line: event.line,
+        call: time,
+        reply: reply_time(next),
+        process: Some(event.process),
+        register: naming.register(name),
+        act: act_of(*asked, next),
+    })
+}
+
+fn has_failed(next: Option<(u32, &CasEvent)>) -> bool
+    ensures { result ≡ defined.has_failed (option_map (λ next. (next.0, next.1.now)) next.entry) }
+{
+    match next {
+        None => false,
+        Some((_, event)) => match &event.happening {
+            Happening::Fail(_) => true,
+            Happening::Call(_, _) | Happening::Reply(_, _) | Happening::Crash => false,
+        },
+    }
+}
+
+fn reply_time(next: Option<(u32, &CasEvent)>) -> Option<u32>
+    ensures { result ≡ option_map (λ reply. reply.0)
+        (defined.reply_in (option_map (λ next. (next.0, next.1.now)) next.entry)) }
+{
+    let (time, event) = next?;
+    match &event.happening {
+        Happening::Reply(_, _) => Some(time),
+        Happening::Call(_, _) | Happening::Fail(_) | Happening::Crash => None,
+    }
+}
+
+fn act_of(asked: Asked, next: Option<(u32, &CasEvent)>) -> Act
+    ensures { result ≡ defined.act_of asked
+        (defined.reply_in (option_map (λ next. (next.0, next.1.now)) next.entry)) }
+{
+    match next {
+        None => pending_act(asked),
+        Some((_, event)) => match &event.happening {
+            Happening::Reply(parts, ok) => replied_act(asked, parts.value, *ok),
+            Happening::Call(_, _) | Happening::Fail(_) | Happening::Crash => pending_act(asked),
+        },
+    }
+}
