@@ -1,0 +1,29 @@
+-- The history of all the bytes that a source had left, or why there is none.
+use Rattle.std.specs.Prelude.{◌≡◌, ◌<◌, ◌≤◌, ℕ, List, length, map, Option}
+use Rattle.history_text.specs.declared.limits.TheConstants.{MAX_INPUT}
+use Rattle.history_text.specs.Lines.{numbered_lines}
+use Rattle.reg_intake.specs.Ends.{IsAll, IsTooLong, IsWithinLimit}
+use Rattle.cas_text.specs.Reading.{event_reading}
+use Rattle.cas_history.specs.History.{IsHistoryOf}
+use Rattle.cas_history.specs.Refusals.{Line, IsRefusal, IsWellFormed, events_of}
+use Rattle.cas_history.specs.declared.history.History.{History}
+use Rattle.search_intake.specs.declared.refusal.Refusal.{Refusal}
+use Rattle.search_intake.specs.declared.refusal.Refusal.TheVariants.{At, TooLong, InputFailed, NoRoom, OutputFailed}
+
+-- what an input means: of each line that isn't blank its event or its least fault
+abbrev pub history_lines : List ℕ → List Line
+history_lines input = map (λ l. event_reading l.0 l.1) (numbered_lines input)
+
+-- the history of an input that is within its limit and well formed
+pub record IsHistoryOfInput (input : List ℕ) (history : History) : Type 0 where
+  pub within : length input ≤ MAX_INPUT
+  pub well_formed : IsWellFormed (history_lines input)
+  pub is : IsHistoryOf (events_of (history_lines input)) history
+
+-- why there is no history of all the bytes that a source had left
+abbrev pub IsRefusedOf : Option (List ℕ) → ℕ → ℕ → Refusal → Type 0
+IsRefusedOf left failed failed_now (At r) = (bytes : List ℕ) × IsAll left bytes × (length bytes ≤ MAX_INPUT) × IsRefusal (history_lines bytes) r × (failed_now ≡ failed)
+IsRefusedOf left failed failed_now TooLong = IsTooLong left × (failed_now ≡ failed)
+IsRefusedOf left failed failed_now InputFailed = failed < failed_now
+IsRefusedOf left failed failed_now NoRoom = IsWithinLimit left × (failed_now ≡ failed)
+IsRefusedOf left failed failed_now OutputFailed = ⊥

@@ -1,0 +1,4 @@
+pub mod Refusals
+pub mod Input
+pub mod Pulled
+pub mod Taken
