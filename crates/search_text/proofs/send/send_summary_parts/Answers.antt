@@ -1,0 +1,22 @@
+use Rattle.std.proofs.Common.{codes, refl, subst, ◌∙◌}
+use Rattle.std.proofs.lemmas.Result.{on_ok_weaker}
+use Rattle.search_text.specs.Text.{always, number_json}
+use Rattle.search_text.specs.Sends.{SendsFields}
+use Rattle.search_text.proofs.send.send_summary_parts.Goals as goal
+
+pub returns : goal.returns
+returns g c =
+    let at = g.S.Serializer.written in
+    on_ok_weaker c.send_number-2.result (λ e. (
+      at c.send_answer.new.out,
+      c.in_ok-send_answer.ensures,
+      (
+        at c.send_number.new.out,
+        c.in_ok-send_number.ensures,
+        (
+          at c.send_number-2.new.out,
+          subst (λ n. SendsFields (always (codes "registers") (number_json n)) (at c.send_number.new.out) (at c.send_number-2.new.out)) (c.len.ensures ∙ c.args.report.now.registers.ok.0) e,
+          refl,
+        ),
+      ),
+    )) c.send_number-2.ensures

@@ -1,0 +1,123 @@
+-- The bytes of a report: compact JSON (RFC 8259), a line for each register and one for the summary, keys in byte order.
+use Rattle.std.specs.Prelude.{ℕ, codes, List, [], ◌∷◌, ◌++◌, length, map, Option, Some, None}
+use Rattle.std.specs.List.{concat}
+use Rattle.serde_json.specs.Data.{Data, string, number, unsigned, array, object, Items, no_items, item, Members, no_members, member}
+use Rattle.serde_json.specs.Written.{compact_text}
+use Rattle.cas_search.specs.declared.bounds.Bound.{Bound}
+use Rattle.cas_search.specs.declared.bounds.Bound.TheVariants.{Configurations, Steps}
+use Rattle.search_text.specs.declared.report.Answer.{Answer}
+use Rattle.search_text.specs.declared.report.Answer.TheVariants as answer
+use Rattle.search_text.specs.declared.report.Atomicity.{Atomicity}
+use Rattle.search_text.specs.declared.report.Atomicity.TheVariants.{Yes, No, Unknown}
+use Rattle.search_text.specs.declared.report.Fault.{Fault}
+use Rattle.search_text.specs.declared.report.Fault.TheVariants.{Unwritten, Search}
+use Rattle.search_text.specs.declared.report.RegisterReport.{RegisterReport}
+use Rattle.search_text.specs.declared.report.Report.{Report}
+
+-- a key and its value
+abbrev pub Field : Type 0
+Field = List ℕ × Data
+
+-- an object of fields, in this order; below they stand in byte order of their keys
+abbrev pub members_of : List Field → Members
+members_of [] = no_members
+members_of (f ∷ fs) = member f.0 f.1 (members_of fs)
+
+abbrev pub items_of : List Data → Items
+items_of [] = no_items
+items_of (d ∷ ds) = item d (items_of ds)
+
+abbrev pub number_json : ℕ → Data
+number_json n = number (unsigned n)
+
+abbrev pub numbers_json : List ℕ → Data
+numbers_json ns = array (items_of (map number_json ns))
+
+-- a key that is always there, and one that is there with a value
+abbrev pub always : List ℕ → Data → List Field
+always key d = (key, d) ∷ []
+
+abbrev pub shown : {A : Type 0} → List ℕ → (A → Data) → Option A → List Field
+shown key json None = []
+shown key json (Some x) = always key (json x)
+
+-- parts of an object, one after another
+abbrev pub fields_of : List (List Field) → List Field
+fields_of [] = []
+fields_of (p ∷ ps) = p ++ fields_of ps
+
+abbrev pub object_json : List (List Field) → Data
+object_json parts = object (members_of (fields_of parts))
+
+abbrev pub fault_parts : Fault → List (List Field)
+fault_parts (Unwritten call) = always (codes "call") (number_json call) ∷ always (codes "kind") (string (codes "unwritten")) ∷ []
+fault_parts (Search before reply) = shown (codes "before") (λ lines. numbers_json lines.items) before ∷ always (codes "kind") (string (codes "search")) ∷ always (codes "reply") (number_json reply) ∷ []
+
+abbrev pub bound_json : Bound → Data
+bound_json Configurations = string (codes "configurations")
+bound_json Steps = string (codes "steps")
+
+abbrev pub gave_up_parts : Bound → List (List Field)
+gave_up_parts bound = always (codes "bound") (bound_json bound) ∷ []
+
+-- the counts, name and all else of a register's line that doesn't hang on whether it is atomic
+abbrev pub cas_field : RegisterReport → List Field
+cas_field reg = always (codes "cas") (number_json reg.cas)
+
+abbrev pub pending_field : RegisterReport → List Field
+pending_field reg = always (codes "pending") (number_json reg.pending)
+
+abbrev pub last_fields : RegisterReport → List (List Field)
+last_fields reg = always (codes "reads") (number_json reg.reads) ∷ always (codes "register") (string reg.register) ∷ always (codes "writes") (number_json reg.writes) ∷ []
+
+-- the parts of a register's line, each of them one field or none
+abbrev pub register_parts : RegisterReport → Atomicity → List (List Field)
+register_parts reg (Yes order points) =
+    always (codes "atomic") (string (codes "yes"))
+    ∷ cas_field reg
+    ∷ always (codes "order") (numbers_json order.items)
+    ∷ pending_field reg
+    ∷ always (codes "points") (numbers_json points.items)
+    ∷ last_fields reg
+register_parts reg (No fault) =
+    always (codes "atomic") (string (codes "no"))
+    ∷ cas_field reg
+    ∷ always (codes "fault") (object_json (fault_parts fault))
+    ∷ pending_field reg
+    ∷ last_fields reg
+register_parts reg (Unknown bound) =
+    always (codes "atomic") (string (codes "unknown"))
+    ∷ cas_field reg
+    ∷ always (codes "gave_up") (object_json (gave_up_parts bound))
+    ∷ pending_field reg
+    ∷ last_fields reg
+
+abbrev pub register_json : RegisterReport → Data
+register_json reg = object_json (register_parts reg reg.atomicity)
+
+abbrev pub answer_json : Answer → Data
+answer_json answer.Yes = string (codes "yes")
+answer_json answer.No = string (codes "no")
+answer_json answer.Unknown = string (codes "unknown")
+
+abbrev pub summary_parts : Report → List (List Field)
+summary_parts report =
+    always (codes "atomic") (answer_json report.atomic)
+    ∷ always (codes "operations") (number_json report.operations)
+    ∷ always (codes "registers") (number_json (length report.registers.items))
+    ∷ []
+
+abbrev pub summary_json : Report → Data
+summary_json report = object_json (summary_parts report)
+
+-- a value's compact text, and a line feed
+abbrev pub line_text : Data → List ℕ
+line_text d = compact_text d ++ 10 ∷ []
+
+-- the lines of some registers
+abbrev pub registers_text : List RegisterReport → List ℕ
+registers_text regs = concat (map (λ reg. line_text (register_json reg)) regs)
+
+-- the bytes of a report
+abbrev pub report_text : Report → List ℕ
+report_text report = registers_text report.registers.items ++ line_text (summary_json report)
