@@ -1,0 +1,105 @@
+-- What is found of each register makes the lines of all registers.
+use Rattle.std.proofs.Common.{◌≡◌, ℕ, zero, suc, ◌+◌, ◌<◌, ◌≤◌, drop, List, [], ◌∷◌, ◌++◌, length, map, slice_get, Result, Ok, Err, Some, Vec, Global, inl, inr, refl, sym, ap, subst, ◌∙◌, arith}
+use Rattle.std.specs.Prelude.{IfOk, MatchResult, Contains}
+use Rattle.std.specs.List.{AllZip}
+use Rattle.std.proofs.lemmas.Bool.{cases_eq, cases_lt}
+use Rattle.std.proofs.lemmas.List.{length_push}
+use Rattle.std.proofs.lemmas.Option.{same_Some, slice_get_within}
+use Rattle.history_model.proofs.Lists.{slice_get-push, slice_get-push_other, slice_get_inside}
+use Rattle.cas_model.specs.declared.operation.Operation.{Operation}
+use Rattle.cas_history.specs.declared.history.History.{History}
+use Rattle.search_report.specs.Registers.{AreFindings, AreFirstLines, IsFinding, IsLine}
+use Rattle.search_report.specs.declared.register.Finding.{Finding}
+use Rattle.search_text.specs.declared.report.RegisterReport.{RegisterReport}
+
+-- the finding that was made of a register is one of it
+abbrev IsMade : (E : Type 0) → List ℕ → Vec Operation Global → Result Finding E → Type 0
+IsMade E lines ops made = IfOk made (IsFinding lines ops.items)
+
+all_made : (E : Type 0) (lines : List ℕ) (registers : List (Vec Operation Global)) (findings : List Finding) → AllZip (IsMade E lines) registers (map Ok findings) → AllZip (λ (ops : Vec Operation Global) finding. IsFinding lines ops.items finding) registers findings
+all_made E lines [] [] each = tt
+all_made E lines [] (finding ∷ findings) each = absurd each
+all_made E lines (ops ∷ registers) [] each = absurd each
+all_made E lines (ops ∷ registers) (finding ∷ findings) each = (each.0, all_made E lines registers findings each.1)
+
+pub findings-made : (E : Type 0) (h : History) (each : List (Result Finding E)) (made : Result (Vec Finding Global) E)
+    → AllZip (IsMade E h.lines.items) h.registers.items each
+    → MatchResult made (λ v. (findings : List Finding) × (each ≡ map Ok findings) × (v.items ≡ findings)) (λ e. Contains each (Err e))
+    → IfOk made (λ v. AreFindings h v.items)
+findings-made E h each (Ok v) is got =
+    subst (AreFindings h) (sym got.2) (all_made E h.lines.items h.registers.items got.0 (subst (AllZip (IsMade E h.lines.items) h.registers.items) got.1 is))
+findings-made E h each (Err e) is got = tt
+
+pub no-line : (h : History) → AreFirstLines h 0 []
+no-line h = record { count_is = refl; each = λ r report at. let l = slice_get_within [] r report at in absurd (omega (arith, l)) }
+
+pub one-line-more : (h : History) (n : ℕ) (reports : List RegisterReport) (report : RegisterReport) (name : List ℕ) (ops : Vec Operation Global) → AreFirstLines h n reports
+    → slice_get h.names.items n ≡ Some name → slice_get h.registers.items n ≡ Some ops → IsLine h.lines.items name ops.items report → AreFirstLines h (n + 1) (reports ++ report ∷ [])
+one-line-more h n reports report name ops first named there line = record {
+  count_is = length_push reports report ∙ ap (λ k. k + 1) first.count_is;
+  each = λ r other at. elim (cases_eq r (length reports)) [
+    | inl e ↦
+        let r_is : r ≡ n = e ∙ first.count_is in
+        let same = same_Some _ _ (sym (slice_get-push reports report) ∙ (ap (slice_get (reports ++ report ∷ [])) (sym e) ∙ at)) in
+        (name, ops, ap (slice_get h.names.items) r_is ∙ named, ap (slice_get h.registers.items) r_is ∙ there, subst (IsLine h.lines.items name ops.items) same line)
+    | inr d ↦ first.each r other (sym (slice_get-push_other reports report r d) ∙ at)
+  ];
+}
+
+-- ---- one register after another
+
+abbrev Go : History → List (Vec Operation Global) → List Finding → Type 0
+Go h registers findings = AllZip (λ (ops : Vec Operation Global) finding. IsFinding h.lines.items ops.items finding) registers findings
+
+first_of : (h : History) (n : ℕ) (registers : List (Vec Operation Global)) (finding : Finding) (rest : List Finding) → Go h (drop n registers) (finding ∷ rest)
+    → (ops : Vec Operation Global) × (slice_get registers n ≡ Some ops) × IsFinding h.lines.items ops.items finding × Go h (drop (suc n) registers) rest
+first_of h zero [] finding rest go = absurd go
+first_of h zero (ops ∷ registers) finding rest go = (ops, refl, go.0, go.1)
+first_of h (suc n) [] finding rest go = absurd go
+first_of h (suc n) (ops ∷ registers) finding rest go = first_of h n registers finding rest go
+
+none_of : (h : History) (n : ℕ) (registers : List (Vec Operation Global)) → Go h (drop n registers) [] → length registers ≤ n
+none_of h zero [] go = omega arith
+none_of h zero (ops ∷ registers) go = absurd go
+none_of h (suc n) [] go = omega arith
+none_of h (suc n) (ops ∷ registers) go = let l = none_of h n registers go in omega (arith, l)
+
+pub no-items : (xs : List Finding) → length xs ≡ 0 → xs ≡ []
+no-items [] e = refl
+no-items (x ∷ xs) e = absurd (omega (arith, e))
+
+one_more : (n : ℕ) → n + 1 ≡ suc n
+one_more n = omega arith
+
+module _ (h : History) (as_many : length h.registers.items ≡ length h.names.items) where
+  pub has-name : (n : ℕ) (findings rest : List Finding) (finding : Finding) → Go h (drop n h.registers.items) findings → findings ≡ finding ∷ rest → n < length h.names.items
+  has-name n findings rest finding go is =
+      let one = first_of h n h.registers.items finding rest (subst (Go h (drop n h.registers.items)) is go) in
+      let l = slice_get_within h.registers.items n one.0 one.1 in
+      omega (arith, l, as_many)
+
+  pub next-line : (reports after : List RegisterReport) (findings rest : List Finding) (finding : Finding) (report : RegisterReport) (name : List ℕ)
+      → AreFirstLines h (length reports) reports → Go h (drop (length reports) h.registers.items) findings → findings ≡ finding ∷ rest
+      → slice_get h.names.items (length reports) ≡ Some name → ((lines : List ℕ) (ops : List Operation) → IsFinding lines ops finding → IsLine lines name ops report)
+      → after ≡ reports ++ report ∷ [] → AreFirstLines h (length after) after × Go h (drop (length after) h.registers.items) rest
+  next-line reports after findings rest finding report name first go is named line grown =
+      let n = length reports in
+      let one = first_of h n h.registers.items finding rest (subst (Go h (drop n h.registers.items)) is go) in
+      let more = one-line-more h n reports report name one.0 first named one.1 (line h.lines.items one.0.items one.2) in
+      let size : length after ≡ n + 1 = ap length grown ∙ length_push reports report in (
+        subst (λ k. AreFirstLines h k after) (sym size) (subst (AreFirstLines h (n + 1)) (sym grown) more),
+        subst (λ k. Go h (drop k h.registers.items) rest) (sym (size ∙ one_more n)) one.3,
+      )
+
+  pub all-lines : (reports : List RegisterReport) (findings : List Finding) → AreFirstLines h (length reports) reports → Go h (drop (length reports) h.registers.items) findings → findings ≡ []
+      → AreFirstLines h (length h.names.items) reports
+  all-lines reports findings first go is =
+      let n = length reports in
+      let most = none_of h n h.registers.items (subst (Go h (drop n h.registers.items)) is go) in
+      elim (cases_lt (length h.names.items) n) [
+        | inl more ↦
+            let one = slice_get_inside reports (length h.names.items) more in
+            let l = first.each (length h.names.items) one.0 one.1 in
+            absurd (let w = slice_get_within h.names.items (length h.names.items) l.0 l.2 in omega (arith, w))
+        | inr few ↦ subst (λ k. AreFirstLines h k reports) (omega (arith, most, few, as_many)) first
+      ]

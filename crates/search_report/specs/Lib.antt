@@ -1,0 +1,5 @@
+pub mod Meaning
+pub mod Answer
+pub mod Registers
+pub mod Ends
+pub mod Run

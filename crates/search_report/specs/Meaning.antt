@@ -1,0 +1,156 @@
+-- What a report of a history with cas says.
+use Rattle.std.specs.Global.{Global}
+use Rattle.std.specs.List.{list_any}
+use Rattle.std.specs.Prelude.{◌≡◌, ◌<◌, ◌-◌, ℕ, Vec, Option, if◌then◌else◌, List, ◌∷◌, length, map, get_or, count_by, slice_get, Bool, true, false, is_none, Some, None, IfSome}
+use Rattle.history_model.specs.Lists.{In}
+use Rattle.cas_text.specs.declared.event.CasEvent.{CasEvent}
+use Rattle.cas_model.specs.declared.act.Act.{Act}
+use Rattle.cas_model.specs.declared.act.Act.TheVariants.{Read, Write, Cas, Miss}
+use Rattle.cas_model.specs.declared.operation.Operation.{Operation}
+use Rattle.cas_model.specs.Cut.{cut_at}
+use Rattle.cas_model.specs.Legal.{IsLegal, IsAtomic}
+use Rattle.cas_model.specs.Operations.{initial_write}
+use Rattle.cas_model.specs.Placed.{PlacedOperation, placed}
+use Rattle.cas_history.specs.History.{register_names, calls, calls_of, operations}
+use Rattle.cas_search.specs.Unwritten.{IsFirstUnwritten}
+use Rattle.search_text.specs.declared.report.Answer.{Answer}
+use Rattle.search_text.specs.declared.report.Answer.TheVariants as answer
+use Rattle.search_text.specs.declared.report.Atomicity.{Atomicity}
+use Rattle.search_text.specs.declared.report.Atomicity.TheVariants.{Yes, No, Unknown}
+use Rattle.search_text.specs.declared.report.Fault.{Fault}
+use Rattle.search_text.specs.declared.report.Fault.TheVariants.{Unwritten, Search}
+use Rattle.search_text.specs.declared.report.RegisterReport.{RegisterReport}
+use Rattle.search_text.specs.declared.report.Report.{Report}
+
+-- ---- counts
+
+abbrev pub is_read_act : Act → Bool
+is_read_act (Read value) = true
+is_read_act (Write value) = false
+is_read_act (Cas from to) = false
+is_read_act (Miss from) = false
+
+abbrev pub is_write_act : Act → Bool
+is_write_act (Read value) = false
+is_write_act (Write value) = true
+is_write_act (Cas from to) = false
+is_write_act (Miss from) = false
+
+-- a cas, whether it took place, missed or is pending
+abbrev pub is_cas_act : Act → Bool
+is_cas_act (Read value) = false
+is_cas_act (Write value) = false
+is_cas_act (Cas from to) = true
+is_cas_act (Miss from) = true
+
+abbrev pub is_read : Operation → Bool
+is_read a = is_read_act a.act
+
+abbrev pub is_write : Operation → Bool
+is_write a = is_write_act a.act
+
+abbrev pub is_cas : Operation → Bool
+is_cas a = is_cas_act a.act
+
+abbrev pub is_pending : Operation → Bool
+is_pending a = is_none a.reply
+
+-- ---- lines
+
+-- the line of the event at a time; the event at place i has time i + 2
+abbrev pub line_at : List ℕ → ℕ → ℕ
+line_at lines t = get_or lines (t - 2) 0
+
+-- operations by the lines of their calls
+abbrev pub lines_of : List Operation → List ℕ
+lines_of order = map (λ a. a.line) order
+
+-- the points of an order, each by the line of the call at that time
+abbrev pub points_of : List ℕ → List Operation → List ℕ
+points_of lines order = map (λ x. line_at lines x.point) (placed order)
+
+-- ---- a register: events have these lines, register r has the calls `ops`
+
+-- a legal order of the register's operations, its initial write left out, and its points, each of which comes before the operation's reply (Herlihy and Wing, Linearizability: A Correctness Condition for Concurrent Objects, 1990)
+pub record IsOrderShown (lines : List ℕ) (r : ℕ) (ops : List Operation) (order points : List ℕ) : Type 0 where
+  pub operations : List Operation
+  pub legal : IsLegal (initial_write r ∷ ops) (initial_write r ∷ operations)
+  pub unreplied : (x : PlacedOperation) (t : ℕ) → In x (placed operations) → x.operation.reply ≡ Some t → x.point < t
+  pub order_is : order ≡ lines_of operations
+  pub points_are : points ≡ points_of lines operations
+
+-- the first call, by time, that needs a value which nobody wrote
+pub record IsUnwrittenShown (ops : List Operation) (call : ℕ) : Type 0 where
+  pub place : ℕ
+  pub operation : Operation
+  pub there : slice_get ops place ≡ Some operation
+  pub first : IsFirstUnwritten ops (Some place)
+  pub line : call ≡ operation.line
+
+-- an order of what was known before a time: a legal one, by lines
+abbrev pub IsOrderBefore : ℕ → ℕ → List Operation → List ℕ → Type 0
+IsOrderBefore t r ops before = (order : List Operation) × IsLegal (initial_write r ∷ cut_at (t - 1) ops) (initial_write r ∷ order) × (before ≡ lines_of order)
+
+-- the reply of some call, by its line: what is known at its time has no legal order, and the order of what was known before it, if there is one, is legal
+pub record IsHopelessShown (lines : List ℕ) (r : ℕ) (ops : List Operation) (before : Option (Vec ℕ Global)) (reply : ℕ) : Type 0 where
+  pub operation : Operation
+  pub time : ℕ
+  pub within : In operation ops
+  pub replies : operation.reply ≡ Some time
+  pub line : reply ≡ line_at lines time
+  pub none : IsAtomic (cut_at time (initial_write r ∷ ops)) → ⊥
+  pub order : IfSome before (λ order. IsOrderBefore time r ops order.items)
+
+-- why a register isn't atomic
+abbrev pub IsFaultShown : List ℕ → ℕ → List Operation → Fault → Type 0
+IsFaultShown lines r ops (Unwritten call) = IsUnwrittenShown ops call
+IsFaultShown lines r ops (Search before reply) = IsFirstUnwritten ops None × IsHopelessShown lines r ops before reply
+
+-- A yes has a legal order, and after a no there is none. The search is asked only if no value is unwritten; if it gave up, no more is said.
+abbrev pub IsAtomicity : List ℕ → ℕ → List Operation → Atomicity → Type 0
+IsAtomicity lines r ops (Yes order points) = IsAtomic (initial_write r ∷ ops) × IsOrderShown lines r ops order.items points.items
+IsAtomicity lines r ops (No fault) = (IsAtomic (initial_write r ∷ ops) → ⊥) × IsFaultShown lines r ops fault
+IsAtomicity lines r ops (Unknown bound) = IsFirstUnwritten ops None
+
+-- the lines of events
+abbrev pub event_lines : List CasEvent → List ℕ
+event_lines events = map (λ e. e.line) events
+
+-- the line of register r
+pub record IsRegisterReport (events : List CasEvent) (r : ℕ) (report : RegisterReport) : Type 0 where
+  pub name : slice_get (register_names events) r ≡ Some report.register
+  pub cas : report.cas ≡ count_by is_cas (calls_of events r)
+  pub pending : report.pending ≡ count_by is_pending (calls_of events r)
+  pub reads : report.reads ≡ count_by is_read (calls_of events r)
+  pub writes : report.writes ≡ count_by is_write (calls_of events r)
+  pub atomicity : IsAtomicity (event_lines events) r (calls_of events r) report.atomicity
+
+-- ---- the whole history
+
+abbrev pub is_no : Atomicity → Bool
+is_no (Yes order points) = false
+is_no (No fault) = true
+is_no (Unknown bound) = false
+
+abbrev pub is_unknown : Atomicity → Bool
+is_unknown (Yes order points) = false
+is_unknown (No fault) = false
+is_unknown (Unknown bound) = true
+
+-- "no" if some register isn't atomic, else "unknown" if the search gave up on some, else "yes"
+abbrev pub answer_of : List RegisterReport → Answer
+answer_of reports = if list_any (λ reg. is_no reg.atomicity) reports then answer.No else (if list_any (λ reg. is_unknown reg.atomicity) reports then answer.Unknown else answer.Yes)
+
+-- a yes says that the whole history is atomic, and a no that it isn't (Herlihy and Wing, 1990)
+abbrev pub IsWholeAnswer : List CasEvent → Answer → Type 0
+IsWholeAnswer events answer.Yes = IsAtomic (operations events)
+IsWholeAnswer events answer.No = IsAtomic (operations events) → ⊥
+IsWholeAnswer events answer.Unknown = Unit {0}
+
+-- the report of a history: the line of each register in the order of the first calls, and the summary
+pub record IsReport (events : List CasEvent) (report : Report) : Type 0 where
+  pub count : length report.registers.items ≡ length (register_names events)
+  pub each : (r : ℕ) (reg : RegisterReport) → slice_get report.registers.items r ≡ Some reg → IsRegisterReport events r reg
+  pub called : report.operations ≡ length (calls events)
+  pub summary : report.atomic ≡ answer_of report.registers.items
+  pub whole : IsWholeAnswer events report.atomic

@@ -1,0 +1,71 @@
+//! The report of a whole history.
+ghost use Rattle.std.specs.Prelude.{◌≡◌, length, List, IfOk};
+ghost use Rattle.std.specs.List.{list_any};
+ghost use Rattle.cas_text.specs.declared.event.CasEvent.{CasEvent as AnEvent};
+ghost use Rattle.cas_history.specs.History.{IsHistoryOf};
+ghost use Rattle.search_report.specs.Meaning.{IsReport, answer_of, is_no as is_no_of, is_unknown as is_unknown_of};
+
+use crate::registers::lines_of_registers;
+use crate::settings::Settings;
+use cas_history::History;
+use search_text::{Answer, Atomicity, RegisterReport, Report};
+use std::alloc::{AllocError, Global};
+use std::thread::Threads;
+
+fn is_no(atomicity: &Atomicity) -> bool
+    ensures { result ≡ is_no_of atomicity.now }
+{
+    matches!(atomicity, Atomicity::No(_))
+}
+
+fn is_unknown(atomicity: &Atomicity) -> bool
+    ensures { result ≡ is_unknown_of atomicity.now }
+{
+    matches!(atomicity, Atomicity::Unknown(_))
+}
+
+/// Whether some register isn't atomic.
+fn has_no(reports: &[RegisterReport]) -> bool
+    ensures { result ≡ list_any (λ report. is_no_of report.atomicity) reports.now }
+{
+    reports.iter().any(|report| is_no(&report.atomicity))
+}
+
+/// Whether the search gave up on some register.
+fn has_unknown(reports: &[RegisterReport]) -> bool
+    ensures { result ≡ list_any (λ report. is_unknown_of report.atomicity) reports.now }
+{
+    reports.iter().any(|report| is_unknown(&report.atomicity))
+}
+
+/// What is known of all registers.
+fn answer(reports: &[RegisterReport]) -> Answer
+    ensures { result ≡ answer_of reports.now }
+{
+    if has_no(reports) {
+        Answer::No
+    } else if has_unknown(reports) {
+        Answer::Unknown
+    } else {
+        Answer::Yes
+    }
+}
+
+/// The report of a history.
+pub(crate) fn report(
+    rt: &(impl Threads + Sync),
+    alloc: Global,
+    history: &History,
+    settings: Settings,
+) -> Result<Report, AllocError>
+    requires { length history.now.registers.items ≡ length history.now.names.items }
+    ensures { IfOk result (λ report. (events : List AnEvent) → IsHistoryOf events history.now → IsReport events report) }
+{
+    let registers = lines_of_registers(rt, alloc, history, settings)?;
+    let atomic = answer(&registers);
+    Ok(Report {
+        registers,
+        operations: history.operations,
+        atomic,
+    })
+}

@@ -1,0 +1,35 @@
+//! All the bytes of a report into a sink.
+ghost use Rattle.std.specs.Prelude.{◌-◌, ◌^◌, ◌<◌, OnOk, OnErr};
+ghost use Rattle.std.specs.Io.KnownBytes.{Appends};
+ghost use Rattle.byte_ends.specs.Ends.{Counts};
+ghost use Rattle.search_report.specs.Ends.{AppendsBeginning};
+
+use byte_ends::{IoFail, Sink};
+
+fn push_all<S: Sink>(sink: &mut S, bytes: &[u8]) -> Result<(), IoFail>
+    requires { S.failed sink.old < 2 ^ 64 - 1 }
+    ensures ok { OnOk result (Appends (S.taken sink.old) (S.taken sink.new) bytes.now) }
+    ensures err { OnErr result (AppendsBeginning (S.taken sink.old) (S.taken sink.new) bytes.now) }
+    ensures failures { Counts (S.failed sink.old) (S.failed sink.new) result }
+{
+    let mut at = 0;
+    while at < bytes.len() {
+        at += sink.push(&bytes[at..])?;
+    }
+    Ok(())
+}
+
+/// Pushes all the bytes, and flushes.
+///
+/// # Errors
+/// `IoFail` if a push or the flush failed; then a beginning of the bytes is out.
+pub(crate) fn deliver<S: Sink>(sink: &mut S, bytes: &[u8]) -> Result<(), IoFail>
+    requires { S.failed sink.old < 2 ^ 64 - 1 }
+    ensures ok { OnOk result (Appends (S.taken sink.old) (S.taken sink.new) bytes.now) }
+    ensures flushed { OnOk result (S.is_flushed sink.new) }
+    ensures err { OnErr result (AppendsBeginning (S.taken sink.old) (S.taken sink.new) bytes.now) }
+    ensures failures { Counts (S.failed sink.old) (S.failed sink.new) result }
+{
+    push_all(sink, bytes)?;
+    sink.flush()
+}

@@ -1,0 +1,121 @@
+//! What is found of one register.
+ghost use Rattle.std.specs.Prelude.{◌≡◌, ℕ, None, IfOk};
+ghost use Rattle.cas_history.specs.Timed.{AreTimedCalls};
+ghost use Rattle.search_report.specs.Meaning.{IsAtomicity, IsFaultShown};
+ghost use Rattle.search_report.specs.Registers.{AreLinesBefore, IsFinding, IsReplyLine};
+ghost use Rattle.cas_search.specs.Unwritten.{IsFirstUnwritten};
+ghost use Rattle.cas_search.specs.Verdicts.{IsVerdict};
+
+use crate::counts;
+use crate::lines::{line_of_time, lines_of_places, lines_of_times};
+use cas_model::Operation;
+use cas_search::{Bounds, Verdict, decide, first_unwritten, timeline};
+use search_text::{Atomicity, Fault};
+use std::alloc::{AllocError, Global};
+
+/// All that a report says of a register but its name.
+#[derive(Debug, Drop)]
+pub(crate) struct Finding {
+    pub(crate) atomicity: Atomicity,
+    pub(crate) cas: usize,
+    pub(crate) pending: usize,
+    pub(crate) reads: usize,
+    pub(crate) writes: usize,
+}
+
+/// The line of the reply to the operation at this place.
+fn reply_line(lines: &[u32], ops: &[Operation], place: u32) -> u32
+    ensures { IsReplyLine lines.now ops.now place result }
+{
+    match ops.get(place as usize).and_then(|op| op.reply) {
+        Some(time) => line_of_time(lines, time),
+        None => 0,
+    }
+}
+
+/// An order of what was known before a reply, by lines.
+fn lines_before(
+    alloc: Global,
+    ops: &[Operation],
+    before: Option<Vec<u32>>,
+) -> Result<Option<Vec<u32>>, AllocError>
+    ensures { IfOk result (AreLinesBefore ops.now before) }
+{
+    match before {
+        Some(places) => Ok(Some(lines_of_places(alloc, ops, &places)?)),
+        None => Ok(None),
+    }
+}
+
+/// What the verdict of a search says, by lines.
+fn told(
+    alloc: Global,
+    lines: &[u32],
+    ops: &[Operation],
+    verdict: Verdict,
+) -> Result<Atomicity, AllocError>
+    ensures { IfOk result (λ atomicity. (r : ℕ) → AreTimedCalls r ops.now → IsFirstUnwritten ops.now None
+        → IsVerdict r ops.now verdict → IsAtomicity lines.now r ops.now atomicity) }
+{
+    match verdict {
+        Verdict::Yes { order, points } => Ok(Atomicity::Yes {
+            order: lines_of_places(alloc, ops, &order)?,
+            points: lines_of_times(alloc, lines, &points)?,
+        }),
+        Verdict::No { reply, before } => Ok(Atomicity::No(Fault::Search {
+            before: lines_before(alloc, ops, before)?,
+            reply: reply_line(lines, ops, reply),
+        })),
+        Verdict::Unknown(bound) => Ok(Atomicity::Unknown(bound)),
+    }
+}
+
+/// Whether a register without an unwritten value is atomic, as far as the bounds allow.
+fn searched(
+    alloc: Global,
+    lines: &[u32],
+    ops: &[Operation],
+    bounds: Bounds,
+) -> Result<Atomicity, AllocError>
+    ensures { IfOk result (λ atomicity. (r : ℕ) → AreTimedCalls r ops.now → IsFirstUnwritten ops.now None
+        → IsAtomicity lines.now r ops.now atomicity) }
+{
+    let moments = timeline(alloc, ops)?;
+    let verdict = decide(alloc, ops, &moments, bounds)?;
+    told(alloc, lines, ops, verdict)
+}
+
+/// Whether a register with these operations is atomic, as far as the bounds allow: its events have these lines.
+fn atomicity(
+    alloc: Global,
+    lines: &[u32],
+    ops: &[Operation],
+    bounds: Bounds,
+) -> Result<Atomicity, AllocError>
+    ensures { IfOk result (λ atomicity. (r : ℕ) → AreTimedCalls r ops.now → IsAtomicity lines.now r ops.now atomicity) }
+{
+    match first_unwritten(alloc, ops)? {
+        Some(place) => Ok(Atomicity::No(Fault::Unwritten {
+            call: ops[place].line,
+        })),
+        None => searched(alloc, lines, ops, bounds),
+    }
+}
+
+/// What is found of a register with these operations, whose events have these lines.
+pub(crate) fn found(
+    alloc: Global,
+    lines: &[u32],
+    ops: &[Operation],
+    bounds: Bounds,
+) -> Result<Finding, AllocError>
+    ensures { IfOk result (IsFinding lines.now ops.now) }
+{
+    Ok(Finding {
+        atomicity: atomicity(alloc, lines, ops, bounds)?,
+        cas: counts::cas(ops),
+        pending: counts::pending(ops),
+        reads: counts::reads(ops),
+        writes: counts::writes(ops),
+    })
+}

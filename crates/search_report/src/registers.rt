@@ -1,0 +1,76 @@
+//! The lines of all registers, which workers share.
+ghost use Rattle.std.specs.Prelude.{◌≡◌, ◌<◌, ℕ, List, length, IfOk};
+ghost use Rattle.cas_model.specs.declared.operation.Operation.{Operation as AnOperation};
+ghost use Rattle.search_report.specs.Registers.{AreFindings, AreFirstLines, IsFinding, IsLine};
+
+use crate::register::{Finding, found};
+use crate::settings::Settings;
+use cas_history::History;
+use cas_model::Operation;
+use history_text::Name;
+use rayon::prelude::*;
+use search_text::RegisterReport;
+use std::alloc::{AllocError, Global};
+use std::thread::Threads;
+
+/// At least how many registers are one piece of the work, so that there are about as many pieces as workers.
+fn share(count: usize, workers: u32) -> usize
+    ensures { 0 < result }
+{
+    (count / (workers as usize).max(1)).max(1)
+}
+
+/// What is found of each register, in order.
+fn findings(
+    rt: &(impl Threads + Sync),
+    alloc: Global,
+    history: &History,
+    settings: Settings,
+) -> Result<Vec<Finding>, AllocError>
+    ensures { IfOk result (λ found. AreFindings history.now found.items) }
+{
+    let lines = history.lines.as_slice();
+    let bounds = settings.bounds();
+    history
+        .registers
+        .par_iter()
+        .with_min_len(share(history.registers.len(), settings.workers()))
+        .map(
+            |ops: &Vec<Operation>| -> Result<Finding, AllocError>
+                ensures { IfOk result (IsFinding lines.entry.now ops.now.items) }
+            { found(alloc, lines, ops, bounds) },
+        )
+        .collect::<Result<Vec<Finding>, AllocError>>(rt, alloc)?
+}
+
+/// A register's line, of its name and what is found of it.
+fn named(alloc: Global, name: &Name, finding: Finding) -> Result<RegisterReport, AllocError>
+    ensures { IfOk result (λ report. (lines : List ℕ) (ops : List AnOperation) → IsFinding lines ops finding → IsLine lines name.now ops report) }
+{
+    Ok(RegisterReport {
+        register: Name::new(alloc, name.as_str())?,
+        atomicity: finding.atomicity,
+        cas: finding.cas,
+        pending: finding.pending,
+        reads: finding.reads,
+        writes: finding.writes,
+    })
+}
+
+/// The line of each register, in order.
+pub(crate) fn lines_of_registers(
+    rt: &(impl Threads + Sync),
+    alloc: Global,
+    history: &History,
+    settings: Settings,
+) -> Result<Vec<RegisterReport>, AllocError>
+    requires { length history.now.registers.items ≡ length history.now.names.items }
+    ensures { IfOk result (λ reports. AreFirstLines history.now (length history.now.names.items) reports.items) }
+{
+    let mut reports = Vec::new(alloc);
+    for finding in findings(rt, alloc, history, settings)? {
+        let name = &history.names[reports.len()];
+        reports.push(named(alloc, name, finding)?)?;
+    }
+    Ok(reports)
+}
