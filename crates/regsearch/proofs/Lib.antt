@@ -1,0 +1,3 @@
+mod DefaultReads
+mod Numbers
+mod OnWords

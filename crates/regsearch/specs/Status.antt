@@ -1,0 +1,12 @@
+-- The exit statuses (this project's profile; README.md has the table).
+use Rattle.std.specs.Prelude.{ℕ, nat_le, ◌&&◌, if◌then◌else◌}
+use Rattle.regsearch.specs.declared.exit_status.Ended.{Ended}
+use Rattle.regsearch.specs.declared.exit_status.Ended.TheVariants.{Atomic, NotAtomic, Unknown, Refused, BadWords}
+
+-- 16 to 18 are failures of input, memory and output, and any other refusal is of the history
+abbrev pub status_of : Ended → ℕ
+status_of Atomic = 0
+status_of NotAtomic = 1
+status_of Unknown = 6
+status_of (Refused number) = if nat_le 16 number && nat_le number 18 then 4 else 2
+status_of BadWords = 3

@@ -1,0 +1,33 @@
+//! The exit status.
+ghost use Rattle.std.specs.Prelude.{◌≡◌};
+ghost use Rattle.regsearch.specs.Status.{status_of};
+
+/// How the program ended.
+#[derive(Clone, Copy, Debug, PartialEq, Eq)]
+pub enum Ended {
+    /// Each register is atomic.
+    Atomic,
+    /// Some register isn't.
+    NotAtomic,
+    /// The search gave up on some register, and no register is known not to be atomic.
+    Unknown,
+    /// There is no report; with the number of the refusal, 1 to 21.
+    Refused(u8),
+    /// The words of the command line were refused, or asked for help or the version.
+    BadWords,
+}
+
+/// The exit status: 0, 1 and 6 with a report, 2 for an input that is refused, 3 for bad words, 4 if input, memory or
+/// output failed.
+pub fn status(ended: Ended) -> u8
+    ensures { result ≡ status_of ended }
+{
+    match ended {
+        Ended::Atomic => 0,
+        Ended::NotAtomic => 1,
+        Ended::Unknown => 6,
+        Ended::Refused(number) if 16 <= number && number <= 18 => 4,
+        Ended::Refused(_) => 2,
+        Ended::BadWords => 3,
+    }
+}
