@@ -41,8 +41,11 @@ TEXTS = {
     14: "more than 1048576 events",
     15: "input is longer than 67108864 bytes",
     19: "the process crashed at line {}",
+    20: "from or to does not fit the event",
+    21: "a cas's reply has no ok, true or false",
 }
 WITHOUT_FAIL = "event is neither call nor reply"  # text 5 of a checker that knows neither fail nor crash
+WITH_CAS = "op is neither read, write nor cas"  # text 6 of a checker that knows cas
 
 
 class Options(NamedTuple):
@@ -51,6 +54,13 @@ class Options(NamedTuple):
     first: bool = False  # the early answer
     inversion: bool = True  # whether it names inversions
     fail: bool = True  # whether it knows the events fail and crash
+    cas: bool = False  # whether it knows cas, and values written twice: regsearch
+
+    def ops(self) -> Tuple[str, ...]:
+        return ("read", "write", "cas") if self.cas else ("read", "write")
+
+    def events(self) -> Tuple[str, ...]:
+        return ("call", "reply", "fail", "crash") if self.fail else ("call", "reply")
 
 
 class Refused(Exception):
@@ -64,6 +74,8 @@ class Refused(Exception):
         words = TEXTS[self.number].format(self.other)
         if self.number == 5 and not options.fail:
             words = WITHOUT_FAIL
+        if self.number == 6 and options.cas:
+            words = WITH_CAS
         return words if self.line is None else f"line {self.line}: {words}"
 
 
@@ -132,6 +144,9 @@ class Event(NamedTuple):
     op: Any = ABSENT
     register: Any = ABSENT
     value: Any = ABSENT
+    from_value: Any = ABSENT  # of a cas, as are the next two
+    to_value: Any = ABSENT
+    ok: Any = ABSENT
 
 
 def is_whole(value: Any, least: int, greatest: int) -> bool:
@@ -160,36 +175,40 @@ def event_of(number: int, line: bytes, options: Options) -> Event:
     process, what = members.get("process", ABSENT), members.get("event", ABSENT)
     if not is_whole(process, 0, MAX_PROCESS):
         raise Refused(4, number)
-    if what not in (("call", "reply", "fail", "crash") if options.fail else ("call", "reply")):
+    if what not in options.events():
         raise Refused(5, number)
     if what == "crash":
         return Event(number, process, what)
-    parts = [members.get(name, ABSENT) for name in ("op", "register", "value")]
-    fault = call_fault(*parts) if what == "call" else reply_fault(*parts)
+    names = ("op", "register", "value", "from", "to", "ok")
+    event = Event(number, process, what, *(members.get(name, ABSENT) for name in names))
+    fault = (call_fault if what == "call" else reply_fault)(event, options)
     if fault:
         raise Refused(fault, number)
-    return Event(number, process, what, *parts)
+    return event
 
 
-def call_fault(op: Any, register: Any, value: Any) -> int:
-    if op not in ("read", "write"):
+def call_fault(event: Event, options: Options) -> int:
+    if event.op not in options.ops():
         return 6
-    if not is_name(register):
+    if not is_name(event.register):
         return 7
-    fits = is_value(value) if op == "write" else value in (ABSENT, None)
-    return 0 if fits else 8
+    fits = is_value(event.value) if event.op == "write" else event.value in (ABSENT, None)
+    if not fits:
+        return 8
+    fits = event.op != "cas" or ((event.from_value is None or is_value(event.from_value)) and is_value(event.to_value))
+    return 0 if fits else 20
 
 
-def reply_fault(op: Any, register: Any, value: Any) -> int:
+def reply_fault(event: Event, options: Options) -> int:
     """Of a reply or a fail, which need not say anything."""
-    if op not in (ABSENT, "read", "write"):
+    if event.op is not ABSENT and event.op not in options.ops():
         return 6
-    if register is not ABSENT and not is_name(register):
+    if event.register is not ABSENT and not is_name(event.register):
         return 7
-    return 0 if value in (ABSENT, None) or is_value(value) else 8
+    return 0 if event.value in (ABSENT, None) or is_value(event.value) else 8
 
 
-# ---- which histories are accepted: 9 to 14 and 19, of an event after the events before it
+# ---- which histories are accepted: 9 to 14, 19 and 21, of an event after the events before it
 
 
 def last_of_process(before: Sequence[Event], process: int) -> Optional[Event]:
@@ -202,17 +221,17 @@ def agrees(event: Event, call: Event) -> bool:
         return False
     if call.op == "write":
         return event.value in (ABSENT, None, call.value)
-    return event.what == "reply" or event.value in (ABSENT, None)
+    return (call.op == "read" and event.what == "reply") or event.value in (ABSENT, None)
 
 
-def refusal_of(event: Event, before: Sequence[Event]) -> Optional[Refused]:
-    """The lowest-numbered reason of 9 to 14 and 19 that applies."""
+def refusal_of(event: Event, before: Sequence[Event], options: Options) -> Optional[Refused]:
+    """The lowest-numbered reason of 9 to 14, 19 and 21 that applies."""
     last = last_of_process(before, event.process)
     open_call = last if last is not None and last.what == "call" else None
     if event.what == "call":
         if open_call is not None:
             return Refused(9, event.line, open_call.line)
-        for earlier in before:
+        for earlier in () if options.cas else before:
             if event.op == "write" == earlier.op and earlier.what == "call" and same_written(event, earlier):
                 return Refused(13, event.line, earlier.line)
     elif event.what != "crash":
@@ -227,7 +246,8 @@ def refusal_of(event: Event, before: Sequence[Event]) -> Optional[Refused]:
         return Refused(14, event.line)
     if last is not None and last.what == "crash":
         return Refused(19, event.line, last.line)
-    return None
+    is_cas = open_call is not None and open_call.op == "cas"
+    return Refused(21, event.line) if is_cas and event.what == "reply" and not isinstance(event.ok, bool) else None
 
 
 def same_written(one: Event, other: Event) -> bool:
@@ -243,7 +263,7 @@ def events_of(history: bytes, options: Options) -> List[Event]:
         if all(byte in b" \t\r" for byte in line):
             continue
         event = event_of(number, line, options)
-        refusal = refusal_of(event, events)
+        refusal = refusal_of(event, events, options)
         if refusal:
             raise refusal
         events.append(event)
