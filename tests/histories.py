@@ -142,7 +142,7 @@ NO_EVENTS = ["", " \t\r", "[]", "null", "5", "{", "{}", "\x0b", "\u00a0", "nul",
              '{"process":1,"event":"reply","z":' + "[" * 2000 + "]" * 2000 + "}"]
 
 
-def spoil(chance: random.Random, lines: List[Line]) -> None:
+def spoil(chance: random.Random, lines: List[Line], forms: Dict[str, List[Any]]) -> None:
     """Makes one line wrong, or at least strange, if there is one."""
     if not lines:
         return
@@ -156,8 +156,8 @@ def spoil(chance: random.Random, lines: List[Line]) -> None:
     elif what < 0.4:
         line.pop(chance.choice(list(line)))
     elif what < 0.75:
-        member = chance.choice(list(WRONG))
-        line[member] = chance.choice(WRONG[member])
+        member = chance.choice(list(forms))
+        line[member] = chance.choice(forms[member])
     elif what < 0.85:
         lines.insert(chance.randrange(len(lines) + 1), dict(line))
     elif what < 0.92:
@@ -194,12 +194,17 @@ def random_history(seed: int, fails: bool = True) -> bytes:
     for _ in range(4 * events):
         if len(store.lines) < events:
             store.step()
-    lines = store.lines
-    reorder(random.Random(f"order {seed}"), lines)
-    wrong = bool(lines) and chance.random() < 0.3
+    reorder(random.Random(f"order {seed}"), store.lines)
+    return input_of(chance, store.lines)
+
+
+def input_of(chance: random.Random, lines: List[Line], share: float = 0.3,
+             forms: Dict[str, List[Any]] = WRONG) -> bytes:
+    """The lines as an input, a share of which is spoiled; these forms may then stand in members."""
+    wrong = bool(lines) and chance.random() < share
     if wrong:
         for _ in range(chance.choice([1, 1, 2])):
-            spoil(chance, lines)
+            spoil(chance, lines, forms)
     texts = [text_of(chance, line) for line in lines]
     if wrong and chance.random() < 0.2 and texts:
         texts[chance.randrange(len(texts))] = chance.choice(NO_EVENTS)
