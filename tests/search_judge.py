@@ -1,0 +1,329 @@
+#!/usr/bin/env python3
+"""What regsearch has to answer, straight from the definitions, by trying all orders.
+
+    tests/search_judge.py answer HISTORY                 a right report, or the refusal; the exit status
+    tests/search_judge.py judge HISTORY STATUS REPORT    whether an answer is right: status 0, or 1
+
+Lines are read and refused as in tests/reference.py; nothing else is shared with it. An operation's times are
+the lines of its call and its reply. Only registers of up to 12 operations are searched: those have to be
+decided, and of larger ones only what the report itself shows is looked at. `-` is standard input.
+"""
+import argparse
+import json
+import sys
+from typing import Any, Dict, List, NamedTuple, NoReturn, Optional, Sequence, Set, Tuple
+
+import reference
+
+SEARCHED = 12  # the most operations whose orders are all searched
+END = sys.maxsize  # a line after all others
+OPTIONS = reference.Options(cas=True)
+STATUSES = {"yes": 0, "no": 1, "unknown": 6}
+MEMBERS = {"yes": {"order", "points"}, "no": {"fault"}, "unknown": {"gave_up"}}
+BOUNDS = ("configurations", "steps")
+
+Value = Optional[int]
+Row = Dict[str, Any]
+
+
+class Ended(NamedTuple):
+    """How a program ended."""
+
+    status: int
+    output: bytes
+    error: bytes
+
+
+class Operation(NamedTuple):
+    line: int  # of its call
+    reply: int  # the line of its reply; END if it is pending
+    op: str  # read, write or cas
+    asks: str  # that the value it meets is "any", "this" one or an "other" one
+    asked: Value  # the value that it asks about
+    given: Value  # the number that it leaves; None if it changes nothing
+
+    def pending(self) -> bool:
+        return self.reply == END
+
+    def suits(self, value: Value) -> bool:
+        return self.asks == "any" or (value == self.asked) == (self.asks == "this")
+
+    def left(self, value: Value) -> Value:
+        return value if self.given is None else self.given
+
+
+def operation_of(call: reference.Event, end: Optional[reference.Event]) -> Operation:
+    """The operation of a call and its reply, if it has one."""
+    line, reply = call.line, end.line if end else END
+    if call.op == "write":
+        return Operation(line, reply, "write", "any", None, call.value)
+    if call.op == "read":
+        return Operation(line, reply, "read", "this" if end else "any", end.value if end else None, None)
+    if end and end.ok is False:
+        return Operation(line, reply, "cas", "other", call.from_value, None)
+    return Operation(line, reply, "cas", "this", call.from_value, call.to_value)
+
+
+def registers_of(events: Sequence[reference.Event]) -> Dict[str, List[Operation]]:
+    """The operations of each register, in the order of first calls, failed ones too."""
+    found: Dict[str, List[Operation]] = {}
+    for at, call in enumerate(events):
+        if call.what != "call":
+            continue
+        operations = found.setdefault(call.register, [])
+        end = next((event for event in events[at + 1:] if event.process == call.process), None)
+        if end is None or end.what != "fail":
+            operations.append(operation_of(call, end if end and end.what == "reply" else None))
+    return found
+
+
+# ---- legal orders of what happened up to some line
+
+
+def precedes(a: Operation, b: Operation) -> bool:
+    return a.reply < b.line
+
+
+def legal_order(operations: Sequence[Operation], last: int = END) -> Optional[List[int]]:
+    """The lines of a legal order of the calls up to line `last`, of which those that replied by then have to
+    stand in it. What a call did counts even if its reply is later."""
+    called = [a for a in operations if a.line <= last]
+    needed = sum(1 << at for at, a in enumerate(called) if not a.pending() and a.reply <= last)
+    before = [sum(1 << at for at, b in enumerate(called) if precedes(b, a)) for a in called]
+    tried: Set[Tuple[int, Value]] = set()
+
+    def rest(done: int, value: Value) -> Optional[List[int]]:
+        if needed & ~done == 0:
+            return []
+        tried.add((done, value))
+        for at, a in enumerate(called):
+            if done >> at & 1 or before[at] & ~done or not a.suits(value):
+                continue
+            now = (done | 1 << at, a.left(value))
+            found = None if now in tried else rest(*now)
+            if found is not None:
+                return [a.line, *found]
+        return None
+
+    return rest(0, None)
+
+
+def why_not_legal(operations: Sequence[Operation], order: Any, last: int = END) -> Optional[str]:
+    """None if these lines are a legal order as above."""
+    by_line = {a.line: a for a in operations if a.line <= last}
+    if not isinstance(order, list) or not all(type(line) is int and line in by_line for line in order):
+        return f"{order} isn't a list of lines of calls"
+    if len(set(order)) != len(order):
+        return f"a line twice in {order}"
+    for a in by_line.values():
+        if not a.pending() and a.reply <= last and a.line not in order:
+            return f"line {a.line} isn't in {order}"
+    value: Value = None
+    for at, a in enumerate(by_line[line] for line in order):
+        for line in order[:at]:
+            if precedes(a, by_line[line]):
+                return f"line {line} stands before line {a.line}, which precedes it"
+        if not a.suits(value):
+            return f"line {a.line} meets {value} in {order}"
+        value = a.left(value)
+    return None
+
+
+def points_of(order: Sequence[int]) -> List[int]:
+    return [max(order[:at + 1]) for at in range(len(order))]
+
+
+def first_hopeless_reply(operations: Sequence[Operation]) -> Optional[int]:
+    if legal_order(operations) is not None:
+        return None
+    replies = sorted(a.reply for a in operations if not a.pending())
+    return next(reply for reply in replies if legal_order(operations, reply) is None)
+
+
+def first_unwritten(operations: Sequence[Operation]) -> Optional[int]:
+    written = {None, *(a.given for a in operations)}
+    return next((a.line for a in operations if not a.pending() and a.asks == "this" and a.asked not in written), None)
+
+
+# ---- the report
+
+
+def counts(name: str, operations: Sequence[Operation]) -> Row:
+    kinds = {plural: sum(a.op == op for a in operations)
+             for op, plural in (("read", "reads"), ("write", "writes"), ("cas", "cas"))}
+    return {"register": name, "pending": sum(a.pending() for a in operations), **kinds}
+
+
+def fault_of(operations: Sequence[Operation]) -> Optional[Row]:
+    """What is determined of a register's fault, if it has one."""
+    line = first_unwritten(operations)
+    if line is not None:
+        return {"call": line, "kind": "unwritten"}
+    reply = first_hopeless_reply(operations)
+    return None if reply is None else {"kind": "search", "reply": reply}
+
+
+def row_of(name: str, operations: Sequence[Operation]) -> Row:
+    fault = fault_of(operations)
+    if fault is None:
+        order = legal_order(operations)
+        assert order is not None
+        return {**counts(name, operations), "atomic": "yes", "order": order, "points": points_of(order)}
+    if fault["kind"] == "search":
+        fault["before"] = legal_order(operations, fault["reply"] - 1)
+    return {**counts(name, operations), "atomic": "no", "fault": fault}
+
+
+def summary_of(rows: Sequence[Row], registers: Dict[str, List[Operation]]) -> Row:
+    words = [row["atomic"] for row in rows]
+    atomic = next((word for word in ("no", "unknown") if word in words), "yes")
+    return {"atomic": atomic, "operations": sum(map(len, registers.values())), "registers": len(registers)}
+
+
+def answer(history: bytes) -> Ended:
+    """A right answer; one of several, if more than one order is legal."""
+    try:
+        registers = registers_of(reference.events_of(history, OPTIONS))
+    except reference.Refused as refused:
+        return Ended(2, b"", refused.text(OPTIONS).encode() + b"\n")
+    rows = [row_of(name, operations) for name, operations in registers.items()]
+    rows.append(summary_of(rows, registers))
+    return Ended(STATUSES[rows[-1]["atomic"]], reference.report_text(rows), b"")
+
+
+# ---- whether an answer is right
+
+
+class Wrong(Exception):
+    """Something in an answer that isn't right."""
+
+
+def wrong(*words: object) -> NoReturn:
+    raise Wrong(" ".join(map(str, words)))
+
+
+def rows_in(output: bytes) -> List[Row]:
+    """The lines of a report, each of which is compact and has its keys in order."""
+    lines = output.split(b"\n")
+    if lines.pop():
+        wrong("the report doesn't end in a line feed")
+    rows = []
+    for line in lines:
+        try:
+            row = json.loads(line)
+        except ValueError:
+            wrong("not JSON:", line)
+        if not isinstance(row, dict) or reference.report_text([row]) != line + b"\n":
+            wrong("not compact, not by key, or no object:", line)
+        rows.append(row)
+    return rows
+
+
+def compare(what: str, have: Any, want: Any) -> None:
+    if not reference.same(have, want):
+        wrong(f"{what} is {have}, and not {want}")
+
+
+def judge_yes(row: Row, operations: Sequence[Operation]) -> None:
+    why = why_not_legal(operations, row["order"])
+    if why:
+        wrong("order:", why)
+    compare("points", row["points"], points_of(row["order"]))
+
+
+def determined_fault(fault: Row, operations: Sequence[Operation]) -> Optional[Row]:
+    """What the fault has to say. Of a register that isn't searched, any reply will do."""
+    if len(operations) <= SEARCHED or first_unwritten(operations) is not None:
+        return fault_of(operations)
+    replies = [a.reply for a in operations if not a.pending()]
+    return {"kind": "search", "reply": next((line for line in replies if line == fault.get("reply")), None)}
+
+
+def judge_fault(fault: Any, operations: Sequence[Operation]) -> None:
+    if not isinstance(fault, dict):
+        wrong("fault is", fault)
+    said = {key: value for key, value in fault.items() if key != "before"}
+    compare("fault, but for before,", said, determined_fault(fault, operations))
+    if "before" in fault and fault["kind"] != "search":
+        wrong("fault is", fault)
+    why = why_not_legal(operations, fault["before"], fault["reply"] - 1) if "before" in fault else None
+    if why:
+        wrong("before:", why)
+
+
+def judge_row(row: Row, name: str, operations: Sequence[Operation], decided: bool) -> None:
+    """`decided` says that the bounds let the program decide each small register."""
+    wanted = counts(name, operations)
+    compare("a line without its verdict", {key: row.get(key) for key in wanted}, wanted)
+    atomic = row.get("atomic")
+    if atomic not in MEMBERS or set(row) != {"atomic", *wanted, *MEMBERS[atomic]}:
+        wrong("keys are", *sorted(row), "where atomic is", atomic)
+    if atomic == "yes":
+        judge_yes(row, operations)
+    elif atomic == "no":
+        judge_fault(row["fault"], operations)
+    elif row["gave_up"] not in [{"bound": bound} for bound in BOUNDS]:
+        wrong("gave_up is", row["gave_up"])
+    elif decided and len(operations) <= SEARCHED:
+        wrong("not decided, with", len(operations), "operations")
+    if atomic != "no" and first_unwritten(operations) is not None:
+        wrong("nobody wrote what line", first_unwritten(operations), "found, but atomic is", atomic)
+
+
+def judge_report(ended: Ended, registers: Dict[str, List[Operation]], decided: bool) -> None:
+    rows = rows_in(ended.output)
+    if len(rows) != len(registers) + 1:
+        wrong(len(rows), "lines for", len(registers), "registers")
+    for row, (name, operations) in zip(rows, registers.items()):
+        try:
+            judge_row(row, name, operations, decided)
+        except Wrong as why:
+            wrong(f"register {name!r}:", why)
+    compare("the summary", rows[-1], summary_of(rows[:-1], registers))
+    compare("the exit status", ended.status, STATUSES[rows[-1]["atomic"]])
+    compare("standard error", ended.error.decode("utf-8", "replace"), "")
+
+
+def complaint(history: bytes, ended: Ended, decided: bool = True) -> Optional[str]:
+    """None if the program may end so on this history, else what is wrong."""
+    try:
+        registers = registers_of(reference.events_of(history, OPTIONS))
+    except reference.Refused as refused:
+        want = Ended(2, b"", refused.text(OPTIONS).encode() + b"\n")
+        return None if ended == want else f"it should end so: {want}"
+    try:
+        judge_report(ended, registers, decided)
+    except Wrong as why:
+        return str(why)
+    return None
+
+
+# ---- the command line
+
+
+def words() -> argparse.Namespace:
+    top = argparse.ArgumentParser(description=__doc__, formatter_class=argparse.RawDescriptionHelpFormatter)
+    commands = top.add_subparsers(dest="command", required=True)
+    commands.add_parser("answer").add_argument("history")
+    judge = commands.add_parser("judge")
+    judge.add_argument("history")
+    judge.add_argument("status", type=int)
+    judge.add_argument("report")
+    return top.parse_args()
+
+
+def main() -> int:
+    arguments = words()
+    history = reference.read_file(arguments.history)
+    if arguments.command == "answer":
+        status, output, error = answer(history)
+        sys.stdout.buffer.write(output)
+        sys.stderr.buffer.write(error)
+        return status
+    why = complaint(history, Ended(arguments.status, reference.read_file(arguments.report), b""))
+    print(why or "right")
+    return 1 if why else 0
+
+
+if __name__ == "__main__":
+    sys.exit(main())
