@@ -1,7 +1,8 @@
 """Small histories that several test scripts use, and what the program has to answer to each by tests/reference.py.
 
-They are written in a short form: `p1 W x 5` calls a write, `p2 R x` a read, `p1 ok` and `p2 = 5` are replies,
-`p1 fail` and `p1 crash` are events of these names."""
+They are written in a short form: `p1 W x 5` calls a write, `p2 R x` a read, `p1 C x 1 2` a cas from 1 to 2;
+`p1 ok`, `p2 = 5` and, for a cas, `p1 true` and `p1 false` are replies; `p1 fail` and `p1 crash` are events of
+these names."""
 import json
 import os
 from typing import Any, Dict, List, NamedTuple, Tuple
@@ -28,6 +29,10 @@ def event(words: str) -> str:
         members.update(event="call", op="write", register=rest[0], value=int(rest[1]))
     elif what == "R":
         members.update(event="call", op="read", register=rest[0])
+    elif what == "C":
+        members.update(event="call", op="cas", register=rest[0], **dict(zip(("from", "to"), map(json.loads, rest[1:]))))
+    elif what in ("true", "false"):
+        members.update(event="reply", ok=what == "true")
     elif what == "=":
         members.update(event="reply", value=json.loads(rest[0]))
     else:
