@@ -1,18 +1,24 @@
-"""Small histories that several test scripts use, and what the program has to answer to each by tests/reference.py.
+"""Small histories that several test scripts use, and what the program has to answer to each: regcheck by
+tests/reference.py, and regsearch anything that tests/search_judge.py finds right.
 
 They are written in a short form: `p1 W x 5` calls a write, `p2 R x` a read, `p1 C x 1 2` a cas from 1 to 2;
 `p1 ok`, `p2 = 5` and, for a cas, `p1 true` and `p1 false` are replies; `p1 fail` and `p1 crash` are events of
 these names."""
 import json
 import os
+import subprocess
 from typing import Any, Dict, List, NamedTuple, Tuple
 
 import reference
+import search_judge
 
 WRITE_AND_READ = "p1 W x 5; p1 ok; p2 R x; p2 = 5"
 INVERSION = "p1 W x 1; p1 ok; p1 W x 2; p2 R x; p2 = 2; p2 R x; p2 = 1; p1 ok"
 MERGED = "p1 R x; p2 R y; p3 W x 1; p4 W y 2; p1 = 1; p2 = 2; p3 ok; p4 ok"
 WRITTEN_TWICE = "p1 W x 5; p1 ok; p1 W x 5"
+CAS = "p1 W x 1; p1 ok; p1 C x 1 2; p2 C x null 3; p1 true; p2 false; p2 R x; p2 = 2"
+CAS_MISSED = "p1 W x 1; p1 ok; p2 C x 1 2; p3 W x 2; p2 false; p3 ok; p2 C x 3 4; p3 R x; p3 = 4"
+GIVEN_UP = "p1 C x null 1; p2 C x null 2; p3 W x 5; p3 ok; p1 true; p2 true"  # if one configuration is held
 TWO_REGISTERS = INVERSION + "; p1 W y 1; p1 ok; p2 W y 2; p2 ok; p3 R y; p3 = 2; p3 R y; p3 = 1"
 BLOCK = b"\n" * 3_000_000  # blank lines, more than the program reads at once
 BAD_WORDS = b"""error: invalid value '17' for '--workers <N>': 17 is not in 1..=16
@@ -102,4 +108,30 @@ def refused_cases() -> List[Case]:
     # On one processor a history that is refused starts no thread.
     several = len(os.sched_getaffinity(0)) > 1
     cases.append(case("written_twice before a block", (), history(WRITTEN_TWICE) + BLOCK)._replace(threaded=several))
+    return cases
+
+
+def search_case(program: str, name: str, words: Tuple[str, ...], given: bytes) -> Case:
+    """The answer is the program's own, if nothing is wrong with it: more than one may be right."""
+    ran = subprocess.run([program, *words], input=given, capture_output=True, check=False)
+    ended = search_judge.Ended(ran.returncode, ran.stdout, ran.stderr)
+    why = search_judge.complaint(given, ended, "--configurations" not in words)
+    if why:
+        raise SystemExit(f"{name}: {why}")
+    return Case(name, words, given, ended)
+
+
+def refused_search_cases(program: str) -> List[Case]:
+    """What regsearch is run on while memory is refused."""
+    named = {"cas": CAS, "cas that missed": CAS_MISSED, "two registers": TWO_REGISTERS, "written twice": WRITTEN_TWICE,
+             "no ok": "p1 C x 1 2; p1 ok", "unwritten": "p1 W x 1; p1 ok; p2 C x 9 2; p2 true"}
+    cases = [search_case(program, name, ("--workers", "2"), history(text)) for name, text in named.items()]
+    cases.append(search_case(program, "cas, one worker", ("--workers", "1"), history(CAS)))
+    cases.append(search_case(program, "as it is", (), history(MERGED)))
+    cases.append(search_case(program, "given up", ("--configurations", "1"), history(GIVEN_UP)))
+    cases.append(search_case(program, "by name", (), history(CAS))._replace(named=True))
+    cases.append(search_case(program, "in two blocks", ("--workers", "2"), in_two_blocks(history(CAS))))
+    cases.append(Case("bad words", ("--workers", "17"), history(CAS), (3, b"", BAD_WORDS)))
+    cases.append(search_case(program, "sixteen_registers", ("--workers", "4"), sixteen_registers())._replace(threaded=True))
+    cases.append(search_case(program, "two registers, one processor", (), history(TWO_REGISTERS))._replace(alone=True))
     return cases
