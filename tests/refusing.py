@@ -4,14 +4,18 @@ import pathlib
 import subprocess
 import sys
 from concurrent.futures import ThreadPoolExecutor
+from typing import Callable, Iterator, Optional, Sequence, Set, Tuple, TypeVar, Union
 
 FOLDER = pathlib.Path(__file__).resolve().parent
 SECONDS = 60
 AT_ONCE = 4
 BATCH = 32
 
+Ended = Tuple[int, bytes, bytes]  # exit status, standard output, standard error
+T = TypeVar("T")
 
-def build(folder):
+
+def build(folder: str) -> str:
     """The library to preload, made in this folder."""
     library = os.path.join(folder, "refuse_memory.so")
     compiler = os.environ.get("CC", "cc")
@@ -19,11 +23,12 @@ def build(folder):
     return library
 
 
-def to_one_processor():
+def to_one_processor() -> None:
     os.sched_setaffinity(0, {min(os.sched_getaffinity(0))})
 
 
-def run(library, command, first=0, last=0, threads=False, given=b"", alone=False):
+def run(library: str, command: Sequence[Union[str, "os.PathLike[str]"]], first: int = 0, last: int = 0, threads: bool = False,
+        given: bytes = b"", alone: bool = False) -> Tuple[Ended, Set[str]]:
     """What the command ended with, and which kinds of request were refused: m for memory, t for a thread. It runs on one
     processor if it is alone. A command that doesn't end ends the test."""
     reader, writer = os.pipe()
@@ -40,7 +45,7 @@ def run(library, command, first=0, last=0, threads=False, given=b"", alone=False
         return (ran.returncode, ran.stdout, ran.stderr), set(told.read().decode())
 
 
-def in_turn(refused_at, most):
+def in_turn(refused_at: Callable[[int], Tuple[T, Set[str]]], most: int) -> Iterator[Optional[Tuple[T, Set[str]]]]:
     """What `refused_at` gives for each request in turn, a pair whose second part are the kinds of request that were
     refused, until none is. Last comes None if some were refused up to request `most`."""
     with ThreadPoolExecutor(AT_ONCE) as pool:
