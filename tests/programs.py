@@ -6,8 +6,8 @@ import os
 import pathlib
 from typing import Any, Dict, List, NamedTuple, Tuple
 
-# Exit status, standard output, standard error.
-Answer = Tuple[int, str, str]
+Answer = Tuple[int, str, str]  # exit status, standard output, standard error
+COMPACT = json.JSONEncoder(sort_keys=True, separators=(",", ":"), ensure_ascii=False)
 
 
 class Program(NamedTuple):
@@ -30,7 +30,7 @@ def program(path: str) -> Program:
 
 
 def dumped(value: Any) -> str:
-    return json.dumps(value, sort_keys=True, separators=(",", ":"), ensure_ascii=False) + "\n"
+    return COMPACT.encode(value) + "\n"
 
 
 def of_regsearch(line: str) -> str:
