@@ -65,6 +65,8 @@ WAYS_OUT: List[Tuple[str, str, Dict[str, str], Dict[Words, Optional[bool]]]] = [
     ("csv", f"{_HEADER},time taken\n0,1,2,x,write,1,7\n", {"WORD": "7"},
      {("--columns", "outcome=time taken"): None, ("--ok-when", "time taken=7"): True,
       ("--ignore-member", "time taken"): True}),
+    ("csv", f"{_HEADER}\n0,1,2,x,write,1\n0,3,4,y,write,2\n0,5,6,x,read,1\n".replace("register", "key"), {},
+     {("--columns", "register=key"): True, ("--ignore-member", "key"): False}),
     ("csv", f"{_HEADER},outcome\n0,1,2,x,write,1,it's late\n", {},
      {("--outcomes", "it's late=unknown"): True}),
     ("csv", f"{_HEADER},outcome\n0,1,2,x,write,1,ok\n0,3,4,x,write,2,\n", {},
@@ -79,6 +81,8 @@ WAYS_OUT: List[Tuple[str, str, Dict[str, str], Dict[Words, Optional[bool]]]] = [
     ("operations", '{"process":0,"start":1,"end":2,"op":"read","result":7}\n'
      '{"process":0,"start":0,"end":2,"op":"write","result":7}', {"WORD": "7"},
      {("--ok-when", "result=7"): None, ("--ignore-member", "result"): None}),
+    ("operations", '{"process":0,"start":1,"end":2,"key":"x","op":"write","value":1}', {},
+     {("--columns", "register=key"): True}),
     ("jsonl", '{"process":0,"event":"call","op":"write","register":"x","value":1}\n'
      '{"process":0,"event":"lost"}', {},
      {("--outcomes", "lost=unknown"): True}),

@@ -46,6 +46,7 @@ class Known:
 
     def __init__(self, choices: Choices, place: str, own: Iterable[str] = (), what: str = "member") -> None:
         self.what = what
+        self.register = choices.columns.get("register") if place in ("csv", "operations") else None
         self.names = (UNDERSTOOD[place] | HARMLESS.get(place, frozenset()) | choices.ignored
                       | choices.ok_when.keys() | {folded(name) for name in own})
         self.seen: Set[Tuple[Any, ...]] = set()  # the members of lines that were let through
@@ -57,21 +58,27 @@ class Known:
             return
         strange = [name for name in names if folded(spelled(name)) not in self.names]
         if strange:
-            raise Refused(_not_understood(self.what, members, strange), line)
+            raise Refused(self._not_understood(members, strange), line)
         if len({folded(spelled(name)) for name in names}) < len(names):
             raise Refused(f"two members have one name, among {', '.join(map(spelled, names))}: rename one",
                           line)
         self.seen.add(names)
 
+    def _not_understood(self, members: Mapping[Any, Any], strange: List[Any]) -> str:
+        first, *others = (shlex.quote(spelled(name).lstrip(":")) for name in strange)
+        more = f"; likewise {', '.join(others)}" if others else ""
+        return (f"the {self.what} {first} isn't understood, and it may tell the outcome (here it is "
+                f"{edn.write(members[strange[0]])[:_LONGEST]}): say {self._as_column(first, members)}"
+                f"--ok-when {first}=WORD,.. with the words in it by which the operation took place, or "
+                f"--ignore-member {first} if it means nothing{more}")
 
-def _not_understood(what: str, members: Mapping[Any, Any], strange: List[Any]) -> str:
-    first, *others = (shlex.quote(spelled(name).lstrip(":")) for name in strange)
-    column = f"--columns outcome={first} if it is the outcome, " if what == "column" and first != "''" else ""
-    more = f"; likewise {', '.join(others)}" if others else ""
-    return (f"the {what} {first} isn't understood, and it may tell the outcome (here it is "
-            f"{edn.write(members[strange[0]])[:_LONGEST]}): say {column}--ok-when {first}=WORD,.. with the "
-            f"words in it by which the operation took place, or --ignore-member {first} if it means "
-            f"nothing{more}")
+    def _as_column(self, name: str, members: Mapping[Any, Any]) -> str:
+        """What --columns can make of it. To ignore a key would make one register of several."""
+        if name == "''":
+            return ""
+        no_register = self.register is not None and self.register not in members
+        return ((f"--columns register={name} if it is the key, " if no_register else "")
+                + (f"--columns outcome={name} if it is the outcome, " if self.what == "column" else ""))
 
 
 def word_of(value: Any) -> str:
