@@ -7,9 +7,8 @@ import sys
 from types import TracebackType
 from typing import Any, BinaryIO, List, NamedTuple, Optional, Sequence, Type, Union
 
-from regkit.library import MOST_BYTES, NoLibrary, find_library
-
 COMMAND_LINE = 3  # the checker's status for options that it doesn't know
+LIBRARY_BYTES = 1_048_576  # the program has several workers: it is as quick with a longer history
 NOT_FOUND = "regcheck was not found: put it on PATH, or set REGCHECK to its path"
 
 
@@ -125,8 +124,10 @@ def run_checker(history: bytes, options: Sequence[str] = (), program: Optional[s
 def begin(history: bytes, options: Sequence[str] = ()) -> Union[Run, Told]:
     """Begins to judge a history: by the library if the history is small and there are no options, else by the
     program. Their answers are the same."""
-    if options or len(history) > MOST_BYTES:
+    if options or len(history) > LIBRARY_BYTES:
         return Run(history, options)
+    from regkit.library import NoLibrary, find_library  # a long history doesn't wait for this
+
     try:
         library = find_library()
     except NoLibrary as error:

@@ -6,6 +6,7 @@ counts. A line that is made otherwise is `Unusual`, and the history is then read
 import io
 import json
 import marshal
+import re
 from array import array
 from typing import Any, Dict, Iterable, Iterator, List, NamedTuple, Optional, Set, Tuple
 
@@ -24,6 +25,12 @@ LONG = 8_388_608  # bytes of a history that is worth two processes
 MOST_KEPT = 65_536  # beginnings that are remembered
 BUSY = float("nan")  # it isn't equal to anything, itself included
 
+# How most lines begin. What it captures is what any reader of JSON finds there.
+PLAIN = re.compile(rb'\{"process": ?(0|[1-9][0-9]{0,9}), ?"event": ?"(call|reply|fail|crash)"'
+                   rb'(?:, ?"op": ?"(read|write)")?(?:, ?|\}\s*)')
+CALLS = {b"read": READ, b"write": WRITE}
+ENDINGS = {b"reply": REPLY, b"fail": FAIL, b"crash": NOTHING}
+
 
 class Unusual(Exception):
     """A line that is made otherwise than a recorder makes it. It may be no event at all."""
@@ -34,6 +41,7 @@ class Reads(NamedTuple):
 
     completed: int
     overlapping: int  # those of them that overlap a write of their register
+    at_least: bool = False  # whether the history may have more of either than was counted
 
 
 def object_of(text: bytes) -> Dict[str, Any]:
@@ -46,6 +54,18 @@ def object_of(text: bytes) -> Dict[str, Any]:
     if not isinstance(found, dict):
         raise Unusual
     return found
+
+
+def event_of(text: bytes) -> Tuple[int, bytes, bytes]:
+    """The process, the event and the operation in a line's beginning. A blank line is as good as a crash."""
+    if not text.strip(BLANK):
+        return 0, b"crash", b""
+    said = object_of(text)
+    process = said.get("process")
+    if type(process) is not int:
+        raise Unusual
+    event, op = (str(said.get(name)).encode("ascii", "replace") for name in ("event", "op"))
+    return process, event, op
 
 
 class Tokens:
@@ -77,11 +97,10 @@ class Tokens:
 
     def event(self, text: bytes) -> Tuple[int, int]:
         """What happens, and the number of the process."""
-        said = object_of(text) if text.strip(BLANK) else {"event": "crash", "process": 0}
-        process, event, op = said.get("process"), said.get("event"), said.get("op")
-        kind = {"call": {"read": READ, "write": WRITE}.get(str(op)), "reply": REPLY, "fail": FAIL,
-                "crash": NOTHING}.get(str(event))
-        if type(process) is not int or kind is None:
+        plain = PLAIN.fullmatch(text)
+        process, event, op = (int(plain[1]), plain[2], plain[3]) if plain else event_of(text)
+        kind = CALLS.get(op) if event == b"call" else ENDINGS.get(event)
+        if kind is None:
             raise Unusual
         self.failed = self.failed or kind == FAIL
         self.events[text] = kind, self.processes.setdefault(process, len(self.processes))

@@ -5,6 +5,7 @@ from contextlib import contextmanager
 from itertools import chain, count
 from typing import Iterator, List, NamedTuple, Optional, Set
 
+from regkit.beginning import reads_of_beginning, unusual_reads_of_beginning
 from regkit.checker import COMMAND_LINE, Answer, NoChecker, begin, judge
 from regkit.counting import Reads, Unusual, count_reads
 from regkit.evidence import Evidence, count_evidence
@@ -31,6 +32,7 @@ class Wishes(NamedTuple):
     first: bool
     verify: bool
     draw: Optional[pathlib.Path]
+    count_all: bool = False  # whether to count the reads of the whole history
 
 
 @contextmanager
@@ -87,14 +89,6 @@ def told_faults(data: bytes, report: Report, most: int) -> List[Fault]:
         raise Untrue("its faults aren't those of the history") from error
 
 
-def reads_of(data: bytes) -> Optional[Reads]:
-    """The completed reads; None if a line is unusual."""
-    try:
-        return count_reads(data)
-    except Unusual:
-        return None
-
-
 def verify(data: bytes, written: bytes) -> None:
     """Raises Untrue if a claim of the report doesn't hold."""
     from regkit import verify as verifier  # only who asks for it waits for this
@@ -147,7 +141,7 @@ class Judge:
         # A picture needs the whole report.
         early = self.wishes.first and self.wishes.draw is None
         with begin(data, ["--first"] if early else []) as run:
-            reads = reads_of(data)  # while the checker is at work
+            reads = self.reads_of(data)  # while the checker is at work
             answer = run.answer()
         if early and answer.status == COMMAND_LINE:  # a checker that doesn't know `--first`
             answer = judge(data)
@@ -166,22 +160,38 @@ class Judge:
         if self.wishes.verify:
             self.progress.step(f"{self.label}: verifying")
             verify(data, written)
-        outcome = self.verdict(name, data, report, self.evidence(data, report, reads))
+        outcome = self.verdict(name, data, report, self.unusual_reads_of(data) if reads is None else reads)
         if self.wishes.verify:
             outcome = outcome._replace(verified=True, words=f"{outcome.words}; the report was verified")
         if self.wishes.draw is not None:
             outcome = outcome._replace(drawing=str(self.draw(name, data, written)))
         return outcome
 
-    def evidence(self, data: bytes, report: Report, reads: Optional[Reads]) -> Evidence:
-        """What the verdict rests on. The history is read in whole if a line of it is unusual."""
-        if reads is not None:
-            return Evidence(report.summary["operations"], report.summary["registers"], *reads)
-        self.progress.step(f"{self.label}: reading", data.count(b"\n"))
-        return count_evidence(read_history(data, self.progress.reach))
+    def enough(self, reads: Optional[Reads]) -> bool:
+        """Whether the beginning of a history has the evidence that is asked for, and overlaps to speak of."""
+        return (reads is not None and reads.completed >= self.wishes.least_reads
+                and reads.overlapping >= max(1, self.wishes.least_overlaps))
 
-    def verdict(self, name: str, data: bytes, report: Report, evidence: Evidence) -> Outcome:
-        words = evidence_in_words(evidence)
+    def reads_of(self, data: bytes) -> Optional[Reads]:
+        """The completed reads: of a long history those of its beginning, if they are enough. None if a line
+        that matters is unusual."""
+        try:
+            reads = None if self.wishes.count_all else reads_of_beginning(data)
+            return reads if self.enough(reads) else count_reads(data)
+        except Unusual:
+            return None
+
+    def unusual_reads_of(self, data: bytes) -> Reads:
+        """The same by building operations."""
+        reads = None if self.wishes.count_all else unusual_reads_of_beginning(data)
+        if reads is not None and self.enough(reads):
+            return reads
+        self.progress.step(f"{self.label}: reading", data.count(b"\n"))
+        return Reads(*count_evidence(read_history(data, self.progress.reach))[2:])
+
+    def verdict(self, name: str, data: bytes, report: Report, reads: Reads) -> Outcome:
+        evidence = Evidence(report.summary["operations"], report.summary["registers"], *reads[:2])
+        words = evidence_in_words(evidence, reads.at_least)
         if report.faulty:
             known = 1 if self.wishes.first else len(report.faulty)
             number = "the first faulty register" if self.wishes.first else counted(known, "faulty register")

@@ -11,7 +11,6 @@ from typing import Any, Iterator, NamedTuple, Optional
 
 from regkit.refusals import reason_of
 
-MOST_BYTES = 1_048_576  # the program has several workers: with a longer history it is as quick, or quicker
 ATOMIC, NOT_ATOMIC, TOO_SMALL = 0, 1, 5
 FILE = "libregcheck.so.1"  # the number is that of the interface
 

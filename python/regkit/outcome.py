@@ -48,11 +48,12 @@ def gravest(statuses: List[int]) -> int:
     return max(statuses, default=ATOMIC, key=GRAVITY.index)
 
 
-def evidence_in_words(evidence: Evidence) -> str:
+def evidence_in_words(evidence: Evidence, at_least: bool) -> str:
+    """The counts. Those of the reads are exact, or there are at least so many of them."""
     reads, overlapping = evidence.completed_reads, evidence.overlapping_reads
-    verb = "overlaps" if overlapping == 1 else "overlap"
+    verb, least = "overlaps" if overlapping == 1 else "overlap", "at least " if at_least else ""
     return (f"{counted(evidence.operations, 'operation')} on {counted(evidence.registers, 'register')}; "
-            f"{counted(reads, 'completed read')}, {overlapping:,} {verb} a write")
+            f"{least}{counted(reads, 'completed read')}, {least}{overlapping:,} {verb} a write")
 
 
 def lacks(evidence: Evidence, least_reads: int, least_overlaps: int) -> Tuple[str, str]:

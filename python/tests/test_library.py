@@ -7,8 +7,8 @@ from typing import Any, Dict, List
 from unittest import mock
 
 from regkit import checker
-from regkit.checker import NoChecker, find_checker, judge, run_checker
-from regkit.library import MOST_BYTES, Library, NoLibrary, find_library
+from regkit.checker import LIBRARY_BYTES, NoChecker, find_checker, judge, run_checker
+from regkit.library import Library, NoLibrary, find_library
 from regkit.refusals import TEXTS, reason_of, read_refusal
 
 from .events import crash, gave, read, reply, text, write
@@ -69,13 +69,13 @@ class Choice(unittest.TestCase):
         """What a library was asked, where the program says nothing."""
         library = mock.Mock()
         library.check.return_value = mock.Mock(status=0, report=b"", refusal="")
-        with mock.patch.object(checker, "find_library", return_value=library), \
+        with mock.patch("regkit.library.find_library", return_value=library), \
                 mock.patch.object(checker, "run_checker"):
             judge(history, options)
         return [call.args[0] for call in library.check.call_args_list]
 
     def test_small_histories_without_options(self) -> None:
-        small = FINE.ljust(MOST_BYTES, b"\n")
+        small = FINE.ljust(LIBRARY_BYTES, b"\n")
         self.assertEqual(self.asked(small), [small])
         self.assertEqual(self.asked(small + b"\n"), [])
         self.assertEqual(self.asked(FINE, "--workers", "1"), [])

@@ -46,6 +46,8 @@ def add_arguments(parser: argparse.ArgumentParser) -> None:
                         help="a yes needs at least N completed reads (default %(default)s)")
     parser.add_argument("--least-overlaps", metavar="N", type=count, default=0,
                         help="and at least N of them that overlap a write (default %(default)s)")
+    parser.add_argument("--count-all", action="store_true",
+                        help="count the reads of the whole history, however long, as --json does")
     parser.add_argument("--first", action="store_true",
                         help="stop at the first faulty register of each history")
     parser.add_argument("--verify", action="store_true",
@@ -101,7 +103,7 @@ def run(arguments: argparse.Namespace) -> int:
         return COMMAND_LINE
     files: List[str] = arguments.files or [STANDARD_INPUT]
     wishes = Wishes(arguments.most, arguments.least_reads, arguments.least_overlaps, arguments.first,
-                    arguments.verify, arguments.draw)
+                    arguments.verify, arguments.draw, arguments.count_all or arguments.json)
     told: List[Timed] = []
     with Progress() as progress:
         judge = Judge(wishes, progress)
