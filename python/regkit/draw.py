@@ -1,9 +1,6 @@
 """A history and its report as one page that stands alone: no script, nothing loaded."""
-import gc
-from contextlib import contextmanager
-from typing import Iterator
-
 from regkit.drawing.page import Asked, page
+from regkit.garbage import many_objects
 from regkit.history import History, read_history
 from regkit.report import Report, read_report
 
@@ -18,20 +15,8 @@ class Mismatch(ValueError):
 def draw_page(history: bytes, report: bytes, title: str) -> str:
     """The page for a history that the checker accepted. Raises ValueError if the report is of another
     history."""
-    with without_collection():
+    with many_objects():
         return page_of(read_history(history), read_report(report), title)
-
-
-@contextmanager
-def without_collection() -> Iterator[None]:
-    """A history is a million objects without a cycle, and looking for one takes a fifth of the time."""
-    enabled = gc.isenabled()
-    gc.disable()
-    try:
-        yield
-    finally:
-        if enabled:
-            gc.enable()
 
 
 def page_of(history: History, report: Report, title: str, asked: Asked = Asked()) -> str:

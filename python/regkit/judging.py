@@ -1,14 +1,13 @@
 """Checks one history, from the name of its file to its outcome."""
-import gc
 import pathlib
-from contextlib import contextmanager
 from itertools import chain, count
-from typing import Iterator, List, NamedTuple, Optional, Set
+from typing import List, NamedTuple, Optional, Set
 
 from regkit.beginning import reads_of_beginning, unusual_reads_of_beginning
 from regkit.checker import COMMAND_LINE, Answer, NoChecker, begin, judge
 from regkit.counting import Reads, Unusual, count_reads
 from regkit.evidence import Evidence, count_evidence
+from regkit.garbage import many_objects
 from regkit.history import NotAHistory, read_history
 from regkit.lines import NotJson
 from regkit.inputs import STANDARD_INPUT, TooLong, read_input, shown_name
@@ -33,18 +32,6 @@ class Wishes(NamedTuple):
     verify: bool
     draw: Optional[pathlib.Path]
     count_all: bool = False  # whether to count the reads of the whole history
-
-
-@contextmanager
-def many_objects() -> Iterator[None]:
-    """A history is many small objects that are all kept: looking for cycles among them only takes time."""
-    was_on = gc.isenabled()
-    gc.disable()
-    try:
-        yield
-    finally:
-        if was_on:
-            gc.enable()
 
 
 def advice(history: bytes, refusal: str, name: str) -> str:

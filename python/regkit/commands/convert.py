@@ -1,7 +1,6 @@
 """`regkit convert`: makes a history of what another tool recorded."""
 import argparse
 import contextlib
-import gc
 import io
 import json
 import sys
@@ -12,6 +11,7 @@ from regkit.convert.model import Refused, WrongWords
 from regkit.convert.whole import Converted, convert
 from regkit.convert.words import add_arguments, choices_of
 from regkit.edn import NotEdn
+from regkit.garbage import many_objects
 from regkit.inputs import STANDARD_INPUT, opened
 
 __all__ = ["EPILOG", "HELP", "add_arguments", "run"]
@@ -42,10 +42,9 @@ REFUSED, COMMAND_LINE = 2, 3
 
 
 def run(arguments: argparse.Namespace) -> int:
-    was_enabled = gc.isenabled()
-    gc.disable()  # millions of small objects are made and kept, none of them in cycles
     try:
-        return _run(arguments)
+        with many_objects():
+            return _run(arguments)
     except WrongWords as error:
         return _complain(str(error), COMMAND_LINE)
     except (Refused, NotEdn) as error:
@@ -54,9 +53,6 @@ def run(arguments: argparse.Namespace) -> int:
         return _complain(f"the source isn't UTF-8 ({error.reason}): convert it to UTF-8", REFUSED)
     except ValueError as error:  # Python reads no number of thousands of digits
         return _complain(f"a value of the source can't be read: {error}", REFUSED)
-    finally:
-        if was_enabled:
-            gc.enable()
 
 
 def _complain(words: str, status: int) -> int:

@@ -5,8 +5,9 @@ import sys
 from typing import Optional, Union
 
 from regkit.checker import NoChecker, judge
-from regkit.draw import page_of, without_collection
+from regkit.draw import page_of
 from regkit.drawing.page import Asked
+from regkit.garbage import many_objects
 from regkit.history import NoRegister, read_history
 from regkit.inputs import TooLong, read_input, shown_name
 from regkit.progress import Progress
@@ -72,7 +73,7 @@ def fail(status: int, words: str) -> int:
 
 def draw(arguments: argparse.Namespace) -> int:
     """Raises ValueError if the report isn't of the history."""
-    with Progress() as progress, without_collection():
+    with Progress() as progress, many_objects():
         data = read_input(arguments.history)
         progress.step("regcheck")
         report = report_of(arguments.report, data)

@@ -8,9 +8,10 @@ from regkit.advice import advice
 from regkit.checker import NoChecker, judge
 from regkit.colour import CHOICES, painter
 from regkit.explanation import NotOfHistory, Wishes, explain
+from regkit.garbage import many_objects
 from regkit.history import History, NoRegister, NotAHistory, read_history
 from regkit.inputs import MOST_BYTES, STANDARD_INPUT, TooLong, read_input, shown_name
-from regkit.judging import failure, failure_of, many_objects
+from regkit.judging import failure, failure_of
 from regkit.options import count
 from regkit.outcome import ATOMIC, COMMAND_LINE, FAILED, NOT_ATOMIC, REFUSED
 from regkit.progress import Progress

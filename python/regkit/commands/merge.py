@@ -9,8 +9,8 @@ from typing import Iterator, List, Sequence
 
 from regkit.convert.clock import UNITS
 from regkit.convert.summary import too_large
+from regkit.garbage import many_objects
 from regkit.inputs import STANDARD_INPUT, read_input, shown_name
-from regkit.judging import many_objects
 from regkit.merge import Merged, Recorded, Unmergeable, merged
 from regkit.progress import Progress
 from regkit.quoting import plain
