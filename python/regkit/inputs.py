@@ -7,7 +7,8 @@ import sys
 import zlib
 from typing import BinaryIO, Iterator, Optional, cast
 
-MOST_BYTES = 67_108_864  # the checker's limit; longer input is refused here as there
+from regkit.limits import MAX_BYTES
+
 STANDARD_INPUT = "-"
 GZIP = b"\x1f\x8b"
 
@@ -16,7 +17,7 @@ class TooLong(Exception):
     """The input is longer than the checker takes."""
 
     def __init__(self) -> None:
-        super().__init__(f"input is longer than {MOST_BYTES} bytes")
+        super().__init__(f"input is longer than {MAX_BYTES} bytes")
 
 
 class _Packed(io.RawIOBase):
@@ -67,7 +68,7 @@ def read_stream(stream: BinaryIO, most: Optional[int]) -> bytes:
     return data
 
 
-def read_input(name: str, most: Optional[int] = MOST_BYTES) -> bytes:
+def read_input(name: str, most: Optional[int] = MAX_BYTES) -> bytes:
     """All bytes of a file, or of standard input for `-`. Raises OSError, and TooLong beyond `most`."""
     with opened(name) as stream:
         return read_stream(stream, most)

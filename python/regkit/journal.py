@@ -9,13 +9,13 @@ import pathlib
 import threading
 from typing import IO, Any, Callable, Dict, List, Optional, Tuple, Type, Union
 
+from regkit.limits import MAX_NAME
 from regkit.who import members
 
 Output = Union[None, str, "os.PathLike[str]", IO[Any], io.IOBase]
 Failures = Union[Type[BaseException], Tuple[Type[BaseException], ...]]
 Clock = Callable[[], int]  # gives nanoseconds, and never goes back
 
-NAME_BYTES = 255
 GREATEST = 2**63 - 1  # of values and times
 
 
@@ -29,8 +29,8 @@ def quoted(name: str, what: str = "register") -> str:
         size = len(name.encode("utf-8"))
     except (AttributeError, UnicodeEncodeError):
         size = 0
-    if not 1 <= size <= NAME_BYTES:
-        raise RecordingError(f"{name!r} is no {what}: name it by a text of 1 to {NAME_BYTES} bytes")
+    if not 1 <= size <= MAX_NAME:
+        raise RecordingError(f"{name!r} is no {what}: name it by a text of 1 to {MAX_NAME} bytes")
     return json.dumps(name)
 
 

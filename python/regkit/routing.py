@@ -10,12 +10,8 @@ import re
 from array import array
 from typing import Any, Dict, List, Optional, Tuple
 
+from regkit.limits import MAX_EVENTS, MAX_LINE, MAX_NAME, MAX_PROCESS
 from regkit.lines import BLANK, NotJson, json_of
-
-MAX_LINE = 65_536
-MAX_EVENTS = 1_048_576
-MAX_NAME = 255
-MAX_PROCESS = 4_294_967_295
 
 # The usual form of a line. What such a pattern captures is what any reader of JSON finds there. Every other
 # line is read as JSON, which takes longer. Values are left to the checker.

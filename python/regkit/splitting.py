@@ -4,13 +4,12 @@ import pathlib
 from contextlib import suppress
 from typing import BinaryIO, Callable, Iterator, List, NamedTuple, Optional
 
-from regkit import routing
+from regkit.limits import MAX_BYTES, MAX_EVENTS, MAX_LINE
 from regkit.lines import BLANK
 from regkit.parts import MAP, MAX_PARTS, Manifest, file_of, write_manifest
 from regkit.quoting import quoted
 from regkit.routing import CertainRefusal, Router, TooManyEvents
 
-MAX_BYTES = 67_108_864
 BUFFER = 1 << 16  # bytes that a part collects before they are written
 LOOK = 1 << 14  # lines between two looks at how far the work is
 
@@ -78,7 +77,7 @@ class PartWriter:
 
 def lines_of(history: BinaryIO) -> Iterator[bytes]:
     """Each line with its line feed. Of a line beyond the limit, only as much as shows that it is too long."""
-    most = routing.MAX_LINE + 2
+    most = MAX_LINE + 2
     while True:
         line = history.readline(most)
         if not line:
@@ -92,9 +91,9 @@ def shortened(line: bytes, history: BinaryIO) -> bytes:
     """Reads on to the end of a long line. A blank line stays blank, and any other one stays too long."""
     rest = line
     while rest and not rest.endswith(b"\n"):
-        rest = history.readline(routing.MAX_LINE)
+        rest = history.readline(MAX_LINE)
         if not line.strip(BLANK):
-            line = line[:routing.MAX_LINE + 2] + rest
+            line = line[:MAX_LINE + 2] + rest
     return line
 
 
@@ -134,7 +133,7 @@ def write_parts(history: BinaryIO, plan: Plan, router: Router, writers: List[Par
         for part in refusal.parts:
             writers[part].put(number, line)
     except TooManyEvents as register:
-        name, most = quoted(register.name), routing.MAX_EVENTS
+        name, most = quoted(register.name), MAX_EVENTS
         raise CannotSplit(f"line {number}: register {name} has more than {most} events of its own, and no "
                           "register is split: record fewer operations on each") from None
     for writer in writers:
@@ -147,14 +146,14 @@ def check_limits(plan: Plan, router: Router, writers: List[PartWriter]) -> None:
     """Raises CannotSplit if the checker would refuse a part for its size."""
     most_events = max(router.events)
     most_bytes = max(writer.size for writer in writers)
-    ratio = max(most_events / routing.MAX_EVENTS, most_bytes / MAX_BYTES)
+    ratio = max(most_events / MAX_EVENTS, most_bytes / MAX_BYTES)
     if ratio <= 1:
         return
-    size = f"{most_events} events" if most_events > routing.MAX_EVENTS else f"{most_bytes} bytes"
+    size = f"{most_events} events" if most_events > MAX_EVENTS else f"{most_bytes} bytes"
     advice = f"try --parts {min(MAX_PARTS, int(plan.parts * ratio * 1.2) + 1)}"
     if plan.lines != MAP:
         advice += ", or --lines map, which spares the blank lines"
-    limits = f"{routing.MAX_EVENTS} events and {MAX_BYTES} bytes"
+    limits = f"{MAX_EVENTS} events and {MAX_BYTES} bytes"
     raise CannotSplit(f"a part has {size}, and one run takes {limits}: {advice}")
 
 

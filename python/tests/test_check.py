@@ -359,7 +359,7 @@ class Refusals(unittest.TestCase):
                 self.assertIn(said, advice(history, refusal))
 
     def test_too_long(self) -> None:
-        limits = (mock.patch.object(inputs, "MOST_BYTES", 10),
+        limits = (mock.patch.object(inputs, "MAX_BYTES", 10),
                   mock.patch.object(inputs.read_input, "__defaults__", (10,)))
         with limits[0], limits[1]:
             ran = run("check", given=text(*FINE))

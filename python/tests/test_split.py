@@ -207,7 +207,7 @@ class Limits(Folder):
     """What is too large for the checker is named, and no part is left."""
 
     def ask(self, history: bytes, *options: str) -> split_support.Ran:
-        with mock.patch.object(routing, "MAX_EVENTS", 4):
+        with mock.patch.object(routing, "MAX_EVENTS", 4), mock.patch.object(splitting, "MAX_EVENTS", 4):
             return run_command(command, self.write(history), self.directory, *options)
 
     def test_events(self) -> None:

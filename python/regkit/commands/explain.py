@@ -10,8 +10,9 @@ from regkit.colour import CHOICES, painter
 from regkit.explanation import NotOfHistory, Wishes, explain
 from regkit.garbage import many_objects
 from regkit.history import History, NoRegister, NotAHistory, read_history
-from regkit.inputs import MOST_BYTES, STANDARD_INPUT, TooLong, read_input, shown_name
+from regkit.inputs import STANDARD_INPUT, TooLong, read_input, shown_name
 from regkit.judging import failure, failure_of
+from regkit.limits import MAX_BYTES
 from regkit.options import count
 from regkit.outcome import ATOMIC, COMMAND_LINE, FAILED, NOT_ATOMIC, REFUSED
 from regkit.progress import Progress
@@ -104,7 +105,7 @@ def explained(arguments: argparse.Namespace, progress: Progress) -> Tuple[int, s
     """The exit status and the explanation. Raises Stop if there is none."""
     name = plain(shown_name(arguments.history))
     # A report of `regkit join` may be of a history that is longer than the checker takes.
-    data = read_input(arguments.history, MOST_BYTES if arguments.report is None else None)
+    data = read_input(arguments.history, MAX_BYTES if arguments.report is None else None)
     progress.step(f"{name}: checking")
     report = parsed_report(written_report(arguments, data))
     rows = [row for row in report.faulty if arguments.register in (None, row["register"])]

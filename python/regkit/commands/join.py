@@ -4,10 +4,10 @@ import sys
 from typing import List
 
 from regkit.joining import Answered, Unanswered, command_again, outcomes, write_report
+from regkit.limits import MAX_EVENTS
 from regkit.parts import Manifest, NotSplit, read_manifest
 from regkit.progress import Progress
 from regkit.refusals import Refusal, first_refusal
-from regkit.routing import MAX_EVENTS
 
 NOT_ATOMIC, REFUSED, FAILED = 1, 2, 4
 

@@ -8,8 +8,7 @@ from typing import Dict, Iterable
 
 from regkit.convert.model import Operation, Refused
 from regkit.convert.values import readable
-
-MOST_BYTES = 255
+from regkit.limits import MAX_NAME
 
 
 def names(operations: Iterable[Operation]) -> Dict[str, str]:
@@ -30,6 +29,6 @@ def _refuse_unfit(name: str, line: int) -> None:
     except UnicodeEncodeError:
         raise Refused("a key has half of a surrogate pair, which is no text: rename the key in the source",
                       line) from None
-    if size > MOST_BYTES:
-        raise Refused(f"a key's name has {size} bytes, and a register's name at most {MOST_BYTES} "
+    if size > MAX_NAME:
+        raise Refused(f"a key's name has {size} bytes, and a register's name at most {MAX_NAME} "
                       f"({name[:40]}...): rename the key in the source, for instance by a number", line)

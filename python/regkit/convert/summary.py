@@ -3,8 +3,7 @@ from typing import Iterator
 
 from regkit.convert.model import counted
 from regkit.convert.whole import Converted
-
-MOST_EVENTS, MOST_BYTES = 1_048_576, 67_108_864  # what regcheck takes
+from regkit.limits import MAX_BYTES, MAX_EVENTS
 
 
 def told(converted: Converted, has_map: bool) -> Iterator[str]:
@@ -49,6 +48,6 @@ def _renamed(converted: Converted) -> Iterator[str]:
 
 def too_large(lines: int, size: int) -> Iterator[str]:
     """A warning about a history that is larger than what regcheck takes at once."""
-    if lines > MOST_EVENTS or size > MOST_BYTES:
-        yield (f"the history has {lines:,} events in {size:,} bytes, and regcheck takes {MOST_EVENTS:,} in "
-               f"{MOST_BYTES:,}: divide it with regkit split")
+    if lines > MAX_EVENTS or size > MAX_BYTES:
+        yield (f"the history has {lines:,} events in {size:,} bytes, and regcheck takes {MAX_EVENTS:,} in "
+               f"{MAX_BYTES:,}: divide it with regkit split")
