@@ -2,9 +2,10 @@
 from typing import List, Optional
 
 from regkit.inputs import STANDARD_INPUT
-from regkit.outcome import ATOMIC, NOT_ATOMIC, TOO_LITTLE, VERDICTS, Fault, Outcome
+from regkit.outcome import VERDICTS, Fault, Outcome
 from regkit.quoting import plain, quoted
 from regkit.refusals import read_refusal
+from regkit.statuses import ExitStatus
 
 
 def data(lines: List[str]) -> str:
@@ -33,13 +34,13 @@ def line_of(fault: Fault) -> int:
 
 def annotations(outcome: Outcome) -> List[str]:
     """An annotation for each fault that is shown; one for any other verdict than linearizable."""
-    if outcome.status == ATOMIC:
+    if outcome.status == ExitStatus.ATOMIC:
         return []
-    if outcome.status == NOT_ATOMIC and outcome.faults:
+    if outcome.status == ExitStatus.NOT_ATOMIC and outcome.faults:
         return [annotation("error", outcome, line_of(fault),
                            [f"register {quoted(fault.register)}:", *fault.sentences])
                 for fault in outcome.faults]
     refusal = read_refusal(outcome.words, lambda line: line)
-    level = "warning" if outcome.status == TOO_LITTLE else "error"
+    level = "warning" if outcome.status == ExitStatus.TOO_LITTLE else "error"
     lines = [outcome.words, outcome.advice] if outcome.advice else [outcome.words]
     return [annotation(level, outcome, refusal.line if refusal else None, lines)]

@@ -7,7 +7,8 @@ import sys
 from types import TracebackType
 from typing import Any, BinaryIO, List, NamedTuple, Optional, Sequence, Type, Union
 
-COMMAND_LINE = 3  # the checker's status for options that it doesn't know
+from regkit.statuses import ExitStatus
+
 LIBRARY_BYTES = 1_048_576  # the program has several workers: it is as quick with a longer history
 NOT_FOUND = "regcheck was not found: put it on PATH, or set REGCHECK to its path"
 

@@ -6,13 +6,11 @@ from importlib import import_module
 from typing import List, NoReturn, Optional, TextIO
 
 from regkit import __version__
+from regkit.statuses import ExitStatus
 
 # Each module has HELP, EPILOG, add_arguments(parser) and run(arguments), which returns the exit status.
 COMMANDS = ["check", "explain", "draw", "index", "verify", "convert", "merge", "split", "join"]
 
-COMMAND_LINE = 3  # the exit status of a wrong command line, as regcheck's own
-FAILED = 4  # the exit status if input or output failed, as regcheck's own
-INTERRUPTED = 130  # as shells have it for an interrupt
 
 
 class Parser(argparse.ArgumentParser):
@@ -20,7 +18,7 @@ class Parser(argparse.ArgumentParser):
 
     def error(self, message: str) -> NoReturn:
         self.print_usage(sys.stderr)
-        self.exit(COMMAND_LINE, f"{self.prog}: {message}\n")
+        self.exit(ExitStatus.COMMAND_LINE, f"{self.prog}: {message}\n")
 
 
 def parser(words: List[str]) -> argparse.ArgumentParser:
@@ -64,16 +62,16 @@ def main(words: Optional[List[str]] = None) -> int:
         return status
     except BrokenPipeError:
         silence(sys.stdout)
-        return FAILED
+        return ExitStatus.FAILED
     except OSError as error:
         silence(sys.stdout)
         print(f"regkit: {error.filename or 'output'}: {error.strerror or error}", file=sys.stderr)
-        return FAILED
+        return ExitStatus.FAILED
     except MemoryError:
         print("regkit: no memory", file=sys.stderr)
-        return FAILED
+        return ExitStatus.FAILED
     except KeyboardInterrupt:
-        return INTERRUPTED
+        return ExitStatus.INTERRUPTED
 
 
 def run_and_exit() -> NoReturn:

@@ -4,19 +4,19 @@ from itertools import chain, count
 from typing import List, NamedTuple, Optional, Set
 
 from regkit.beginning import reads_of_beginning, unusual_reads_of_beginning
-from regkit.checker import COMMAND_LINE, Answer, NoChecker, begin, judge
+from regkit.checker import Answer, NoChecker, begin, judge
 from regkit.counting import Reads, Unusual, count_reads
 from regkit.evidence import Evidence, count_evidence
 from regkit.garbage import many_objects
 from regkit.history import NotAHistory, read_history
 from regkit.lines import NotJson
 from regkit.inputs import STANDARD_INPUT, TooLong, read_input, shown_name
-from regkit.outcome import (ATOMIC, FAILED, NOT_ATOMIC, REFUSED, TOO_LITTLE, Fault, Outcome,
-                            evidence_in_words, faults_of, lacks)
+from regkit.outcome import Fault, Outcome, evidence_in_words, faults_of, lacks
 from regkit.progress import Progress
 from regkit.quoting import plain
 from regkit.report import Report, read_verdict
 from regkit.sentences import counted
+from regkit.statuses import ExitStatus
 
 
 BUG = "don't trust it, and keep the history: this is a bug of regcheck or of regkit"
@@ -114,15 +114,17 @@ class Judge:
             with many_objects():
                 return self.judge_data(name, data)
         except TooLong as error:
-            return Outcome(name, REFUSED, str(error), advice(b"", str(error), name))
+            return Outcome(name, ExitStatus.REFUSED, str(error), advice(b"", str(error), name))
         except OSError as error:
-            return Outcome(name, FAILED, plain(failure(name, error)))
+            return Outcome(name, ExitStatus.FAILED, plain(failure(name, error)))
         except MemoryError:
-            return Outcome(name, FAILED, "no memory", "check parts of it: `regkit split` makes them")
+            hint = "check parts of it: `regkit split` makes them"
+            return Outcome(name, ExitStatus.FAILED, "no memory", hint)
         except (NoChecker, NotAHistory) as error:
-            return Outcome(name, FAILED, plain(str(error)))
+            return Outcome(name, ExitStatus.FAILED, plain(str(error)))
         except Untrue as error:
-            return Outcome(name, FAILED, f"the answer of regcheck is wrong: {plain(str(error))}", BUG)
+            words = f"the answer of regcheck is wrong: {plain(str(error))}"
+            return Outcome(name, ExitStatus.FAILED, words, BUG)
 
     def judge_data(self, name: str, data: bytes) -> Outcome:
         # A picture needs the whole report.
@@ -130,15 +132,15 @@ class Judge:
         with begin(data, ["--first"] if early else []) as run:
             reads = self.reads_of(data)  # while the checker is at work
             answer = run.answer()
-        if early and answer.status == COMMAND_LINE:  # a checker that doesn't know `--first`
+        if early and answer.status == ExitStatus.COMMAND_LINE:  # a checker that doesn't know `--first`
             answer = judge(data)
-        if answer.status in (ATOMIC, NOT_ATOMIC):
+        if answer.status in (ExitStatus.ATOMIC, ExitStatus.NOT_ATOMIC):
             return self.judge_report(name, data, answer, reads)
-        if answer.status != REFUSED:
-            return Outcome(name, FAILED, failure_of(answer), advice(b"", answer.refusal, name))
+        if answer.status != ExitStatus.REFUSED:
+            return Outcome(name, ExitStatus.FAILED, failure_of(answer), advice(b"", answer.refusal, name))
         if self.wishes.verify:
             verify_refusal(data, answer.refusal)
-        return Outcome(name, REFUSED, plain(answer.refusal), advice(data, answer.refusal, name))
+        return Outcome(name, ExitStatus.REFUSED, plain(answer.refusal), advice(data, answer.refusal, name))
 
     def judge_report(self, name: str, data: bytes, answer: Answer, reads: Optional[Reads]) -> Outcome:
         """The outcome of a history that was accepted."""
@@ -183,11 +185,11 @@ class Judge:
             known = 1 if self.wishes.first else len(report.faulty)
             number = "the first faulty register" if self.wishes.first else counted(known, "faulty register")
             faults = told_faults(data, report, 1 if self.wishes.first else self.wishes.most)
-            return Outcome(name, NOT_ATOMIC, f"{number}; {words}", "", evidence, known, faults)
+            return Outcome(name, ExitStatus.NOT_ATOMIC, f"{number}; {words}", "", evidence, known, faults)
         lack, hint = lacks(evidence, self.wishes.least_reads, self.wishes.least_overlaps)
         if lack:
-            return Outcome(name, TOO_LITTLE, f"{words}; {lack}", hint, evidence)
-        return Outcome(name, ATOMIC, words, "", evidence)
+            return Outcome(name, ExitStatus.TOO_LITTLE, f"{words}; {lack}", hint, evidence)
+        return Outcome(name, ExitStatus.ATOMIC, words, "", evidence)
 
     def draw(self, name: str, data: bytes, written: bytes) -> pathlib.Path:
         """Writes the page of a history into the folder, under a name of its own."""

@@ -3,8 +3,9 @@ import html
 from typing import List
 
 from regkit.inputs import shown_name
-from regkit.outcome import ATOMIC, FAILED, REFUSED, VERDICTS, Timed, text_of
+from regkit.outcome import VERDICTS, Timed, text_of
 from regkit.quoting import plain
+from regkit.statuses import ExitStatus
 
 
 def attribute(text: str) -> str:
@@ -20,9 +21,9 @@ def test_case(timed: Timed) -> str:
     outcome = timed.outcome
     begin = (f'  <testcase classname="regkit check" name="{attribute(shown_name(outcome.file))}" '
              f'time="{timed.seconds:.3f}">')
-    if outcome.status == ATOMIC:
+    if outcome.status == ExitStatus.ATOMIC:
         return f"{begin}<system-out>{content([outcome.words, *text_of(outcome)])}</system-out></testcase>"
-    kind = "error" if outcome.status in (REFUSED, FAILED) else "failure"
+    kind = "error" if outcome.status in (ExitStatus.REFUSED, ExitStatus.FAILED) else "failure"
     verdict = VERDICTS[outcome.status]
     return (f'{begin}<{kind} type="{verdict}" message="{attribute(f"{verdict}: {outcome.words}")}">'
             f"{content(text_of(outcome))}</{kind}></testcase>")
@@ -30,8 +31,8 @@ def test_case(timed: Timed) -> str:
 
 def document(told: List[Timed]) -> str:
     """The whole file: one suite, with a test for each history."""
-    errors = sum(timed.outcome.status in (REFUSED, FAILED) for timed in told)
-    failures = sum(timed.outcome.status != ATOMIC for timed in told) - errors
+    errors = sum(timed.outcome.status in (ExitStatus.REFUSED, ExitStatus.FAILED) for timed in told)
+    failures = sum(timed.outcome.status != ExitStatus.ATOMIC for timed in told) - errors
     seconds = sum(timed.seconds for timed in told)
     suite = f'tests="{len(told)}" failures="{failures}" errors="{errors}" time="{seconds:.3f}"'
     cases = "".join(test_case(timed) + "\n" for timed in told)

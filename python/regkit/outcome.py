@@ -6,12 +6,17 @@ from regkit.history import History
 from regkit.quoting import plain, quoted
 from regkit.report import Row
 from regkit.sentences import counted, fault_of, inversion
+from regkit.statuses import ExitStatus
 
-ATOMIC, NOT_ATOMIC, REFUSED, COMMAND_LINE, FAILED, TOO_LITTLE = range(6)
-VERDICTS = {ATOMIC: "linearizable", NOT_ATOMIC: "not linearizable", REFUSED: "refused", FAILED: "failed",
-            TOO_LITTLE: "too little evidence"}
-STYLES = {ATOMIC: "good", NOT_ATOMIC: "bad", REFUSED: "bad", FAILED: "bad", TOO_LITTLE: "look"}
-GRAVITY = [ATOMIC, TOO_LITTLE, NOT_ATOMIC, REFUSED, COMMAND_LINE, FAILED]  # the gravest last
+VERDICTS: Dict[int, str] = {
+    ExitStatus.ATOMIC: "linearizable", ExitStatus.NOT_ATOMIC: "not linearizable",
+    ExitStatus.REFUSED: "refused", ExitStatus.FAILED: "failed", ExitStatus.TOO_LITTLE: "too little evidence"}
+STYLES: Dict[int, str] = {
+    ExitStatus.ATOMIC: "good", ExitStatus.NOT_ATOMIC: "bad", ExitStatus.REFUSED: "bad",
+    ExitStatus.FAILED: "bad", ExitStatus.TOO_LITTLE: "look"}
+GRAVITY: List[int] = [  # the gravest last
+    ExitStatus.ATOMIC, ExitStatus.TOO_LITTLE, ExitStatus.NOT_ATOMIC, ExitStatus.REFUSED,
+    ExitStatus.COMMAND_LINE, ExitStatus.FAILED]
 
 
 class Fault(NamedTuple):
@@ -45,7 +50,7 @@ class Timed(NamedTuple):
 
 def gravest(statuses: List[int]) -> int:
     """The status of several histories together: 4, 3, 2, 1, 5, 0, whichever of these comes first."""
-    return max(statuses, default=ATOMIC, key=GRAVITY.index)
+    return max(statuses, default=ExitStatus.ATOMIC, key=GRAVITY.index)
 
 
 def evidence_in_words(evidence: Evidence, at_least: bool) -> str:
@@ -99,7 +104,7 @@ def json_of(outcome: Outcome) -> Dict[str, Any]:
         said["faults"] = [{"register": register, "fault": row["fault"], "sentences": sentences}
                           for register, row, sentences in outcome.faults]
         said["verified"] = outcome.verified
-    if outcome.status != NOT_ATOMIC and outcome.words:
+    if outcome.status != ExitStatus.NOT_ATOMIC and outcome.words:
         said["reason"] = outcome.words
     if outcome.advice:
         said["advice"] = outcome.advice

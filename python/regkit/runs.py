@@ -8,9 +8,10 @@ from urllib.parse import quote
 from regkit.drawing.page import document
 from regkit.drawing.svg import tag
 from regkit.drawing.text import name, words
-from regkit.outcome import ATOMIC, NOT_ATOMIC, VERDICTS, Outcome
+from regkit.outcome import VERDICTS, Outcome
 from regkit.quoting import plain
 from regkit.sentences import capital, counted
+from regkit.statuses import ExitStatus
 
 ENDINGS = (".jsonl", ".jsonl.gz")
 PICTURES = "pictures"  # the folder of the pictures, in that of the histories
@@ -38,7 +39,7 @@ def link(path: pathlib.Path, page: pathlib.Path, content: str) -> str:
 
 def row(run: Run, page: pathlib.Path) -> str:
     when = datetime.fromtimestamp(run.changed, timezone.utc)
-    kind = "yes" if run.outcome.status == ATOMIC else "no"
+    kind = "yes" if run.outcome.status == ExitStatus.ATOMIC else "no"
     shown = name(run.path.name) if run.picture is None else link(run.picture, page, name(run.path.name))
     faults = [capital(fault.sentences[0]) for fault in run.outcome.faults]
     said = [run.outcome.words, *faults, *([run.outcome.advice] if run.outcome.advice else [])]
@@ -50,7 +51,7 @@ def row(run: Run, page: pathlib.Path) -> str:
 
 def page(runs: List[Run], found: int, folder: pathlib.Path, output: pathlib.Path) -> str:
     """The whole page, which will stand at `output`. There may be more runs in the folder than are listed."""
-    wrong = sum(run.outcome.status == NOT_ATOMIC for run in runs)
+    wrong = sum(run.outcome.status == ExitStatus.NOT_ATOMIC for run in runs)
     listed = ("" if len(runs) == found else f"The newest {len(runs):,} of ") + counted(found, "run")
     head = "".join(tag("th", words(each)) for each in ("Written", "Verdict", "Run", "What came out"))
     title = folder.resolve().name

@@ -10,7 +10,8 @@ from xml.etree import ElementTree
 
 from regkit.annotations import annotations
 from regkit.junit import document
-from regkit.outcome import FAILED, REFUSED, TOO_LITTLE, Outcome, Timed
+from regkit.outcome import Outcome, Timed
+from regkit.statuses import ExitStatus
 
 from .events import Line, gave, read, reply, run, stale, text, write
 from .test_draw import DANGEROUS, Elements
@@ -61,7 +62,7 @@ class JUnit(Files):
     def test_hostile_names(self) -> None:
         suite = self.suite(self.file("h", stale(HOSTILE)))
         self.assertIn('register "a\\u001b\\u202e<&\\"\'%,:\\u000a]]>": ', suite[0][0].text or "")
-        made = document([Timed(Outcome(HOSTILE + "\udc80", REFUSED, "no"), 0.5)])
+        made = document([Timed(Outcome(HOSTILE + "\udc80", ExitStatus.REFUSED, "no"), 0.5)])
         self.assertIsNone(DANGEROUS.search(made.replace("\n", "")))
         case = ElementTree.fromstring(made.encode())[0][0]
         self.assertEqual((case.get("name"), case.get("time")),
@@ -96,7 +97,7 @@ class Annotations(Files):
         self.assertNotIn("::", run("check", "--annotate", given=text(*FINE)).out)
 
     def test_hostile_names(self) -> None:
-        for status in (REFUSED, FAILED, TOO_LITTLE):
+        for status in (ExitStatus.REFUSED, ExitStatus.FAILED, ExitStatus.TOO_LITTLE):
             line, = annotations(Outcome(HOSTILE, status, "50% of\nit::"))
             self.assertTrue(line.isprintable())
             self.assertIn(' file=a\\u001b\\u202e<&"\'%25%2C%3A\\u000a]]>,title=', line)

@@ -10,10 +10,10 @@ from regkit.colour import CHOICES, Painter, painter
 from regkit.inputs import STANDARD_INPUT, shown_name
 from regkit.judging import Judge, Wishes
 from regkit.options import count
-from regkit.outcome import (ATOMIC, COMMAND_LINE, FAILED, REFUSED, STYLES, VERDICTS, Outcome, Timed, gravest,
-                            json_of, text_of)
+from regkit.outcome import STYLES, VERDICTS, Outcome, Timed, gravest, json_of, text_of
 from regkit.progress import Progress
 from regkit.quoting import plain
+from regkit.statuses import ExitStatus
 
 HELP = "check histories, and say in a few lines what came out"
 EPILOG = """\
@@ -76,12 +76,12 @@ def tell(outcome: Outcome, arguments: argparse.Namespace, progress: Progress) ->
     if arguments.json:
         progress.say(json.dumps(json_of(outcome)).replace("\x7f", "\\u007f"), sys.stdout)
         return
-    wrong = outcome.status in (REFUSED, FAILED)
+    wrong = outcome.status in (ExitStatus.REFUSED, ExitStatus.FAILED)
     if wrong or not arguments.quiet:
         stream = sys.stderr if wrong else sys.stdout
         lines = [heading(outcome, painter(arguments.color, stream)), *text_of(outcome)]
         progress.say("\n".join(lines), stream)
-    if arguments.annotate and outcome.status != ATOMIC:
+    if arguments.annotate and outcome.status != ExitStatus.ATOMIC:
         from regkit.annotations import annotations  # only who asks for them waits for this
 
         progress.say("\n".join(annotations(outcome)), sys.stdout)
@@ -100,7 +100,7 @@ def run(arguments: argparse.Namespace) -> int:
     wrong = wrong_words(arguments)
     if wrong:
         print(f"regkit check: {wrong}", file=sys.stderr)
-        return COMMAND_LINE
+        return ExitStatus.COMMAND_LINE
     files: List[str] = arguments.files or [STANDARD_INPUT]
     wishes = Wishes(arguments.most, arguments.least_reads, arguments.least_overlaps, arguments.first,
                     arguments.verify, arguments.draw, arguments.count_all or arguments.json)

@@ -13,6 +13,7 @@ from regkit.convert.words import add_arguments, choices_of
 from regkit.edn import NotEdn
 from regkit.garbage import many_objects
 from regkit.inputs import STANDARD_INPUT, opened
+from regkit.statuses import ExitStatus
 
 __all__ = ["EPILOG", "HELP", "add_arguments", "run"]
 
@@ -38,21 +39,19 @@ exit status:
   4  input or output failed
 """
 
-REFUSED, COMMAND_LINE = 2, 3
-
 
 def run(arguments: argparse.Namespace) -> int:
     try:
         with many_objects():
             return _run(arguments)
     except WrongWords as error:
-        return _complain(str(error), COMMAND_LINE)
+        return _complain(str(error), ExitStatus.COMMAND_LINE)
     except (Refused, NotEdn) as error:
-        return _complain(str(error), REFUSED)
+        return _complain(str(error), ExitStatus.REFUSED)
     except UnicodeDecodeError as error:
-        return _complain(f"the source isn't UTF-8 ({error.reason}): convert it to UTF-8", REFUSED)
+        return _complain(f"the source isn't UTF-8 ({error.reason}): convert it to UTF-8", ExitStatus.REFUSED)
     except ValueError as error:  # Python reads no number of thousands of digits
-        return _complain(f"a value of the source can't be read: {error}", REFUSED)
+        return _complain(f"a value of the source can't be read: {error}", ExitStatus.REFUSED)
 
 
 def _complain(words: str, status: int) -> int:
@@ -75,7 +74,7 @@ def _run(arguments: argparse.Namespace) -> int:
         _write_map(converted, arguments)
     for line in (*summary.told(converted, bool(arguments.map)), *warnings):
         print(f"regkit convert: {line}", file=sys.stderr)
-    return 0
+    return ExitStatus.DONE
 
 
 @contextlib.contextmanager

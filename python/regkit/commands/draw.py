@@ -12,6 +12,7 @@ from regkit.history import NoRegister, read_history
 from regkit.inputs import TooLong, read_input, shown_name
 from regkit.progress import Progress
 from regkit.report import read_report
+from regkit.statuses import ExitStatus
 
 HELP = "draw a history on a page for a browser: the fault, or the order of a yes"
 EPILOG = """\
@@ -30,8 +31,6 @@ exit status:
   3  the command line is wrong
   4  a file couldn't be read or written, or regcheck wasn't found
 """
-
-DRAWN, REFUSED, COMMAND_LINE, FAILED = 0, 2, 3, 4
 
 
 def add_arguments(parser: argparse.ArgumentParser) -> None:
@@ -55,15 +54,15 @@ def positive(word: str) -> int:
 
 def run(arguments: argparse.Namespace) -> int:
     if arguments.history == arguments.report == "-":
-        return fail(COMMAND_LINE, "only one of the files can be standard input")
+        return fail(ExitStatus.COMMAND_LINE, "only one of the files can be standard input")
     try:
         return draw(arguments)
     except NoChecker as error:
-        return fail(FAILED, str(error))
+        return fail(ExitStatus.FAILED, str(error))
     except NoRegister as error:
-        return fail(COMMAND_LINE, f"{shown_name(arguments.history)}: {error}")
+        return fail(ExitStatus.COMMAND_LINE, f"{shown_name(arguments.history)}: {error}")
     except (TooLong, ValueError) as error:
-        return fail(REFUSED, f"{shown_name(arguments.history)}: {error}")
+        return fail(ExitStatus.REFUSED, f"{shown_name(arguments.history)}: {error}")
 
 
 def fail(status: int, words: str) -> int:
@@ -86,7 +85,7 @@ def draw(arguments: argparse.Namespace) -> int:
         title = os.path.basename(shown_name(arguments.history))
         page = page_of(history, verdict, title, Asked(arguments.most, arguments.register))
     write(arguments.output, page)
-    return DRAWN
+    return ExitStatus.DONE
 
 
 def report_of(name: Optional[str], history: bytes) -> Union[bytes, int]:
@@ -96,7 +95,8 @@ def report_of(name: Optional[str], history: bytes) -> Union[bytes, int]:
     answer = judge(history)
     if answer.status in (0, 1):
         return answer.report
-    return fail(REFUSED if answer.status == 2 else FAILED, answer.refusal)
+    refused = answer.status == ExitStatus.REFUSED
+    return fail(ExitStatus.REFUSED if refused else ExitStatus.FAILED, answer.refusal)
 
 
 def write(name: str, page: str) -> None:

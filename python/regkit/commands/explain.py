@@ -14,12 +14,12 @@ from regkit.inputs import STANDARD_INPUT, TooLong, read_input, shown_name
 from regkit.judging import failure, failure_of
 from regkit.limits import MAX_BYTES
 from regkit.options import count
-from regkit.outcome import ATOMIC, COMMAND_LINE, FAILED, NOT_ATOMIC, REFUSED
 from regkit.progress import Progress
 from regkit.quoting import plain, quoted
 from regkit.report import Report, read_report
 from regkit.sentences import counted
 from regkit.source_map import NotAMap, put_labels
+from regkit.statuses import ExitStatus
 
 HELP = "say in sentences why a history isn't linearizable"
 EPILOG = """\
@@ -76,10 +76,11 @@ def written_report(arguments: argparse.Namespace, data: bytes) -> bytes:
     if arguments.report is not None:
         return read_input(arguments.report, None)
     answer = judge(data)
-    if answer.status == REFUSED:
-        raise Stop(REFUSED, f"refused: {answer.refusal}", advice(data, answer.refusal, arguments.history))
-    if answer.status not in (ATOMIC, NOT_ATOMIC):
-        raise Stop(FAILED, failure_of(answer))
+    if answer.status == ExitStatus.REFUSED:
+        told = advice(data, answer.refusal, arguments.history)
+        raise Stop(ExitStatus.REFUSED, f"refused: {answer.refusal}", told)
+    if answer.status not in (ExitStatus.ATOMIC, ExitStatus.NOT_ATOMIC):
+        raise Stop(ExitStatus.FAILED, failure_of(answer))
     return answer.report
 
 
@@ -87,7 +88,7 @@ def parsed_report(written: bytes) -> Report:
     try:
         return read_report(written)
     except (ValueError, KeyError, TypeError) as error:
-        raise Stop(REFUSED, f"the report is none: {error}") from error
+        raise Stop(ExitStatus.REFUSED, f"the report is none: {error}") from error
 
 
 def labelled_history(arguments: argparse.Namespace, data: bytes, progress: Progress) -> History:
@@ -111,17 +112,19 @@ def explained(arguments: argparse.Namespace, progress: Progress) -> Tuple[int, s
     rows = [row for row in report.faulty if arguments.register in (None, row["register"])]
     if not rows and arguments.register is None:
         operations = counted(report.summary["operations"], "operation")
-        return ATOMIC, f"{name}: linearizable: {operations}, nothing to explain"
+        return ExitStatus.ATOMIC, f"{name}: linearizable: {operations}, nothing to explain"
     history = labelled_history(arguments, data, progress)
     if not rows:
         register = quoted(arguments.register)
         if all(row["register"] != arguments.register for row in report.rows):
-            raise Stop(REFUSED, f"the report, an early answer, says nothing of register {register}")
-        return ATOMIC, f"{name}: register {register} is linearizable, nothing to explain"
+            words = f"the report, an early answer, says nothing of register {register}"
+            raise Stop(ExitStatus.REFUSED, words)
+        return ExitStatus.ATOMIC, f"{name}: register {register} is linearizable, nothing to explain"
     progress.step(f"{name}: explaining")
     width = max(NARROWEST, min(WIDEST, shutil.get_terminal_size((100, 24)).columns))
     wishes = Wishes(arguments.most, arguments.register, width, painter(arguments.color, sys.stdout))
-    return NOT_ATOMIC, f"{name}: not linearizable: {how_many(report)}\n\n{explain(history, report, wishes)}"
+    why = explain(history, report, wishes)
+    return ExitStatus.NOT_ATOMIC, f"{name}: not linearizable: {how_many(report)}\n\n{why}"
 
 
 def how_many(report: Report) -> str:
@@ -137,21 +140,21 @@ def answer_to(arguments: argparse.Namespace) -> Tuple[int, str]:
         with Progress() as progress, many_objects():
             return explained(arguments, progress)
     except TooLong as error:
-        raise Stop(REFUSED, f"refused: {error}", advice(b"", str(error))) from error
+        raise Stop(ExitStatus.REFUSED, f"refused: {error}", advice(b"", str(error))) from error
     except NoRegister as error:
-        raise Stop(COMMAND_LINE, str(error)) from error
+        raise Stop(ExitStatus.COMMAND_LINE, str(error)) from error
     except (NotAHistory, NotAMap, NotOfHistory) as error:
-        raise Stop(REFUSED, str(error)) from error
+        raise Stop(ExitStatus.REFUSED, str(error)) from error
     except OSError as error:
-        raise Stop(FAILED, failure(arguments.history, error)) from error
+        raise Stop(ExitStatus.FAILED, failure(arguments.history, error)) from error
     except NoChecker as error:
-        raise Stop(FAILED, str(error)) from error
+        raise Stop(ExitStatus.FAILED, str(error)) from error
 
 
 def run(arguments: argparse.Namespace) -> int:
     try:
         if arguments.history == arguments.report == STANDARD_INPUT:
-            raise Stop(COMMAND_LINE, "only one of the files can be standard input")
+            raise Stop(ExitStatus.COMMAND_LINE, "only one of the files can be standard input")
         status, words = answer_to(arguments)
     except Stop as stop:
         name, hint = plain(shown_name(arguments.history)), f"\n  {stop.hint}" if stop.hint else ""

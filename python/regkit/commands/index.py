@@ -6,11 +6,11 @@ from typing import List
 
 from regkit.judging import Judge, Wishes
 from regkit.options import count
-from regkit.outcome import NOT_ATOMIC
 from regkit.progress import Progress
 from regkit.quoting import plain
 from regkit.runs import PICTURES, Run, page, runs_in
 from regkit.sentences import counted
+from regkit.statuses import ExitStatus
 
 HELP = "check and draw the histories of a folder, and list them on a page, newest first"
 EPILOG = """\
@@ -27,7 +27,6 @@ exit status:
   4  the folder couldn't be read, or the page or a picture couldn't be written
 """
 
-WRITTEN = 0
 
 
 def add_arguments(parser: argparse.ArgumentParser) -> None:
@@ -59,6 +58,6 @@ def run(arguments: argparse.Namespace) -> int:
     with Progress() as progress:
         runs = judged(paths[:arguments.most], folder / PICTURES, progress)
     output.write_text(page(runs, len(paths), folder, output), encoding="utf-8", errors="surrogateescape")
-    wrong = sum(each.outcome.status == NOT_ATOMIC for each in runs)
+    wrong = sum(each.outcome.status == ExitStatus.NOT_ATOMIC for each in runs)
     print(f"{plain(str(output))}: {counted(len(runs), 'run')}, {wrong:,} not linearizable", file=sys.stdout)
-    return WRITTEN
+    return ExitStatus.DONE

@@ -8,8 +8,7 @@ from regkit.limits import MAX_EVENTS
 from regkit.parts import Manifest, NotSplit, read_manifest
 from regkit.progress import Progress
 from regkit.refusals import Refusal, first_refusal
-
-NOT_ATOMIC, REFUSED, FAILED = 1, 2, 4
+from regkit.statuses import ExitStatus
 
 HELP = "join the reports of the parts of a split history into the report of the whole"
 EPILOG = """\
@@ -52,7 +51,7 @@ def run(arguments: argparse.Namespace) -> int:
     refusal = first_refusal(each for each in found if isinstance(each, Refusal))
     if refusal is not None:
         print(refusal, file=sys.stderr)
-        return REFUSED
+        return ExitStatus.REFUSED
     if manifest.stopped is not None:
         return failed(f"regcheck accepts line {manifest.stopped}, and regkit split could not read it, so no "
                       "later line was checked. This is a defect of regkit: please report the line")
@@ -64,16 +63,16 @@ def write(parts: List[Answered], manifest: Manifest, order: str) -> int:
     with Progress() as progress:
         progress.step("joining", len(manifest.registers))
         write_report(parts, manifest, with_order, sys.stdout.buffer, progress.reach)
-    return 0 if all(part.atomic for part in parts) else NOT_ATOMIC
+    return ExitStatus.ATOMIC if all(part.atomic for part in parts) else ExitStatus.NOT_ATOMIC
 
 
 def name_them(directory: str, unanswered: List[Unanswered]) -> int:
     for each in unanswered:
         print(f"part-{each.part:03} has no answer: {each.why}; run it again:", file=sys.stderr)
         print(f"  {command_again(directory, each.part)}", file=sys.stderr)
-    return FAILED
+    return ExitStatus.FAILED
 
 
 def failed(words: str) -> int:
     print(f"regkit join: {words}", file=sys.stderr)
-    return FAILED
+    return ExitStatus.FAILED

@@ -15,8 +15,7 @@ from regkit.merge import Merged, Recorded, Unmergeable, merged
 from regkit.progress import Progress
 from regkit.quoting import plain
 from regkit.sentences import counted
-
-MERGED, REFUSED, COMMAND_LINE = 0, 2, 3
+from regkit.statuses import ExitStatus
 
 HELP = "merge the histories of several recorders of one run, by their times"
 EPILOG = """\
@@ -67,7 +66,7 @@ def add_arguments(parser: argparse.ArgumentParser) -> None:
 
 def run(arguments: argparse.Namespace) -> int:
     if arguments.files.count(STANDARD_INPUT) > 1:
-        return complain("standard input can be read once: give - once", COMMAND_LINE)
+        return complain("standard input can be read once: give - once", ExitStatus.COMMAND_LINE)
     try:
         with Progress() as progress, many_objects():
             files = list(read_files(arguments.files, progress))
@@ -75,10 +74,10 @@ def run(arguments: argparse.Namespace) -> int:
             found = merged(files, arguments.clock_error)
             size = write(found.lines, arguments.output)
     except Unmergeable as error:
-        return complain(str(error), REFUSED)
+        return complain(str(error), ExitStatus.REFUSED)
     for line in (*told(files, found, arguments.clock_error), *too_large(len(found.lines), size)):
         print(f"regkit merge: {line}", file=sys.stderr)
-    return MERGED
+    return ExitStatus.DONE
 
 
 def complain(words: str, status: int) -> int:

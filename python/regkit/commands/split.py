@@ -13,8 +13,8 @@ from regkit.parts import BLANK, MAP, MAX_PARTS, Manifest, file_of
 from regkit.progress import Progress
 from regkit.refusals import Refusal, first_refusal, read_refusal
 from regkit.splitting import CannotSplit, Plan, split
+from regkit.statuses import ExitStatus
 
-REFUSED, FAILED, TOO_LARGE = 2, 4, 5
 MAP_FROM = 1 << 30  # bytes of a history; some twenty million lines
 
 HELP = "split a history of any size into parts that can be checked apart"
@@ -59,12 +59,12 @@ def run(arguments: argparse.Namespace) -> int:
         manifest = split_named(arguments)
     except CannotSplit as error:
         print(f"regkit split: {error}", file=sys.stderr)
-        return TOO_LARGE
+        return ExitStatus.TOO_LARGE
     if manifest.stopped is not None:
         return refuse(arguments.directory, manifest)
     print(f"{arguments.directory}: {manifest.events} events on {len(manifest.registers)} registers "
           f"in {manifest.parts} parts", file=sys.stderr)
-    return 0
+    return ExitStatus.DONE
 
 
 def split_named(arguments: argparse.Namespace) -> Manifest:
@@ -105,13 +105,13 @@ def refuse(directory: str, manifest: Manifest) -> int:
     if refusal is None:
         print(f"regkit split: line {manifest.stopped} can't be accepted, and no later line was read: {why}",
               file=sys.stderr)
-        return FAILED
+        return ExitStatus.FAILED
     print(refusal, file=sys.stderr)
-    return REFUSED
+    return ExitStatus.REFUSED
 
 
 def refusal_of(directory: str, part: int, manifest: Manifest) -> Optional[Refusal]:
     answer = run_checker(file_of(directory, part, "jsonl").read_bytes())
-    if answer.status != REFUSED:
+    if answer.status != ExitStatus.REFUSED:
         return None
     return read_refusal(answer.refusal, line_map(directory, part, manifest))

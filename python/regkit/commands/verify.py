@@ -6,6 +6,7 @@ from typing import Optional
 
 from regkit import verify
 from regkit.inputs import opened
+from regkit.statuses import ExitStatus
 
 HELP = "check each claim of a report against its history, by the definitions alone"
 EPILOG = """\
@@ -33,7 +34,6 @@ exit status:
   4  a file couldn't be read
 """
 
-HOLDS, WRONG, UNREADABLE, COMMAND_LINE = 0, 1, 2, 3
 REFUSALS = (".err", ".refusal")  # what a file with a refusal is called
 
 
@@ -49,19 +49,19 @@ def add_arguments(parser: argparse.ArgumentParser) -> None:
 def run(arguments: argparse.Namespace) -> int:
     if (arguments.report is None) == (arguments.refusal is None):
         print("regkit verify: name either a REPORT or a --refusal FILE", file=sys.stderr)
-        return COMMAND_LINE
+        return ExitStatus.COMMAND_LINE
     if [arguments.history, arguments.report, arguments.refusal].count("-") > 1:
         print("regkit verify: only one of the files can be standard input", file=sys.stderr)
-        return COMMAND_LINE
+        return ExitStatus.COMMAND_LINE
     try:
         print(f"holds: {in_words(verified(arguments))}")
     except verify.Unreadable as wrong:
         print(f"regkit verify: {wrong}", file=sys.stderr)
-        return UNREADABLE
+        return ExitStatus.REFUSED
     except verify.Wrong as wrong:
         print(f"doesn't hold: {wrong}")
-        return WRONG
-    return HOLDS
+        return ExitStatus.WRONG
+    return ExitStatus.DONE
 
 
 def verified(arguments: argparse.Namespace) -> verify.Verified:

@@ -10,8 +10,9 @@ from regkit.drawing.svg import tag
 from regkit.drawing.text import attribute, name, words
 from regkit.history import History
 from regkit.report import Report, Row
-from regkit.outcome import ATOMIC, NOT_ATOMIC, VERDICTS
+from regkit.outcome import VERDICTS
 from regkit.sentences import capital, counted
+from regkit.statuses import ExitStatus
 
 MOST_LISTED = 12  # names of registers that aren't drawn
 TICK, CROSS = "M7 12.5 l3.5 3.5 l6.5 -8", "M8 8 l8 8 m0 -8 l-8 8"
@@ -49,7 +50,7 @@ def chosen_rows(history: History, report: Report, asked: Asked) -> List[Row]:
 
 def verdict_word(report: Report) -> str:
     """The verdict in the terminal's words."""
-    return VERDICTS[ATOMIC if report.atomic else NOT_ATOMIC]
+    return VERDICTS[ExitStatus.ATOMIC if report.atomic else ExitStatus.NOT_ATOMIC]
 
 
 def verdict(report: Report, title: str) -> str:
