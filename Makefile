@@ -1,4 +1,4 @@
-# make: prove and build bin/regcheck. make run: run it on a shipped example, or on FILE=...
+# make: prove and build bin/regcheck and bin/regsearch. make run: run regcheck on a shipped example, or on FILE=...
 # make try: the same at once, unproved and with checks at run time; for a first look.
 # make test: the gate: every proof from nothing, edits that must fail, tests, and scripts over the built program.
 # make edits: try the wrong bodies that `make test` leaves out, in half an hour: after a change of a contract or of a body that they edit.
@@ -32,20 +32,22 @@ PYTHON := $(shell find python/regkit -name '*.py')
 # The packages for other languages, without what somebody built in their folders.
 PACKAGES := $(shell find clojure go java javascript rust -name target -prune -o -type f \( -name '*.clj' -o -name '*.go' -o -name go.mod \
 	-o -name '*.java' -o -name '*.cjs' -o -name '*.rs' -o -name Cargo.toml -o -name README.md \) -print | sort)
-PROGRAM := bin/regcheck
+PROGRAMS := regcheck regsearch
+# The folder that has them; a release has those of bin/static.
+BUILT := bin
 DOCUMENTS = $(DESTDIR)$(PREFIX)/share/doc/regcheck
 
 .PHONY: all run try test edits costs fuzz picture-test bench bench-compare library embed-test bench-library install install-programs install-library dist dist-library wheel stores clean
 
-all: bin/regcheck
+all: $(PROGRAMS:%=bin/%)
 
-# The crates below the program are proved side by side. Then `rt run` proves the program's own, builds it and leaves it in
+# The crates below a program are proved side by side. Then `rt run` proves the program's own, builds it and leaves it in
 # out/; its stored input keeps it from waiting for ours. What they say goes to logs in bin/, and a line for each crate to
 # standard error.
-bin/regcheck: $(SOURCES) crates.txt
-	packaging/prove_crates regcheck
-	cd crates/regcheck && $(CURDIR)/packaging/prove $(CURDIR)/bin/regcheck.log rt run < stdin
-	cp crates/regcheck/out/regcheck bin/regcheck
+$(PROGRAMS:%=bin/%): bin/%: $(SOURCES) crates.txt
+	packaging/prove_crates $*
+	cd crates/$* && $(CURDIR)/packaging/prove $(CURDIR)/bin/$*.log rt run < stdin
+	cp crates/$*/out/$* bin/$*
 
 bin/history_generator: $(SOURCES) crates.txt
 	cd crates/history_generator && $(CURDIR)/packaging/prove $(CURDIR)/bin/history_generator.log rt run -- sequential
@@ -113,15 +115,15 @@ bin/regkit: $(PYTHON) python/make_archive
 	mkdir -p bin
 	python3 python/make_archive bin/regkit
 
-bin/completions: bin/regcheck $(PYTHON) packaging/make_completions packaging/command_lines.py
-	packaging/make_completions bin/regcheck $@
+bin/completions: $(PROGRAMS:%=bin/%) $(PYTHON) packaging/make_completions packaging/command_lines.py
+	packaging/make_completions $(PROGRAMS:%=bin/%) $@
 	touch $@
 
 install: install-programs install-library
 
 # Everything that a release has is installed here, so that make dist has it too.
-install-programs: bin/regcheck bin/regkit bin/completions
-	install -D -m 755 $(PROGRAM) $(DESTDIR)$(PREFIX)/bin/regcheck
+install-programs: $(PROGRAMS:%=bin/%) bin/regkit bin/completions
+	install -D -m 755 -t $(DESTDIR)$(PREFIX)/bin $(PROGRAMS:%=$(BUILT)/%)
 	install -D -m 755 bin/regkit $(DESTDIR)$(PREFIX)/bin/regkit
 	install -D -m 644 -t $(DESTDIR)$(PREFIX)/share/man/man1 docs/*.1
 	install -D -m 644 -t $(DESTDIR)$(PREFIX)/share/bash-completion/completions bin/completions/bash/*
@@ -131,6 +133,7 @@ install-programs: bin/regcheck bin/regkit bin/completions
 	install -D -m 644 -t $(DOCUMENTS)/docs docs/*.md
 	install -D -m 644 -t $(DOCUMENTS)/docs/stores docs/stores/*
 	install -D -m 644 -t $(DOCUMENTS)/examples examples/README.md examples/*.jsonl examples/*.report examples/*.refusal
+	install -D -m 644 -t $(DOCUMENTS)/examples/search examples/search/*.jsonl examples/search/*.report
 	install -D -m 755 -t $(DOCUMENTS)/examples examples/recorder.py
 	install -D -m 644 -t $(DOCUMENTS)/examples/tutorial examples/tutorial/*.py
 	install -D -m 644 -t $(DOCUMENTS)/examples/stores examples/stores/harness.py
@@ -146,15 +149,17 @@ install-library: library
 	install -D -m 644 -t $(DESTDIR)$(PREFIX)/lib/pkgconfig bin/regcheck.pc
 
 # Where `rt ci` takes from the machine what an earlier run proved, it may leave no object.
-crates/regcheck/out/regcheck.o: | bin/regcheck
-	cd crates/regcheck && $(CURDIR)/packaging/prove $(CURDIR)/bin/object.log rt run < stdin
+$(foreach program,$(PROGRAMS),crates/$(program)/out/$(program).o): %.o: | $(PROGRAMS:%=bin/%)
+	cd $(@D)/.. && $(CURDIR)/packaging/prove $(CURDIR)/bin/object.log rt run < stdin
 
-bin/static/regcheck: bin/regcheck packaging/link_static crates/regcheck/out/regcheck.o
-	packaging/link_static crates/regcheck/out/regcheck.o $@
+bin/static/regcheck: crates/regcheck/out/regcheck.o
+bin/static/regsearch: crates/regsearch/out/regsearch.o
+$(PROGRAMS:%=bin/static/%): bin/static/%: bin/% packaging/link_static
+	packaging/link_static crates/$*/out/$*.o $@
 
-dist: bin/static/regcheck
+dist: $(PROGRAMS:%=bin/static/%)
 	rm -rf dist bin/tree
-	$(MAKE) --no-print-directory -s install-programs DESTDIR=bin/tree PREFIX= PROGRAM=bin/static/regcheck
+	$(MAKE) --no-print-directory -s install-programs DESTDIR=bin/tree PREFIX= BUILT=bin/static
 	packaging/make_dist bin/tree dist
 
 LIBRARY_TREE := bin/library/libregcheck-$(VERSION)-x86_64-linux
@@ -167,8 +172,8 @@ dist-library:
 	tar --sort=name --owner=root --group=root --mtime=@0 --mode=u+rw,go=rX -C bin/library -c . | gzip -9n > dist/$(notdir $(LIBRARY_TREE)).tar.gz
 	packaging/write_sums dist
 
-wheel: bin/static/regcheck bin/libregcheck.so
-	packaging/make_wheel bin/static/regcheck bin/$(SONAME) dist
+wheel: $(PROGRAMS:%=bin/static/%) bin/libregcheck.so
+	packaging/make_wheel $(PROGRAMS:%=bin/static/%) bin/$(SONAME) dist
 	packaging/write_sums dist
 
 # Status 5 is that of a store whose server isn't here.

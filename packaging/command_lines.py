@@ -1,4 +1,4 @@
-"""What the command lines of regcheck and regkit take, from regcheck's --help and regkit's own parser."""
+"""What the command lines of the programs take: of those that are built from their --help, of regkit from its own parser."""
 import argparse
 import pathlib
 import re
@@ -36,7 +36,7 @@ def brief(text: str) -> str:
     return re.split(r"[;:(]|, or|, as ", " ".join(text.split()))[0].strip()
 
 
-def regcheck_options(said: str) -> List[Option]:
+def built_options(said: str) -> List[Option]:
     """The options in the parser's own help: a line begins with the names, and two spaces end them."""
     options = []
     for line in said.split("Options:\n")[1].split("\n\n")[0].splitlines():
@@ -46,10 +46,10 @@ def regcheck_options(said: str) -> List[Option]:
     return options
 
 
-def regcheck(program: str) -> List[Command]:
-    """The command line of the program that was built."""
+def built(program: str) -> List[Command]:
+    """The command line of a program that was built."""
     ran = subprocess.run([program, "--help"], capture_output=True, text=True, check=False)
-    return [Command("", "", regcheck_options(ran.stderr), ["FILE"])]
+    return [Command("", "", built_options(ran.stderr), ["FILE"])]
 
 
 def command(name: str, parser: argparse.ArgumentParser) -> Command:

@@ -16,6 +16,7 @@ from regkit.library import FILE
 
 ROOT = pathlib.Path(__file__).resolve().parents[2]
 NAME = f"regkit-{__version__}"
+PROGRAMS = ("regcheck", "regsearch")
 FOUND = "from regkit import checker, library; print(checker.find_checker()); print(next(library._places()))"
 
 
@@ -29,13 +30,13 @@ class Wheel(unittest.TestCase):
         folder = tempfile.TemporaryDirectory()
         self.addCleanup(folder.cleanup)
         self.folder = pathlib.Path(folder.name)
-        for name in ("regcheck", FILE):  # pip asks nothing of them
+        for name in (*PROGRAMS, FILE):  # pip asks nothing of them
             (self.folder / name).write_text(f"stands in for {name}")
         self.wheel = self.made("first")
 
     def made(self, name: str) -> pathlib.Path:
         """The wheel, made in a folder of that name."""
-        packed("make_wheel", self.folder / "regcheck", self.folder / FILE, self.folder / name)
+        packed("make_wheel", *(self.folder / program for program in PROGRAMS), self.folder / FILE, self.folder / name)
         wheel, = (self.folder / name).iterdir()
         return wheel
 
@@ -67,7 +68,7 @@ class Wheel(unittest.TestCase):
                 wanted = base64.urlsafe_b64encode(hashlib.sha256(data).digest()).decode().rstrip("=")
                 self.assertEqual((digest, size), (f"sha256={wanted}", str(len(data))))
             runs = [name for name in names if archive.getinfo(name).external_attr >> 16 & 0o100]
-        self.assertEqual(runs, [f"regkit/{FILE}", f"{NAME}.data/scripts/regcheck"])
+        self.assertEqual(runs, [f"regkit/{FILE}", *(f"{NAME}.data/scripts/{program}" for program in PROGRAMS)])
         python = ROOT / "python"
         sources = {path.relative_to(python).as_posix() for path in python.glob("regkit/**/*.py")}
         self.assertEqual({name for name in names if name.endswith(".py")}, sources)
