@@ -147,6 +147,7 @@ class RefusedParts(HandMade):
     def test_every_text_of_the_format(self) -> None:
         """Each refusal of a line in docs/format.md is known by its number, but that of too many events."""
         text = (pathlib.Path(__file__).parents[2] / "docs" / "format.md").read_text(encoding="utf-8")
+        text = text.split("\n## Refusals\n")[1].split("\n## ")[0]  # those of regsearch have a table of their own
         rows = [[cell.strip(" `") for cell in line.split("|")[1:-1]] for line in text.splitlines()]
         table = {int(row[0]): row[2] for row in rows if len(row) == 3 and row[0].isdigit()}
         self.assertLessEqual(set(range(1, 14)), set(table))
