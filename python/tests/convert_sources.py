@@ -22,7 +22,8 @@ class Call(NamedTuple):
     value: Optional[int]  # written, or read; None is null
     start: int
     end: Optional[int]  # None if its outcome is unknown
-    outcome: str  # ok, fail or unknown
+    outcome: str  # ok, fail, unknown, or of a cas missed
+    expected: Optional[int] = None  # what a cas asks for
 
 
 class _Running:
@@ -100,14 +101,25 @@ def plain(calls: List[Call]) -> str:
     lines: List[Dict[str, Any]] = []
     for _, is_call, call in events(calls):
         if is_call:
-            value = {"value": call.value} if call.op == "write" else {}
             lines.append({"process": call.client, "event": "call", "op": call.op, "register": call.key,
-                          **value})
+                          **asked(call, int)})
         else:
             value = {"value": call.value} if (call.op, call.outcome) == ("read", "ok") else {}
-            what = "reply" if call.outcome == "ok" else "fail"
-            lines.append({"process": call.client, "event": what, **value})
+            what = "fail" if call.outcome == "fail" else "reply"
+            lines.append({"process": call.client, "event": what, **value, **_ok(call)})
     return "".join(json.dumps(line) + "\n" for line in lines)
+
+
+def asked(call: Call, spell: Callable[[int], Any]) -> Dict[str, Any]:
+    """The members of a call of `regcheck` or `regsearch` that say what it asks for."""
+    value, expected = (None if each is None else spell(each) for each in (call.value, call.expected))
+    if call.op == "cas":
+        return {"from": expected, "to": value}
+    return {"value": value} if call.op == "write" else {}
+
+
+def _ok(call: Call) -> Dict[str, Any]:
+    return {"ok": call.outcome == "ok"} if call.op == "cas" and call.outcome in ("ok", "missed") else {}
 
 
 def is_atomic(history: str) -> bool:
@@ -130,7 +142,7 @@ class Form(NamedTuple):
 
 NEMESIS = ('{:type :info, :f :cut, :process :nemesis, :index %d, :value '
            '#object[jepsen.nemesis$cut__9 0x5c29bfd "jepsen.nemesis$cut__9@5c29bfd"]}')
-JEPSEN_TYPES = {"ok": "ok", "fail": "fail", "unknown": "info"}
+JEPSEN_TYPES = {"ok": "ok", "fail": "fail", "missed": "fail", "unknown": "info"}
 
 
 def _steps(calls: List[Call], chance: random.Random) -> Iterator[Tuple[str, Call]]:
@@ -142,18 +154,30 @@ def _steps(calls: List[Call], chance: random.Random) -> Iterator[Tuple[str, Call
             yield "info", call
 
 
-def _known(kind: str, call: Call) -> Optional[int]:
+def _known(kind: str, call: Call) -> Any:
     """The value that an event of Jepsen's has."""
+    if call.op == "cas":
+        return [call.expected, call.value]
     return call.value if call.op == "write" or kind == "ok" else None
+
+
+def _edn(value: Any) -> str:
+    if isinstance(value, list):
+        return f"[{' '.join(map(_edn, value))}]"
+    return "nil" if value is None else str(value)
+
+
+def _is_broken(kind: str, call: Call) -> bool:
+    """Whether an event says that something went wrong. A cas that missed didn't."""
+    return kind in ("fail", "info") and call.outcome != "missed"
 
 
 def jepsen_edn(calls: List[Call], chance: random.Random) -> str:
     lines: List[str] = []
     for kind, call in _steps(calls, chance):
-        value = _known(kind, call)
-        error = ', :error [:broken "n1"]' if kind in ("fail", "info") else ""
+        error = ', :error [:broken "n1"]' if _is_broken(kind, call) else ""
         lines.append(f"{{:process {call.client}, :type :{kind}, :f :{call.op}, :value [:{call.key} "
-                     f"{'nil' if value is None else value}], :index {len(lines)}, :time "
+                     f"{_edn(_known(kind, call))}], :index {len(lines)}, :time "
                      f"{len(lines) * 7}{error}}}")
         if chance.random() < 0.1:
             lines.append(NEMESIS % len(lines))
@@ -163,7 +187,7 @@ def jepsen_edn(calls: List[Call], chance: random.Random) -> str:
 def jepsen_json(calls: List[Call], chance: random.Random) -> str:
     rows: List[Dict[str, Any]] = []
     for kind, call in _steps(calls, chance):
-        error = {"error": "broken"} if kind in ("fail", "info") else {}
+        error = {"error": "broken"} if _is_broken(kind, call) else {}
         rows.append({"index": len(rows), "type": kind, "f": call.op, "value": [call.key, _known(kind, call)],
                      "process": call.client, "time": len(rows), **error})
     return json.dumps(rows) if chance.random() < 0.5 else "\n".join(map(json.dumps, rows))
@@ -172,10 +196,9 @@ def jepsen_json(calls: List[Call], chance: random.Random) -> str:
 def _told(calls: List[Call], chance: random.Random, before: str, gap: str) -> str:
     lines = []
     for kind, call in _steps(calls, chance):
-        value = _known(kind, call)
-        shown = f"[:{call.key} {'nil' if value is None else value}]"
+        shown = f"[:{call.key} {_edn(_known(kind, call))}]"
         lines.append(before + gap.join([str(call.client), ":" + kind, ":" + call.op, shown,
-                                        *([":broken"] if kind in ("fail", "info") else [])]))
+                                        *([":broken"] if _is_broken(kind, call) else [])]))
         if chance.random() < 0.1:
             lines.append(before + gap.join([":nemesis", ":info", ":cut", "#<Object of ["]))
     return "\n".join(lines)
@@ -194,19 +217,30 @@ def porcupine_log(calls: List[Call], chance: random.Random) -> str:
     for kind, call in _steps(calls, chance):
         value = _known(kind, call)
         text = "nil" if kind == "invoke" and value is None else f'"{"" if value is None else value}"'
-        lines.append(f'{{:process {call.client}, :type :{kind}, :f :{"get" if call.op == "read" else "put"}, '
+        if call.op == "cas":
+            expected = chance.choice(["nil", '""']) if call.expected is None else f'"{call.expected}"'
+            text = f'[{expected} "{call.value}"]' + (", :error :broken" if _is_broken(kind, call) else "")
+        lines.append(f'{{:process {call.client}, :type :{kind}, :f :{_FUNCTIONS[call.op]}, '
                      f':key "{call.key}", :value {text}}}')
     return "\n".join(lines)
 
 
+_FUNCTIONS = {"read": "get", "write": "put", "cas": "cas"}
+
+
 def _go_input(call: Call) -> Dict[str, Any]:
+    if call.op == "cas":
+        return {"Op": "cas", "Key": call.key, "From": "" if call.expected is None else str(call.expected),
+                "To": str(call.value), "Version": 3}
     return {"Op": 0 if call.op == "read" else 1, "Key": call.key,
             "Value": str(call.value) if call.op == "write" else "", "Version": 3}
 
 
 def _go_output(call: Call, chance: random.Random) -> Dict[str, Any]:
     unknown = chance.choice(["ErrMaybe", "timeout"])
-    error = {"ok": "OK", "fail": "ErrVersion", "unknown": unknown}[call.outcome]
+    error = {"ok": "OK", "fail": "ErrVersion", "missed": "OK", "unknown": unknown}[call.outcome]
+    if call.op == "cas":
+        return {"Ok": call.outcome == "ok", "Err": error}
     known = call.op == "read" and call.outcome == "ok" and call.value is not None
     return {"Value": str(call.value) if known else "", "Version": 0, "Err": error}
 
@@ -234,16 +268,30 @@ def porcupine_events(calls: List[Call], chance: random.Random) -> str:
 
 def _rows(calls: List[Call], chance: random.Random) -> Iterator[Dict[str, Any]]:
     for call in sorted(calls, key=lambda _: chance.random()):
-        known = call.op == "write" or call.outcome == "ok"
+        known = call.op == "write" or (call.op == "read" and call.outcome == "ok")
         end = chance.choice([None, 99]) if call.end is None else call.end
-        yield {"process": call.client, "start": call.start, "end": end, "register": call.key, "op": call.op,
+        row = {"process": call.client, "start": call.start, "end": end, "register": call.key, "op": call.op,
                "value": call.value if known else None, "outcome": call.outcome}
+        if any(each.op == "cas" for each in calls):
+            row.update(dict.fromkeys(("from", "to", "ok")), **_cas_columns(call, chance))
+        yield row
+
+
+def _cas_columns(call: Call, chance: random.Random) -> Dict[str, Any]:
+    """What only a cas has in a row. That it missed is its outcome, or its ok is false."""
+    if call.op != "cas":
+        return {}
+    more = {"from": call.expected, "to": call.value}
+    if call.outcome == "missed" and chance.random() < 0.5:
+        return {**more, "ok": False, "outcome": "ok"}
+    return {**more, "ok": chance.choice([call.outcome == "ok", None])}
 
 
 def _table(calls: List[Call], chance: random.Random, delimiter: str) -> str:
-    lines = [delimiter.join(["process", "start", "end", "register", "op", "value", "outcome"])]
+    rows = list(_rows(calls, chance))
+    lines = [delimiter.join(rows[0])]
     lines += [delimiter.join("" if member is None else str(member) for member in row.values())
-              for row in _rows(calls, chance)]
+              for row in rows]
     return "\n".join(lines)
 
 
@@ -252,13 +300,16 @@ def csv_table(calls: List[Call], chance: random.Random) -> str:
 
 
 def csv_words(calls: List[Call], chance: random.Random) -> str:
-    words = {"ok": "done", "fail": "refused, too late", "unknown": "timeout"}
-    lines = ["node;who;from;to;what;key;value;status;version"]
+    words = {"ok": "done", "fail": "refused, too late", "unknown": "timeout", "missed": "another value"}
+    lines = ["node;who;from;to;what;key;value;status;version;old;new"]
     for row in _rows(calls, chance):
+        if row.get("ok") is False and row["outcome"] == "ok":
+            row["outcome"] = "missed"
         row["outcome"] = words[row["outcome"]]
-        row["op"] = {"read": "FETCH", "write": "STORE"}[row["op"]]
+        row["op"] = {"read": "FETCH", "write": "STORE", "cas": "SWAP"}[row["op"]]
         lines.append(";".join("" if row.get(name) is None else str(row[name]) for name in [
-            "node", "process", "start", "end", "op", "register", "value", "outcome", "version"]))
+            "node", "process", "start", "end", "op", "register", "value", "outcome", "version", "from",
+            "to"]))
     return "\n".join(lines)
 
 
@@ -268,7 +319,8 @@ def operations(calls: List[Call], chance: random.Random) -> str:
 
 
 def operations_codes(calls: List[Call], chance: random.Random) -> str:
-    codes: Dict[str, List[Optional[int]]] = {"ok": [200, 204], "fail": [409], "unknown": [500, 504, None]}
+    codes: Dict[str, List[Optional[int]]] = {"ok": [200, 204], "fail": [409], "unknown": [500, 504, None],
+                                             "missed": [412]}
     rows = []
     for row in _rows(calls, chance):
         row["code"] = chance.choice(codes[row.pop("outcome")])
@@ -276,17 +328,21 @@ def operations_codes(calls: List[Call], chance: random.Random) -> str:
     return "\n".join(map(json.dumps, rows))
 
 
+_EVENTS = {"ok": "reply", "fail": "fail", "missed": "reply", "unknown": "timeout"}
+
+
 def jsonl(calls: List[Call], chance: random.Random) -> str:
     """With the recorder's own members, and with an event for some outcomes that are unknown."""
     rows: List[Dict[str, Any]] = []
     told = [(99, False, call) for call in calls if call.outcome == "unknown" and chance.random() < 0.5]
     for time, is_call, call in events(calls) + told:
-        what = "call" if is_call else {"ok": "reply", "fail": "fail", "unknown": "timeout"}[call.outcome]
+        what = "call" if is_call else _EVENTS[call.outcome]
         row: Dict[str, Any] = {"process": f"client {call.client}", "event": what, "time": time}
         if is_call:
-            row.update(op=call.op, register=call.key)
-        if call.op == "write" if is_call else (call.op, call.outcome) == ("read", "ok"):
+            row.update(op=call.op, register=call.key, **asked(call, "v{}".format))
+        elif (call.op, call.outcome) == ("read", "ok"):
             row["value"] = None if call.value is None else f"v{call.value}"
+        row.update({} if is_call else _ok(call))
         rows.append(row)
     return "\n".join(map(json.dumps, rows))
 
@@ -303,11 +359,12 @@ FORMS: Dict[str, Form] = {
         "--ok-when", "Err=OK", "--outcomes", "ErrVersion=fail", "--ignore-member", "Version")),
     "csv": Form("csv", csv_table),
     "csv in other words": Form("csv", csv_words, (
-        "--columns", "process=who,start=from,end=to,op=what,register=key,outcome=status", "--ops",
-        "fetch=read,store=write", "--outcomes", "done=ok,refused, too late=fail,timeout=unknown",
+        "--columns", "process=who,start=from,end=to,op=what,register=key,outcome=status,from=old,to=new",
+        "--ops", "fetch=read,store=write,swap=cas", "--outcomes",
+        "done=ok,refused, too late=fail,timeout=unknown,another value=missed",
         "--ignore-member", "version")),
     "operations": Form("operations", operations),
     "operations with codes": Form("operations", operations_codes, (
-        "--ok-when", "code=200,204", "--outcomes", "409=fail")),
+        "--ok-when", "code=200,204", "--outcomes", "409=fail,412=missed")),
     "jsonl": Form("jsonl", jsonl, ("--outcomes", "timeout=unknown")),
 }

@@ -68,20 +68,19 @@ def history_of(source: str, form: str, *options: str) -> str:
 
 
 def short(history: str) -> List[str]:
-    """Each event in a few letters: calls are `1 w x 5` and `1 r x`, replies `1 .` and `1 = 5`."""
+    """Each event in a few letters: calls are `1 w x 5`, `1 r x` and `1 c x 5 6`, replies `1 .`, `1 = 5` and
+    `1 True`."""
     lines: List[str] = []
-    reads: Dict[int, bool] = {}
+    ops: Dict[int, str] = {}
     for event in map(json.loads, history.splitlines()):
         process, what = event["process"], event["event"]
         if what == "call":
-            reads[process] = event["op"] == "read"
-            lines.append(
-                f"{process} r {event['register']}"
-                if reads[process]
-                else f"{process} w {event['register']} {event['value']}"
-            )
+            ops[process] = event["op"]
+            asked = [event[name] for name in ("value", "from", "to") if name in event]
+            lines.append(" ".join(map(str, [process, event["op"][0], event["register"], *asked])))
         elif what == "reply":
-            lines.append(f"{process} = {event['value']}" if reads[process] else f"{process} .")
+            answers = {"read": f"= {event.get('value')}", "write": ".", "cas": event.get("ok")}
+            lines.append(f"{process} {answers[ops[process]]}")
         else:
             lines.append(f"{process} {what}")
     return lines

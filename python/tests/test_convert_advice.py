@@ -30,7 +30,7 @@ WAYS_OUT: List[Tuple[str, str, Dict[str, str], Dict[Words, Optional[bool]]]] = [
     ("jepsen", _JEPSEN % ("invoke", "store", "[1 4]") + _JEPSEN % ("ok", "store", "[1 4]")
      + _READ % ("[2 nil]", "[2 nil]"), {},
      {("--ops", "store=write"): True, ("--ops", "store=other", "--cas", "skip-key"): True}),
-    ("jepsen", _JEPSEN % ("invoke", "cas", "[1 [4 5]]") + _READ % ("[2 nil]", "[2 nil]"), {},
+    ("jepsen", _JEPSEN % ("invoke", "append", "[1 [4 5]]") + _READ % ("[2 nil]", "[2 nil]"), {},
      {("--cas", "skip-key"): True}),
     ("jepsen", _written("1", "1").replace(":ok, :f :write", ':ok, :err "late", :f :write'), {"WORD": "late"},
      {("--ok-when", "err=late"): True, ("--ignore-member", "err"): True}),

@@ -2,16 +2,18 @@
 
     {"process":"alice","event":"call","op":"write","register":["user",7],"value":"v1"}
     {"process":"alice","event":"reply"}
+    {"process":"alice","event":"call","op":"cas","register":["user",7],"from":"v1","to":"v2"}
+    {"process":"alice","event":"reply","ok":true}
 
 Processes and values may be texts, registers any JSON. What else `regcheck` says of a history holds here too.
 """
 import shlex
-from typing import Any, Dict, Iterable, Optional
+from typing import Any, Dict, Iterable, Optional, Tuple
 
 from regkit import edn
 from regkit.convert.json_values import json_values
 from regkit.convert.members import Known, Outcomes
-from regkit.convert.model import (ENDINGS, GREATEST, READS, WRITES, Choices, Client, Operation, Refused,
+from regkit.convert.model import (CAS, ENDINGS, GREATEST, READS, WRITES, Choices, Client, Operation, Refused,
                                   Source, folded)
 from regkit.convert.pairing import Pairing
 from regkit.convert.rows import client_of
@@ -41,26 +43,33 @@ class _Log:
         self.choices = choices
         self.pairing = Pairing(ends_with_crash=True)
         self.known = Known(choices, "jsonl")
+        self.cas_known = (Known(choices, "jsonl's cas"), Known(choices, "jsonl's end of a cas"))
         self.outcomes = Outcomes(choices)
 
     def take(self, line: int, event: Event) -> None:
-        self.known.check(event, line)
         client, what = client_of(event["process"], False), event.get("event")
+        self._known(client, what, event).check(event, line)
         if what == "call":
             op = event.get("op")
             if type(op) is not str:
-                raise Refused("a call has the member op, read or write", line)
+                raise Refused("a call has the member op, read, write or cas", line)
             key = event.get("register", self.choices.register)
-            called = Operation(line, client, self.choices.kind_of(op), key, event.get("value"))
+            kind = self.choices.kind_of(op)
+            called = Operation(line, client, kind, key,
+                               self._cas(event, line) if kind == CAS else event.get("value"))
             _say_who(called, event)
             self.pairing.call(called)
         elif what == "crash":
             self._crash(line, client, event)
         else:
-            ending = self._ending(what, line)
+            ending = self._ending(what, self.pairing.open.get(client), line)
             called = self.pairing.called(client, line)
             self._agree(event, called, line)
             called.end_time = _time(event)
+            if ending in ("fail", "missed") and event.get("ok") not in (None, False):
+                raise Refused(f"the cas ends by {edn.write(what)}, and ok is {edn.write(event['ok'])}: did "
+                              "it "
+                              "take place or not?", line)
             if ending == "reply":
                 ending = self._reply(event, called, line)
             self.pairing.end(line, client, ending, called.answer)
@@ -72,13 +81,31 @@ class _Log:
         else:
             ended.end_time = _time(event)
 
-    def _ending(self, what: Any, line: int) -> Optional[str]:
+    def _known(self, client: Client, what: Any, event: Event) -> Known:
+        """What the line of a cas has is understood in no other line."""
+        if what == "call":
+            op = event.get("op")
+            return self.cas_known[0] if type(op) is str and self.choices.kind_of(op) == CAS else self.known
+        called = self.pairing.open.get(client)
+        return self.cas_known[1] if called is not None and called.kind == CAS else self.known
+
+    def _cas(self, event: Event, line: int) -> Tuple[Any, Any]:
+        """What a cas asks for and what it writes."""
+        if "from" not in event or "to" not in event:
+            raise Refused("the call of a cas has from and to: write null in from if it asks for no "
+                          "value", line)
+        if event.get("value") is not None and not self.choices.explains("value"):
+            raise Refused(f"the call of a cas has from and to, and no value, but this is "
+                          f"{edn.write(event['value'])[:40]}", line)
+        return event["from"], event["to"]
+
+    def _ending(self, what: Any, called: Optional[Operation], line: int) -> Optional[str]:
         """What an event other than a call and a crash does to its call."""
         outcome = self.choices.outcomes.get(folded(what)) if type(what) is str else None
         if outcome is not None:
             return ENDINGS[outcome]
         if what in _ENDINGS:
-            return str(what)
+            return "reply" if what == "reply" or called is None else self.choices.failure_of(called.kind)
         said = "absent" if what is None else edn.write(what)
         option = shlex.quote(f"{what}=unknown") if type(what) is str else "WORD=unknown"
         raise Refused(f"event is {said}, and call, reply, fail or crash is expected: if it ends a call, say "
@@ -86,7 +113,12 @@ class _Log:
                       "effect)", line)
 
     def _agree(self, event: Event, called: Operation, line: int) -> None:
-        """A reply or a failure repeats its call's op and register, if it has them."""
+        """A reply or a failure repeats what its call has, if it has it."""
+        for name, asked in zip(("from", "to"), called.value if called.kind == CAS else ()):
+            if event.get(name) is not None and edn.write(event[name]) != edn.write(asked):
+                raise Refused(f"{name} is {edn.write(event[name])[:40]}, and the call at line {called.line} "
+                              "has "
+                              f"{edn.write(asked)[:40]}: is it the answer to another call?", line)
         op = event.get("op")
         if op is not None and self.choices.kind_of(op if type(op) is str else edn.write(op)) != called.kind:
             raise Refused(f"op is {edn.write(op)}, and the call at line {called.line} has "
@@ -98,12 +130,31 @@ class _Log:
 
     def _reply(self, event: Event, called: Operation, line: int) -> Optional[str]:
         """Gives a call its answer. Returns what ended it."""
+        if called.kind == CAS:
+            return self._cas_reply(event, line)
         ending, found_nothing = self.outcomes.of(event, called.kind in READS)
         if called.kind in READS and not found_nothing and ending == "reply" and "value" not in event:
             raise Refused("a read's reply has no value: write null if the read found none", line)
         told = called.kind not in WRITES or not self.choices.explains("value")
         called.answer = event.get("value") if told and not found_nothing else None
         return ending
+
+
+    def _cas_reply(self, event: Event, line: int) -> Optional[str]:
+        """How a cas ended that got a reply."""
+        ending, _ = self.outcomes.of(event, False)
+        if event.get("value") is not None and not self.choices.explains("value"):
+            raise Refused(f"the reply of a cas has ok and no value, but this is "
+                          f"{edn.write(event['value'])[:40]}: say --ok-when value=WORD,.. with the words by "
+                          "which it took place, or --ignore-member value if it means nothing", line)
+        if ending != "reply" or "ok" in self.choices.ok_when:
+            return ending
+        took_place = event.get("ok")
+        if type(took_place) is not bool or "ok" in self.choices.ignored:
+            raise Refused("a cas's reply has no ok, true or false: write true if it took place, and false "
+                          "if the "
+                          "store said that it found another value", line)
+        return "reply" if took_place else "missed"
 
 
 def _say_who(operation: Operation, event: Event) -> None:

@@ -2,7 +2,7 @@
 from typing import Any, List, Optional, Tuple
 
 from regkit import edn
-from regkit.convert.model import KNOWN, READS, Choices, Operation, Refused
+from regkit.convert.model import CAS, KNOWN, READS, Choices, Operation, Refused
 
 Pair = Tuple[Any, Any]
 
@@ -35,15 +35,22 @@ def are_independent(operations: List[Operation], choices: Choices) -> bool:
     if choices.keys != "auto":
         return choices.keys == "independent"
     pairs = others = 0
+    either: Optional[Operation] = None
     for call in operations:
         if call.key is None and call.kind in KNOWN:
             pair = pair_of(call.value)
-            if pair is None or (call.kind == "cas" and pair_of(pair[1]) is None):
+            if pair is None or (call.kind == CAS and pair_of(pair[1]) is None):
                 others += 1
             elif call.kind in READS and pair[1] is None:
                 return True
             else:
                 pairs += 1
+                if call.kind == CAS and pair_of(pair[0]) is not None:
+                    either = either or call
+    if either is not None and not others:
+        raise Refused(f"the value {edn.write(either.value)[:60]} may be a key with [from to], or from and "
+                      "to: say "
+                      "--keys independent or --keys none", either.line)
     return pairs > 0 and not others
 
 

@@ -7,7 +7,9 @@ One operation is a map or a record of EDN, an object of JSON with the same membe
     INFO  jepsen.util - 0 :invoke :write 11
 
 `:ok` is a reply, `:fail` a failure that surely had no effect, and `:info` a crash of the client: the outcome
-is unknown and the process does nothing more. Processes that aren't numbers, such as :nemesis, are no clients.
+is unknown and the process does nothing more. A cas has [from to] as its value; if its `:fail` says that the
+store found another value, `--failed-cas missed` says so. Processes that aren't numbers, such as :nemesis, are
+no clients.
 """
 import itertools
 from collections import Counter
@@ -18,14 +20,15 @@ from regkit.convert.independent import are_independent, nothing_for, part
 from regkit.convert.jepsen_lines import NO_OPERATION, line_events
 from regkit.convert.json_values import is_json, json_values
 from regkit.convert.members import Ended, Known, Outcomes, word_of
-from regkit.convert.model import (ENDINGS, KNOWN, OTHER, READS, WRITES, Choices, Operation, Refused, Source,
-                                  folded)
+from regkit.convert.model import (CAS, ENDINGS, KNOWN, OTHER, READS, WRITES, Choices, Operation, Refused,
+                                  Source, folded)
 from regkit.convert.pairing import Pairing
 from regkit.convert.settle import settle
 from regkit.convert.transactions import refuse_appends, take_apart
 from regkit.convert.values import spelled
 
 _NO_KEY = "key-does-not-exist"  # Maelstrom's definite error of a read that found no such key
+_OTHER_VALUE = frozenset({_NO_KEY, "precondition-failed"})  # and its errors of a cas that missed
 _TYPES = {":ok": "reply", ":fail": "fail", ":info": "crash"}
 _ERRORS = (":error", ":exception")
 
@@ -92,6 +95,7 @@ class _Log:
         self.known = Known(choices, "jepsen")
         self.outcomes = Outcomes(choices)
         self.left_out: Dict[str, int] = Counter()
+        self.refused_cas = 0  # how many failed for another reason than the value
         self.index = -1  # of the last event that had one
 
     def source(self, events: Events) -> Source:
@@ -104,6 +108,10 @@ class _Log:
         source = Source(self.pairing.steps)
         source.left_out.update(self.left_out)
         source.notes.extend(self.outcomes.notes())
+        if self.refused_cas:
+            source.notes.append(f"took {self.refused_cas:,} cas that failed with an error as failed, and "
+                                "not as "
+                                "missed: the error may have another reason than the value")
         operations = list(source.operations())
         refuse_appends(operations)
         independent = are_independent(operations, self.choices)
@@ -176,13 +184,15 @@ class _Log:
         is_read = called.kind in READS
         if ending == "fail" and is_read and self._found_no_key(event):
             ending, answer = "reply", nothing_for(called.value)
+        elif ending == "fail" and spelled(event.get(":type")) == ":fail":
+            ending = self._failure(called, event)
         elif ending == "reply":
             ending, found_nothing = self._looked_closer(event, is_read, line)
             if found_nothing:
                 answer = nothing_for(called.value)
             elif is_read and ending == "reply" and ":value" not in event:
                 raise Refused("the reply of a read has no :value: let it be nil if the read found none", line)
-            elif called.kind in WRITES and self.choices.explains("value"):
+            elif (called.kind in WRITES or called.kind == CAS) and self.choices.explains("value"):
                 answer = called.value
         self.pairing.end(line, client, ending, answer)
 
@@ -195,13 +205,31 @@ class _Log:
                               f"{name[1:]} if that means nothing", line)
         return self.outcomes.of(event, is_read)
 
+    def _failure(self, called: Operation, event: Event) -> str:
+        """What the log's own failure says: with --failed-cas missed, a cas found another value.
+
+        But an error may say that it failed for another reason, and then it is no more than a failure.
+        """
+        ending, error = self.choices.failure_of(called.kind), _error(event)
+        if ending == "missed" and error is not None and folded(word_of(error)) not in _OTHER_VALUE:
+            self.refused_cas += 1
+            return "fail"
+        return ending
+
     def _found_no_key(self, event: Event) -> bool:
         """Whether a read failed because the key has no value: that is a read of null."""
-        error = event.get(":error")
-        if isinstance(error, tuple) and error:
-            error = error[0]
+        error = _error(event)
         word = word_of(error)
         return error is not None and (folded(word) == _NO_KEY or self.outcomes.names_null(word))
+
+
+def _error(event: Event) -> Any:
+    """What an operation's error begins with."""
+    for name in _ERRORS:
+        error = event.get(name)
+        if error is not None:
+            return error[0] if isinstance(error, tuple) and error else error
+    return None
 
 
 def _place(operation: Operation, independent: bool, choices: Choices) -> None:

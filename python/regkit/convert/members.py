@@ -23,9 +23,15 @@ UNDERSTOOD: Dict[str, FrozenSet[str]] = {
     "event": frozenset({"clientid", "kind", "value", "id"}),
     "input": frozenset({"op", "key", "value"}),
     "output": frozenset({"value"}),
+    "cas input": frozenset({"op", "key", "value", "from", "to"}),
+    "cas output": frozenset({"value", "ok"}),
+    "etcd input": frozenset({"op", "key", "arg1", "arg2"}),
+    "etcd output": frozenset({"ok", "exists", "value", "unknown"}),
     "csv": frozenset(),  # a table and objects name their own
     "operations": frozenset(),
     "jsonl": frozenset({"process", "event", "op", "register", "value"}),
+    "jsonl's cas": frozenset({"process", "event", "op", "register", "value", "from", "to"}),
+    "jsonl's end of a cas": frozenset({"process", "event", "op", "register", "value", "from", "to", "ok"}),
 }
 # By form, members that say who, where and when, and never how an operation ended.
 HARMLESS: Dict[str, FrozenSet[str]] = {
@@ -33,6 +39,8 @@ HARMLESS: Dict[str, FrozenSet[str]] = {
     "csv": frozenset({"index", "node"}),
     "operations": frozenset({"index", "node"}),
     "jsonl": frozenset({"client", "node", "time"}),
+    "jsonl's cas": frozenset({"client", "node", "time"}),
+    "jsonl's end of a cas": frozenset({"client", "node", "time"}),
 }
 # By form, the name of what a write's reply says, for a person.
 WRITE_ANSWERS = {"jepsen": "value", "porcupine": "Output", "csv": "value", "operations": "value",
@@ -51,14 +59,18 @@ class Known:
                       | choices.ok_when.keys() | {folded(name) for name in own})
         self.seen: Set[Tuple[Any, ...]] = set()  # the members of lines that were let through
 
+    def refuse(self, members: Mapping[Any, Any], strange: List[Any], line: int) -> None:
+        """Raises Refused for members that mean nothing here, if there are any."""
+        if strange:
+            raise Refused(self._not_understood(members, strange), line)
+
     def check(self, members: Mapping[Any, Any], line: int) -> None:
         """Raises Refused for the first member that isn't understood."""
         names = tuple(members)
         if names in self.seen:
             return
         strange = [name for name in names if folded(spelled(name)) not in self.names]
-        if strange:
-            raise Refused(self._not_understood(members, strange), line)
+        self.refuse(members, strange, line)
         if len({folded(spelled(name)) for name in names}) < len(names):
             raise Refused(f"two members have one name, among {', '.join(map(spelled, names))}: rename one",
                           line)
@@ -94,6 +106,7 @@ class Ended(NamedTuple):
 
 
 _WELL = Ended("reply")
+_WEAKEST_FIRST = (None, "fail", "missed", "reply")  # the first that a member says holds
 
 
 class Outcomes:
@@ -118,7 +131,7 @@ class Outcomes:
             if is_read and word and self.names_null(word):
                 return Ended("reply", True)
             endings.add(self._ending(name, word))
-        return Ended(None if None in endings else "fail" if "fail" in endings else "reply")
+        return Ended(next(ending for ending in _WEAKEST_FIRST if ending in endings))
 
     def names_null(self, word: str) -> bool:
         return word in self.choices.nulls or word.lstrip(":") in self.choices.nulls
@@ -134,6 +147,13 @@ class Outcomes:
             said = f"{name} {word}" if word else f"no {name}"
             yield (f"took {counted(number, 'operation')} with {said} as of unknown outcome: if that means "
                    f"that it surely had no effect, say --outcomes {shlex.quote(word + '=fail')}")
+
+
+def ok_of(told: Any) -> Optional[bool]:
+    """What a member says of whether a cas took place: true or false, as JSON has them or as texts."""
+    if type(told) is str:
+        return {"true": True, "false": False}.get(folded(told))
+    return told if type(told) is bool else None
 
 
 def by_folded_name(members: Mapping[Any, Any]) -> Dict[str, Any]:

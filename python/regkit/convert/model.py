@@ -12,10 +12,12 @@ LEAST, GREATEST = -(2 ** 63), 2 ** 63 - 1
 MOST_PROCESS = 2 ** 32 - 1
 READS = frozenset({"read", "r", "get"})
 WRITES = frozenset({"write", "w", "put", "set"})
-READ_AND_WRITE = frozenset({"cas", "append"})  # operations that read and write at once
-OTHER = "other"  # by --ops, an operation that is neither a read nor a write
+CAS = "cas"
+READ_AND_WRITE = frozenset({CAS, "append"})  # operations that read and write at once
+OTHER = "other"  # by --ops, an operation that is no read, no write and no cas
 KNOWN = READS | WRITES | READ_AND_WRITE
-ENDINGS = {"ok": "reply", "fail": "fail", "unknown": None}  # by outcome, what ends an operation
+# By outcome, what ends an operation. A cas that missed found another value, and replied so.
+ENDINGS = {"ok": "reply", "fail": "fail", "unknown": None, "missed": "missed"}
 
 
 class Refused(Exception):
@@ -32,17 +34,19 @@ class WrongWords(Exception):
 class Operation:
     """A call with what ended it, as the source has it. `kind` is crash for a crash without an open call."""
 
-    __slots__ = ("line", "end_line", "client", "kind", "key", "value", "answer", "ending", "process", "time",
-                 "end_time", "name", "node")
+    __slots__ = ("line", "end_line", "client", "kind", "key", "value", "expected", "missed", "answer",
+                 "ending", "process", "time", "end_time", "name", "node")
 
     def __init__(self, line: int, client: Client, kind: str, key: Any, value: Any) -> None:
         self.line = line
         self.client = client
-        self.kind = kind  # "read" or "write" once it is settled
+        self.kind = kind  # "read", "write" or "cas" once it is settled
         self.key = key  # the source's own; once it is settled, the text by which EDN writes it
-        self.value = value  # written; once it is settled, of a read what it gave
+        self.value = value  # written; once it is settled, of a read what it gave. Of a cas both its values
+        self.expected: Any = None  # once it is settled, the value that a cas asks for
+        self.missed = False  # once it is settled, whether a cas replied that it found another value
         self.answer: Any = None  # the value of the line that ended it
-        self.ending: Optional[str] = None  # "reply", "fail", "crash", or None if its outcome is unknown
+        self.ending: Optional[str] = None  # one of ENDINGS or "crash", and not "missed" once it is settled
         self.end_line: Optional[int] = None
         self.process = -1  # its number in the history
         self.time: Optional[int] = None  # of its call and of its end, in nanoseconds, if they are known
@@ -65,11 +69,12 @@ class Choices(NamedTuple):
     nulls: FrozenSet[str] = frozenset()
     initial: Optional[str] = None
     values: str = "auto"
-    cas: str = "refuse"
+    cas: str = "keep"
+    failed_cas: str = "fail"  # or missed
     columns: Dict[str, str] = {}
     delimiter: Optional[str] = None
-    ops: Dict[str, str] = {}  # the source's word for an operation -> read, write or other
-    outcomes: Dict[str, str] = {}  # the source's word for an outcome -> ok, fail or unknown
+    ops: Dict[str, str] = {}  # the source's word for an operation -> read, write, cas or other
+    outcomes: Dict[str, str] = {}  # the source's word for an outcome -> one of ENDINGS
     ok_when: Dict[str, FrozenSet[str]] = {}  # a member -> the words in it that say that all went well
     ignored: FrozenSet[str] = frozenset()  # members that mean nothing
     clock_error: Optional[str] = None
@@ -78,6 +83,10 @@ class Choices(NamedTuple):
     def kind_of(self, word: str) -> str:
         """What a word of the source does, if the command line says so; else the word."""
         return self.ops.get(folded(word), word) if self.ops else word
+
+    def failure_of(self, kind: str) -> str:
+        """What a form's own word for a failure says of an operation."""
+        return "missed" if kind == CAS and self.failed_cas == "missed" else "fail"
 
     def explains(self, *members: str) -> bool:
         """Whether the command line says what one of some members means."""

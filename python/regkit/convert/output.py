@@ -13,7 +13,7 @@ import itertools
 import json
 from typing import Any, Dict, Iterable, Iterator, List, NamedTuple, TextIO
 
-from regkit.convert.model import Operation, Source
+from regkit.convert.model import CAS, Operation, Source, Value
 from regkit.convert.values import readable
 from regkit.convert.whole import Converted
 from regkit.who import members
@@ -31,14 +31,26 @@ def history_lines(converted: Converted) -> Iterator[str]:
             if step.ending != "reply":
                 yield f'{{"process":{process},"event":"{step.ending}"{who}}}\n'
             elif step.kind == "read":
-                shown = "null" if value is None else value
-                yield f'{{"process":{process},"event":"reply","value":{shown}{who}}}\n'
+                yield f'{{"process":{process},"event":"reply","value":{_shown_value(value)}{who}}}\n'
+            elif step.kind == CAS:
+                told = "false" if step.missed else "true"
+                yield f'{{"process":{process},"event":"reply","ok":{told}{who}}}\n'
             else:
                 yield f'{{"process":{process},"event":"reply"{who}}}\n'
         else:
-            value_member = "" if step.kind == "read" else f',"value":{value}'
             yield (f'{{"process":{process},"event":"call","op":"{step.kind}","register":{quoted[step.key]}'
-                   f'{value_member}{who}}}\n')
+                   f'{_asked(step)}{who}}}\n')
+
+
+def _asked(step: Operation) -> str:
+    """The members that say what a call asks for."""
+    if step.kind == CAS:
+        return f',"from":{_shown_value(step.expected)},"to":{step.value}'
+    return "" if step.kind == "read" else f',"value":{step.value}'
+
+
+def _shown_value(value: Value) -> Value:
+    return "null" if value is None else value
 
 
 def _who(step: Operation, is_call: bool) -> str:
@@ -97,5 +109,6 @@ def _shown(converted: Converted) -> Dict[str, Dict[str, str]]:
 def _whole_numbers(source: Source, key: str, numbers: Dict[str, int]) -> Iterator[int]:
     """The whole numbers that a register has itself, beside those that stand for texts."""
     standing = set(numbers.values())
-    return (operation.value for operation in source.operations()
-            if operation.key == key and type(operation.value) is int and operation.value not in standing)
+    return (value for operation in source.operations() if operation.key == key
+            for value in (operation.expected, operation.value)
+            if type(value) is int and value not in standing)

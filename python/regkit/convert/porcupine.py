@@ -9,14 +9,17 @@ a line or in one array, they look like this; the letters of a member's name may 
 
     {"ClientId":0,"Input":{"Op":"put","Key":"x","Value":"a"},"Call":10,"Output":{},"Return":20}
     {"ClientId":0,"Kind":false,"Value":{"Op":"get","Key":"x"},"Id":7}
+
+A cas has From and To, and Ok in its output. Inputs with Arg1 and Arg2 are those of Porcupine's model of etcd,
+in which Op 2 is a cas (etcd).
 """
 from decimal import Decimal
-from typing import Any, Dict, Iterable, Optional
+from typing import Any, Dict, Iterable, Optional, Set, Tuple
 
-from regkit.convert import jepsen
+from regkit.convert import etcd, jepsen
 from regkit.convert.json_values import is_json, json_values
-from regkit.convert.members import Known, Outcomes, by_folded_name
-from regkit.convert.model import READS, WRITES, Choices, Operation, Refused, Source
+from regkit.convert.members import Known, Outcomes, by_folded_name, ok_of
+from regkit.convert.model import CAS, READS, WRITES, Choices, Operation, Refused, Source
 from regkit.convert.pairing import Pairing
 from regkit.convert.rows import client_of
 from regkit.convert.settle import settle
@@ -47,7 +50,9 @@ class _Values:
         self.timed = Timed()
         self.pairing = Pairing()
         self.outcomes = Outcomes(choices)
-        self.known = {place: Known(choices, place) for place in ("operation", "event", "input", "output")}
+        self.known = {place: Known(choices, place) for place in (
+            "operation", "event", "input", "output", "cas input", "cas output", "etcd input", "etcd output")}
+        self.etcd: Set[Operation] = set()  # those of the model of etcd
 
     def source(self, lines: Iterable[str]) -> Source:
         for line, value in json_values(lines):
@@ -74,9 +79,17 @@ class _Values:
         if found.get("op") is None:
             raise Refused("the input has no member Op: let it have Op (get or put), Key and Value, exported, "
                           "so that Go's encoding/json writes them", line)
-        self.known["input"].check(given, line)
         word = spelled(found["op"]).lower()
         kind = self.choices.kind_of(word)
+        if "arg1" in found or "arg2" in found:
+            self.known["etcd input"].check(given, line)
+            kind, value = etcd.asked(kind, found, line)
+            operation = Operation(line, client, kind, found.get("key", self.choices.register), value)
+            self.etcd.add(operation)
+            return operation
+        self.known["cas input" if kind == CAS else "input"].check(given, line)
+        if kind == CAS:
+            return Operation(line, client, kind, found.get("key", self.choices.register), _swap(found, line))
         kind = _OPS.get(word, word) if kind == word else kind
         if word in _READS_BY_HABIT and word not in self.choices.ops and not _is_zero(found.get("value")):
             raise Refused(f"Op {word} is a get in Porcupine's models, and this input has a value to write, "
@@ -87,16 +100,41 @@ class _Values:
     def _end(self, operation: Operation, output: Any, beside: Members, line: int) -> Optional[str]:
         """Gives an operation its answer, the output or its member Value. Returns the operation's ending."""
         members: Members = {} if output is None else {"output": output}
+        is_etcd, is_cas = operation in self.etcd, operation.kind == CAS
         if isinstance(output, dict):
-            self.known["output"].check(output, line)
+            self.known["etcd output" if is_etcd else "cas output" if is_cas else "output"].check(output, line)
             members = by_folded_name(output)
         is_read = operation.kind in READS
         ending, found_nothing = self.outcomes.of({**beside, **members}, is_read)
+        if ending == "reply" and is_etcd:
+            ending, members = etcd.ended(operation, members, line)
+        if ending != "reply":
+            return ending
+        if is_cas:
+            return self._end_cas(operation, members, line)
         if is_read and not found_nothing and ending == "reply":
             operation.answer = self._read(members, line)
         elif operation.kind in WRITES and not self.choices.explains("output", "value"):
             operation.answer = _written(members)
         return ending
+
+    def _end_cas(self, operation: Operation, members: Members, line: int) -> str:
+        """By Ok, unless the options say which words mean that all went well."""
+        answer = _written(members)
+        if answer is not None and "ok" in members and not self.choices.explains("output", "value"):
+            raise Refused(f"the output of a cas has the value {spelled(answer)[:40]} beside Ok: say "
+                          "--ignore-member "
+                          "Value if it means nothing", line)
+        took_place = ok_of(members.get("ok"))
+        if self.choices.ok_when and (took_place is None or self.choices.explains("ok")):
+            return "reply"
+        if took_place is None:
+            raise Refused("the output of a cas has no Ok, true or false: write true if it took place, and "
+                          "false if "
+                          "the store found another value, or say --ok-when MEMBER=WORD,.. with the words by "
+                          "which "
+                          f"it took place{_said(answer)}", line)
+        return "reply" if took_place else "missed"
 
     def _read(self, members: Members, line: int) -> Any:
         for name in ("value", "output"):
@@ -127,6 +165,17 @@ class _Values:
         if end is not None and end != _END_OF_TIME:
             operation.ending = self._end(operation, members.get("output"), _beside(members), line)
         self.timed.add(operation, members["call"], end, ("Call", "Return"))
+
+
+def _swap(given: Members, line: int) -> Tuple[Any, Any]:
+    """What a cas asks for and what it writes."""
+    if "from" not in given or "to" not in given or not _is_zero(given.get("value")):
+        raise Refused("the input of a cas has From and To, and no Value", line)
+    return given["from"], given["to"]
+
+
+def _said(answer: Any) -> str:
+    return "" if answer is None else f" (here it is {spelled(answer)[:40]})"
 
 
 def _client(members: Members) -> Any:

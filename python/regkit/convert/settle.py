@@ -1,12 +1,12 @@
-"""What is the same for every source: reads and writes alone are taken, their keys and values in one form."""
+"""What is the same for every source: reads, writes and cas are taken, their keys and values in one form."""
 import shlex
 from functools import partial
-from typing import Any, Callable, Dict, List, Set
+from typing import Any, Callable, Dict, List, Optional, Set, Tuple
 
 from regkit import edn
 from regkit.convert.members import WRITE_ANSWERS
-from regkit.convert.model import (OTHER, READ_AND_WRITE, READS, WRITES, Choices, Operation, Refused, Source,
-                                  Value, counted)
+from regkit.convert.model import (CAS, OTHER, READ_AND_WRITE, READS, WRITES, Choices, Operation, Refused,
+                                  Source, Value, counted)
 from regkit.convert.values import ALL_TEXTS, bare, readable, settled, shown
 
 _OPAQUE = frozenset({"object", "error"})  # tags of values that can't be compared by how they are written
@@ -27,8 +27,12 @@ def settle(source: Source, choices: Choices) -> None:
                          alike=choices.values == "alike")
     for operation in operations:
         if operation.key not in skipped:
-            _settle_kind(operation)
-            _settle_value(operation, read_value, choices.form)
+            _settle_kind(operation, choices.cas == "keep")
+            _settle_ending(operation)
+            if operation.kind == CAS:
+                _settle_cas(operation, read_value, choices.form)
+            else:
+                _settle_value(operation, read_value, choices.form)
 
 
 def _settle_key(operation: Operation, keys: Dict[object, str], alike: bool) -> None:
@@ -55,31 +59,84 @@ def _skip(source: Source, operations: List[Operation], skipped: Set[str]) -> Non
     source.notes.append(source.skipped)
 
 
-def _settle_kind(operation: Operation) -> None:
+def _settle_kind(operation: Operation, keeps_cas: bool) -> None:
     if operation.kind in READS:
         operation.kind = "read"
     elif operation.kind in WRITES:
         operation.kind = "write"
+    elif operation.kind == CAS and keeps_cas:
+        pass
+    elif operation.kind == CAS:
+        raise Refused("cas reads and writes at once, and by --cas refuse only reads and writes are taken: "
+                      "keep "
+                      "it for regsearch with --cas keep, leave it out of the workload, or leave out the keys "
+                      "that it touches with --cas skip-key", operation.line)
     elif operation.kind in READ_AND_WRITE:
-        raise Refused(f"{operation.kind} reads and writes at once, and a register has reads and writes only: "
-                      f"leave {operation.kind} out of the workload, or leave out the keys that it touches "
-                      "with --cas skip-key", operation.line)
+        raise Refused(f"{operation.kind} reads and writes at once, and a register has reads, writes and cas "
+                      f"only: leave {operation.kind} out of the workload, leave out the keys that it touches "
+                      "with --cas skip-key, or check the history with Porcupine and its key-value model",
+                      operation.line)
     elif operation.kind == OTHER:
-        raise Refused("by --ops this is neither a read nor a write: leave out the keys that it touches with "
-                      "--cas skip-key", operation.line)
+        raise Refused("by --ops this is neither a read nor a write nor a cas: leave out the keys that it "
+                      "touches with --cas skip-key", operation.line)
     else:
         option = f"--ops {shlex.quote(operation.kind + '=')}"
         raise Refused(f"{operation.kind} is no word for a read ({', '.join(sorted(READS))}) or a write "
-                      f"({', '.join(sorted(WRITES))}): say {option}read or {option}write if it is one, or "
-                      f"leave out the keys that it touches with {option}other --cas skip-key", operation.line)
+                      f"({', '.join(sorted(WRITES))}) or a cas: say {option}read or {option}write or "
+                      f"{option}cas "
+                      f"if it is one, leave out the keys that it touches with {option}other --cas skip-key, "
+                      "or "
+                      "check queues, sets and counters with Knossos or Porcupine", operation.line)
+
+
+def _settle_ending(operation: Operation) -> None:
+    if operation.ending != "missed":
+        return
+    if operation.kind != CAS:
+        raise Refused(f"by --outcomes it missed, and it is a {operation.kind}, not a cas: say what the word "
+                      "means of all operations, such as WORD=fail or WORD=unknown", operation.end_line)
+    operation.ending, operation.missed = "reply", True
+
+
+def _refuse_opaque(value: Any, line: int) -> None:
+    if type(value) is edn.Tagged and value.tag in _OPAQUE:
+        raise Refused(f"the value {edn.write(value)[:60]} only names an object of Clojure: let the "
+                      "client record the value itself", line)
+
+
+def _settle_cas(operation: Operation, read_value: Callable[[Any], Value], form: str) -> None:
+    """Parts what a cas asks for from what it writes. Its reply has both too, or neither."""
+    called = _halves(operation.value)
+    if called is None:
+        raise Refused(f"the value {edn.write(operation.value)[:60]} of a cas isn't [from to], what it asks "
+                      "for "
+                      "and what it writes", operation.line)
+    for half in called:
+        _refuse_opaque(half, operation.line)
+    operation.expected, operation.value = map(read_value, called)
+    if operation.ending != "reply" or operation.missed or operation.answer is None:
+        return
+    answered = _halves(operation.answer)
+    if answered is None or tuple(map(read_value, answered)) != (operation.expected, operation.value):
+        name = WRITE_ANSWERS[form]
+        raise Refused(f"the reply of a cas has the value {edn.write(operation.answer)[:60]}, which isn't "
+                      "that "
+                      f"of its call, at line {operation.line}: say --ok-when {name}=WORD,.. with the words "
+                      "by "
+                      f"which the cas took place, or --ignore-member {name} if what a cas answers means "
+                      "nothing", operation.end_line)
+
+
+def _halves(value: Any) -> Optional[Tuple[Any, Any]]:
+    if type(value) is edn.Tagged and value.tag not in _OPAQUE:
+        value = value.value
+    return (value[0], value[1]) if type(value) is tuple and len(value) == 2 else None
 
 
 def _settle_value(operation: Operation, read_value: Callable[[Any], Value], form: str) -> None:
     """A write's value is that of its call, with which its reply agrees; a read's is that of its reply."""
     for value in (operation.value, operation.answer):
-        if type(value) is edn.Tagged and value.tag in _OPAQUE:
-            raise Refused(f"the value {edn.write(value)[:60]} only names an object of Clojure: let the "
-                          "client record the value itself", operation.line)
+        _refuse_opaque(value, operation.line)
     answer = read_value(operation.answer) if operation.ending == "reply" else None
     if operation.kind == "read":
         operation.value = answer

@@ -1,7 +1,8 @@
 """What a conversion tells a person: what was read, left out and renamed."""
 from typing import Iterator
 
-from regkit.convert.model import counted
+from regkit.convert.model import CAS, counted
+from regkit.convert.values import repeats
 from regkit.convert.whole import Converted
 from regkit.limits import MAX_BYTES, MAX_EVENTS
 
@@ -12,6 +13,7 @@ def told(converted: Converted, has_map: bool) -> Iterator[str]:
     for what, lines in sorted(converted.source.left_out.items()):
         yield f"left out {counted(lines, 'line')} {what}"
     yield from converted.source.notes
+    yield from _for_regsearch(converted)
     if not any((each.kind, each.ending) == ("read", "reply") for each in converted.operations):
         yield ("there is no completed read, so a yes would say nothing: regkit check will find too little "
                "evidence")
@@ -26,11 +28,23 @@ def _read(converted: Converted) -> str:
     operations = converted.operations
     writes = sum(operation.kind == "write" for operation in operations)
     failed = sum(operation.ending == "fail" for operation in operations)
+    missed = sum(operation.missed for operation in operations)
     unknown = sum(operation.ending in (None, "crash") for operation in operations)
+    cas = sum(operation.kind == CAS for operation in operations)
     clients = len({operation.client for operation in operations})
     return (f"read {counted(len(operations), 'operation')} of {counted(clients, 'client')} on "
             f"{counted(len(converted.names), 'register')}: {counted(writes, 'write')}, "
-            f"{counted(len(operations) - writes, 'read')}; {failed:,} failed, {unknown:,} of unknown outcome")
+            f"{counted(len(operations) - writes - cas, 'read')}{f', {cas:,} cas' if cas else ''}; "
+            f"{failed:,} failed, {f'{missed:,} missed, ' if missed else ''}{unknown:,} of unknown outcome")
+
+
+def _for_regsearch(converted: Converted) -> Iterator[str]:
+    found = [words for words, is_so in (
+        ("cas", any(each.kind == CAS for each in converted.operations)),
+        ("repeated values", repeats(converted.source.operations()))) if is_so]
+    if found:
+        yield (f"the history has {' and '.join(found)}, so it is one for regsearch; regkit check chooses the "
+               "program by itself")
 
 
 def _renamed(converted: Converted) -> Iterator[str]:

@@ -1,14 +1,15 @@
-"""Reads of values that nothing writes, where the conversion may be the one that is wrong.
+"""Values that were found and that nothing writes, where the conversion may be the one that is wrong.
 
-Such a read is a fault of the store, unless its value spells null (none, -1), is the value with which
-registers start (0), or is spelled as a written value is and has another kind: a client may write 1 and read
-"1". To make up a fault is the worst that a conversion can do. So a person has to say what such a value is.
+To give such a value to a read, or to a cas that took place, is a fault of the store, unless the value spells
+null (none, -1), is the one with which registers start (0), or is spelled as a written value is and has
+another kind: a client may write 1 and read "1". To make up a fault is the worst that a conversion can do. So
+a person has to say what such a value is.
 """
 import shlex
-from typing import Any, Dict, Iterable, Iterator, List, Optional, Set
+from typing import Any, Dict, Iterator, List, Optional, Set, Tuple
 
 from regkit import edn
-from regkit.convert.model import Choices, Operation, Refused, Value, counted
+from regkit.convert.model import CAS, Choices, Operation, Refused, Source, Value, counted
 from regkit.convert.values import Written, bare, initial_value, shown, spelled
 
 SPELL_NULL = frozenset({
@@ -17,24 +18,33 @@ SPELL_NULL = frozenset({
     "not_found", "notfound", "null", "undefined"})
 STARTS = frozenset({"0", "-1", "false"})  # what a register may have before any write, or what stands for none
 _COLLECTIONS = (tuple, edn.Map)
+_ANOTHER_KIND = "a value of another kind that is spelled alike is written there"
 
 
-def look_at_reads(operations: Iterable[Operation], written: Written, choices: Choices) -> Iterator[str]:
-    """Notes on reads that are faults if all was recorded well. Values aren't numbered yet.
+def look_at_reads(source: Source, written: Written, choices: Choices) -> Iterator[str]:
+    """Notes on finds that are faults if all was recorded well. Values aren't numbered yet.
 
-    Raises Refused for the first read that the conversion may have misread.
+    Raises Refused for the first one that the conversion may have misread. A value that is written only after
+    it was found may be misread as well as one that is never written.
     """
     spellings = _Spellings(written)
     nothing: Dict[Value, Operation] = {}
+    begun: Set[Tuple[str, Value]] = set()  # what was written so far, by key
     unwritten = failed = 0
-    for read in operations:
-        value = read.value
-        if read.kind == "write" or value is None:
+    for each, is_call in source.moments():
+        if is_call:
+            if each.kind != "read" and not each.missed:
+                begun.add((each.key, each.value))
             continue
-        write = written.get(read.key, nothing).get(value)
+        value = _find(each)
+        if value is None:
+            continue
+        asks = choices.values == "auto" and spellings.has_twin(each.key, value)
+        if asks or (each.key, value) not in begun:
+            _refuse_suspect(each, value, spellings, choices)
+        write = written.get(each.key, nothing).get(value)
         if write is None:
             unwritten += 1
-            _refuse_suspect(read, value_of(value), spellings, choices)
         elif write.ending == "fail":
             failed += 1
     if unwritten:
@@ -45,17 +55,31 @@ def look_at_reads(operations: Iterable[Operation], written: Written, choices: Ch
                "no effect? Else its outcome is unknown (--outcomes WORD=unknown)")
 
 
+def _find(operation: Operation) -> Value:
+    """What a completed read, or a cas that took place, found."""
+    if operation.ending != "reply" or operation.missed:
+        return None
+    if operation.kind == CAS:
+        return operation.expected  # type: ignore[no-any-return]
+    return operation.value if operation.kind == "read" else None
+
+
 def value_of(value: Value) -> Any:
     """A settled value as Python has it."""
     return next(edn.values([value]))[1] if type(value) is str else value
 
 
-def _refuse_suspect(read: Operation, value: Any, spellings: "_Spellings", choices: Choices) -> None:
+def _refuse_suspect(read: Operation, found: Value, spellings: "_Spellings", choices: Choices) -> None:
+    value = value_of(found)
     why = _spells_null(value, choices)
     if why is None and choices.values == "auto":
-        why = spellings.why(read.key, value)
+        why = spellings.why(read.key, found)
     if why is not None:
-        what = f"a read gave {edn.write(value)[:40]}, which nothing writes to {shown(read.key)}"
+        kind = "cas found" if read.kind == CAS else "read gave"
+        which = f", which nothing writes to {shown(read.key)}"
+        if spellings.has(read.key, found):
+            which = " of " + shown(read.key) if spellings.has_twin(read.key, found) else which + " before"
+        what = f"a {kind} {edn.write(value)[:40]}{which}"
         raise Refused(f"{what}: {why}", read.end_line)
 
 
@@ -79,14 +103,36 @@ class _Spellings:
         self._values: Dict[str, Set[str]] = {}  # by key
         self._parts: Dict[str, Set[str]] = {}  # by key, of collections too
         self._keys: Dict[str, List[str]] = {}  # by spelling
+        self._twins: Dict[str, Set[Value]] = {}  # by key, what is written there in two kinds, spelled alike
 
-    def why(self, key: str, value: Any) -> Optional[str]:
-        """What to say of a value if it is like one that is written."""
-        alike = self._alike(key, bare(value))
+    def has(self, key: str, value: Value) -> bool:
+        """Whether a value is written at all."""
+        return value in self._written.get(key, {})
+
+    def has_twin(self, key: str, value: Value) -> bool:
+        """Whether a value of another kind, spelled alike, is written to the key too."""
+        twins = self._twins.get(key)
+        if twins is None:
+            twins = self._twins[key] = set()
+            known: Dict[str, Value] = {}
+            written = self._written.get(key, {})
+            for each in written if any(type(each) is str for each in written) else ():
+                twin = known.setdefault(bare(value_of(each)), each)
+                if twin != each:
+                    twins |= {twin, each}
+        return value in twins
+
+    def why(self, key: str, found: Value) -> Optional[str]:
+        """What to say of a value if it is like another one that is written."""
+        value = value_of(found)
+        if self.has(key, found):
+            alike = _ANOTHER_KIND if self.has_twin(key, found) else None
+        else:
+            alike = self._alike(key, bare(value))
         if alike is not None:
             return (f"{alike}; say --values alike if what is spelled alike is one value and one key, or "
                     "--values exact if it isn't")
-        if type(value) in _COLLECTIONS and _parts(value) & self._parts_of(key):
+        if type(value) in _COLLECTIONS and not self.has(key, found) and _parts(value) & self._parts_of(key):
             return ("a value that has a part of it in common is written there; let the recorder keep the "
                     "value alone, without a version, or say --values exact if they are several values")
         return None
@@ -94,7 +140,7 @@ class _Spellings:
     def _alike(self, key: str, word: str) -> Optional[str]:
         """Where a value is written that is spelled alike, in words."""
         if word in self._values_of(key):
-            return "a value of another kind that is spelled alike is written there"
+            return _ANOTHER_KIND
         if not self._keys:
             for each in self._written:
                 self._keys.setdefault(bare(value_of(each)), []).append(each)

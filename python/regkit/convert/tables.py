@@ -3,31 +3,40 @@
     process,op,register,value,start,end,outcome
     alice,write,k,v1,10,20,ok
 
+A cas has `from` and `to` in place of `value`, and `ok`, true or false, which says whether it took place.
+
 An empty end, or an outcome of unknown or info, is an unknown outcome: the operation stays pending.
 """
 import csv
 from itertools import chain
-from typing import Dict, Iterable, Iterator, List, Optional, Tuple
+from typing import Any, Dict, Iterable, Iterator, List, Optional, Tuple
 
 from regkit.convert.json_values import json_values
 from regkit.convert.members import Known
 from regkit.convert.model import Choices, Refused, Source, WrongWords, counted
 from regkit.convert.rows import ABSENT, Row, Rows
 
-COLUMNS = ("process", "start", "end", "register", "op", "value", "outcome")
-OPTIONAL = ("register", "outcome")
+PLAIN_COLUMNS = ("process", "start", "end", "register", "op", "value", "outcome")
+CAS_COLUMNS = ("from", "to", "ok")  # which only a cas has
+COLUMNS = PLAIN_COLUMNS + CAS_COLUMNS
+OPTIONAL = ("register", "outcome", *CAS_COLUMNS)
 DELIMITERS = ",;\t|"
 
 
 def columns(words: Optional[str]) -> Dict[str, str]:
-    """The source's name of each column, by `--columns process=NAME,..`. Raises WrongWords."""
-    named = {column: column for column in COLUMNS}
+    """The source's name of each column, by `--columns process=NAME,..`. Raises WrongWords.
+
+    A name that is given to another column is no column of a cas.
+    """
+    given: Dict[str, str] = {}
     for word in (words or "").split(",") if words else []:
         column, equals, name = word.partition("=")
-        if column not in named or not equals or not name:
+        if column not in COLUMNS or not equals or not name:
             raise WrongWords(f"--columns {word}: COLUMN=NAME is expected, with one of {', '.join(COLUMNS)}")
-        named[column] = name
-    return named
+        given[column] = name
+    taken = set(given.values())
+    return {column: given.get(column, column) for column in COLUMNS
+            if column in given or column not in CAS_COLUMNS or column not in taken}
 
 
 def from_csv(lines: Iterable[str], choices: Choices) -> Source:
@@ -49,11 +58,12 @@ def _csv_rows(lines: Iterable[str], choices: Choices) -> Iterator[Row]:
         header = [name.strip() for name in next(reader, [])]
         places = _places(header, choices.columns)
         known = Known(choices, "csv", choices.columns.values(), "column")
+        keeps = bool(choices.ok_when) or any(place is not None for place in places[len(PLAIN_COLUMNS):])
         line = reader.line_num + 1
         for row in reader:
             if row:
                 fields = _fields(row, places, len(header), line)
-                members = dict(zip(header, row)) if choices.ok_when or not known.seen else {}
+                members = dict(zip(header, row)) if keeps or not known.seen else {}
                 if not known.seen:  # the columns of the first row are those of all
                     known.check(members, line)
                 yield Row(line, fields, members)
@@ -71,21 +81,23 @@ def _delimiter_of(header: str, named: Dict[str, str]) -> str:
     return max(DELIMITERS, key=found)
 
 
-def _fields(row: List[str], places: List[Optional[int]], width: int, line: int) -> List[Optional[str]]:
+def _fields(row: List[str], places: List[Optional[int]], width: int, line: int) -> List[Any]:
     if len(row) != width:
         raise Refused(f"the row has {counted(len(row), 'field')}, and the header {width}: put a field that "
                       "has the delimiter in double quotes, or say with --delimiter what it is", line)
-    return [None if place is None else row[place] for place in places]
+    return [ABSENT if place is None else row[place] for place in places]
 
 
 def _places(header: List[str], named: Dict[str, str]) -> List[Optional[int]]:
     """Where each column is. Only register and outcome may be absent, unless --columns names them."""
     places: List[Optional[int]] = []
     for column in COLUMNS:
-        name = named[column]
-        if header.count(name) > 1:
+        name = named.get(column)
+        if name is not None and header.count(name) > 1:
             raise Refused(f"the header has {name} twice: rename one of them", 1)
-        if name in header:
+        if name is None:
+            places.append(None)
+        elif name in header:
             places.append(header.index(name))
         elif column in OPTIONAL and name == column:
             places.append(None)
@@ -107,14 +119,12 @@ def _json_rows(lines: Iterable[str], choices: Choices) -> Iterator[Row]:
                 raise Refused(f"the object has no {named[column]}, but {', '.join(row) or 'nothing'}: say "
                               f"which member is the {column} with --columns {column}=NAME", line)
         known.check(row, line)
-        fields = [row.get(named[column]) for column in COLUMNS]
-        if named["value"] not in row:
-            fields[COLUMNS.index("value")] = ABSENT
+        fields = [row.get(named[column], ABSENT) if column in named else ABSENT for column in COLUMNS]
         yield Row(line, fields, row)
 
 
 def _source(rows: Iterable[Row], choices: Choices) -> Source:
-    taken = Rows(choices)
+    taken = Rows(choices, "column" if choices.form == "csv" else "member")
     for row in rows:
         taken.take(row)
     return taken.source()

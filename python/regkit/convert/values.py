@@ -1,6 +1,6 @@
 """The source's values as whole numbers: whole numbers stay, all else is numbered register by register."""
 import re
-from typing import AbstractSet, Any, Dict, Iterable, Set
+from typing import AbstractSet, Any, Dict, Iterable, Set, Tuple
 
 from regkit import edn
 from regkit.convert.model import GREATEST, LEAST, Operation, Refused, Value
@@ -11,7 +11,7 @@ _WHOLE = re.compile(r"-?[1-9][0-9]{0,18}|0")  # a longer one has more than 64 bi
 _QUOTED = re.compile(r"""b?(["'])(.*)\1""", re.DOTALL)  # a text as JSON, EDN or Python shows it, or its bytes
 
 Table = Dict[str, Dict[str, int]]  # by key, the number of each text
-Written = Dict[str, Dict[Value, Operation]]  # by key and value, its write
+Written = Dict[str, Dict[Value, Operation]]  # by key and value, what wrote it, and didn't fail if any didn't
 
 
 def spelled(value: Any) -> str:
@@ -97,42 +97,51 @@ class _Numbers:
 def number_texts(operations: Iterable[Operation]) -> Table:
     """Gives each text a number, register by register, and says which."""
     held = list(operations)
-    numbers = {operation.key: _Numbers() for operation in held if type(operation.value) is str}
-    mixed = [operation for operation in held if operation.key in numbers and operation.value is not None]
+    numbers = {operation.key: _Numbers() for operation in held
+               if type(operation.value) is str or type(operation.expected) is str}
+    mixed = [operation for operation in held if operation.key in numbers]
     for operation in mixed:
-        if type(operation.value) is int:
-            numbers[operation.key].taken.add(operation.value)
+        for value in (operation.expected, operation.value):
+            if type(value) is int:
+                numbers[operation.key].taken.add(value)
     for operation in mixed:
+        if type(operation.expected) is str:
+            operation.expected = numbers[operation.key].number(operation.expected)
         if type(operation.value) is str:
             operation.value = numbers[operation.key].number(operation.value)
     return {key: mine.texts for key, mine in numbers.items()}
 
 
-def written_once(operations: Iterable[Operation]) -> Written:
-    """Each value is written once to a register at most, so that a read tells which write it saw."""
+def all_written(operations: Iterable[Operation]) -> Written:
+    """What is written to each register, by writes and by each cas that didn't miss. Raises Refused."""
     written: Written = {}
     for operation in operations:
-        if operation.kind != "write":
+        if operation.kind == "read":
             continue
         if operation.value is None:
-            raise Refused(f"a write of null to {shown(operation.key)}: only the initial value is null. Let "
-                          "the workload delete nothing, or go on with another key; or name fewer spellings "
-                          "of null with --null", operation.line)
-        before = written.setdefault(operation.key, {}).setdefault(operation.value, operation)
-        if before is not operation:
-            raise Refused(_repeat(before, operation), operation.line)
+            raise Refused(f"a {operation.kind} of null to {shown(operation.key)}: only the initial value is "
+                          "null. Let the workload delete nothing, or go on with another key; or name fewer "
+                          "spellings of null with --null", operation.line)
+        if operation.missed:
+            continue
+        known = written.setdefault(operation.key, {})
+        before = known.setdefault(operation.value, operation)
+        if before.ending == "fail":
+            known[operation.value] = operation
     return written
+
+
+def repeats(operations: Iterable[Operation]) -> bool:
+    """Whether some register is written a value twice, be it by a write that failed."""
+    seen: Set[Tuple[str, Value]] = set()
+    for operation in operations:
+        if operation.kind == "write":
+            if (operation.key, operation.value) in seen:
+                return True
+            seen.add((operation.key, operation.value))
+    return False
 
 
 def shown(value: Value) -> str:
     """A value of the source for a person, a text without its quotes."""
     return _unquoted(value) if isinstance(value, str) else "null" if value is None else str(value)
-
-
-def _repeat(before: Operation, again: Operation) -> str:
-    value, name = shown(again.value), shown(again.key)
-    if before.line == 0:
-        return (f"{value} is written to {name}, but --initial says that {name} starts with it: let the "
-                "workload write other values")
-    return (f"{value} is written to {name} again, first at line {before.line}: let the workload write each "
-            "value to a key only once, with a counter for each key (docs/recipes.md)")

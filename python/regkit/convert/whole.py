@@ -6,7 +6,7 @@ from regkit.convert.model import Choices, Operation, Refused, Source, Value
 from regkit.convert.names import names
 from regkit.convert.processes import Given, give_processes
 from regkit.convert.suspects import look_at_reads
-from regkit.convert.values import Table, initial_value, number_texts, written_once
+from regkit.convert.values import Table, all_written, initial_value, number_texts
 
 READERS: Dict[str, Callable[[Iterable[str], Choices], Source]] = {
     "jepsen": jepsen.from_jepsen, "porcupine": porcupine.from_porcupine, "csv": tables.from_csv,
@@ -37,7 +37,7 @@ def convert(lines: Iterable[str], choices: Choices, number: bool = True) -> Conv
         start = initial_value(choices.initial, choices.form, choices.values == "alike")
         if start is not None:
             _begin(source, read, start)
-    source.notes.extend(look_at_reads(read, written_once(source.operations()), choices))
+    source.notes.extend(look_at_reads(source, all_written(source.operations()), choices))
     named = names(read)
     numbers = number_texts(source.operations()) if number else {}
     return Converted(source, read, named, numbers, given)
@@ -59,7 +59,7 @@ def _begin(source: Source, operations: List[Operation], value: Value) -> None:
     first: Dict[str, Operation] = {}
     for operation in operations:
         known = first.setdefault(operation.key, operation)
-        if known.kind == "read" and operation.kind == "write":
+        if known.kind == "read" and operation.kind != "read":
             first[operation.key] = operation
     steps: List[Operation] = []
     for key, operation in first.items():

@@ -4,12 +4,12 @@ import re
 from typing import Collection, Dict, FrozenSet, List, Optional
 
 from regkit.convert import tables, write_back
-from regkit.convert.model import ENDINGS, OTHER, READ_AND_WRITE, Choices, WrongWords, folded
+from regkit.convert.model import CAS, ENDINGS, OTHER, READ_AND_WRITE, Choices, WrongWords, folded
 from regkit.convert.whole import READERS
 
 TIMED = ("porcupine", "csv", "operations")
 NULLS = {"porcupine": "", "csv": ""}  # by form, what spells null if --null doesn't say
-OPS = ("read", "write", OTHER)
+OPS = ("read", "write", CAS, OTHER)
 DELIMITERS = {"comma": ",", "semicolon": ";", "tab": "\t", "\\t": "\t", "pipe": "|", "bar": "|"}
 
 
@@ -30,9 +30,12 @@ def add_arguments(parser: argparse.ArgumentParser) -> None:
     add("--values", choices=["auto", "exact", "alike"], default="auto",
         help='whether values that are spelled alike, as 1, "1" and :1 are, are one value (alike) or several '
         "(exact); auto, the default, refuses them if it matters")
-    add("--cas", choices=["refuse", "skip-key"], default="refuse",
-        help="refuse operations that read and write at once, such as cas (default), or leave out the keys "
-        "that have any")
+    add("--cas", choices=["keep", "skip-key", "refuse"], default="keep",
+        help="keep compare-and-swap for regsearch (default), leave out the keys that have any operation but "
+        "reads and writes, or refuse it")
+    add("--failed-cas", choices=["fail", "missed"], default="fail",
+        help="what a failed cas says: nothing, since it had no effect (fail, the default), or that the store "
+        "looked and found another value (missed)")
     add("--keys", choices=["auto", "independent", "none"], default="auto",
         help="jepsen: whether a value is [key value] (default auto: if all calls' values are pairs)")
     add("--register", metavar="NAME", default="x", help="the register of a source without keys (default x)")
@@ -48,9 +51,12 @@ def _add_meanings(parser: argparse.ArgumentParser) -> None:
     add("--delimiter", metavar="C", help="csv: what stands between the fields: a character, or comma, "
         "semicolon or tab (default: whichever the header has)")
     add("--ops", metavar="WORD=OP,..", action="append", default=[],
-        help="what the source's words for operations mean: read, write, or other, which --cas treats too")
+        help="what the source's words for operations mean: read, write, cas, or other, whose keys --cas "
+        "skip-key leaves out")
     add("--outcomes", metavar="WORD=OUTCOME,..", action="append", default=[],
-        help="what the source's words for outcomes mean: ok, fail (it surely had no effect) or unknown")
+        help="what the source's words for outcomes mean: ok, fail (it surely had no effect), unknown, or of "
+             "a "
+        "cas missed (the store found another value)")
     add("--ok-when", metavar="MEMBER=WORD,..", action="append", default=[],
         help="an operation took place only if this member or column has one of these words; any other is an "
         "unknown outcome unless --outcomes has it; the empty word is null too, and no such member")
@@ -72,7 +78,7 @@ def choices_of(arguments: argparse.Namespace) -> Choices:
     return Choices(
         form=form, register=arguments.register, keys=arguments.keys, nulls=_nulls(form, arguments.null),
         initial=arguments.initial, values=arguments.values,
-        cas=arguments.cas, columns=tables.columns(arguments.columns),
+        cas=arguments.cas, failed_cas=arguments.failed_cas, columns=tables.columns(arguments.columns),
         delimiter=_delimiter(arguments.delimiter), ops=_meanings("--ops", arguments.ops, OPS),
         outcomes=_meanings("--outcomes", arguments.outcomes, ENDINGS), ok_when=_ok_when(arguments.ok_when),
         ignored=frozenset(map(folded, arguments.ignore_member)), clock_error=arguments.clock_error,
@@ -102,9 +108,9 @@ def _meanings(option: str, given: List[str], known: Collection[str]) -> Dict[str
             raise WrongWords(f"{option} {words}: WORD=MEANING,.. is expected, with one of {', '.join(known)} "
                              "for each MEANING")
         for said, meaning in re.findall(one, words, re.DOTALL):
-            if folded(said) in READ_AND_WRITE and meaning in ("read", "write"):
+            if folded(said) in READ_AND_WRITE and meaning in OPS and meaning not in (folded(said), OTHER):
                 raise WrongWords(f"{option} {said}={meaning}: {said} reads and writes at once, so it is "
-                                 f"{OTHER}")
+                                 f"{'cas or other' if folded(said) == CAS else OTHER}")
             if meanings.setdefault(folded(said), meaning) != meaning:
                 raise WrongWords(f"{option}: {said} is given two meanings")
     return meanings

@@ -8,10 +8,12 @@ import json
 from typing import Any, Callable, Dict, Iterator, List, Tuple
 
 from regkit import edn
-from regkit.convert.model import Operation, Source, Value
-from regkit.convert.tables import COLUMNS
+from regkit.convert.model import CAS, Operation, Source, Value
+from regkit.convert.tables import COLUMNS, PLAIN_COLUMNS
 
 _TYPES = {"reply": ":ok", "fail": ":fail", "crash": ":info"}
+_OK = {True: "true", False: "false", None: ""}
+_FUNCTIONS = {"read": "get", "write": "put", CAS: CAS}
 _OUTCOMES = {"reply": "ok", "fail": "fail", "crash": "unknown", None: "unknown"}
 
 
@@ -19,34 +21,44 @@ def _edn_value(value: Value) -> str:
     return "nil" if value is None else str(value)
 
 
-def _events(source: Source) -> Iterator[Tuple[Operation, str, Value]]:
-    """Each step with its type in Jepsen's words, and its value: a write's always, a read's in its reply."""
+def _events(source: Source, shown: Callable[[Value], str]) -> Iterator[Tuple[Operation, str, str, str]]:
+    """Each step with its type in Jepsen's words, its value and perhaps an error. Only a read's call has none.
+
+    A cas that missed is a failure, as the tools write it. One that failed has an error beside that, so that
+    `--failed-cas missed` tells the two apart.
+    """
     for step, is_call in source.moments():
-        if step.kind == "crash":
-            yield step, ":info", None
+        kind = ":info" if step.kind == "crash" else ":invoke" if is_call else _TYPES[step.ending or ""]
+        if step.kind == CAS:
+            failed = not is_call and step.ending == "fail"
+            yield (step, ":fail" if step.missed and not is_call else kind,
+                   f"[{shown(step.expected)} {shown(step.value)}]", ", :error :no-effect" if failed else "")
         else:
             known = step.kind == "write" or (not is_call and step.ending == "reply")
-            yield step, ":invoke" if is_call else _TYPES[step.ending or ""], step.value if known else None
+            yield step, kind, shown(step.value if known else None), ""
 
 
 def to_jepsen(source: Source) -> Iterator[str]:
     """EDN as Jepsen writes it, with independent keys."""
-    for place, (step, kind, value) in enumerate(_events(source)):
+    for place, (step, kind, value, error) in enumerate(_events(source, _edn_value)):
         function = "read" if step.kind == "crash" else step.kind
-        held = "nil" if step.kind == "crash" else f"[{step.key} {_edn_value(value)}]"
+        held = "nil" if step.kind == "crash" else f"[{step.key} {value}]"
         yield (f"{{:process {step.process}, :type {kind}, :f :{function}, :value {held}, "
-               f":index {place}, :time {place * 1000}}}\n")
+               f":index {place}, :time {place * 1000}{error}}}\n")
 
 
 def to_porcupine(source: Source) -> Iterator[str]:
     """The EDN of Porcupine's logs of a key-value store: keys and values are texts."""
-    for step, kind, value in _events(source):
+    for step, kind, value, error in _events(source, _edn_text):
         if step.kind == "crash":
             continue
-        function = "get" if step.kind == "read" else "put"
-        shown = "nil" if value is None else edn.quote(_plain(value))
+        function = _FUNCTIONS[step.kind]
         yield (f"{{:process {step.process}, :type {kind}, :f :{function}, :key "
-               f"{edn.quote(_plain(step.key))}, :value {shown}}}\n")
+               f"{edn.quote(_plain(step.key))}, :value {value}{error}}}\n")
+
+
+def _edn_text(value: Value) -> str:
+    return "nil" if value is None else edn.quote(_plain(value))
 
 
 def _plain(value: Value) -> str:
@@ -68,25 +80,33 @@ def _rows(source: Source) -> List[List[Any]]:
             continue
         if is_call:
             rows[step] = [step.process, place, None, step.key, step.kind, step.value, _OUTCOMES[step.ending]]
+            if step.kind == CAS:
+                rows[step][5] = None
+                rows[step] += [step.expected, step.value, not step.missed if step.ending == "reply" else None]
         elif step.ending != "crash":
             rows[step][2] = place
     return list(rows.values())
 
 
 def to_csv(source: Source) -> Iterator[str]:
-    """A table with a header."""
+    """A table with a header. A cas has columns of its own, if there is any."""
     text = io.StringIO()
     writer = csv.writer(text, lineterminator="\n")
-    writer.writerow(COLUMNS)
-    for process, start, end, key, kind, value, outcome in _rows(source):
-        writer.writerow([process, start, end, _plain(key), kind, _plain(value), outcome])
+    rows = _rows(source)
+    columns = COLUMNS if any(len(row) > len(PLAIN_COLUMNS) for row in rows) else PLAIN_COLUMNS
+    writer.writerow(columns)
+    for process, start, end, key, kind, value, outcome, *cas in rows:
+        cells = [process, start, end, _plain(key), kind, _plain(value), outcome]
+        cells += [_plain(cas[0]), _plain(cas[1]), _OK[cas[2]]] if cas else []
+        writer.writerow(cells + [""] * (len(columns) - len(cells)))
     yield text.getvalue()
 
 
 def to_operations(source: Source) -> Iterator[str]:
     """A JSON object an operation."""
     for row in _rows(source):
-        row[3], row[5] = _json_native(row[3]), _json_native(row[5])
+        for place in (3, 5, 7, 8):
+            row[place:place + 1] = map(_json_native, row[place:place + 1])
         yield json.dumps(dict(zip(COLUMNS, row)), separators=(",", ":")) + "\n"
 
 

@@ -1,0 +1,56 @@
+"""The inputs and outputs of Porcupine's model of etcd, a register with cas, as encoding/json writes them.
+
+    {"ClientId":0,"Input":{"Op":2,"Arg1":1,"Arg2":2},"Call":10,"Return":20,
+     "Output":{"Ok":true,"Exists":false,"Value":0,"Unknown":false}}
+
+Op is 0 for a read, 1 for a write of Arg1 and 2 for a cas from Arg1 to Arg2. Ok says whether a cas took place,
+and Exists whether a read found a value. Unknown says that nobody knows what the operation did.
+"""
+from typing import Any, Dict, Optional, Tuple
+
+from regkit.convert.model import CAS, KNOWN, READS, Operation, Refused
+from regkit.convert.values import spelled
+
+_OPS = {"0": "read", "1": "write", "2": CAS}
+_TOLD = ("ok", "exists", "unknown")
+
+Members = Dict[str, Any]
+
+
+def asked(word: str, given: Members, line: int) -> Tuple[str, Any]:
+    """What an input asks for: its operation, and what it writes."""
+    kind = _OPS.get(word, word)
+    if kind == CAS:
+        if "arg1" not in given or "arg2" not in given:
+            raise Refused("the input of a cas has Arg1 and Arg2", line)
+        return kind, (given["arg1"], given["arg2"])
+    if kind in KNOWN and given.get("arg2") not in (None, 0):
+        raise Refused(f"Arg2 is {spelled(given['arg2'])[:40]}, and only a cas, which is Op 2, has one: say "
+                      "which "
+                      "operation each Op is, as in --ops 1=cas", line)
+    return kind, None if kind in READS else given.get("arg1")
+
+
+def ended(operation: Operation, told: Members, line: int) -> Tuple[Optional[str], Members]:
+    """How an operation ended, and what its output says of values.
+
+    The model gives Ok to a cas alone, so that Go writes false for the others. That is taken for nothing only
+    in a whole output of the model, since elsewhere it may say that the operation failed.
+    """
+    for name in _TOLD:
+        if name in told and type(told[name]) is not bool:
+            raise Refused(f"{name.capitalize()} is {spelled(told[name])[:40]}, and true or false is "
+                          "expected", line)
+    if told.get("unknown"):
+        return None, told
+    if operation.kind == CAS:
+        return "reply", {name: value for name, value in told.items() if name == "ok"}
+    if told.get("ok") is False and not all(name in told for name in _TOLD):
+        raise Refused(f"Ok is false, and this is a {operation.kind}: say --ok-when Ok=true if it took place "
+                      "only "
+                      "then", line)
+    if operation.kind not in READS:
+        return "reply", {}
+    if "exists" not in told:
+        raise Refused("the output of a read has Exists, true or false", line)
+    return "reply", {"value": told.get("value") if told["exists"] else None}
