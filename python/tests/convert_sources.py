@@ -138,6 +138,7 @@ class Form(NamedTuple):
     form: str  # of `regkit convert --from`
     write: Callable[[List[Call], random.Random], str]
     options: Tuple[str, ...] = ()
+    tells_misses: bool = True  # whether it has words of its own for a cas that missed
 
 
 NEMESIS = ('{:type :info, :f :cut, :process :nemesis, :index %d, :value '
@@ -256,6 +257,22 @@ def porcupine_operations(calls: List[Call], chance: random.Random) -> str:
     return json.dumps(rows, indent=1) if chance.random() < 0.3 else "\n".join(map(json.dumps, rows))
 
 
+def porcupine_etcd(calls: List[Call], chance: random.Random) -> str:
+    """Porcupine's model of a register in etcd, with a member for the key beside its own."""
+    rows = []
+    for call in calls:
+        asked_for = {"read": (0, 0, 0), "write": (1, call.value, 0), "cas": (2, call.expected, call.value)}
+        given = dict(zip(("Op", "Arg1", "Arg2"), asked_for[call.op]), Key=call.key)
+        ok = call.outcome == "ok"
+        told = {"Ok": ok and call.op == "cas", "Exists": ok and call.op == "read" and call.value is not None,
+                "Value": call.value if ok and call.op == "read" and call.value else 0,
+                "Unknown": call.outcome == "unknown"}
+        if call.outcome != "fail":  # the model has no failures without an effect
+            rows.append({"ClientId": call.client, "Input": given, "Call": call.start, "Output": told,
+                         "Return": chance.choice([99, 2 ** 63 - 1]) if call.end is None else call.end})
+    return "\n".join(map(json.dumps, rows))
+
+
 def porcupine_events(calls: List[Call], chance: random.Random) -> str:
     rows = []
     number = {call: place for place, call in enumerate(calls)}
@@ -348,11 +365,11 @@ def jsonl(calls: List[Call], chance: random.Random) -> str:
 
 
 FORMS: Dict[str, Form] = {
-    "jepsen's EDN": Form("jepsen", jepsen_edn),
-    "jepsen's JSON": Form("jepsen", jepsen_json),
-    "jepsen's history.txt": Form("jepsen", jepsen_history_txt),
-    "jepsen's console": Form("jepsen", jepsen_console),
-    "porcupine's log": Form("porcupine", porcupine_log),
+    "jepsen's EDN": Form("jepsen", jepsen_edn, (), False),
+    "jepsen's JSON": Form("jepsen", jepsen_json, (), False),
+    "jepsen's history.txt": Form("jepsen", jepsen_history_txt, (), False),
+    "jepsen's console": Form("jepsen", jepsen_console, (), False),
+    "porcupine's log": Form("porcupine", porcupine_log, (), False),
     "porcupine's operations": Form("porcupine", porcupine_operations, (
         "--ok-when", "Err=OK", "--outcomes", "ErrVersion=fail", "--ignore-member", "Version")),
     "porcupine's events": Form("porcupine", porcupine_events, (
@@ -368,3 +385,4 @@ FORMS: Dict[str, Form] = {
         "--ok-when", "code=200,204", "--outcomes", "409=fail,412=missed")),
     "jsonl": Form("jsonl", jsonl, ("--outcomes", "timeout=unknown")),
 }
+CAS_FORMS = {**FORMS, "porcupine's etcd": Form("porcupine", porcupine_etcd)}

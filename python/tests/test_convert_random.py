@@ -2,11 +2,14 @@
 import itertools
 import random
 import unittest
-from typing import List
+from typing import Iterable, List, Tuple
 
 from regkit.convert.whole import READERS
-from tests.convert_sources import FORMS, Call, faulty_history, is_atomic, plain, right_history
+from tests.convert_sources import (CAS_FORMS, FORMS, Call, Form, faulty_history, is_atomic, plain,
+                                   right_history)
 from tests.convert_support import history_of
+from tests.search_sources import (changed_search_history, find_regsearch, right_search_history, verdicts,
+                                  without_misses)
 
 MANY = 2000  # histories of each kind
 
@@ -41,6 +44,62 @@ class Conversions(unittest.TestCase):
                         source = writer.write(calls, chance)
                         history = history_of(source, form, *writer.options)
                         self.assertEqual(is_atomic(history), verdict, (source, history))
+
+
+REGSEARCH = find_regsearch()
+
+
+@unittest.skipUnless(REGSEARCH, "bin/regsearch isn't built, and REGSEARCH names none")
+class SearchConversions(unittest.TestCase):
+    """Histories with cas and repeated values, in every form that can say them."""
+
+    histories: List[List[Call]]
+    right: int  # how many of them are right, the first ones
+    expected: List[bool]  # of each history as it is
+    weaker: List[bool]  # of each history without what its misses say
+
+    @classmethod
+    def setUpClass(cls) -> None:
+        chance = random.Random(52)
+        cls.histories = [calls for calls in (right_search_history(chance) for _ in range(MANY // 2)) if calls]
+        cls.right = len(cls.histories)
+        while len(cls.histories) < MANY:
+            cls.histories.append(changed_search_history(chance))
+        cls.expected = cls.verdicts(map(plain, cls.histories))
+        cls.weaker = cls.verdicts(plain(without_misses(calls)) for calls in cls.histories)
+
+    @staticmethod
+    def verdicts(histories: Iterable[str]) -> List[bool]:
+        assert REGSEARCH is not None
+        return verdicts(histories, REGSEARCH)
+
+    def test_the_histories_are_what_they_should_be(self) -> None:
+        self.assertTrue(all(self.expected[:self.right]))
+        self.assertTrue(all(weak or not strict for strict, weak in zip(self.expected, self.weaker)))
+        faulty = self.expected.count(False)
+        self.assertGreater(faulty, MANY // 4)
+        self.assertGreater(faulty - self.weaker.count(False), MANY // 50)
+        everything = [call for calls in self.histories for call in calls]
+        for outcome in ("ok", "fail", "unknown", "missed"):
+            self.assertGreater(sum(call[2:7:4] == ("cas", outcome) for call in everything), MANY // 5)
+        self.assertGreater(sum(call[2:8:5] == ("cas", None) for call in everything), MANY // 5)
+
+    def test_each_keeps_its_verdict(self) -> None:
+        for name, writer in CAS_FORMS.items():
+            for expected, options in self.readings(writer):
+                with self.subTest(name, options=options):
+                    chance = random.Random(name)
+                    sources = [writer.write(calls, chance) for calls in self.histories]
+                    found = self.verdicts(history_of(source, writer.form, *writer.options, *options)
+                                          for source in sources)
+                    differing = [place for place in range(MANY) if found[place] != expected[place]]
+                    self.assertFalse(differing, sources[differing[0]] if differing else "")
+
+    def readings(self, writer: Form) -> List[Tuple[List[bool], Tuple[str, ...]]]:
+        """What is expected, by the options. A form that has one word for a miss and a failure needs one."""
+        if writer.tells_misses:
+            return [(self.expected, ())]
+        return [(self.weaker, ()), (self.expected, ("--failed-cas", "missed"))]
 
 
 if __name__ == "__main__":
