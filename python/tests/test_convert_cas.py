@@ -1,0 +1,253 @@
+"""Conversions of compare-and-swap: its words in each form, and how it ended, with what may tell so "
+  "planted."""
+import json
+import random
+import unittest
+from typing import List, Tuple
+
+from tests.convert_sources import plain
+from tests.convert_support import SAMPLES, run, short
+from tests.search_sources import find_regsearch, right_search_history, verdicts
+from tests.test_convert import CAS_CALL, CAS_HEADER, jepsen
+
+REGSEARCH = find_regsearch()
+
+# A form, its source, the options, and whether it is atomic or what it is refused for. A cas from null to 1
+# ended before a read of null. That is atomic only if the cas isn't taken for one that took place, nor for one
+# that missed.
+ENDS: List[Tuple[str, str, Tuple[str, ...], object]] = []
+
+
+def _end(form: str, source: str, expected: object, *options: str) -> None:
+    ENDS.append((form, source, options, expected))
+
+
+_READ = jepsen("1 invoke read nil", "1 ok read nil")
+_LOG = jepsen("0 invoke cas [nil 1]") + "{:process 0, :type :%s, :f :cas, :value %s}\n" + _READ
+_end("jepsen", _LOG % ("ok", "[nil 1]"), False)
+_end("jepsen", _LOG % ("ok", "nil"), False)
+_end("jepsen", _LOG % ("fail", "[nil 1]"), True)
+_end("jepsen", _LOG % ("fail", "[nil 1]"), False, "--failed-cas", "missed")
+_end("jepsen", _LOG % ("fail", "[nil 1], :error :timeout"), True, "--failed-cas", "missed")
+_end("jepsen", _LOG % ("fail", '[nil 1], :error [:not-leader "n2"]'), True, "--failed-cas", "missed")
+_end("jepsen", _LOG % ("fail", "[nil 1], :exception {:via []}"), True, "--failed-cas", "missed")
+_end("jepsen", _LOG % ("fail", '[nil 1], :error [:precondition-failed "1"]'), False, "--failed-cas", "missed")
+_end("jepsen", _LOG % ("fail", '[nil 1], :error :precondition-failed'), True)
+_end("jepsen", _LOG % ("fail", "[nil 1], :reason :full"), "the member reason isn't "
+                                                          "understood", "--failed-cas",
+     "missed")
+_end("jepsen", _LOG % ("info", "[nil 1]"), True)
+_end("jepsen", _LOG % ("info", ":timeout"), True, "--failed-cas", "missed")
+_end("jepsen", _LOG % ("ok", "[nil 1], :error :timeout"), "the operation is :ok and has :error :timeout: say")
+_end("jepsen", _LOG % ("ok", "[nil 1], :error :timeout"), True, "--ok-when", "error=")
+_end("jepsen", _LOG % ("ok", "[nil 1], :error :late"), True, "--ok-when", "error=", "--outcomes", "late=fail")
+_end("jepsen", _LOG % ("ok", "[nil 1], :error :old"), False, "--ok-when", "error=", "--outcomes",
+     "old=missed")
+_end("jepsen", _LOG % ("ok", "false"), "the reply of a cas has the value false, which isn't that of its call")
+_end("jepsen", _LOG % ("ok", "false"), True, "--ok-when", "value=true")
+_end("jepsen", _LOG % ("ok", "false"), False, "--ok-when", "value=true", "--outcomes", "false=missed")
+_end("jepsen", _LOG % ("ok", "true"), False, "--ok-when", "value=true")
+_end("jepsen", _LOG % ("no", "nil"), ":type is :no, and :invoke, :ok, :fail or :info is expected")
+_end("jepsen", _LOG % ("no", "nil"), True, "--outcomes", "no=fail", "--failed-cas", "missed")
+_end("jepsen", "0 :invoke :cas [nil 1]\n0 :fail :cas [nil 1]\n1 :invoke :read nil\n1 :ok :read nil", True)
+_end("jepsen", "0 :invoke :cas [nil 1]\n0 :fail :cas [nil 1]\n1 :invoke :read nil\n1 :ok :read nil", False,
+     "--failed-cas", "missed")
+_end("jepsen", "0 :invoke :cas [nil 1]\n0 :fail :cas [nil 1] :late\n1 :invoke :read nil\n1 :ok :read "
+               "nil", True,
+     "--failed-cas", "missed")
+_end("jepsen", "0 :invoke :cas [nil 1]\n0 :fail :cas {[\n1 :invoke :read nil\n1 :ok :read nil", True)
+_PORCUPINE = (
+    '{:process 0, :type :invoke, :f :cas, :key "x", :value ["" "1"]}\n'
+    '{:process 0, :type :%s, :f :cas, :key "x"}\n'
+    '{:process 1, :type :invoke, :f :get, :key "x"}\n{:process 1, :type :ok, :f :get, :key "x", :value ""}')
+_end("porcupine", _PORCUPINE % "ok", False)
+_end("porcupine", _PORCUPINE % "fail", True)
+_end("porcupine", _PORCUPINE % "info", True)
+_end("porcupine", _PORCUPINE % "fail", False, "--failed-cas", "missed")
+_GO = ('{"ClientId":0,"Input":{"Op":"cas","Key":"x","From":"","To":"1"},"Call":1,%s}\n'
+       '{"ClientId":0,"Input":{"Op":0,"Key":"x"},"Call":3,"Output":{"Value":""},"Return":4}')
+_end("porcupine", _GO % '"Output":{"Ok":true},"Return":2', False)
+_end("porcupine", _GO % '"Output":{"Ok":false},"Return":2', False)
+_end("porcupine", _GO % '"Output":{"Ok":false},"Return":null', True)
+_end("porcupine", _GO % '"Output":{"Ok":false},"Return":9223372036854775807', True)
+_end("porcupine", _GO % '"Output":{"Ok":true,"Err":"late"},"Return":2', "the member Err isn't understood")
+_end("porcupine", _GO % '"Output":{"Ok":true,"Err":"late"},"Return":2', True, "--ok-when", "Err=OK")
+_end("porcupine", _GO % '"Output":{"Ok":false,"Err":"late"},"Return":2', True, "--ok-when", "Err=OK")
+_end("porcupine", _GO % '"Output":{"Err":"late"},"Return":2', True, "--ok-when", "Err=OK", "--outcomes",
+     "late=fail")
+_end("porcupine", _GO % '"Output":{"Err":"old"},"Return":2', False, "--ok-when", "Err=OK", "--outcomes",
+     "old=missed")
+_end("porcupine", _GO % '"Output":{"Ok":false},"Return":2', True, "--ok-when", "Ok=true")
+_end("porcupine", _GO % '"Output":true,"Return":2', "the output of a cas has no Ok, true or false")
+_end("porcupine", _GO % '"Output":{"Ok":true,"Value":"2"},"Return":2', "the output of a cas has the value 2 "
+                                                                       "bes")
+_end("porcupine", _GO % '"Output":{"Ok":true},"Version":0,"Return":2', "the member Version isn't understood")
+_ETCD = ('{"ClientId":0,"Input":{"Op":2,"Arg1":null,"Arg2":1},"Call":1,"Output":%s,"Return":2}\n'
+         '{"ClientId":0,"Input":{"Op":0,"Arg1":0,"Arg2":0},"Call":3,"Output":{"Exists":false},"Return":4}')
+_end("porcupine", _ETCD % '{"Ok":true,"Exists":false,"Value":0,"Unknown":false}', False)
+_end("porcupine", _ETCD % '{"Ok":false,"Exists":false,"Value":0,"Unknown":false}', False)
+_end("porcupine", _ETCD % '{"Ok":false,"Exists":false,"Value":0,"Unknown":true}', True)
+_end("porcupine", _ETCD % '{"Exists":false}', "the output of a cas has no Ok, true or false")
+_end("porcupine", _ETCD % '{"Ok":true,"Error":"late"}', "the member Error isn't understood")
+_TABLE = CAS_HEADER + "0,1,2,x,cas,,%s\n0,3,4,x,read,,%s,,,\n"
+_end("csv", _TABLE % ("ok,,1,true", "ok"), False)
+_end("csv", _TABLE % ("ok,,1,false", "ok"), False)
+_end("csv", _TABLE % ("ok,,1,", "ok"), False)
+_end("csv", _TABLE % ("missed,,1,", "ok"), False)
+_end("csv", _TABLE % ("fail,,1,", "ok"), True)
+_end("csv", _TABLE % ("fail,,1,false", "ok"), True)
+_end("csv", _TABLE % ("fail,,1,false", "ok"), False, "--failed-cas", "missed")
+_end("csv", _TABLE % ("unknown,,1,false", "ok"), True, "--failed-cas", "missed")
+_end("csv", _TABLE % (",,1,false", ""), False)
+_end("csv", _TABLE % (",,1,", ""), "the row of a cas doesn't say whether it took place")
+_end("csv", _TABLE % (",,1,", ""), False, "--outcomes", "=ok")
+_end("csv", _TABLE % ("old,,1,", "ok"), "the outcome is old, and ok, fail, unknown or info is expected, or "
+                                        "miss")
+_end("csv", _TABLE % ("old,,1,", "ok"), True, "--outcomes", "old=fail", "--failed-cas", "missed")
+_end("csv", _TABLE % ("ok,,1,error", "ok"), "ok is error, and true or false is expected")
+_end("csv", _TABLE % ("ok,,1,error", "ok"), True, "--ok-when", "ok=true,", "--outcomes", "error=fail")
+_end("csv", _TABLE.replace("0,1,2", "0,1,") % ("missed,,1,", "ok"), True)
+_end("csv", _TABLE.replace("0,1,2", "0,1,") % ("fail,,1,", "ok"), True, "--failed-cas", "missed")
+_end("csv", _TABLE.replace("0,3,4", "0,2,4") % ("ok,,1,true", "ok"), True)  # a tie
+_end("csv", _TABLE.replace("0,3,4", "0,2,4") % ("ok,2,1,false", "ok"), True)
+_OBJECT = ('{"process":0,"start":1,"end":2,"op":"cas","from":null,"to":1%s}\n'
+           '{"process":0,"start":3,"end":4,"op":"read","value":null}')
+_end("operations", _OBJECT % ',"ok":true', False)
+_end("operations", _OBJECT % ',"ok":false', False)
+_end("operations", _OBJECT % ',"outcome":"fail"', True)
+_end("operations", _OBJECT % ',"outcome":"unknown","ok":false', True)
+_end("operations", _OBJECT % ',"outcome":"missed"', False)
+_end("operations", _OBJECT % "", "the row of a cas doesn't say whether it took place")
+_end("operations", _OBJECT % ',"ok":"late"', "ok is late, and true or false is expected")
+_end("operations", _OBJECT % ',"ok":1', "ok is 1, and true or false is expected")
+_end("operations", _OBJECT % ',"ok":true,"error":"late"', "the member error isn't understood")
+_end("operations", _OBJECT % ',"ok":true,"error":"late"', True, "--ok-when", "error=")
+_end("operations", _OBJECT.replace('"start":3', '"start":2') % ',"ok":true', True)  # a tie
+_EVENTS = (CAS_CALL.replace('"from":1,"to":2', '"from":null,"to":1') + '{"process":1,"event":%s}\n'
+           '{"process":2,"event":"call","op":"read","register":"x"}\n'
+           '{"process":2,"event":"reply","value":null}')
+_end("jsonl", _EVENTS % '"reply","ok":true', False)
+_end("jsonl", _EVENTS % '"reply","ok":false', False)
+_end("jsonl", _EVENTS % '"fail"', True)
+_end("jsonl", _EVENTS % '"fail","ok":false', True)
+_end("jsonl", _EVENTS % '"fail"', False, "--failed-cas", "missed")
+_end("jsonl", _EVENTS % '"crash"', True, "--failed-cas", "missed")
+_end("jsonl", _EVENTS % '"old"', 'event is "old", and call, reply, fail or crash is expected')
+_end("jsonl", _EVENTS % '"old"', False, "--outcomes", "old=missed")
+_end("jsonl", _EVENTS % '"late"', True, "--outcomes", "late=unknown")
+_end("jsonl", _EVENTS % '"reply","ok":true,"error":"late"', "the member error isn't understood")
+_end("jsonl", _EVENTS % '"reply","ok":true,"error":"late"', True, "--ok-when", "error=")
+_end("jsonl", _EVENTS % '"reply","ok":false,"error":"late"', True, "--ok-when", "error=", "--outcomes",
+     "late=fail")
+_end("jsonl", _EVENTS % '"reply","ok":"late"', "a cas's reply has no ok, true or false")
+_end("jsonl", _EVENTS % '"reply","ok":false', True, "--ok-when", "ok=true")
+_end("jsonl", _EVENTS % '"reply","ok":true', "a cas's reply has no ok", "--ignore-member", "ok")
+_end("jsonl", _EVENTS % '"reply","ok":true,"to":2', "to is 2, and the call at line 1 has 1: is it the answer")
+
+
+@unittest.skipUnless(REGSEARCH, "bin/regsearch isn't built, and REGSEARCH names none")
+class Ends(unittest.TestCase):
+    def test_how_a_cas_ended(self) -> None:
+        for form, source, options, expected in ENDS:
+            with self.subTest(form, source=source, options=options):
+                ran = run(source, form, *options)
+                if type(expected) is str:
+                    self.assertEqual(ran.status, 2, ran.history)
+                    self.assertIn(f": {expected}", ran.told)
+                else:
+                    self.assertEqual(ran.status, 0, ran.told)
+                    self.assertEqual(verdicts([ran.history], REGSEARCH or ""), [expected], ran.history)
+
+
+MISSED = ("--failed-cas", "missed")
+SAMPLE_RUNS: List[Tuple[str, str, Tuple[str, ...]]] = [
+    ("jepsen_cas.edn", "jepsen", MISSED), ("knossos_cas_register.edn", "jepsen", ()),
+    ("maelstrom_cas.edn", "jepsen", MISSED), ("porcupine_etcd.log", "porcupine", MISSED),
+    ("porcupine_model.jsonl", "porcupine", ()), ("cas.csv", "csv", ()), ("cas_events.jsonl", "jsonl", ()),
+]
+
+
+class Samples(unittest.TestCase):
+    def test_each_becomes_the_history_that_was_worked_out_by_hand(self) -> None:
+        for name, form, options in SAMPLE_RUNS:
+            with self.subTest(name):
+                expected = (SAMPLES / name).with_suffix(".expected").read_text(encoding="utf-8")
+                ran = run((SAMPLES / name).read_text(encoding="utf-8"), form, *options)
+                self.assertEqual((ran.status, ran.history), (0, expected), ran.told)
+
+    @unittest.skipUnless(REGSEARCH, "bin/regsearch isn't built, and REGSEARCH names none")
+    def test_each_is_atomic(self) -> None:
+        histories = [run((SAMPLES / name).read_text(encoding="utf-8"), form, *options).history
+                     for name, form, options in SAMPLE_RUNS]
+        self.assertEqual(verdicts(histories, REGSEARCH or ""), [True] * len(SAMPLE_RUNS))
+
+
+class Words(unittest.TestCase):
+    def check(self, form: str, source: str, expected: List[str], *options: str) -> None:
+        ran = run(source, form, *options)
+        self.assertEqual((ran.status, short(ran.history)), (0, expected), ran.told)
+
+    def test_keys(self) -> None:
+        source = jepsen("0 invoke cas [:k [1 2]]", "0 fail cas [:k [1 2]]", "1 invoke cas [:j [nil 2]]",
+                        "1 ok cas [:j [nil 2]]")
+        self.check("jepsen", source, ["0 c :k 1 2", "0 False", "1 c :j None 2", "1 True"], "--failed-cas",
+                   "missed")
+        self.check("jepsen", jepsen("0 invoke cas [1 2]", "1 invoke write [1 2]"), ["0 c x 1 2", "1 w x 3"])
+        self.check("jepsen", jepsen("0 invoke cas [[1 2] [3 4]]"), ["0 c x 1 2"], "--keys", "none")
+        self.check("jepsen", jepsen("0 invoke cas [[1 2] [3 4]]"), ["0 c [1 2] 3 4"], "--keys", "independent")
+
+    def test_texts_are_numbered_alike_wherever_they_stand(self) -> None:
+        source = jepsen('0 invoke write "a"', '0 ok write "a"',
+                        '0 invoke cas ["a" "b"]', '0 ok cas ["a" "b"]', "0 invoke cas [3 1]", "0 info cas [3 1]", "1 invoke read nil", '1 ok read "b"')
+        ran = run(source, "jepsen", "--map")
+        self.assertEqual(short(ran.history), ["0 w x 2", "0 .", "0 c x 2 4", "0 True", "0 c x 3 1", "0 crash",
+                                              "1 r x", "1 = 4"])
+        self.assertEqual(ran.map and ran.map["values"], {"x": {"2": "a", "4": "b"}})
+
+    def test_values_may_repeat(self) -> None:
+        source = jepsen("0 invoke write 5", "0 ok write 5", "0 invoke write 5", "0 fail write 5")
+        self.check("jepsen", source, ["0 w x 5", "0 .", "0 w x 5", "0 fail"])
+        self.check("jepsen", jepsen("0 invoke write 5"), ["0 w x 5", "0 .", "0 w x 5"], "--initial", "5")
+
+    def test_other_words(self) -> None:
+        source = CAS_HEADER.replace("from,to", "old,new") + "0,1,2,x,SWAP,,done,1,2,\n"
+        self.check("csv", source, ["0 c x 1 2", "0 True"], "--columns", "from=old,to=new", "--ops",
+                   "swap=cas", "--outcomes", "done=ok")
+
+    def test_columns_of_these_names_may_be_the_times(self) -> None:
+        source = "process,from,to,op,value\n0,1,2,write,1\n"
+        self.check("csv", source, ["0 w x 1", "0 ."], "--columns", "start=from,end=to")
+
+    def test_what_is_told(self) -> None:
+        source = jepsen("0 invoke cas [nil 1]", "0 ok cas [nil 1]", "0 invoke cas [2 3]", "0 fail cas [2 3]",
+                        "0 invoke write 1", "0 ok write 1", "0 invoke write 1", "0 ok write 1")
+        source += ("{:process 0 :type :invoke :f :cas :value [1 2]}\n"
+                   "{:process 0 :type :fail :f :cas :error :late}")
+        told = run(source, "jepsen", "--failed-cas", "missed").told
+        self.assertIn("read 5 operations of 1 client on 1 register: 2 writes, 0 reads, 3 cas; 1 failed, 1 "
+                      "missed, "
+                      "0 of unknown outcome\n", told)
+        self.assertIn("the history has cas and repeated values, so it is one for regsearch; regkit "
+                      "check", told)
+        self.assertIn("took 1 cas that failed with an error as failed, and not as missed: the error", told)
+
+
+class RoundTrips(unittest.TestCase):
+    def test_random_histories_there_and_back(self) -> None:
+        """In each form, with failures apart from misses."""
+        chance = random.Random(4)
+        for calls in (right_search_history(chance) for _ in range(100)):
+            history = run(plain(calls), "jsonl").history if calls else ""
+            for form in ("jepsen", "porcupine", "csv", "operations") if calls else ():
+                options = ("--failed-cas", "missed") if form in ("jepsen", "porcupine") else ()
+                with self.subTest(form, history=history):
+                    there = run(history, "jsonl", "--to", form)
+                    back = run(there.history, form, *options)
+                    self.assertEqual(back.history, history, (there.history, back.told))
+            if calls:
+                self.assertEqual([json.loads(line) for line in plain(calls).splitlines()],
+                                 [json.loads(line) for line in history.splitlines()])
+
+
+if __name__ == "__main__":
+    unittest.main()
