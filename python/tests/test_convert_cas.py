@@ -198,7 +198,8 @@ class Words(unittest.TestCase):
 
     def test_texts_are_numbered_alike_wherever_they_stand(self) -> None:
         source = jepsen('0 invoke write "a"', '0 ok write "a"',
-                        '0 invoke cas ["a" "b"]', '0 ok cas ["a" "b"]', "0 invoke cas [3 1]", "0 info cas [3 1]", "1 invoke read nil", '1 ok read "b"')
+                        '0 invoke cas ["a" "b"]', '0 ok cas ["a" "b"]',
+                        "0 invoke cas [3 1]", "0 info cas [3 1]", "1 invoke read nil", '1 ok read "b"')
         ran = run(source, "jepsen", "--map")
         self.assertEqual(short(ran.history), ["0 w x 2", "0 .", "0 c x 2 4", "0 True", "0 c x 3 1", "0 crash",
                                               "1 r x", "1 = 4"])

@@ -1,4 +1,4 @@
-"""Histories that other tools recorded, made into histories for `regcheck`, and back.
+"""Histories that other tools recorded, made into histories for `regcheck` and `regsearch`, and back.
 
 A reader (jepsen, porcupine, tables, events) gives the source's operations in the order in which they were
 called and ended (model). Then each operation gets a process (processes), each register a name (names) and

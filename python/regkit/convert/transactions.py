@@ -45,5 +45,5 @@ def _single(value: Any, line: int) -> List[Any]:
     if len(parts) > 1:
         raise Refused(f"a transaction of {len(parts)} operations, and registers have single reads and "
                       "writes: let each transaction have one operation (:max-txn-length 1, "
-                      "docs/recipes.md)", line)
+                      "docs/recipes.md), or check the history with Elle", line)
     raise Refused(f"{edn.write(value)[:60]} is no transaction of one read or write, such as [[:w 3 1]]", line)
