@@ -273,6 +273,26 @@ def porcupine_etcd(calls: List[Call], chance: random.Random) -> str:
     return "\n".join(map(json.dumps, rows))
 
 
+def porcupine_versions(calls: List[Call], chance: random.Random) -> str:
+    """Puts by version and gets, whose registers have versions. The values are any."""
+    errors = {"ok": ["OK"], "missed": ["ErrVersion"], "fail": ["ErrLeader"],
+              "unknown": ["ErrMaybe", "timeout"]}
+    rows = []
+    for call in calls:
+        version = (call.expected if call.op == "cas" else call.value if call.outcome == "ok" else None) or 0
+        given: Dict[str, Any] = {"Op": int(call.op != "read"), "Key": call.key, "Value": "", "Version": 0}
+        told: Dict[str, Any] = {"Value": "", "Version": 0, "Err": chance.choice(errors[call.outcome])}
+        if call.op == "cas":
+            given.update(Value=chance.choice("abc"), Version=version)
+        elif version:
+            told.update(Value=chance.choice("abc"), Version=version)
+        elif call.outcome == "ok":
+            told.update(Err="ErrNoKey")
+        rows.append({"ClientId": call.client, "Input": given, "Call": call.start, "Output": told,
+                     "Return": chance.choice([None, 99]) if call.end is None else call.end})
+    return "\n".join(map(json.dumps, rows))
+
+
 def porcupine_events(calls: List[Call], chance: random.Random) -> str:
     rows = []
     number = {call: place for place, call in enumerate(calls)}
@@ -385,4 +405,7 @@ FORMS: Dict[str, Form] = {
         "--ok-when", "code=200,204", "--outcomes", "409=fail,412=missed")),
     "jsonl": Form("jsonl", jsonl, ("--outcomes", "timeout=unknown")),
 }
+VERSION_FORM = Form("porcupine", porcupine_versions, (
+    "--versions", "Version", "--ok-when", "Err=OK", "--outcomes", "ErrVersion=missed,ErrLeader=fail",
+    "--null", ",ErrNoKey"))
 CAS_FORMS = {**FORMS, "porcupine's etcd": Form("porcupine", porcupine_etcd)}

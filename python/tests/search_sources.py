@@ -44,15 +44,23 @@ class _Open:
         return self.call._replace(end=end, outcome=outcome)
 
 
-def _called(chance: random.Random, client: int, time: int) -> Call:
+def _called(chance: random.Random, client: int, time: int, versions: bool) -> Call:
+    if versions:
+        version = chance.randrange(5)
+        wanted = (version + 1, version or None) if chance.random() < 0.6 else (None, None)
+        return Call(client, chance.choice("ab"), "cas" if wanted[0] else "read", wanted[0], time, None,
+                    "unknown", wanted[1])
     op = chance.choice(["read", "write", "cas", "cas"])
     value = None if op == "read" else chance.choice(VALUES)
     expected = chance.choice([None, *VALUES, *VALUES]) if op == "cas" else None
     return Call(client, chance.choice("ab"), op, value, time, None, "unknown", expected)
 
 
-def right_search_history(chance: random.Random) -> List[Call]:
-    """Clients call, take effect at one moment and get their answers, but for some that fail or get none."""
+def right_search_history(chance: random.Random, versions: bool = False) -> List[Call]:
+    """Clients call, take effect at one moment and get their answers, but for some that fail or get none.
+
+    With `versions`, each cas is a put by version, from a version to the next.
+    """
     clients = list(range(chance.randrange(1, 5)))
     store: Dict[str, Optional[int]] = {"a": None, "b": None}
     running: Dict[int, _Open] = {}
@@ -65,7 +73,7 @@ def right_search_history(chance: random.Random) -> List[Call]:
         if lost and chance.random() < 0.1:
             lost.pop().take_effect(store)
         if call is None:
-            running[client] = _Open(_called(chance, client, time))
+            running[client] = _Open(_called(chance, client, time, versions))
         elif not call.effective and chance.random() < 0.85:
             call.take_effect(store)
         else:
@@ -82,10 +90,10 @@ def right_search_history(chance: random.Random) -> List[Call]:
     return sorted(done, key=lambda call: call.start)
 
 
-def changed_search_history(chance: random.Random) -> List[Call]:
+def changed_search_history(chance: random.Random, versions: bool = False) -> List[Call]:
     """A right history in which one answer of a read or a cas is another."""
     while True:
-        calls = right_search_history(chance)
+        calls = right_search_history(chance, versions)
         answers = [place for place, call in enumerate(calls)
                    if call.op != "write" and call.outcome in ("ok", "missed")]
         if answers:

@@ -79,8 +79,9 @@ _end("porcupine", _GO % '"Output":{"Err":"old"},"Return":2', False, "--ok-when",
      "old=missed")
 _end("porcupine", _GO % '"Output":{"Ok":false},"Return":2', True, "--ok-when", "Ok=true")
 _end("porcupine", _GO % '"Output":true,"Return":2', "the output of a cas has no Ok, true or false")
-_end("porcupine", _GO % '"Output":{"Ok":true,"Value":"2"},"Return":2', "the output of a cas has the value 2 "
-                                                                       "bes")
+_end("porcupine", _GO % '"Output":{"Ok":true,"Value":"2"},"Return":2', "the output of a cas has the value 2")
+_end("porcupine", _GO % '"Output":{"Value":"2","Err":"OK"},"Return":2', "the output of a cas has the value 2",
+     "--ok-when", "Err=OK")
 _end("porcupine", _GO % '"Output":{"Ok":true},"Version":0,"Return":2', "the member Version isn't understood")
 _ETCD = ('{"ClientId":0,"Input":{"Op":2,"Arg1":null,"Arg2":1},"Call":1,"Output":%s,"Return":2}\n'
          '{"ClientId":0,"Input":{"Op":0,"Arg1":0,"Arg2":0},"Call":3,"Output":{"Exists":false},"Return":4}')
@@ -89,6 +90,27 @@ _end("porcupine", _ETCD % '{"Ok":false,"Exists":false,"Value":0,"Unknown":false}
 _end("porcupine", _ETCD % '{"Ok":false,"Exists":false,"Value":0,"Unknown":true}', True)
 _end("porcupine", _ETCD % '{"Exists":false}', "the output of a cas has no Ok, true or false")
 _end("porcupine", _ETCD % '{"Ok":true,"Error":"late"}', "the member Error isn't understood")
+_PUT = ('{"ClientId":0,"Input":{"Op":1,"Key":"x","Value":"a","Version":0},"Call":1,"Output":%s,"Return":2}\n'
+        '{"ClientId":0,"Input":{"Op":0,"Key":"x","Value":"","Version":0},"Call":3,'
+        '"Output":{"Value":"","Version":0,"Err":"ErrNoKey"},"Return":4}')
+VERSIONS = ("--versions", "Version", "--ok-when", "Err=OK", "--null", ",ErrNoKey")
+_end("porcupine", _PUT % '{"Value":"","Version":0,"Err":"OK"}', False, *VERSIONS)
+_end("porcupine", _PUT % '{"Value":"","Version":1,"Err":"OK"}', False, *VERSIONS)
+_end("porcupine", _PUT % '{"Value":"","Version":0,"Err":"ErrMaybe"}', True, *VERSIONS)
+_end("porcupine", _PUT % '{"Value":"","Version":0,"Err":"ErrVersion"}', True, *VERSIONS)
+_end("porcupine", _PUT % '{"Err":"ErrVersion"}', True, *VERSIONS, "--outcomes", "ErrVersion=fail")
+_end("porcupine", _PUT % '{"Err":"ErrVersion"}', False, *VERSIONS, "--outcomes", "ErrVersion=missed")
+_end("porcupine", _PUT % '{"Err":"OK","Version":7}', "the output of a put has the version 7, and the put",
+     *VERSIONS)
+_end("porcupine", _PUT % '{"Err":"OK","Leader":7}', "the member Leader isn't understood", *VERSIONS)
+_end("porcupine", (_PUT % '{"Err":"OK"}').replace(',"Version":0', ""), "the input of a put has no version in",
+     *VERSIONS)
+_end("porcupine", (_PUT % '{"Err":"OK"}').replace("ErrNoKey", "OK").replace(',"Version":0,"Err"', ',"Err"'),
+     "the output of a get has no version in version", *VERSIONS)
+_end("porcupine", (_PUT % '{"Err":"OK"}').replace('"Version":0}', '"Version":"0"}'), "the input of a put has",
+     *VERSIONS)
+_end("porcupine", _PUT % "{}", "the output of a cas has no Ok", "--versions", "Version", "--ignore-member",
+     "Err")
 _TABLE = CAS_HEADER + "0,1,2,x,cas,,%s\n0,3,4,x,read,,%s,,,\n"
 _end("csv", _TABLE % ("ok,,1,true", "ok"), False)
 _end("csv", _TABLE % ("ok,,1,false", "ok"), False)
@@ -160,10 +182,12 @@ class Ends(unittest.TestCase):
 
 
 MISSED = ("--failed-cas", "missed")
+PUTS = (*VERSIONS, "--outcomes", "ErrVersion=missed")
 SAMPLE_RUNS: List[Tuple[str, str, Tuple[str, ...]]] = [
     ("jepsen_cas.edn", "jepsen", MISSED), ("knossos_cas_register.edn", "jepsen", ()),
     ("maelstrom_cas.edn", "jepsen", MISSED), ("porcupine_etcd.log", "porcupine", MISSED),
-    ("porcupine_model.jsonl", "porcupine", ()), ("cas.csv", "csv", ()), ("cas_events.jsonl", "jsonl", ()),
+    ("porcupine_model.jsonl", "porcupine", ()), ("porcupine_puts.jsonl", "porcupine", PUTS),
+    ("cas.csv", "csv", ()), ("cas_events.jsonl", "jsonl", ()),
 ]
 
 
@@ -231,6 +255,16 @@ class Words(unittest.TestCase):
         self.assertIn("the history has cas and repeated values, so it is one for regsearch; regkit "
                       "check", told)
         self.assertIn("took 1 cas that failed with an error as failed, and not as missed: the error", told)
+
+
+    def test_versions_are_told_of(self) -> None:
+        source = (SAMPLES / "porcupine_puts.jsonl").read_text(encoding="utf-8")
+        self.assertIn("each register has the versions of its key, and a put is a cas from its version to the "
+                      "next: the values aren't checked", run(source, "porcupine", *PUTS).told)
+        log = run('{:process 0, :type :invoke, :f :put, :key "x", :value "1"}', "porcupine", *PUTS)
+        self.assertEqual((log.status, log.history), (3, ""))
+        self.assertIn("--versions is for Go's values as JSON, not for logs", log.told)
+        self.assertIn("--versions is for porcupine, not for csv", run(CAS_HEADER, "csv", *PUTS).told)
 
 
 class RoundTrips(unittest.TestCase):

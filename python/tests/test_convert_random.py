@@ -5,8 +5,8 @@ import unittest
 from typing import Iterable, List, Tuple
 
 from regkit.convert.whole import READERS
-from tests.convert_sources import (CAS_FORMS, FORMS, Call, Form, faulty_history, is_atomic, plain,
-                                   right_history)
+from tests.convert_sources import (CAS_FORMS, FORMS, VERSION_FORM, Call, Form, faulty_history, is_atomic,
+                                   plain, right_history)
 from tests.convert_support import history_of
 from tests.search_sources import (changed_search_history, find_regsearch, right_search_history, verdicts,
                                   without_misses)
@@ -94,6 +94,19 @@ class SearchConversions(unittest.TestCase):
                                           for source in sources)
                     differing = [place for place in range(MANY) if found[place] != expected[place]]
                     self.assertFalse(differing, sources[differing[0]] if differing else "")
+
+    def test_puts_by_version(self) -> None:
+        """They are a cas on the version."""
+        chance = random.Random(53)
+        histories = [right_search_history(chance, True) for _ in range(MANY // 2)]
+        right = len(histories)
+        histories += [changed_search_history(chance, True) for _ in range(MANY // 2)]
+        expected = self.verdicts(map(plain, histories))
+        self.assertTrue(all(expected[:right]))
+        self.assertGreater(expected.count(False), MANY // 4)
+        found = self.verdicts(history_of(VERSION_FORM.write(calls, chance), VERSION_FORM.form,
+                                         *VERSION_FORM.options) if calls else "" for calls in histories)
+        self.assertEqual(found, expected)
 
     def readings(self, writer: Form) -> List[Tuple[List[bool], Tuple[str, ...]]]:
         """What is expected, by the options. A form that has one word for a miss and a failure needs one."""

@@ -71,6 +71,7 @@ class Choices(NamedTuple):
     values: str = "auto"
     cas: str = "keep"
     failed_cas: str = "fail"  # or missed
+    versions: Optional[str] = None  # the member by which a put is a cas
     columns: Dict[str, str] = {}
     delimiter: Optional[str] = None
     ops: Dict[str, str] = {}  # the source's word for an operation -> read, write, cas or other

@@ -16,10 +16,10 @@ in which Op 2 is a cas (etcd).
 from decimal import Decimal
 from typing import Any, Dict, Iterable, Optional, Set, Tuple
 
-from regkit.convert import etcd, jepsen
+from regkit.convert import etcd, jepsen, versions
 from regkit.convert.json_values import is_json, json_values
 from regkit.convert.members import Known, Outcomes, by_folded_name, ok_of
-from regkit.convert.model import CAS, READS, WRITES, Choices, Operation, Refused, Source
+from regkit.convert.model import CAS, READS, WRITES, Choices, Operation, Refused, Source, WrongWords
 from regkit.convert.pairing import Pairing
 from regkit.convert.rows import client_of
 from regkit.convert.settle import settle
@@ -39,6 +39,8 @@ Members = Dict[str, Any]
 def from_porcupine(lines: Iterable[str], choices: Choices) -> Source:
     """Tells the forms apart by what they begin with."""
     found, everything = is_json(lines)
+    if choices.versions is not None and not found:
+        raise WrongWords("--versions is for Go's values as JSON, not for logs")
     return _Values(choices).source(everything) if found else jepsen.from_edn_or_log(everything, choices)
 
 
@@ -52,6 +54,9 @@ class _Values:
         self.outcomes = Outcomes(choices)
         self.known = {place: Known(choices, place) for place in (
             "operation", "event", "input", "output", "cas input", "cas output", "etcd input", "etcd output")}
+        if choices.versions is not None:
+            for place in ("input", "output"):
+                self.known[place] = Known(choices, place, [choices.versions])
         self.etcd: Set[Operation] = set()  # those of the model of etcd
 
     def source(self, lines: Iterable[str]) -> Source:
@@ -70,6 +75,8 @@ class _Values:
                 raise Refused("events and operations in one file: give each a file of its own", line)
         source = Source(self.pairing.steps) if self.pairing.steps else self.timed.source(self.choices)
         source.notes.extend(self.outcomes.notes())
+        if self.choices.versions is not None:
+            source.notes.append(versions.NOTE)
         settle(source, self.choices)
         return source
 
@@ -87,22 +94,26 @@ class _Values:
             operation = Operation(line, client, kind, found.get("key", self.choices.register), value)
             self.etcd.add(operation)
             return operation
+        key = found.get("key", self.choices.register)
         self.known["cas input" if kind == CAS else "input"].check(given, line)
         if kind == CAS:
-            return Operation(line, client, kind, found.get("key", self.choices.register), _swap(found, line))
+            return Operation(line, client, kind, key, _swap(found, line))
         kind = _OPS.get(word, word) if kind == word else kind
         if word in _READS_BY_HABIT and word not in self.choices.ops and not _is_zero(found.get("value")):
             raise Refused(f"Op {word} is a get in Porcupine's models, and this input has a value to write, "
                           f"{spelled(found['value'])[:40]}: say which operation each Op is, as in "
                           f"--ops {_READS_BY_HABIT[word]}", line)
-        return Operation(line, client, kind, found.get("key", self.choices.register), found.get("value"))
+        if self.choices.versions is not None and kind in WRITES:
+            return Operation(line, client, CAS, key, versions.as_cas(found, self.choices.versions, line))
+        return Operation(line, client, kind, key, found.get("value"))
 
     def _end(self, operation: Operation, output: Any, beside: Members, line: int) -> Optional[str]:
         """Gives an operation its answer, the output or its member Value. Returns the operation's ending."""
         members: Members = {} if output is None else {"output": output}
-        is_etcd, is_cas = operation in self.etcd, operation.kind == CAS
+        is_etcd, is_cas, version = operation in self.etcd, operation.kind == CAS, self.choices.versions
         if isinstance(output, dict):
-            self.known["etcd output" if is_etcd else "cas output" if is_cas else "output"].check(output, line)
+            place = "etcd output" if is_etcd else "cas output" if is_cas and version is None else "output"
+            self.known[place].check(output, line)
             members = by_folded_name(output)
         is_read = operation.kind in READS
         ending, found_nothing = self.outcomes.of({**beside, **members}, is_read)
@@ -111,30 +122,29 @@ class _Values:
         if ending != "reply":
             return ending
         if is_cas:
-            return self._end_cas(operation, members, line)
-        if is_read and not found_nothing and ending == "reply":
-            operation.answer = self._read(members, line)
+            if version is not None:
+                versions.agree(members, version, operation.value, line)
+            return self._end_cas(members, line)
+        if is_read and not found_nothing:
+            operation.answer = (self._read(members, line) if version is None
+                                else versions.found(members, version, line))
         elif operation.kind in WRITES and not self.choices.explains("output", "value"):
             operation.answer = _written(members)
         return ending
 
-    def _end_cas(self, operation: Operation, members: Members, line: int) -> str:
-        """By Ok, unless the options say which words mean that all went well."""
-        answer = _written(members)
-        if answer is not None and "ok" in members and not self.choices.explains("output", "value"):
-            raise Refused(f"the output of a cas has the value {spelled(answer)[:40]} beside Ok: say "
-                          "--ignore-member "
-                          "Value if it means nothing", line)
-        took_place = ok_of(members.get("ok"))
-        if self.choices.ok_when and (took_place is None or self.choices.explains("ok")):
-            return "reply"
-        if took_place is None:
+    def _end_cas(self, members: Members, line: int) -> str:
+        """By Ok, unless the options say which words mean that it took place."""
+        took_place, answer = ok_of(members.get("ok")), _written(members)
+        by_words = bool(self.choices.ok_when) and (took_place is None or self.choices.explains("ok"))
+        if took_place is None and not by_words:
             raise Refused("the output of a cas has no Ok, true or false: write true if it took place, and "
-                          "false if "
-                          "the store found another value, or say --ok-when MEMBER=WORD,.. with the words by "
-                          "which "
-                          f"it took place{_said(answer)}", line)
-        return "reply" if took_place else "missed"
+                          "false if the store found another value, or say --ok-when MEMBER=WORD,.. with the "
+                          "words by which it took place", line)
+        if answer is not None and not self.choices.explains("output", "value"):
+            raise Refused(f"the output of a cas has the value {spelled(answer)[:40]}: say --ignore-member "
+                          "Value "
+                          "if it means nothing", line)
+        return "reply" if took_place or by_words else "missed"
 
     def _read(self, members: Members, line: int) -> Any:
         for name in ("value", "output"):
@@ -172,10 +182,6 @@ def _swap(given: Members, line: int) -> Tuple[Any, Any]:
     if "from" not in given or "to" not in given or not _is_zero(given.get("value")):
         raise Refused("the input of a cas has From and To, and no Value", line)
     return given["from"], given["to"]
-
-
-def _said(answer: Any) -> str:
-    return "" if answer is None else f" (here it is {spelled(answer)[:40]})"
 
 
 def _client(members: Members) -> Any:

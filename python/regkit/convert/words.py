@@ -36,6 +36,8 @@ def add_arguments(parser: argparse.ArgumentParser) -> None:
     add("--failed-cas", choices=["fail", "missed"], default="fail",
         help="what a failed cas says: nothing, since it had no effect (fail, the default), or that the store "
         "looked and found another value (missed)")
+    add("--versions", metavar="MEMBER", help="porcupine, as JSON: a put takes place only if its key has the "
+        "version in this member, and then the key has the next one; only versions are checked")
     add("--keys", choices=["auto", "independent", "none"], default="auto",
         help="jepsen: whether a value is [key value] (default auto: if all calls' values are pairs)")
     add("--register", metavar="NAME", default="x", help="the register of a source without keys (default x)")
@@ -69,6 +71,7 @@ def choices_of(arguments: argparse.Namespace) -> Choices:
     form = arguments.form
     for option, value, forms in (("--columns", arguments.columns, ("csv", "operations")),
                                  ("--delimiter", arguments.delimiter, ("csv",)),
+                                 ("--versions", arguments.versions, ("porcupine",)),
                                  ("--clock-error", arguments.clock_error, TIMED),
                                  ("--clock-unit", arguments.clock_unit, TIMED)):
         if value is not None and form not in forms:
@@ -78,7 +81,8 @@ def choices_of(arguments: argparse.Namespace) -> Choices:
     return Choices(
         form=form, register=arguments.register, keys=arguments.keys, nulls=_nulls(form, arguments.null),
         initial=arguments.initial, values=arguments.values,
-        cas=arguments.cas, failed_cas=arguments.failed_cas, columns=tables.columns(arguments.columns),
+        cas=arguments.cas, failed_cas=arguments.failed_cas,
+        versions=arguments.versions and folded(arguments.versions), columns=tables.columns(arguments.columns),
         delimiter=_delimiter(arguments.delimiter), ops=_meanings("--ops", arguments.ops, OPS),
         outcomes=_meanings("--outcomes", arguments.outcomes, ENDINGS), ok_when=_ok_when(arguments.ok_when),
         ignored=frozenset(map(folded, arguments.ignore_member)), clock_error=arguments.clock_error,
