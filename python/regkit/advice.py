@@ -130,7 +130,9 @@ def no_op(place: Place) -> str:
     own = synonym(op, OTHER_OPS)
     if own:
         return f"the op is {shown(op)}: write `{own}`"
-    return f"the op is {shown(op)}: only reads and writes can be checked, so leave this register out"
+    if op == "cas":
+        return f"the op is {shown(op)}: regcheck takes reads and writes alone"
+    return f"the op is {shown(op)}: only reads, writes and cas can be checked, so leave this register out"
 
 
 def no_register(place: Place) -> str:
@@ -192,6 +194,18 @@ def repeated(place: Place) -> str:
             "writes n. A retry is a write of its own, with its own value")
 
 
+def no_change(place: Place) -> str:
+    """A cas whose values don't fit."""
+    return ("a cas has the value that it asks for in `from`, a whole number or null, and the one that it writes in "
+            "`to`, a whole number")
+
+
+def unsaid(place: Place) -> str:
+    """A cas's reply that doesn't say whether it took place."""
+    return ("write `\"ok\":true` if it took place, and `\"ok\":false` if the store found another value; if you "
+            "don't know, write no reply, as the call then stays pending")
+
+
 def crashed(place: Place) -> str:
     process = shown(place.event["process"])
     return f"a client that comes back after a crash needs a new number: process {process} does nothing more"
@@ -199,7 +213,7 @@ def crashed(place: Place) -> str:
 
 ADVICE: Dict[int, Callable[[Place], str]] = {
     2: no_json, 3: no_object, 4: no_process, 5: no_event, 6: no_op, 7: no_register, 8: no_value, 9: busy,
-    10: unasked, 11: disagreeing, 12: unread, 13: repeated, 19: crashed}
+    10: unasked, 11: disagreeing, 12: unread, 13: repeated, 19: crashed, 20: no_change, 21: unsaid}
 
 
 def advice(history: bytes, refusal: str, name: str = "-") -> str:

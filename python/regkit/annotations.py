@@ -2,7 +2,7 @@
 from typing import List, Optional
 
 from regkit.inputs import STANDARD_INPUT
-from regkit.outcome import VERDICTS, Fault, Outcome
+from regkit.outcome import VERDICTS, Fault, Outcome, unknown_in_words
 from regkit.quoting import plain, quoted
 from regkit.refusals import read_refusal
 from regkit.statuses import ExitStatus
@@ -27,9 +27,10 @@ def annotation(level: str, outcome: Outcome, line: Optional[int], lines: List[st
 
 
 def line_of(fault: Fault) -> int:
-    """The line of the call that a fault blames: that of a read if it can be."""
+    """The line of the call that a fault blames: that of a read if it can be; of a search the reply's."""
     told = fault.row["fault"]
-    return int(told["second"][1] if told["kind"] == "zones" else told["read"])
+    return int(told["second"][1] if told["kind"] == "zones"
+               else next(told[key] for key in ("read", "call", "reply") if key in told))
 
 
 def annotations(outcome: Outcome) -> List[str]:
@@ -42,5 +43,6 @@ def annotations(outcome: Outcome) -> List[str]:
                 for fault in outcome.faults]
     refusal = read_refusal(outcome.words, lambda line: line)
     level = "warning" if outcome.status == ExitStatus.TOO_LITTLE else "error"
-    lines = [outcome.words, outcome.advice] if outcome.advice else [outcome.words]
+    lines = [outcome.words, *([unknown_in_words(outcome.unknown)] if outcome.unknown else []),
+             *([outcome.advice] if outcome.advice else [])]
     return [annotation(level, outcome, refusal.line if refusal else None, lines)]

@@ -1,16 +1,28 @@
-"""Asks the checker: the program `regcheck`, or for a small history the library, where it is installed."""
+"""Asks the checker: the program `regcheck`, or for a small history the library, where it is installed.
+
+`regcheck` decides whatever it accepts. If it refuses a history for a repeated value or a cas, `regsearch`
+decides it, if it is there."""
+import io
 import os
 import pathlib
 import shutil
 import subprocess
 import sys
+from itertools import islice
 from types import TracebackType
 from typing import Any, BinaryIO, List, NamedTuple, Optional, Sequence, Type, Union
 
+from regkit.lines import NotJson, json_of
+from regkit.refusals import read_refusal
 from regkit.statuses import ExitStatus
 
 LIBRARY_BYTES = 1_048_576  # the program has several workers: it is as quick with a longer history
 NOT_FOUND = "regcheck was not found: put it on PATH, or set REGCHECK to its path"
+CHECK, SEARCH = "regcheck", "regsearch"
+VARIABLES = {CHECK: "REGCHECK", SEARCH: "REGSEARCH"}  # with the paths of the programs
+WOULD_DECIDE = ("regsearch would decide it, since it takes repeated values and cas: put it beside regcheck or on "
+                "PATH, or set REGSEARCH to its path")
+BAD_OP, REPEATED = 6, 13  # the numbers of the refusals of a cas and of a repeated value
 
 
 class NoChecker(Exception):
@@ -21,36 +33,51 @@ class NoChecker(Exception):
 
 
 class Answer(NamedTuple):
-    """What one run of the checker gave."""
+    """What one run of a program gave."""
 
-    status: int  # 0 atomic, 1 not atomic, 2 refused, 3 command line, 4 input, memory or output failed
-    report: bytes  # standard output; empty unless status is 0 or 1
+    status: int  # 0 atomic, 1 not, 2 refused, 3 command line, 4 input, memory or output failed, 6 unknown
+    report: bytes  # standard output; empty unless status is 0, 1 or 6
     refusal: str  # standard error, without its line feed
+    program: str = CHECK
+
+    @property
+    def decided(self) -> bool:
+        """Whether there is a report."""
+        return self.status in (ExitStatus.ATOMIC, ExitStatus.NOT_ATOMIC, ExitStatus.UNKNOWN)
+
+    @property
+    def by_search(self) -> bool:
+        return self.program == SEARCH
 
 
-def beside() -> List[pathlib.Path]:
+def beside(program: str = CHECK) -> List[pathlib.Path]:
     """Where the program may be: next to the command, in bin/ of the repository, or where pip puts commands."""
     places = []
     started = pathlib.Path(sys.argv[0])
     if started.is_file():
-        places += [started.parent / "regcheck", started.resolve().parent / "regcheck"]
+        places += [started.parent / program, started.resolve().parent / program]
     package = pathlib.Path(__file__).resolve().parent
     if (package.parent / "pyproject.toml").is_file():
-        places.append(package.parent.parent / "bin" / "regcheck")
+        places.append(package.parent.parent / "bin" / program)
     if package.parent.name in ("site-packages", "dist-packages"):
-        places.append(package.parents[3] / "bin" / "regcheck")
+        places.append(package.parents[3] / "bin" / program)
     return places
 
 
-def find_checker() -> str:
-    """The path in REGCHECK, or the program beside this one, or the one on PATH. Raises NoChecker."""
-    named = os.environ.get("REGCHECK")
+def find_program(program: str) -> Optional[str]:
+    """The path in its variable, or the program beside this one, or the one on PATH, if there is any."""
+    named = os.environ.get(VARIABLES[program])
     if named:
         return named
-    for path in beside():
+    for path in beside(program):
         if os.access(path, os.X_OK) and path.is_file():
             return str(path)
-    found = shutil.which("regcheck")
+    return shutil.which(program)
+
+
+def find_checker() -> str:
+    """The path of `regcheck`. Raises NoChecker."""
+    found = find_program(CHECK)
     if found is None:
         raise NoChecker
     return found
@@ -74,20 +101,22 @@ def held(history: bytes) -> BinaryIO:
 class Run:
     """A run of the program that has begun. Whoever began it may work until it asks for the answer."""
 
-    def __init__(self, history: bytes, options: Sequence[str] = (), program: Optional[str] = None) -> None:
+    def __init__(self, history: bytes, options: Sequence[str] = (), program: Optional[str] = None,
+                 name: str = CHECK) -> None:
         """Raises NoChecker if the program can't be started."""
-        path = program or find_checker()
+        path, self.name = program or find_checker(), name
         with held(history) as stream:
             try:
                 self.process = subprocess.Popen([path, *options], stdin=stream, stdout=subprocess.PIPE,
                                                 stderr=subprocess.PIPE)
             except OSError as error:
-                words = f"{path} could not be started: {error.strerror}. Is REGCHECK right?"
+                words = f"{path} could not be started: {error.strerror}. Is {VARIABLES[name]} right?"
                 raise NoChecker(words) from error
 
     def answer(self) -> Answer:
         report, words = self.process.communicate()
-        return Answer(self.process.returncode, report, words.decode("utf-8", "replace").rstrip("\n"))
+        told = words.decode("utf-8", "replace").rstrip("\n")
+        return Answer(self.process.returncode, report, told, self.name)
 
     def __enter__(self) -> "Run":
         return self
@@ -143,3 +172,32 @@ def judge(history: bytes, options: Sequence[str] = ()) -> Answer:
     """The answer to a history, when it is there."""
     with begin(history, options) as run:
         return run.answer()
+
+
+def is_for_search(history: bytes, answer: Answer) -> bool:
+    """Whether regcheck refused the history for a value that was written already, or at the line of a cas."""
+    if answer.status != ExitStatus.REFUSED or answer.by_search:
+        return False
+    refusal = read_refusal(answer.refusal, lambda line: line)
+    if refusal is None or refusal.number != BAD_OP:
+        return refusal is not None and refusal.number == REPEATED
+    try:
+        event = json_of(next(islice(io.BytesIO(history), refusal.line - 1, None)).rstrip(b"\n"))
+    except (NotJson, StopIteration):
+        return False
+    return isinstance(event, dict) and event.get("op") == "cas"
+
+
+def searched(history: bytes, answer: Answer, options: Sequence[str] = ()) -> Answer:
+    """The answer of regsearch where that takes what regcheck refused, and is there; else the same answer.
+    Raises NoChecker if it can't be started."""
+    path = find_program(SEARCH) if is_for_search(history, answer) else None
+    if path is None:
+        return answer
+    with Run(history, options, path, SEARCH) as run:
+        return run.answer()
+
+
+def decide(history: bytes, options: Sequence[str] = ()) -> Answer:
+    """The answer of whichever program takes the history. The options are those of regsearch."""
+    return searched(history, judge(history), options)

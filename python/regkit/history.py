@@ -21,16 +21,18 @@ class NoRegister(ValueError):
 class Operation:
     """A call with what ended it. `line` is the line of the call, 0 for a register's initial write of null."""
 
-    __slots__ = ("line", "process", "register", "kind", "value", "ending", "end_line", "client", "node",
-                 "time")
+    __slots__ = ("line", "process", "register", "kind", "value", "asked", "took", "ending", "end_line",
+                 "client", "node", "time")
 
     def __init__(self, line: int, process: Optional[int], register: str, kind: str,
                  value: Optional[int]) -> None:
         self.line = line
         self.process = process
         self.register = register
-        self.kind = kind  # "read" or "write"
+        self.kind = kind  # "read", "write" or "cas"
         self.value = value  # written, or read; None is null, and also what a read that isn't completed gave
+        self.asked: Optional[int] = None  # of a cas, the value that it asks for; `value` is the one it writes
+        self.took: Optional[bool] = None  # of a completed cas, whether it took place
         self.ending: Optional[str] = None  # "reply", "fail", "crash", or None if nothing ended it
         self.end_line: Optional[int] = None  # the line of that ending
         self.client: Optional[str] = None  # who called, of which server, and when, as far as the lines say it
@@ -45,6 +47,16 @@ class Operation:
     def failed(self) -> bool:
         """A call that surely had no effect: it is no operation of the history."""
         return self.ending == "fail"
+
+    @property
+    def missed(self) -> bool:
+        """A cas that found another value than it asked for, and changed nothing."""
+        return self.took is False
+
+    @property
+    def writes(self) -> bool:
+        """Whether it may have changed the value: a write, or a cas that didn't miss."""
+        return self.kind != "read" and not self.missed
 
     @property
     def pending(self) -> bool:
@@ -83,7 +95,7 @@ class History:
 
 
 def read_history(data: bytes, watch: Optional[Callable[[int], None]] = None) -> History:
-    """The history in some bytes that `regcheck` accepted. What it would refuse is not looked for here, and
+    """The history in some bytes that `regcheck` or `regsearch` accepted. What it would refuse is not looked for here, and
     may raise NotAHistory. `watch` is told the number of the line from time to time."""
     return history_of(lines.events(data), watch)
 
@@ -101,7 +113,7 @@ def history_of(events: Iterable[Tuple[int, lines.Event]],
             if watch is not None and count % TELL_EVERY == 0:
                 watch(line)
             if event["event"] == "call":
-                call = Operation(line, event["process"], event["register"], event["op"], event.get("value"))
+                call = call_of(line, event)
                 calls.append(call)
                 open_calls[call.process] = call  # type: ignore[index]
                 note_who(call, event)
@@ -111,6 +123,13 @@ def history_of(events: Iterable[Tuple[int, lines.Event]],
         raise NotAHistory(f"line {line}: no event that regcheck accepts") from error
     count_from_first(calls)
     return History(calls, count, line, crashes)
+
+
+def call_of(line: int, event: lines.Event) -> Operation:
+    call = Operation(line, event["process"], event["register"], event["op"], event.get("value"))
+    if call.kind == "cas":
+        call.value, call.asked = event["to"], event["from"]
+    return call
 
 
 def note_who(call: Operation, event: lines.Event) -> None:
@@ -147,6 +166,8 @@ def end_call(open_calls: Dict[int, Operation], crashes: Dict[int, int], line: in
     ended.node = text_in(event, "node") or ended.node  # an answer may tell which server gave it
     if what == "reply" and ended.kind == "read":
         ended.value = event["value"]
+    if what == "reply" and ended.kind == "cas":
+        ended.took = event["ok"]
 
 
 def operations(calls: Iterable[Operation]) -> List[Operation]:

@@ -1,17 +1,18 @@
 """Checks one history, from the name of its file to its outcome."""
 import pathlib
 from itertools import chain, count
-from typing import List, NamedTuple, Optional, Set
+from typing import List, NamedTuple, Optional, Sequence, Set
 
 from regkit.beginning import reads_of_beginning, unusual_reads_of_beginning
-from regkit.checker import Answer, NoChecker, begin, judge
+from regkit.checker import (SEARCH, WOULD_DECIDE, Answer, NoChecker, begin, is_for_search, judge,
+                            searched)
 from regkit.counting import Reads, Unusual, count_reads
 from regkit.evidence import Evidence, count_evidence
 from regkit.garbage import many_objects
 from regkit.history import NotAHistory, read_history
 from regkit.lines import NotJson
 from regkit.inputs import STANDARD_INPUT, TooLong, read_input, shown_name
-from regkit.outcome import Fault, Outcome, evidence_in_words, faults_of, lacks
+from regkit.outcome import Fault, Outcome, evidence_in_words, faults_of, faults_of_search, lacks
 from regkit.progress import Progress
 from regkit.quoting import plain
 from regkit.report import Report, read_verdict
@@ -19,7 +20,7 @@ from regkit.sentences import counted
 from regkit.statuses import ExitStatus
 
 
-BUG = "don't trust it, and keep the history: this is a bug of regcheck or of regkit"
+BUG = "don't trust it, and keep the history: this is a bug of regcheck, regsearch or regkit"
 
 
 class Wishes(NamedTuple):
@@ -32,6 +33,7 @@ class Wishes(NamedTuple):
     verify: bool
     draw: Optional[pathlib.Path]
     count_all: bool = False  # whether to count the reads of the whole history
+    bounds: Sequence[str] = ()  # of a search: options of regsearch
 
 
 def advice(history: bytes, refusal: str, name: str) -> str:
@@ -41,10 +43,16 @@ def advice(history: bytes, refusal: str, name: str) -> str:
     return adviser.advice(history, refusal, name)
 
 
+def what_to_do(history: bytes, answer: Answer, name: str) -> str:
+    """The same of an answer; where regsearch would decide the history and isn't there, that too."""
+    told = advice(history, answer.refusal, name)
+    return f"{told}; {WOULD_DECIDE}" if is_for_search(history, answer) else told
+
+
 def failure_of(answer: Answer) -> str:
     if answer.status < 0:
-        return f"regcheck was ended by signal {-answer.status}: was there too little memory?"
-    return f"regcheck ended with status {answer.status}: {plain(answer.refusal)}"
+        return f"{answer.program} was ended by signal {-answer.status}: was there too little memory?"
+    return f"{answer.program} ended with status {answer.status}: {plain(answer.refusal)}"
 
 
 class Untrue(Exception):
@@ -65,15 +73,32 @@ def parsed(written: bytes) -> Report:
         raise Untrue(str(error)) from error
 
 
-def told_faults(data: bytes, report: Report, most: int) -> List[Fault]:
+def told_faults(data: bytes, report: Report, most: int, by_search: bool = False) -> List[Fault]:
     """The faults in sentences. Raises Untrue if they can't be of this history."""
     from regkit.excerpt import excerpt  # only a fault waits for this
 
     rows = report.faulty[:most]
     try:
+        if by_search:  # it may need each call of the register
+            return faults_of_search(read_history(data), rows)
         return faults_of(excerpt(data, rows), rows)
     except (KeyError, TypeError, ValueError, NotJson) as error:
         raise Untrue("its faults aren't those of the history") from error
+
+
+def gave_up(report: Report) -> List[str]:
+    """The registers that a search gave up."""
+    return [row["register"] for row in report.unknown]
+
+
+def unknown_advice(report: Report) -> str:
+    """What to do about the registers that a search gave up. Raises Untrue if they name no bound."""
+    from regkit.searched import what_to_do as for_unknown  # only who needs it waits for this
+
+    try:
+        return for_unknown(report.unknown)
+    except (KeyError, TypeError) as error:
+        raise Untrue("it names no bound where it is unknown") from error
 
 
 def verify(data: bytes, written: bytes) -> None:
@@ -103,6 +128,7 @@ class Judge:
         self.wishes = wishes
         self.progress = progress
         self.label = ""
+        self.program = ""  # whose answer is looked at
         self.taken: Set[pathlib.Path] = set()  # the pages drawn so far
 
     def judge(self, name: str, label: str) -> Outcome:
@@ -123,7 +149,7 @@ class Judge:
         except (NoChecker, NotAHistory) as error:
             return Outcome(name, ExitStatus.FAILED, plain(str(error)))
         except Untrue as error:
-            words = f"the answer of regcheck is wrong: {plain(str(error))}"
+            words = f"the answer of {self.program} is wrong: {plain(str(error))}"
             return Outcome(name, ExitStatus.FAILED, words, BUG)
 
     def judge_data(self, name: str, data: bytes) -> Outcome:
@@ -134,13 +160,15 @@ class Judge:
             answer = run.answer()
         if early and answer.status == ExitStatus.COMMAND_LINE:  # a checker that doesn't know `--first`
             answer = judge(data)
-        if answer.status in (ExitStatus.ATOMIC, ExitStatus.NOT_ATOMIC):
+        answer = searched(data, answer, self.wishes.bounds)
+        self.program = answer.program
+        if answer.decided:
             return self.judge_report(name, data, answer, reads)
         if answer.status != ExitStatus.REFUSED:
             return Outcome(name, ExitStatus.FAILED, failure_of(answer), advice(b"", answer.refusal, name))
         if self.wishes.verify:
             verify_refusal(data, answer.refusal)
-        return Outcome(name, ExitStatus.REFUSED, plain(answer.refusal), advice(data, answer.refusal, name))
+        return Outcome(name, ExitStatus.REFUSED, plain(answer.refusal), what_to_do(data, answer, name))
 
     def judge_report(self, name: str, data: bytes, answer: Answer, reads: Optional[Reads]) -> Outcome:
         """The outcome of a history that was accepted."""
@@ -149,7 +177,11 @@ class Judge:
         if self.wishes.verify:
             self.progress.step(f"{self.label}: verifying")
             verify(data, written)
-        outcome = self.verdict(name, data, report, self.unusual_reads_of(data) if reads is None else reads)
+        reads = self.unusual_reads_of(data) if reads is None else reads
+        if answer.by_search:
+            outcome = self.verdict_of_search(name, data, report, reads)
+        else:
+            outcome = self.verdict(name, data, report, reads)
         if self.wishes.verify:
             outcome = outcome._replace(verified=True, words=f"{outcome.words}; the report was verified")
         if self.wishes.draw is not None:
@@ -177,6 +209,27 @@ class Judge:
             return reads
         self.progress.step(f"{self.label}: reading", data.count(b"\n"))
         return Reads(*count_evidence(read_history(data, self.progress.reach))[2:])
+
+    def verdict_of_search(self, name: str, data: bytes, report: Report, reads: Reads) -> Outcome:
+        """The outcome of a history that regsearch decided, or gave up."""
+        summary, unknown = report.summary, gave_up(report)
+        evidence = Evidence(summary["operations"], summary["registers"], *reads[:2])
+        words = f"{evidence_in_words(evidence, reads.at_least, True)}; by search (regsearch)"
+        hint = unknown_advice(report) if unknown else ""
+        outcome = Outcome(name, ExitStatus.ATOMIC, words, hint, evidence, program=SEARCH, unknown=unknown)
+        if report.faulty:
+            most = 1 if self.wishes.first else self.wishes.most
+            known = 1 if self.wishes.first else len(report.faulty)
+            number = "the first faulty register" if self.wishes.first else counted(known, "faulty register")
+            return outcome._replace(status=ExitStatus.NOT_ATOMIC, words=f"{number}; {words}", faulty=known,
+                                    faults=told_faults(data, report, most, by_search=True))
+        if unknown:
+            gave = f"the search gave up on {len(unknown):,} of {counted(evidence.registers, 'register')}"
+            return outcome._replace(status=ExitStatus.UNKNOWN, words=f"{gave}; {words}")
+        lack, hint = lacks(evidence, self.wishes.least_reads, self.wishes.least_overlaps)
+        if lack:
+            return outcome._replace(status=ExitStatus.TOO_LITTLE, words=f"{words}; {lack}", advice=hint)
+        return outcome
 
     def verdict(self, name: str, data: bytes, report: Report, reads: Reads) -> Outcome:
         evidence = Evidence(report.summary["operations"], report.summary["registers"], *reads[:2])

@@ -3,7 +3,7 @@ import html
 from typing import List
 
 from regkit.inputs import shown_name
-from regkit.outcome import VERDICTS, Timed, text_of
+from regkit.outcome import NO_VERDICT, VERDICTS, Timed, text_of
 from regkit.quoting import plain
 from regkit.statuses import ExitStatus
 
@@ -17,13 +17,14 @@ def content(lines: List[str]) -> str:
 
 
 def test_case(timed: Timed) -> str:
-    """A history as a test: an error if it was refused or the check failed, a failure unless it is a yes."""
+    """A history as a test: an error if it was refused, unknown, or the check failed; a failure unless it is a
+    yes."""
     outcome = timed.outcome
     begin = (f'  <testcase classname="regkit check" name="{attribute(shown_name(outcome.file))}" '
              f'time="{timed.seconds:.3f}">')
     if outcome.status == ExitStatus.ATOMIC:
         return f"{begin}<system-out>{content([outcome.words, *text_of(outcome)])}</system-out></testcase>"
-    kind = "error" if outcome.status in (ExitStatus.REFUSED, ExitStatus.FAILED) else "failure"
+    kind = "error" if outcome.status in NO_VERDICT else "failure"
     verdict = VERDICTS[outcome.status]
     return (f'{begin}<{kind} type="{verdict}" message="{attribute(f"{verdict}: {outcome.words}")}">'
             f"{content(text_of(outcome))}</{kind}></testcase>")
@@ -31,7 +32,7 @@ def test_case(timed: Timed) -> str:
 
 def document(told: List[Timed]) -> str:
     """The whole file: one suite, with a test for each history."""
-    errors = sum(timed.outcome.status in (ExitStatus.REFUSED, ExitStatus.FAILED) for timed in told)
+    errors = sum(timed.outcome.status in NO_VERDICT for timed in told)
     failures = sum(timed.outcome.status != ExitStatus.ATOMIC for timed in told) - errors
     seconds = sum(timed.seconds for timed in told)
     suite = f'tests="{len(told)}" failures="{failures}" errors="{errors}" time="{seconds:.3f}"'

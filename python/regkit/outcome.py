@@ -1,6 +1,7 @@
 """What came out of checking one history: the exit status, and words for people and for machines."""
 from typing import Any, Dict, List, NamedTuple, Optional, Tuple
 
+from regkit.checker import CHECK
 from regkit.evidence import Evidence
 from regkit.history import History
 from regkit.quoting import plain, quoted
@@ -10,13 +11,16 @@ from regkit.statuses import ExitStatus
 
 VERDICTS: Dict[int, str] = {
     ExitStatus.ATOMIC: "linearizable", ExitStatus.NOT_ATOMIC: "not linearizable",
-    ExitStatus.REFUSED: "refused", ExitStatus.FAILED: "failed", ExitStatus.TOO_LITTLE: "too little evidence"}
+    ExitStatus.REFUSED: "refused", ExitStatus.FAILED: "failed", ExitStatus.TOO_LITTLE: "too little evidence",
+    ExitStatus.UNKNOWN: "unknown"}
 STYLES: Dict[int, str] = {
     ExitStatus.ATOMIC: "good", ExitStatus.NOT_ATOMIC: "bad", ExitStatus.REFUSED: "bad",
-    ExitStatus.FAILED: "bad", ExitStatus.TOO_LITTLE: "look"}
+    ExitStatus.FAILED: "bad", ExitStatus.TOO_LITTLE: "look", ExitStatus.UNKNOWN: "look"}
 GRAVITY: List[int] = [  # the gravest last
-    ExitStatus.ATOMIC, ExitStatus.TOO_LITTLE, ExitStatus.NOT_ATOMIC, ExitStatus.REFUSED,
-    ExitStatus.COMMAND_LINE, ExitStatus.FAILED]
+    ExitStatus.ATOMIC, ExitStatus.TOO_LITTLE, ExitStatus.UNKNOWN, ExitStatus.NOT_ATOMIC,
+    ExitStatus.REFUSED, ExitStatus.COMMAND_LINE, ExitStatus.FAILED]
+MOST_NAMED = 6  # registers that a search gave up
+NO_VERDICT = (ExitStatus.REFUSED, ExitStatus.FAILED, ExitStatus.UNKNOWN)
 
 
 class Fault(NamedTuple):
@@ -39,6 +43,8 @@ class Outcome(NamedTuple):
     faults: List[Fault] = []  # as many of them as were asked for
     verified: bool = False
     drawing: str = ""
+    program: str = CHECK  # which one decided
+    unknown: List[str] = []  # the registers that a search gave up
 
 
 class Timed(NamedTuple):
@@ -49,16 +55,16 @@ class Timed(NamedTuple):
 
 
 def gravest(statuses: List[int]) -> int:
-    """The status of several histories together: 4, 3, 2, 1, 5, 0, whichever of these comes first."""
+    """The status of several histories together: 4, 3, 2, 1, 6, 5, 0, whichever of these comes first."""
     return max(statuses, default=ExitStatus.ATOMIC, key=GRAVITY.index)
 
 
-def evidence_in_words(evidence: Evidence, at_least: bool) -> str:
+def evidence_in_words(evidence: Evidence, at_least: bool, with_cas: bool = False) -> str:
     """The counts. Those of the reads are exact, or there are at least so many of them."""
     reads, overlapping = evidence.completed_reads, evidence.overlapping_reads
     verb, least = "overlaps" if overlapping == 1 else "overlap", "at least " if at_least else ""
     return (f"{counted(evidence.operations, 'operation')} on {counted(evidence.registers, 'register')}; "
-            f"{least}{counted(reads, 'completed read')}, {least}{overlapping:,} {verb} a write")
+            f"{least}{counted(reads, 'completed read')}{' or cas' if with_cas else ''}, {least}{overlapping:,} {verb} a write")
 
 
 def lacks(evidence: Evidence, least_reads: int, least_overlaps: int) -> Tuple[str, str]:
@@ -77,6 +83,21 @@ def faults_of(history: History, rows: List[Row]) -> List[Fault]:
     return [Fault(row["register"], row, fault_of(history, row) + inversion(history, row)) for row in rows]
 
 
+def faults_of_search(history: History, rows: List[Row]) -> List[Fault]:
+    """The same of a report of regsearch."""
+    from regkit.searched import sentences_of  # only a fault of a search waits for this
+
+    return [Fault(row["register"], row, sentences_of(history, row)) for row in rows]
+
+
+def unknown_in_words(registers: List[str]) -> str:
+    """The registers that a search gave up, the first few of them by name."""
+    shown = ", ".join(map(quoted, registers[:MOST_NAMED]))
+    rest = len(registers) - MOST_NAMED
+    return f"not decided: register{'s' if len(registers) > 1 else ''} {shown}" + (
+        f", and {counted(rest, 'more register')}" if rest > 0 else "")
+
+
 def text_of(outcome: Outcome) -> List[str]:
     """The lines for people that follow the first one."""
     lines = []
@@ -84,6 +105,8 @@ def text_of(outcome: Outcome) -> List[str]:
         for place, sentence in enumerate(fault.sentences):
             begin = f"  register {quoted(fault.register)}: " if not place else "    "
             lines.append(begin + sentence)
+    if outcome.unknown:
+        lines.append(f"  {unknown_in_words(outcome.unknown)}")
     rest = outcome.faulty - len(outcome.faults)
     if rest > 0:
         lines.append(f"  and {counted(rest, 'more register')}: --most says how many are shown")
@@ -104,6 +127,9 @@ def json_of(outcome: Outcome) -> Dict[str, Any]:
         said["faults"] = [{"register": register, "fault": row["fault"], "sentences": sentences}
                           for register, row, sentences in outcome.faults]
         said["verified"] = outcome.verified
+        said["program"] = outcome.program
+    if outcome.unknown:
+        said["unknown_registers"] = outcome.unknown
     if outcome.status != ExitStatus.NOT_ATOMIC and outcome.words:
         said["reason"] = outcome.words
     if outcome.advice:

@@ -19,7 +19,13 @@ TEXTS = {
     13: "value already written to this register",
     19: "the process crashed",
 }
-NUMBERS = {text: number for number, text in TEXTS.items()}
+# Those of `regsearch` that differ.
+SEARCH_TEXTS = {
+    6: "op is neither read, write nor cas",
+    20: "from or to does not fit the event",
+    21: "a cas's reply has no ok, true or false",
+}
+NUMBERS = {text: number for texts in (TEXTS, SEARCH_TEXTS) for number, text in texts.items()}
 # Those that are about the size of a history, or about none.
 OTHER_TEXTS = {14: "more than 1048576 events", 15: "input is longer than 67108864 bytes", 17: "no memory or no thread"}
 WORDS = re.compile(r"line (\d+): (.+?)(?: at line (\d+))?")

@@ -1,4 +1,4 @@
-"""A report of `regcheck`, as it was written."""
+"""A report of `regcheck` or `regsearch`, as it was written."""
 import json
 from typing import Any, Dict, List
 
@@ -20,6 +20,16 @@ class Report:
         return bool(self.summary["atomic"] == "yes")
 
     @property
+    def unknown(self) -> List[Row]:
+        """The lines of the registers that a search gave up."""
+        return [row for row in self.rows if row["atomic"] == "unknown"]
+
+    @property
+    def by_search(self) -> bool:
+        """Whether it is a report of regsearch, by the line of a register."""
+        return any("cas" in row for row in self.rows)
+
+    @property
     def faulty(self) -> List[Row]:
         """The lines of the registers that aren't atomic."""
         return [row for row in self.rows if row["atomic"] == "no"]
@@ -35,7 +45,7 @@ def read_report(data: bytes) -> Report:
 
 
 def read_verdict(data: bytes) -> Report:
-    """The same with the lines of the faulty registers alone, and a summary without its order. The numbers of
+    """The same with the lines of the faulty and unknown registers alone, and a summary without its order. The numbers of
     an order are nearly all of a report, and a verdict doesn't need them."""
     last = data.rfind(b"\n", 0, len(data) - 1) + 1
     faulty, begin = [], 0

@@ -16,6 +16,17 @@ def value_of(operation: Operation) -> str:
     return "null" if operation.value is None else str(operation.value)
 
 
+def change_of(cas: Operation) -> str:
+    """`cas from 0 to 1`."""
+    return f"cas from {wanted_of(cas)} to {value_of(cas)}"
+
+
+def wanted_of(call: Operation) -> str:
+    """The value that a read gave, or that a cas asks for."""
+    value = call.asked if call.kind == "cas" else call.value
+    return "null" if value is None else str(value)
+
+
 def lines_of(operation: Operation) -> str:
     """The lines of the call and of what ended it."""
     begin, end = operation.line, operation.end_line
@@ -32,6 +43,9 @@ def named(operation: Operation) -> str:
     """`the write of 11 by process 3 (lines 196 to 200)`."""
     if operation.line == 0:
         return "the initial write of null"
+    if operation.kind == "cas":
+        told = {True: " that took place,", False: " that missed,", None: ""}[operation.took]
+        return f"the {change_of(operation)}{told} by {process_of(operation)} ({lines_of(operation)})"
     gave = operation.kind == "write" or operation.completed
     what = f"{operation.kind} of {value_of(operation)}" if gave else operation.kind
     return f"the {what} by {process_of(operation)} ({lines_of(operation)})"

@@ -3,7 +3,7 @@ from enum import IntEnum
 
 
 class ExitStatus(IntEnum):
-    """The statuses of `regcheck` are the same, but it has no 5."""
+    """The statuses of `regcheck` and `regsearch` are the same, but they have no 5."""
 
     ATOMIC = 0  # linearizable, with the evidence that was asked for
     NOT_ATOMIC = 1
@@ -11,6 +11,7 @@ class ExitStatus(IntEnum):
     COMMAND_LINE = 3
     FAILED = 4  # input, memory, output or the checker
     TOO_LITTLE = 5  # linearizable, with too little evidence
+    UNKNOWN = 6  # the search gave up at a bound
     INTERRUPTED = 130  # as shells have it
 
     DONE = 0  # of commands that judge nothing

@@ -2,7 +2,7 @@
 from typing import Dict, List, NamedTuple, Set
 
 from regkit.history import Operation
-from regkit.sentences import value_of
+from regkit.sentences import change_of, value_of
 
 WIDEST = 4  # characters a column, at most
 OPEN, REPLY, FAIL, CRASH, UNANSWERED = "[", "]", "x", "!", ">"
@@ -30,6 +30,9 @@ def labels(call: Operation) -> List[str]:
     if call.line == 0:
         return ["before line 1", "", "write null"]
     lines = f"{call.line}" if call.end_line is None else f"{call.line} to {call.end_line}"
+    if call.kind == "cas":
+        took = {True: ", true", False: ", false", None: ""}[call.took]
+        return [lines, f"process {call.process}", change_of(call) + took]
     value = f" {value_of(call)}" if call.kind == "write" or call.completed else ""
     return [lines, f"process {call.process}", call.kind + value]
 

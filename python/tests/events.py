@@ -97,3 +97,11 @@ def random_history(seed: int, events: int, processes: int = 3, fails: bool = Tru
             others = [None, *written, len(written) + 1, 99]
             lines.append(gave(process, latest if chance.random() < 0.6 else chance.choice(others)))
     return lines
+
+
+def cas(process: int, asked: Optional[int], given: int, register: str = "x") -> Line:
+    return {"process": process, "event": "call", "op": "cas", "register": register, "from": asked, "to": given}
+
+
+def took(process: int, place: bool) -> Line:
+    return {"process": process, "event": "reply", "ok": place}

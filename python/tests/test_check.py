@@ -67,9 +67,9 @@ began, so 5 comes before null
 
     def test_the_examples(self) -> None:
         atomic = {"atomic", "crashed_client", "dropped_write", "merged_order", "pending_write", "retried_write"}
-        refused = {"refused", "failed_value_again"}
+        too_little = {"refused", "failed_value_again"}  # regcheck refuses them, and regsearch takes them
         for path in sorted(EXAMPLES.glob("*.jsonl")):
-            status = 0 if path.stem in atomic else 2 if path.stem in refused else 1
+            status = 0 if path.stem in atomic else 5 if path.stem in too_little else 1
             with self.subTest(path.stem):
                 self.assertEqual(run("check", str(path)).status, status)
         inversion = run("check", str(EXAMPLES / "new_old_inversion.jsonl")).out
@@ -123,7 +123,7 @@ class SeveralFiles(Files):
 
     def test_each_is_told(self) -> None:
         names = [self.file("fine", text(*FINE)), self.file("empty", b""), self.file("stale", text(*STALE)),
-                 self.file("twice", text(write(1, 5), reply(1), write(1, 5)))]
+                 self.file("twice", text(write(1, 5), reply(1), reply(1)))]
         for count, status in [(1, 0), (2, 5), (3, 1), (4, 2)]:
             self.assertEqual(run("check", *names[:count]).status, status)
         ran = run("check", str(self.folder / "none"), *names)
@@ -131,7 +131,7 @@ class SeveralFiles(Files):
         self.assertEqual([line.split(": ")[1] for line in ran.out.splitlines() if line.startswith("/")],
                          ["linearizable", "too little evidence", "not linearizable"])
         self.assertEqual(ran.err.splitlines()[0], f"{self.folder}/none: failed: No such file or directory")
-        self.assertIn(f"{self.folder}/twice: refused: line 3: value already written", ran.err.splitlines()[1])
+        self.assertIn(f"{self.folder}/twice: refused: line 3: reply without an open call", ran.err.splitlines()[1])
 
     def test_standard_input_once(self) -> None:
         self.assertEqual(run("check", "-", given=text(*FINE)).out.split(":")[0], "standard input")
@@ -139,7 +139,7 @@ class SeveralFiles(Files):
         self.assertEqual((ran.status, ran.out), (3, ""))
 
     def test_quiet(self) -> None:
-        twice = self.file("twice", text(write(1, 5), reply(1), write(1, 5)))
+        twice = self.file("twice", text(write(1, 5), reply(1), reply(1)))
         self.assertEqual(run("check", "--quiet", given=text(*STALE)), (1, "", ""))
         self.assertEqual(run("check", "--quiet", given=text(*FINE)), (0, "", ""))
         self.assertEqual(run("check", "--quiet", given=b""), (5, "", ""))
@@ -158,7 +158,7 @@ class Json(Files):
         fine, wrong, empty, csv, none = self.objects(*names)
         self.assertEqual(fine, {"file": names[0], "status": 0, "verdict": "linearizable", "operations": 3,
                                 "registers": 1, "completed_reads": 2, "overlapping_reads": 1,
-                                "faulty_registers": 0, "faults": [], "verified": False,
+                                "faulty_registers": 0, "faults": [], "verified": False, "program": "regcheck",
                                 "reason": "3 operations on 1 register; 2 completed reads, 1 overlaps a "
                                           "write"})
         self.assertEqual((wrong["file"], wrong["status"], wrong["verdict"], wrong["faulty_registers"]),
@@ -311,7 +311,8 @@ class Refusals(unittest.TestCase):
             (but(event=3), "the event is 3: write one of these"),
             (but(op="none", f="write"), "has `f` where `op` is meant"),
             (but(op="put"), 'the op is "put": write `write`'), (but(op="get"), "write `read`"),
-            (but(op="cas"), 'the op is "cas": only reads and writes can be checked'),
+            (but(op="cas"), 'the op is "cas": regcheck takes reads and writes alone'),
+            (but(op="append"), 'the op is "append": only reads, writes and cas can be checked'),
             (but(register="none", key="x"), "has `key` where `register` is meant: rename it"),
             (but(register=7), "the register is 7: write its name as a text, in quotes"),
             (but(register=""), "give the register a name"), (but(register="x" * 256), "shorten the name"),

@@ -162,7 +162,7 @@ class Checker(unittest.TestCase):
             with by_path, mock.patch.object(sys, "argv", [str(command)]):
                 program.write_text("")
                 program.chmod(0o644)
-                with mock.patch.object(checker, "beside", lambda: [program]):
+                with mock.patch.object(checker, "beside", lambda program: [program]):
                     self.assertRaises(checker.NoChecker, checker.find_checker)  # nobody may run it
                 program.chmod(0o755)
                 self.assertEqual(checker.find_checker(), str(program))
@@ -179,7 +179,7 @@ class Checker(unittest.TestCase):
 
     def test_nowhere(self) -> None:
         no_path = mock.patch.dict(os.environ, {"PATH": "/nowhere"}, clear=True)
-        with no_path, mock.patch.object(checker, "beside", lambda: []):
+        with no_path, mock.patch.object(checker, "beside", lambda program: []):
             self.assertRaises(checker.NoChecker, checker.find_checker)
             ran = run("check", given=FINE)
         self.assertEqual((ran.status, ran.err), (4, "standard input: failed: regcheck was not found: put it "

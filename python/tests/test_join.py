@@ -10,7 +10,7 @@ from unittest import mock
 
 from regkit.commands import join as command
 from regkit.parts import BLANK, MAP, MAP_LINE, Manifest, file_of, write_manifest
-from regkit.refusals import NUMBERS
+from regkit.refusals import NUMBERS, SEARCH_TEXTS
 from regkit.report import Row
 from tests import split_support
 from tests.split_support import check_parts, differences, random_history, run_command
@@ -147,7 +147,11 @@ class RefusedParts(HandMade):
     def test_every_text_of_the_format(self) -> None:
         """Each refusal of a line in docs/format.md is known by its number, but that of too many events."""
         text = (pathlib.Path(__file__).parents[2] / "docs" / "format.md").read_text(encoding="utf-8")
-        text = text.split("\n## Refusals\n")[1].split("\n## ")[0]  # those of regsearch have a table of their own
+        text, of_search = text.split("### Refusals of `regsearch`")
+        for number, words in SEARCH_TEXTS.items():
+            found = [line for line in of_search.splitlines() if line.startswith(f"| {number} |")]
+            self.assertIn(f"`{words}` |", found[0])
+            self.assertEqual(number, NUMBERS[words])
         rows = [[cell.strip(" `") for cell in line.split("|")[1:-1]] for line in text.splitlines()]
         table = {int(row[0]): row[2] for row in rows if len(row) == 3 and row[0].isdigit()}
         self.assertLessEqual(set(range(1, 14)), set(table))

@@ -9,7 +9,7 @@ from typing import List
 from regkit.colour import CHOICES, Painter, painter
 from regkit.inputs import STANDARD_INPUT, shown_name
 from regkit.judging import Judge, Wishes
-from regkit.options import count
+from regkit.options import add_bounds, bounds_of, count
 from regkit.outcome import STYLES, VERDICTS, Outcome, Timed, gravest, json_of, text_of
 from regkit.progress import Progress
 from regkit.quoting import plain
@@ -28,13 +28,17 @@ examples:
 A history that says nothing is no success: a yes needs at least one completed read, or what --least-reads and
 --least-overlaps ask for.
 
-exit status, of several histories the first in the order 4, 3, 2, 1, 5, 0:
+regcheck decides what it takes. A history in which values repeat, or with compare-and-swap (cas), is decided
+by regsearch, if that is there; a cas that was answered counts as a completed read.
+
+exit status, of several histories the first in the order 4, 3, 2, 1, 6, 5, 0:
   0  linearizable (atomic), with that evidence
   1  not linearizable
   2  refused: the input is no history, or too long; standard error says what to do
   3  wrong command line
   4  input, memory, output or regcheck failed, or --verify found the report wrong
   5  linearizable, with too little evidence
+  6  unknown: the search gave up at --steps or --configurations, and found no fault elsewhere
 """
 
 
@@ -58,6 +62,7 @@ def add_arguments(parser: argparse.ArgumentParser) -> None:
                         help="write the outcomes to FILE in JUnit's XML too, a test for each history")
     parser.add_argument("--annotate", action="store_true",
                         help="print a line for each fault, which GitHub Actions shows beside the history's")
+    add_bounds(parser)
     output = parser.add_mutually_exclusive_group()
     output.add_argument("--quiet", action="store_true",
                         help="print no verdicts, only what went wrong: the exit status tells the rest")
@@ -76,7 +81,7 @@ def tell(outcome: Outcome, arguments: argparse.Namespace, progress: Progress) ->
     if arguments.json:
         progress.say(json.dumps(json_of(outcome)).replace("\x7f", "\\u007f"), sys.stdout)
         return
-    wrong = outcome.status in (ExitStatus.REFUSED, ExitStatus.FAILED)
+    wrong = outcome.status in (ExitStatus.REFUSED, ExitStatus.FAILED)  # unknown is an answer
     if wrong or not arguments.quiet:
         stream = sys.stderr if wrong else sys.stdout
         lines = [heading(outcome, painter(arguments.color, stream)), *text_of(outcome)]
@@ -103,7 +108,8 @@ def run(arguments: argparse.Namespace) -> int:
         return ExitStatus.COMMAND_LINE
     files: List[str] = arguments.files or [STANDARD_INPUT]
     wishes = Wishes(arguments.most, arguments.least_reads, arguments.least_overlaps, arguments.first,
-                    arguments.verify, arguments.draw, arguments.count_all or arguments.json)
+                    arguments.verify, arguments.draw, arguments.count_all or arguments.json,
+                    bounds_of(arguments))
     told: List[Timed] = []
     with Progress() as progress:
         judge = Judge(wishes, progress)

@@ -4,7 +4,7 @@ import os
 import sys
 from typing import Optional, Union
 
-from regkit.checker import NoChecker, judge
+from regkit.checker import WOULD_DECIDE, NoChecker, decide, is_for_search
 from regkit.draw import page_of
 from regkit.drawing.page import Asked
 from regkit.garbage import many_objects
@@ -17,12 +17,12 @@ from regkit.statuses import ExitStatus
 HELP = "draw a history on a page for a browser: the fault, or the order of a yes"
 EPILOG = """\
 examples:
-  regkit draw h.jsonl -o h.html               runs regcheck, and draws what it says
+  regkit draw h.jsonl -o h.html               runs regcheck or regsearch, and draws what it says
   regkit draw h.jsonl h.report -o h.html      draws a report that is there already
   regkit draw h.jsonl --register x -o h.html  draws one register
 
 The page stands alone: one file, no script, nothing loaded. It begins with the fault of the first register
-that isn't linearizable. If all are, it shows the point at which each operation takes effect. Of a long
+that isn't linearizable; the fault of a search (regsearch) isn't marked yet. If all are, it shows the point at which each operation takes effect. Of a long
 history it shows windows around what matters, and says what is left out.
 
 exit status:
@@ -92,11 +92,12 @@ def report_of(name: Optional[str], history: bytes) -> Union[bytes, int]:
     """The report in a file, or of the checker; the status if it refused."""
     if name is not None:
         return read_input(name)
-    answer = judge(history)
-    if answer.status in (0, 1):
+    answer = decide(history)
+    if answer.decided:
         return answer.report
     refused = answer.status == ExitStatus.REFUSED
-    return fail(ExitStatus.REFUSED if refused else ExitStatus.FAILED, answer.refusal)
+    words = f"{answer.refusal}; {WOULD_DECIDE}" if is_for_search(history, answer) else answer.refusal
+    return fail(ExitStatus.REFUSED if refused else ExitStatus.FAILED, words)
 
 
 def write(name: str, page: str) -> None:

@@ -23,7 +23,7 @@ def classes(bar: Bar) -> str:
     call = bar.operation
     state = "failed" if call.failed else "pending" if call.pending else ""
     colour = bar.cluster or ("stale" if {"unexplained", "stale"} & set(bar.signs) else "")
-    return " ".join(filter(None, ["bar", call.kind, colour, "strong" if bar.strong else "", state]))
+    return " ".join(filter(None, ["bar", "read" if call.kind == "read" else "write", colour, "strong" if bar.strong else "", state]))
 
 
 def bar_title(bar: Bar) -> str:

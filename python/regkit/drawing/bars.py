@@ -3,7 +3,7 @@ from typing import List, NamedTuple, Optional
 
 from regkit.drawing.marks import Marks
 from regkit.history import Operation
-from regkit.sentences import value_of
+from regkit.sentences import value_of, wanted_of
 
 INITIAL_CALL = -1  # where the initial write's bar begins; it ends at line 0
 LETTER = 6.9  # the width of a letter of a label, with a little to spare: fonts differ
@@ -42,6 +42,9 @@ def shown_value(value: str) -> str:
 
 
 def label_of(operation: Operation) -> str:
+    if operation.kind == "cas":
+        missed = " missed" if operation.missed else ""
+        return f"c {shown_value(wanted_of(operation))}\u2192{shown_value(value_of(operation))}{missed}"
     if operation.kind == "write":
         return f"w {shown_value(value_of(operation))}"
     return f"r {shown_value(value_of(operation))}" if operation.completed else "r ?"

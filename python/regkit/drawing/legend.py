@@ -45,6 +45,7 @@ def entries(found: Set[str]) -> List[str]:
     zone = tag("g", band, class_="zone first")
     samples = [
         ("write", sample("write"), "w: write"), ("read", sample("read"), "r: read"),
+        ("cas", sample("write"), "c: compare-and-swap"),
         ("first", sample("first"), "one value"), ("second", sample("second"), "the other value"),
         ("arrow", sign_alone(arrow, 36), "ended before"),
         ("zone", sign_alone(zone, WIDTH), "zone"),

@@ -45,11 +45,13 @@ def chosen_rows(history: History, report: Report, asked: Asked) -> List[Row]:
         for register in asked.registers:
             history.must_have(register)
         return [row for row in rows if row["register"] in asked.registers]
-    return (report.faulty or rows)[:asked.most]
+    return (report.faulty or report.unknown or rows)[:asked.most]
 
 
 def verdict_word(report: Report) -> str:
     """The verdict in the terminal's words."""
+    if report.unknown and not report.faulty:
+        return VERDICTS[ExitStatus.UNKNOWN]
     return VERDICTS[ExitStatus.ATOMIC if report.atomic else ExitStatus.NOT_ATOMIC]
 
 

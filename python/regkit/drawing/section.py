@@ -10,11 +10,13 @@ from regkit.drawing.svg import tag
 from regkit.drawing.text import name, words
 from regkit.history import History, Operation
 from regkit.report import Row
+from regkit.searched import sentences_of
 from regkit.sentences import capital, counted, named
 from regkit.unexplained import Unexplained, find_unexplained
 
 WHOLE = 600  # events; a register of no more is drawn whole, below its fault
 FIRST_EVENTS = 400  # of a register that is atomic, so many are drawn
+NO_MARKS = "the picture can't mark yet what a search found: it shows the operations from the beginning"
 MOST_NAMED = 3  # writes beside the unexplained read, or lost, that are named in words
 
 
@@ -38,6 +40,8 @@ class Author:
 
     def write(self) -> Section:
         heading = tag("h2", "Register " + name(self.row["register"])) + facts(self.row)
+        if "cas" in self.row and self.row["atomic"] != "yes":
+            return self.of_search(heading)
         if self.row.get("atomic") != "no":
             return Section(heading, self.whole(Marks(), FIRST_EVENTS), self.scenes)
         marks = marks_of_fault(self.history, self.row)
@@ -60,6 +64,14 @@ class Author:
         if len(self.register.events) <= WHOLE and all(scene.left_out for scene in self.scenes):
             pictures += tag("h3", "The whole register") + self.whole(marks.without_arrows(), WHOLE)
         return Section(heading, pictures, self.scenes)
+
+    def of_search(self, heading: str) -> Section:
+        """What a search found or gave up, in sentences, and the operations without marks."""
+        said = [NO_MARKS]
+        if self.row["atomic"] == "no":
+            said = [*sentences_of(self.history, self.row), NO_MARKS]
+        heading += "".join(tag("p", words(capital(sentence) + ".")) for sentence in said)
+        return Section(heading, self.whole(Marks(), FIRST_EVENTS), self.scenes)
 
     def causes(self, found: Unexplained) -> str:
         """The writes that were lost, and what to ask."""

@@ -1,0 +1,265 @@
+"""Histories that `regsearch` decides: which program is asked, and what `regkit check` says of the answer."""
+import json
+import os
+import pathlib
+import stat
+import tempfile
+import unittest
+from typing import Any, List, Tuple
+from unittest import mock
+
+from regkit import checker
+from regkit.checker import CHECK, SEARCH, Answer, decide, find_program, is_for_search
+
+from .events import Line, cas, crash, fail, gave, read, reply, run, text, took, write
+
+AGAIN = [write(1, 5), reply(1), write(1, 6), reply(1), write(1, 5), reply(1), read(2)]
+FINE, STALE = [*AGAIN, gave(2, 5)], [*AGAIN, gave(2, 6)]
+TWO_WINNERS = [write(1, 0), reply(1), cas(1, 0, 1), cas(2, 0, 2), took(1, True), took(2, True)]
+NULL_TWICE = [cas(1, None, 1), cas(2, None, 2), write(3, 5), reply(3), took(1, True), took(2, True)]
+
+
+class Files(unittest.TestCase):
+    def setUp(self) -> None:
+        folder = tempfile.TemporaryDirectory()
+        self.addCleanup(folder.cleanup)
+        self.folder = pathlib.Path(folder.name)
+
+    def logged(self, program: str) -> "mock._patch_dict":
+        """Lets each run of a program add its name to the log."""
+        real, path = find_program(program), self.folder / program
+        path.write_text(f'#!/bin/sh\necho {program} >> {self.folder}/log\nexec {real} "$@"\n')
+        path.chmod(path.stat().st_mode | stat.S_IXUSR)
+        return mock.patch.dict(os.environ, {checker.VARIABLES[program]: str(path)})
+
+    def log(self) -> List[str]:
+        return (self.folder / "log").read_text().split()
+
+
+def without_search() -> Any:
+    """As on a machine that has no regsearch."""
+    real = checker.find_program
+    return mock.patch.object(checker, "find_program", lambda name: None if name == SEARCH else real(name))
+
+
+class WhichProgram(Files):
+    def test_each_is_asked_once(self) -> None:
+        table = [([write(1, 5), reply(1), read(2), gave(2, 5)], [CHECK]),
+                 ([reply(1)], [CHECK]), (FINE, [CHECK, SEARCH]), (TWO_WINNERS, [CHECK, SEARCH])]
+        with self.logged(CHECK), self.logged(SEARCH):
+            for events, programs in table:
+                with self.subTest(programs):
+                    (self.folder / "log").write_text("")
+                    run("check", given=text(*events))
+                    self.assertEqual(self.log(), programs)
+
+    def test_refusals_that_are_for_search(self) -> None:
+        table = [
+            (AGAIN, "line 5: value already written to this register at line 1", True),
+            (TWO_WINNERS, "line 3: op is neither read nor write", True),
+            ([{**write(1, 5), "op": "cas "}], "line 1: op is neither read nor write", False),
+            ([{"event": "call"}], "line 1: op is neither read nor write", False),
+            (TWO_WINNERS, "line 9: op is neither read nor write", False),
+            (TWO_WINNERS, "line 3: not JSON", False), (TWO_WINNERS, "input could not be read", False),
+        ]
+        for events, words, expected in table:
+            with self.subTest(words):
+                self.assertEqual(is_for_search(text(*events), Answer(2, b"", words)), expected)
+                self.assertFalse(is_for_search(text(*events), Answer(4, b"", words)))
+
+    def test_the_line_of_a_cas_is_counted_with_blank_lines(self) -> None:
+        self.assertEqual(run("check", given=b"\n \n" + text(*TWO_WINNERS)).status, 1)
+
+    def test_without_it_the_refusal_stays(self) -> None:
+        with without_search():
+            again, other = run("check", given=text(*STALE)), run("check", given=text(*TWO_WINNERS))
+        self.assertEqual((again.status, again.out, other.status, other.out), (2, "", 2, ""))
+        self.assertIn("refused: line 5: value already written to this register at line 1\n", again.err)
+        self.assertIn("number the writes of each register", again.err)
+        self.assertIn("refused: line 3: op is neither read nor write", other.err)
+        for ran in (again, other):
+            self.assertIn("regsearch would decide it", ran.err)
+        with without_search():
+            self.assertNotIn("regsearch", run("check", given=text(reply(1))).err)
+
+    def test_a_wrong_path(self) -> None:
+        with mock.patch.dict(os.environ, {"REGSEARCH": str(self.folder / "none")}):
+            ran = run("check", given=text(*STALE))
+        self.assertEqual(ran.status, 4)
+        self.assertIn("Is REGSEARCH right?", ran.err)
+
+    def test_its_failure_is_told_by_its_name(self) -> None:
+        path = self.folder / "broken"
+        path.write_text("#!/bin/sh\ncat > /dev/null\necho no memory or no thread >&2\nexit 4\n")
+        path.chmod(path.stat().st_mode | stat.S_IXUSR)
+        with mock.patch.dict(os.environ, {"REGSEARCH": str(path)}):
+            ran = run("check", given=text(*STALE))
+        self.assertEqual(ran.status, 4)
+        self.assertIn("failed: regsearch ended with status 4: no memory or no thread\n", ran.err)
+
+    def test_the_options_are_those_of_the_search(self) -> None:
+        self.assertEqual(decide(text(*NULL_TWICE), ["--configurations", "1"]).status, 6)
+        self.assertEqual(decide(text(*NULL_TWICE)).status, 1)
+
+
+class Verdicts(Files):
+    def test_yes(self) -> None:
+        self.assertEqual(run("check", given=text(*FINE)), (0, (
+            "standard input: linearizable: 4 operations on 1 register; 1 completed read or cas, 0 overlap a "
+            "write; by search (regsearch)\n"), ""))
+
+    def test_evidence(self) -> None:
+        """A cas that was answered counts as a read, and overlaps the writes of others, not its own."""
+        table = [([cas(1, None, 5)], 5, (0, 0)), ([cas(1, None, 5), took(1, True)], 0, (1, 0)),
+                 ([cas(1, 3, 5), took(1, False)], 0, (1, 0)),
+                 ([cas(1, None, 5), cas(2, 5, 6), took(1, True), took(2, True)], 0, (2, 2)),
+                 ([cas(1, 3, 5), cas(2, 4, 6), took(1, False), took(2, False)], 0, (2, 0)),
+                 ([cas(1, None, 5), fail(1), read(2), gave(2, None)], 0, (1, 0)),
+                 ([cas(1, None, 5), read(2), gave(2, None), crash(1)], 0, (1, 1))]
+        for events, status, counts in table:
+            with self.subTest(events):
+                said = json.loads(run("check", "--json", given=text(*events)).out)
+                self.assertEqual((said["status"], said["program"]), (status, "regsearch"))
+                self.assertEqual((said["completed_reads"], said["overlapping_reads"]), counts)
+
+    def test_no(self) -> None:
+        ran = run("check", given=text(*TWO_WINNERS))
+        self.assertEqual((ran.status, ran.err), (1, ""))
+        self.assertEqual(ran.out.splitlines()[1:], [
+            '  register "x": the reply of line 6, of the cas from 0 to 2 that took place, by process 2 (lines 4 to '
+            '6): whatever order the operations before it took effect in, none gives it; it needs a value of 0',
+            "    until then there was an order, and at the end of one the value is 1, by the cas from 0 to 1 that "
+            "took place, by process 1 (lines 3 to 5)",
+            "    no other call of this register was open then"])
+
+    def test_open_calls_are_named(self) -> None:
+        events = [*AGAIN[:6], write(3, 7), crash(3), cas(4, 9, 8), read(5), *(write(n, 7) for n in range(10, 16)),
+                  read(2), gave(2, 6), reply(10)]
+        ran = run("check", given=text(*events))
+        self.assertIn("open then: the write of 7 by process 3 (line 7, open when its process crashed at line 8)",
+                      ran.out)
+        self.assertIn("open then: the cas from 9 to 8 by process 4 (line 9, never answered)", ran.out)
+        self.assertIn("and 3 other open calls", ran.out)
+
+    def test_a_miss_and_a_null(self) -> None:
+        ran = run("check", given=text(cas(1, None, 5), took(1, False)))
+        self.assertIn("the cas from null to 5 that missed, by process 1 (lines 1 to 2)", ran.out)
+        self.assertIn("it needs a value other than null", ran.out)
+
+    def test_unwritten(self) -> None:
+        table: List[Any] = [
+            ([cas(1, 7, 5), took(1, True)], "found 7, which nobody wrote to this register"),
+            ([write(1, 5), reply(1), write(1, 5), reply(1), read(1), gave(1, 7)], "gave 7, which nobody wrote"),
+            ([cas(1, None, 7), fail(1), read(1), gave(1, 7)], "which only a call that failed would have written"),
+            ([cas(1, 8, 7), took(1, False), read(1), gave(1, 7)], "which only a call that missed would have written")]
+        for events, words in table:
+            with self.subTest(words):
+                ran = run("check", given=text(*events))
+                self.assertEqual(ran.status, 1)
+                self.assertIn(words, ran.out)
+
+    def test_first_and_most(self) -> None:
+        events = [{**event, "register": name} for name in ("a", "b", "c") for event in STALE]
+        table: List[Tuple[List[str], int]] = [(["--first"], 1), (["--most", "2"], 2), ([], 3)]
+        for option, count in table:
+            with self.subTest(option):
+                ran = run("check", *option, given=text(*events))
+                self.assertEqual((ran.status, ran.out.count('  register "')), (1, count))
+
+    def test_refusals_of_the_search(self) -> None:
+        call: Line = cas(1, 1, 2)
+        table: List[Any] = [
+            ([{**call, "to": None}], "line 1: from or to does not fit the event"),
+            ([{key: call[key] for key in call if key != "from"}], "line 1: from or to does not fit the event"),
+            ([call, reply(1)], "line 2: a cas's reply has no ok, true or false"),
+            ([call, {**took(1, True), "value": 3}], "line 2: reply disagrees with its call"),
+            ([call, {"process": 2, "event": "call", "op": "add", "register": "x"}],
+             "line 2: op is neither read, write nor cas")]
+        for events, words in table:
+            with self.subTest(words):
+                ran = run("check", given=text(*events))
+                self.assertEqual((ran.status, ran.out), (2, ""))
+                self.assertIn(f"standard input: refused: {words}\n", ran.err)
+                self.assertEqual(len(ran.err.splitlines()), 2)  # with what to do
+
+
+class Unknown(Files):
+    def test_it_is_no_yes_and_no_no(self) -> None:
+        ran = run("check", "--configurations", "1", given=text(*NULL_TWICE))
+        self.assertEqual((ran.status, ran.err), (6, ""))
+        self.assertIn("standard input: unknown: the search gave up on 1 of 1 register; 3 operations", ran.out)
+        self.assertIn('  not decided: register "x"\n  raise `--configurations`; or record runs with', ran.out)
+
+    def test_steps(self) -> None:
+        ran = run("check", "--steps", "1", given=text(*NULL_TWICE))
+        self.assertEqual(ran.status, 6)
+        self.assertIn("raise `--steps`; or", ran.out)
+
+    def test_beside_a_no(self) -> None:
+        """A no of another register is a no of the history."""
+        other = [{**event, "register": "y"} for event in STALE]
+        said = json.loads(run("check", "--json", "--configurations", "1", given=text(*NULL_TWICE, *other)).out)
+        self.assertEqual((said["status"], said["unknown_registers"], said["faulty_registers"]), (1, ["x"], 1))
+
+    def test_beside_a_yes(self) -> None:
+        other = [{**event, "register": "y"} for event in FINE]
+        said = json.loads(run("check", "--json", "--configurations", "1", given=text(*other, *NULL_TWICE)).out)
+        self.assertEqual((said["status"], said["verdict"], said["faults"]), (6, "unknown", []))
+        self.assertIn("the search gave up on 1 of 2 registers", said["reason"])
+
+    def test_in_ci(self) -> None:
+        path = self.folder / "h.jsonl"
+        path.write_bytes(text(*NULL_TWICE))
+        ran = run("check", "--quiet", "--annotate", "--junit", str(self.folder / "j"), "--configurations", "1",
+                  str(path))
+        self.assertEqual(ran.status, 6)
+        self.assertIn("::error file=", ran.out)
+        self.assertIn("title=regkit%3A unknown::the search gave up on 1 of 1 register", ran.out)
+        junit = (self.folder / "j").read_text()
+        self.assertIn('tests="1" failures="0" errors="1"', junit)
+        self.assertIn('<error type="unknown" message="unknown: the search gave up', junit)
+        self.assertIn("raise `--configurations`", junit)
+
+    def test_several_histories(self) -> None:
+        names = []
+        for name, events in (("unknown", NULL_TWICE), ("empty", []), ("no", STALE)):
+            (self.folder / name).write_bytes(text(*events))
+            names.append(str(self.folder / name))
+        self.assertEqual(run("check", "--configurations", "1", *names[:2]).status, 6)
+        self.assertEqual(run("check", "--configurations", "1", *names).status, 1)
+
+    def test_bounds_on_the_command_line(self) -> None:
+        for words in ("--steps=0", "--steps=x", f"--configurations={2**20 + 1}"):
+            self.assertEqual(run("check", words, given=b"").status, 3)
+
+
+class Annotations(Files):
+    def test_the_line_that_is_blamed(self) -> None:
+        path = self.folder / "h.jsonl"
+        for events, line in ((TWO_WINNERS, 6), ([cas(1, 7, 5), took(1, True)], 1)):
+            path.write_bytes(text(*events))
+            self.assertIn(f",line={line},title=", run("check", "--quiet", "--annotate", str(path)).out)
+
+
+class Drawings(Files):
+    def test_a_page_of_each_answer(self) -> None:
+        path, page = self.folder / "h.jsonl", self.folder / "h.html"
+        table = [(FINE, "Linearizable", False), (TWO_WINNERS, "The reply of line 6, of the cas from 0 to 2", True)]
+        for events, words, unmarked in table:
+            path.write_bytes(text(*events))
+            ran = run("draw", str(path), "-o", str(page))
+            self.assertEqual((ran.status, ran.err), (0, ""))
+            self.assertIn(words, page.read_text())
+            self.assertEqual("mark yet what a search found" in page.read_text(), unmarked)
+        self.assertIn("c 0\u21922", page.read_text())
+        path.write_bytes(text(*NULL_TWICE))
+        run("check", "--draw", str(self.folder), "--configurations", "1", str(path))
+        self.assertIn("Unknown: ", page.read_text())
+
+    def test_without_regsearch(self) -> None:
+        path = self.folder / "h.jsonl"
+        path.write_bytes(text(*FINE))
+        with without_search():
+            ran = run("draw", str(path), "-o", str(self.folder / "page"))
+        self.assertEqual(ran.status, 2)
+        self.assertIn("regsearch would decide it", ran.err)
