@@ -101,22 +101,23 @@ def unknown_advice(report: Report) -> str:
         raise Untrue("it names no bound where it is unknown") from error
 
 
-def verify(data: bytes, written: bytes) -> None:
-    """Raises Untrue if a claim of the report doesn't hold."""
+def verify(data: bytes, written: bytes) -> int:
+    """Returns how many nos of a search would take too long to check. Raises Untrue if a claim of the report
+    doesn't hold."""
     from regkit import verify as verifier  # only who asks for it waits for this
 
     try:
-        verifier.verify(data, written)
+        return verifier.verify(data, written).nos.unsearched
     except verifier.Wrong as error:
         raise Untrue(str(error)) from error
 
 
-def verify_refusal(data: bytes, refusal: str) -> None:
+def verify_refusal(data: bytes, answer: Answer) -> None:
     """Raises Untrue if the history needn't be refused, or for another reason."""
     from regkit import verify as verifier
 
     try:
-        verifier.verify_refusal(data, refusal)
+        verifier.verify_refusal(data, answer.refusal, answer.by_search)
     except verifier.Wrong as error:
         raise Untrue(str(error)) from error
 
@@ -167,7 +168,7 @@ class Judge:
         if answer.status != ExitStatus.REFUSED:
             return Outcome(name, ExitStatus.FAILED, failure_of(answer), advice(b"", answer.refusal, name))
         if self.wishes.verify:
-            verify_refusal(data, answer.refusal)
+            verify_refusal(data, answer)
         return Outcome(name, ExitStatus.REFUSED, plain(answer.refusal), what_to_do(data, answer, name))
 
     def judge_report(self, name: str, data: bytes, answer: Answer, reads: Optional[Reads]) -> Outcome:
@@ -176,14 +177,16 @@ class Judge:
         report = parsed(written)
         if self.wishes.verify:
             self.progress.step(f"{self.label}: verifying")
-            verify(data, written)
+            unsearched = verify(data, written)
         reads = self.unusual_reads_of(data) if reads is None else reads
         if answer.by_search:
             outcome = self.verdict_of_search(name, data, report, reads)
         else:
             outcome = self.verdict(name, data, report, reads)
         if self.wishes.verify:
-            outcome = outcome._replace(verified=True, words=f"{outcome.words}; the report was verified")
+            but = f", but for {counted(unsearched, 'no')} that would take too long" if unsearched else ""
+            outcome = outcome._replace(verified=not unsearched,
+                                       words=f"{outcome.words}; the report was verified{but}")
         if self.wishes.draw is not None:
             outcome = outcome._replace(drawing=str(self.draw(name, data, written)))
         return outcome

@@ -222,7 +222,8 @@ class Unknown(Files):
 
     def test_several_histories(self) -> None:
         names = []
-        for name, events in (("unknown", NULL_TWICE), ("empty", []), ("no", STALE)):
+        histories: List[Tuple[str, List[Line]]] = [("unknown", NULL_TWICE), ("empty", []), ("no", STALE)]
+        for name, events in histories:
             (self.folder / name).write_bytes(text(*events))
             names.append(str(self.folder / name))
         self.assertEqual(run("check", "--configurations", "1", *names[:2]).status, 6)

@@ -484,7 +484,7 @@ class Joined(unittest.TestCase):
 class Refusals(unittest.TestCase):
     def wrong(self, events: bytes, words: str) -> str:
         with self.assertRaises(verify.Wrong) as raised:
-            verify.verify_refusal(events, words)
+            verify.verify_refusal(events, words, search=False)
         return str(raised.exception)
 
     def test_each_reason(self) -> None:

@@ -13,12 +13,16 @@ EPILOG = """\
 examples:
   regcheck h.jsonl > h.report; regkit verify h.jsonl h.report
   regcheck h.jsonl | regkit verify h.jsonl -
+  regsearch h.jsonl | regkit verify h.jsonl -
   regkit verify h.jsonl --refusal h.err       what regcheck wrote to standard error
   regkit verify whole.jsonl joined.report --joined
 
-It trusts neither regcheck nor its proof. A yes is replayed along its order; a no follows from the few
+It trusts neither the program nor its proof. A yes is replayed along its order; a no follows from the few
 operations that it names. Safe and regular are decided again for each read, and a refusal by the rules of the
 format.
+
+Of a report of regsearch a no is searched again, in a plain way that shares nothing with regsearch. If that would
+take too long, the line says so, and the status is 6.
 
 The report may be an early answer (regcheck --first). It gives no order of the registers before the one that
 it names, so orders are built here, and replayed.
@@ -29,9 +33,10 @@ layout of the report.
 exit status:
   0  each claim holds
   1  one doesn't, and it is named
-  2  the report is no report of regcheck, or says nothing of the history
+  2  the report is no report of regcheck or regsearch, or says nothing of the history
   3  the command line is wrong
   4  a file couldn't be read
+  6  each claim that was checked holds, but a no of regsearch would take too long to search again
 """
 
 REFUSALS = (".err", ".refusal")  # what a file with a refusal is called
@@ -54,14 +59,15 @@ def run(arguments: argparse.Namespace) -> int:
         print("regkit verify: only one of the files can be standard input", file=sys.stderr)
         return ExitStatus.COMMAND_LINE
     try:
-        print(f"holds: {in_words(verified(arguments))}")
+        found = verified(arguments)
+        print(f"{'holds' if not found.nos.unsearched else 'not all checked'}: {in_words(found)}")
     except verify.Unreadable as wrong:
         print(f"regkit verify: {wrong}", file=sys.stderr)
         return ExitStatus.REFUSED
     except verify.Wrong as wrong:
         print(f"doesn't hold: {wrong}")
         return ExitStatus.WRONG
-    return ExitStatus.DONE
+    return ExitStatus.UNKNOWN if found.nos.unsearched else ExitStatus.DONE
 
 
 def verified(arguments: argparse.Namespace) -> verify.Verified:
@@ -90,14 +96,30 @@ def content(name: str) -> bytes:
 
 def in_words(found: verify.Verified) -> str:
     if found.atomic is None:
-        return f"the history is refused: {found.refusal}"
+        return f"the history is refused{' by regsearch' if found.by_search else ''}: {found.refusal}"
     size = f"{counted(found.operations, 'operation')} on {counted(found.registers, 'register')}"
     if found.early:
         return f"{'linearizable' if found.atomic else 'not linearizable'}, by an early answer: {size}"
     if found.atomic:
         return f"linearizable: {size}"
+    open_end = f", {found.unknown} of which the search gave up" if found.unknown else ""
+    if not found.faulty:
+        return f"unknown: {size}{open_end}"
     verb = "is" if found.faulty == 1 else "are"
-    return f"not linearizable: {size}, {found.faulty} of which {verb} not linearizable"
+    faulty = f"{found.faulty} of which {verb} not linearizable"
+    return f"not linearizable: {size}, {faulty}{open_end}{nos_in_words(found.nos)}"
+
+
+def nos_in_words(nos: verify.Nos) -> str:
+    """How the nos of a report of regsearch were checked. Empty for one of regcheck."""
+    said = []
+    if nos.by_definition:
+        said.append(f"{counted(nos.by_definition, 'no')} by a value that nobody wrote")
+    if nos.searched:
+        said.append(f"{counted(nos.searched, 'no')} searched again, in all orders")
+    if nos.unsearched:
+        said.append(f"{counted(nos.unsearched, 'no')} not searched again, which would take too long")
+    return "".join(f"; {each}" for each in said)
 
 
 def counted(count: int, what: str) -> str:

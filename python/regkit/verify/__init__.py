@@ -1,10 +1,11 @@
-"""Checks each claim of a report of regcheck against its history, by the definitions alone.
+"""Checks each claim of a report of regcheck or regsearch against its history, by the definitions alone.
 
 Read this package if you trust neither the proof, nor the compiler, nor the toolchain. It is plain code, and
 shares none with the rest of regkit but `regkit/lines.py`, which splits a history into lines and reads JSON.
 
 - `operations.py`: the format of a history, from its bytes to its operations, or the reason to refuse it.
-- `claims.py`: what each key of a report claims, and how it is checked.
+- `claims.py`: what each key of a report of regcheck claims, and how it is checked.
+- `searches.py`: the same of regsearch. A no is searched again, up to a bound.
 
 Time is counted in lines. An operation lasts from the line of its call to the line of its reply; one precedes
 another if its reply comes before the other's call. Checking n events takes n log n steps.
@@ -17,12 +18,13 @@ What isn't checked:
 """
 import gc
 from contextlib import contextmanager
-from typing import Iterator, NamedTuple, Optional
+from typing import Iterator, List, NamedTuple, Optional
 
-from regkit.verify.claims import Unreadable, Wrong, check_report, read_rows
+from regkit.verify.claims import Row, Unreadable, Wrong, check_report, read_rows
 from regkit.verify.operations import History, Refused, read_history
+from regkit.verify.searches import Nos, check_search_report
 
-__all__ = ["Unreadable", "Verified", "Wrong", "verify", "verify_refusal"]
+__all__ = ["Nos", "Unreadable", "Verified", "Wrong", "verify", "verify_refusal"]
 
 # Refusals of one run that say nothing of the history.
 OF_THE_RUN = ("input could not be read", "no memory or no thread", "output could not be written")
@@ -35,6 +37,9 @@ class Verified(NamedTuple):
     operations: int = 0
     registers: int = 0
     faulty: int = 0  # how many lines of the report are of registers that aren't atomic
+    unknown: int = 0  # of how many registers the report says that it doesn't know
+    nos: Nos = Nos()  # of a report of regsearch, how its nos were checked
+    by_search: bool = False  # the report, or the refusal, is one of regsearch
     early: bool = False  # the report is an early answer: it has the line of the first such register at most
     refusal: str = ""
 
@@ -47,10 +52,21 @@ def verify(history: bytes, report: bytes, joined: bool = False) -> Verified:
     """
     with _no_search_for_cycles():
         rows = read_rows(report)
+        if any("cas" in row for row in rows[:-1]):
+            return _verify_search(history, rows)
         read = _accepted(history, limits=not joined)
         early = check_report(read, rows, joined)
     faulty = sum(row["atomic"] == "no" for row in rows[:-1])
-    return Verified(faulty == 0, rows[-1]["operations"], len(read.registers), faulty, early)
+    return Verified(faulty == 0, rows[-1]["operations"], len(read.registers), faulty, early=early)
+
+
+def _verify_search(history: bytes, rows: List[Row]) -> Verified:
+    """The same of a report of regsearch."""
+    read = _accepted(history, limits=True, search=True)
+    nos = check_search_report(read, rows)
+    unknown = sum(row["atomic"] == "unknown" for row in rows[:-1])
+    faulty = sum(row["atomic"] == "no" for row in rows[:-1])
+    return Verified(faulty == unknown == 0, rows[-1]["operations"], len(read.registers), faulty, unknown, nos, True)
 
 
 @contextmanager
@@ -65,25 +81,35 @@ def _no_search_for_cycles() -> Iterator[None]:
             gc.enable()
 
 
-def _accepted(history: bytes, limits: bool) -> History:
+def _accepted(history: bytes, limits: bool, search: bool = False) -> History:
     try:
-        return read_history(history, limits)
+        return read_history(history, limits, search)
     except Refused as refused:
         raise Wrong(f"the history has to be refused: {refused.text}") from None
 
 
-def verify_refusal(history: bytes, refusal: str) -> Verified:
+def verify_refusal(history: bytes, refusal: str, search: Optional[bool] = None) -> Verified:
     """Checks that a history has to be refused with these words. Raises Wrong.
 
-    They have to name its first faulty line, and the lowest-numbered reason that applies there.
+    They have to name its first faulty line, and the lowest-numbered reason that applies there: by the rules
+    of regsearch if `search` is true, by those of regcheck if it is false, and else by either.
     """
     said = refusal.strip()
     if said.startswith(OF_THE_RUN):
         raise Unreadable(f"`{said}` says nothing of the history: run regcheck again")
+    due = {rules: _refusal(history, rules) for rules in (False, True) if search in (None, rules)}
+    for rules, words in due.items():
+        if words and words == said:
+            return Verified(None, refusal=said, by_search=rules)
+    words = next(iter(due.values()))
+    raise Wrong(f"the history is refused with other words: {words}" if words
+                else "no line of the history is faulty, so it isn't refused")
+
+
+def _refusal(history: bytes, search: bool) -> str:
+    """The words with which a history is refused. Empty if it is accepted."""
     try:
-        read_history(history, limits=True)
+        read_history(history, limits=True, search=search)
     except Refused as refused:
-        if refused.text != said:
-            raise Wrong(f"the history is refused with other words: {refused.text}") from None
-        return Verified(None, refusal=said)
-    raise Wrong("no line of the history is faulty, so it isn't refused")
+        return refused.text
+    return ""

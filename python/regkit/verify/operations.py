@@ -1,8 +1,8 @@
 """The format of a history: from its bytes to its operations, or the reason to refuse it.
 
-docs/format.md has the rules.
+docs/format.md has the rules: those of regcheck, and those of regsearch, with values that repeat and cas.
 """
-from typing import Any, Dict, List, Optional
+from typing import Any, Dict, List, Optional, Tuple
 
 from regkit.lines import NotJson, json_of, numbered_lines
 
@@ -17,7 +17,9 @@ LEAST_VALUE, GREATEST_VALUE = -(2**63), 2**63 - 1
 
 EVENTS = ("call", "reply", "fail", "crash")
 OPS = ("read", "write")
+SEARCH_OPS = (*OPS, "cas")
 
+BAD_OP_OF_SEARCH = -6  # 6 has another text there
 REASONS = {
     1: "line is longer than 65536 bytes",
     2: "not JSON",
@@ -35,6 +37,9 @@ REASONS = {
     14: "more than 1048576 events",
     15: "input is longer than 67108864 bytes",
     19: "the process crashed at line {}",
+    20: "from or to does not fit the event",
+    21: "a cas's reply has no ok, true or false",
+    BAD_OP_OF_SEARCH: "op is neither read, write nor cas",
 }
 
 
@@ -50,7 +55,7 @@ class Refused(Exception):
 class Operation:
     """A read or a write, identified by the line of its call. A register's initial write of null has 0."""
 
-    __slots__ = ("line", "end", "process", "register", "is_write", "value", "failed")
+    __slots__ = ("line", "end", "process", "register", "is_write", "value", "failed", "is_cas", "asked", "took")
 
     def __init__(self, line: int, register: str, is_write: bool, value: Optional[int]) -> None:
         self.line = line
@@ -59,6 +64,9 @@ class Operation:
         self.register = register
         self.is_write = is_write
         self.value = value  # written, or read; None is null
+        self.is_cas = False  # then `value` is what it writes if it finds
+        self.asked: Optional[int] = None
+        self.took: Optional[bool] = None  # of a cas that was answered, whether it took place
         self.failed = False  # a call that failed is no operation
 
     @property
@@ -75,8 +83,9 @@ def initial_write(register: str) -> Operation:
 class History:
     """The operations of each register, in the order of their calls; the registers by their first calls."""
 
-    def __init__(self, limit: float) -> None:
+    def __init__(self, limit: float, search: bool = False) -> None:
         self.limit = limit  # how many events it may take
+        self.search = search  # by the rules of regsearch
         self.events = 0
         self.registers: Dict[str, List[Operation]] = {}
         self.written: Dict[str, Dict[int, int]] = {}  # register -> value -> the line of its write's call
@@ -94,6 +103,8 @@ class History:
             raise Refused(14, line)
         if process in self.crashes:
             raise Refused(19, line, self.crashes[process])
+        if what == "reply" and self.open_calls[process].is_cas and type(event.get("ok")) is not bool:
+            raise Refused(21, line)
         self.events += 1
         if what == "call":
             self.begin(line, event)
@@ -107,7 +118,7 @@ class History:
         open_call = self.open_calls.get(event["process"])
         if open_call is not None:
             raise Refused(9, line, open_call.line)
-        if event["op"] == "write":
+        if event["op"] == "write" and not self.search:
             earlier = self.written.get(event["register"], {}).get(event["value"])
             if earlier is not None:
                 raise Refused(13, line, earlier)
@@ -121,13 +132,15 @@ class History:
             return
         if not agrees(event, call):
             raise Refused(11, line)
-        if event["event"] == "reply" and not call.is_write and "value" not in event:
+        if event["event"] == "reply" and is_read(call) and "value" not in event:
             raise Refused(12, line)
 
     def begin(self, line: int, event: Dict[str, Any]) -> None:
         process, register, is_write = event["process"], event["register"], event["op"] == "write"
         call = Operation(line, register, is_write, event.get("value"))
         call.process = process
+        if event["op"] == "cas":
+            call.is_cas, call.asked, call.value = True, event["from"], event["to"]
         self.open_calls[process] = call
         self.registers.setdefault(register, []).append(call)
         if is_write:
@@ -139,7 +152,9 @@ class History:
             call.failed = True
             return
         call.end = line
-        if not call.is_write:
+        if call.is_cas:
+            call.took = event["ok"]
+        elif not call.is_write:
             call.value = event["value"]
 
     def without_failed(self) -> None:
@@ -150,28 +165,33 @@ class History:
 
 def agrees(event: Dict[str, Any], call: Operation) -> bool:
     """Each thing that a reply or a fail says is as in its call."""
-    op = "write" if call.is_write else "read"
+    op = "write" if call.is_write else "cas" if call.is_cas else "read"
     if event.get("op", op) != op or event.get("register", call.register) != call.register:
         return False
     value = event.get("value")
     if call.is_write:
         return value is None or value == call.value
-    return event["event"] == "reply" or value is None
+    return (event["event"] == "reply" and not call.is_cas) or value is None
 
 
-def read_history(history: bytes, limits: bool) -> History:
-    """Raises Refused for the first faulty line. The limits are those on the input and on its events."""
+def is_read(call: Operation) -> bool:
+    return not call.is_write and not call.is_cas
+
+
+def read_history(history: bytes, limits: bool, search: bool = False) -> History:
+    """Raises Refused for the first faulty line. The limits are those on the input and on its events. With
+    `search` the rules are those of regsearch."""
     if limits and len(history) > MAX_INPUT:
         raise Refused(15)
-    taken = History(MAX_EVENTS if limits else FOREVER)
+    taken = History(MAX_EVENTS if limits else FOREVER, search)
     for number, line in numbered_lines(history):
-        taken.take(number, event_of(number, line))
+        taken.take(number, event_of(number, line, search))
     taken.without_failed()
     return taken
 
 
-def event_of(number: int, line: bytes) -> Dict[str, Any]:
-    """The event of a line. Raises Refused with the lowest of 1 to 8 that applies."""
+def event_of(number: int, line: bytes, search: bool = False) -> Dict[str, Any]:
+    """The event of a line. Raises Refused with the lowest of 1 to 8 and 20 that applies."""
     if len(line) > MAX_LINE:
         raise Refused(1, number)
     try:
@@ -186,25 +206,33 @@ def event_of(number: int, line: bytes) -> Dict[str, Any]:
     if what not in EVENTS:
         raise Refused(5, number)
     if what != "crash":
-        fault = call_fault(event) if what == "call" else end_fault(event)
+        ops = SEARCH_OPS if search else OPS
+        fault = call_fault(event, ops) if what == "call" else end_fault(event, ops)
         if fault:
-            raise Refused(fault, number)
+            raise Refused(BAD_OP_OF_SEARCH if search and fault == 6 else fault, number)
     return event
 
 
-def call_fault(event: Dict[str, Any]) -> int:
+def call_fault(event: Dict[str, Any], ops: Tuple[str, ...]) -> int:
     op, value = event.get("op"), event.get("value")
-    if op not in OPS:
+    if op not in ops:
         return 6
     if not is_name(event.get("register")):
         return 7
     fits = is_value(value) if op == "write" else value is None
-    return 0 if fits else 8
+    if not fits:
+        return 8
+    return 20 if op == "cas" and not is_change(event) else 0
 
 
-def end_fault(event: Dict[str, Any]) -> int:
+def is_change(cas: Dict[str, Any]) -> bool:
+    """Whether the two values of a cas are there and of their form."""
+    return "from" in cas and (cas["from"] is None or is_value(cas["from"])) and is_value(cas.get("to"))
+
+
+def end_fault(event: Dict[str, Any], ops: Tuple[str, ...]) -> int:
     """Of a reply or a fail, which may leave out its op, its register and its value."""
-    if "op" in event and event["op"] not in OPS:
+    if "op" in event and event["op"] not in ops:
         return 6
     if "register" in event and not is_name(event["register"]):
         return 7
