@@ -1,6 +1,6 @@
 """Why a register isn't atomic: what contradicts what, where it began, and who else was there."""
 import textwrap
-from typing import List, NamedTuple, Optional, Set
+from typing import Callable, List, NamedTuple, Optional, Sequence, Set
 
 from regkit import timeline
 from regkit.causes import StalePair, find_lost, questions, stale_pair
@@ -211,6 +211,8 @@ class Wishes(NamedTuple):
     register: Optional[str] = None  # this one alone
     width: int = 100
     paint: Painter = Painter(False)
+    bounds: Sequence[str] = ()  # options of regsearch, where it decided
+    reach: Callable[[int], None] = lambda runs: None  # is told how many runs of it there were so far
 
 
 def explain(history: History, report: Report, wishes: Wishes) -> str:
@@ -219,7 +221,12 @@ def explain(history: History, report: Report, wishes: Wishes) -> str:
     page = Page(wishes.width, wishes.paint)
     try:
         for row in faulty[:wishes.most]:
-            explain_register(page, history, row)
+            if "cas" not in row:
+                explain_register(page, history, row)
+                continue
+            from regkit.search_explanation import Searcher, explain_search  # only a search waits for this
+
+            explain_search(page, history, row, Searcher(wishes.bounds, wishes.reach))
     except (KeyError, TypeError, AssertionError) as error:
         raise NotOfHistory from error
     rest = len(faulty) - wishes.most

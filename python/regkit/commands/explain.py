@@ -2,10 +2,10 @@
 import argparse
 import shutil
 import sys
-from typing import Tuple
+from typing import List, Tuple
 
 from regkit.advice import advice
-from regkit.checker import NoChecker, judge
+from regkit.checker import WOULD_DECIDE, NoChecker, decide, is_for_search
 from regkit.colour import CHOICES, painter
 from regkit.explanation import NotOfHistory, Wishes, explain
 from regkit.garbage import many_objects
@@ -13,11 +13,13 @@ from regkit.history import History, NoRegister, NotAHistory, read_history
 from regkit.inputs import STANDARD_INPUT, TooLong, read_input, shown_name
 from regkit.judging import failure, failure_of
 from regkit.limits import MAX_BYTES
-from regkit.options import count
+from regkit.options import add_bounds, bounds_of, count
 from regkit.progress import Progress
 from regkit.quoting import plain, quoted
-from regkit.report import Report, read_report
+from regkit.report import Report, Row, read_report
+from regkit.searched import what_to_do
 from regkit.sentences import counted
+from regkit.shrinking import MOST_RUNS
 from regkit.source_map import NotAMap, put_labels
 from regkit.statuses import ExitStatus
 
@@ -40,12 +42,16 @@ For each register that isn't linearizable:
 A read can't be explained if its reply makes the lines so far not linearizable. Failed calls, and the reads
 before it that can't be explained, are left out of these lines.
 
+Of a history that regsearch decided, the fault is made small first, in at most 200 runs of regsearch: as few
+operations and replies as it takes. Then follow what the value can be before the reply, and why no order gives it.
+
 exit status:
   0  linearizable: there is nothing to explain
   1  not linearizable, and explained
   2  the history is refused, or the report visibly isn't of it (`regkit verify` checks every claim)
   3  wrong command line
   4  input, memory, output or regcheck failed
+  6  unknown: the search gave up at --steps or --configurations
 """
 NARROWEST, WIDEST = 40, 120  # characters a line
 
@@ -67,6 +73,7 @@ def add_arguments(parser: argparse.ArgumentParser) -> None:
                         help="show the source's own values: what `regkit convert --map` wrote")
     parser.add_argument("--most", metavar="N", type=count, default=3,
                         help="explain at most N faulty registers (default %(default)s)")
+    add_bounds(parser)
     parser.add_argument("--color", choices=CHOICES, default="auto",
                         help="colour: on a terminal unless NO_COLOR is set (default), always, or never")
 
@@ -75,11 +82,12 @@ def written_report(arguments: argparse.Namespace, data: bytes) -> bytes:
     """The report that is named, or that of a new run. Raises Stop."""
     if arguments.report is not None:
         return read_input(arguments.report, None)
-    answer = judge(data)
+    answer = decide(data, bounds_of(arguments))
     if answer.status == ExitStatus.REFUSED:
         told = advice(data, answer.refusal, arguments.history)
+        told += f"; {WOULD_DECIDE}" if is_for_search(data, answer) else ""
         raise Stop(ExitStatus.REFUSED, f"refused: {answer.refusal}", told)
-    if answer.status not in (ExitStatus.ATOMIC, ExitStatus.NOT_ATOMIC):
+    if not answer.decided:
         raise Stop(ExitStatus.FAILED, failure_of(answer))
     return answer.report
 
@@ -110,6 +118,9 @@ def explained(arguments: argparse.Namespace, progress: Progress) -> Tuple[int, s
     progress.step(f"{name}: checking")
     report = parsed_report(written_report(arguments, data))
     rows = [row for row in report.faulty if arguments.register in (None, row["register"])]
+    unknown = [row for row in report.unknown if arguments.register in (None, row["register"])]
+    if not rows and unknown:
+        return ExitStatus.UNKNOWN, f"{name}: {unknown_in_words(unknown, arguments.most)}"
     if not rows and arguments.register is None:
         operations = counted(report.summary["operations"], "operation")
         return ExitStatus.ATOMIC, f"{name}: linearizable: {operations}, nothing to explain"
@@ -122,9 +133,19 @@ def explained(arguments: argparse.Namespace, progress: Progress) -> Tuple[int, s
         return ExitStatus.ATOMIC, f"{name}: register {register} is linearizable, nothing to explain"
     progress.step(f"{name}: explaining")
     width = max(NARROWEST, min(WIDEST, shutil.get_terminal_size((100, 24)).columns))
-    wishes = Wishes(arguments.most, arguments.register, width, painter(arguments.color, sys.stdout))
+    if report.by_search:
+        progress.step(f"{name}: making the fault small", MOST_RUNS)
+    wishes = Wishes(arguments.most, arguments.register, width, painter(arguments.color, sys.stdout),
+                    bounds_of(arguments), progress.reach)
     why = explain(history, report, wishes)
     return ExitStatus.NOT_ATOMIC, f"{name}: not linearizable: {how_many(report)}\n\n{why}"
+
+
+def unknown_in_words(rows: List[Row], most: int) -> str:
+    """The registers that a search gave up, the first few by name, and what to do about them."""
+    names = ", ".join(quoted(row["register"]) for row in rows[:max(1, most)])
+    more = f" and {len(rows) - most:,} more" if len(rows) > most > 0 else ""
+    return f"unknown: the search gave up on {counted(len(rows), 'register')}, {names}{more}\n  {what_to_do(rows)}"
 
 
 def how_many(report: Report) -> str:

@@ -1,0 +1,138 @@
+"""Makes a no of `regsearch` small: fewer operations, and fewer replies, that still have no order.
+
+Each step claims less. An order of more, without a read, or without a cas that missed, is an order of less; and a
+write or a cas whose reply is taken away may still stand where it stood. So if there is no order of less, there is
+none of more either, and the answer to each step is asked of regsearch itself."""
+import json
+from typing import Callable, List, NamedTuple, Optional, Sequence, Set, Tuple
+
+from regkit.checker import SEARCH, NoChecker, find_program, run_checker
+from regkit.history import Operation
+from regkit.statuses import ExitStatus
+
+MOST_RUNS = 200  # of regsearch
+STEPS = 20_000_000  # of each run, unless fewer were asked for
+
+
+class Kept(NamedTuple):
+    """An operation that is still there. Without its reply it may take effect from its call on, or never."""
+
+    call: Operation
+    replied: bool
+
+
+class Small(NamedTuple):
+    """What is left of a no."""
+
+    kept: List[Kept]
+    whole: int  # how many operations were called before the reply
+    runs: int  # of regsearch
+    ended: bool  # whether each step was tried that was left
+
+
+def until(calls: Sequence[Operation], reply: int) -> List[Kept]:
+    """What was called before a reply, with the replies up to it. What replied later is kept only if it may have
+    changed the value by then: a read, or a cas that missed, changes no order of the others."""
+    called = [call for call in calls if call.line < reply and not call.failed]
+    kept = [Kept(call, call.completed and (call.end_line or 0) <= reply) for call in called]
+    return [each for each in kept if each.replied or each.call.writes]
+
+
+def asked_values(kept: Sequence[Kept]) -> Set[Optional[int]]:
+    """The values that reads gave, and that a cas asks for."""
+    return {each.call.asked if each.call.kind == "cas" else each.call.value
+            for each in kept if each.call.kind != "write"}
+
+
+def without_idle(kept: List[Kept]) -> List[Kept]:
+    """The same without the writes and cas that have no reply and write a value for which nobody asks. In an
+    order nothing that asks stands between such a one and the next write, so it may be left out, unless a cas
+    missed: that asks for any other value."""
+    while not any(each.call.missed for each in kept):
+        asked = asked_values(kept)
+        fewer = [each for each in kept if each.replied or each.call.value in asked]
+        if len(fewer) == len(kept):
+            break
+        kept = fewer
+    return kept
+
+
+def less(kept: List[Kept], chosen: Sequence[Operation]) -> List[Kept]:
+    """The same without some reads and misses, and without the replies of some writes and cas."""
+    lines = {call.line for call in chosen}
+    changed = [Kept(each.call, each.replied and each.call.line not in lines) for each in kept
+               if each.call.writes or each.call.line not in lines]
+    return without_idle(changed)
+
+
+def events_of(process: int, each: Kept) -> List[Tuple[int, str]]:
+    """The lines of an operation: it has a process of its own, since one without a reply stays open."""
+    call = each.call
+    said = {"process": process, "event": "call", "op": call.kind, "register": "x"}
+    if call.kind == "cas":
+        said.update({"from": call.asked, "to": call.value})
+    elif call.kind == "write":
+        said["value"] = call.value
+    lines = [(call.line, json.dumps(said))]
+    if each.replied and call.end_line is not None:
+        end = {"process": process, "event": "reply"}
+        if call.kind == "cas":
+            end["ok"] = bool(call.took)
+        elif call.kind == "read":
+            end["value"] = call.value
+        lines.append((call.end_line, json.dumps(end)))
+    return lines
+
+
+def history_of(kept: Sequence[Kept]) -> bytes:
+    """A history of these operations alone, on the lines that they have."""
+    events = dict(event for process, each in enumerate(kept) for event in events_of(process, each))
+    return "".join(events.get(line, "") + "\n" for line in range(1, max(events, default=0) + 1)).encode()
+
+
+def asker(bounds: Sequence[str]) -> Callable[[List[Kept]], int]:
+    """How regsearch ends with some operations. Raises NoChecker if it isn't there."""
+    program = find_program(SEARCH)
+    if program is None:
+        raise NoChecker("regsearch was not found: put it beside regcheck or on PATH, or set REGSEARCH to its path")
+    options = list(bounds)
+    if "--steps" in options:
+        place = options.index("--steps") + 1
+        options[place] = str(min(STEPS, int(options[place])))
+    else:
+        options += ["--steps", str(STEPS)]
+    return lambda kept: run_checker(history_of(kept), options, program).status
+
+
+class NoFault(ValueError):
+    """What was called before the reply has an order."""
+
+
+def shrink(calls: Sequence[Operation], reply: int, ask: Callable[[List[Kept]], int],
+           reach: Callable[[int], None] = lambda runs: None) -> Optional[Small]:
+    """The no of a reply, made small. None if regsearch doesn't decide it in so few steps. Raises NoFault."""
+    kept = without_idle(until(calls, reply))
+    whole = sum(call.line < reply and not call.failed for call in calls)
+    runs = 1
+    first = ask(kept)
+    if first == ExitStatus.ATOMIC:
+        raise NoFault
+    if first != ExitStatus.NOT_ATOMIC:
+        return None
+    for writes in (False, True):
+        left = [each.call for each in kept if each.replied and each.call.writes == writes
+                and each.call.end_line != reply]
+        size = len(left)
+        while size and runs < MOST_RUNS:
+            place = 0
+            while place < len(left) and runs < MOST_RUNS:
+                fewer = less(kept, left[place:place + size])
+                runs += 1
+                reach(runs)
+                if ask(fewer) == ExitStatus.NOT_ATOMIC:
+                    kept = fewer
+                    del left[place:place + size]
+                else:
+                    place += size
+            size = 0 if size == 1 else (size + 1) // 2
+    return Small(kept, whole, runs, runs < MOST_RUNS)
