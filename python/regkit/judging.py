@@ -192,9 +192,9 @@ class Judge:
         return outcome
 
     def enough(self, reads: Optional[Reads]) -> bool:
-        """Whether the beginning of a history has the evidence that is asked for, and overlaps to speak of."""
+        """Whether the beginning of a history has the evidence that is asked for."""
         return (reads is not None and reads.completed >= self.wishes.least_reads
-                and reads.overlapping >= max(1, self.wishes.least_overlaps))
+                and reads.overlapping >= self.wishes.least_overlaps)
 
     def reads_of(self, data: bytes) -> Optional[Reads]:
         """The completed reads: of a long history those of its beginning, if they are enough. None if a line
