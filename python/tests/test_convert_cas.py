@@ -33,6 +33,12 @@ _end("jepsen", _LOG % ("fail", '[nil 1], :error [:not-leader "n2"]'), True, "--f
 _end("jepsen", _LOG % ("fail", "[nil 1], :exception {:via []}"), True, "--failed-cas", "missed")
 _end("jepsen", _LOG % ("fail", '[nil 1], :error [:precondition-failed "1"]'), False, "--failed-cas", "missed")
 _end("jepsen", _LOG % ("fail", '[nil 1], :error :precondition-failed'), True)
+_end("jepsen", _LOG % ("fail", '[nil 1], :error [:key-does-not-exist "x"]'), True, "--failed-cas", "missed")
+_end("jepsen", (_LOG % ("fail", ":none, :error :key-does-not-exist")).replace("[nil 1]", "[:none 1]"), True,
+     "--failed-cas", "missed", "--null", "none")
+_end("jepsen", (_LOG % ("fail", "[9 1], :error :key-does-not-exist")).replace("read nil", "read 9").replace(
+    "[nil 1]", "[9 1]").replace(":ok, :f :read, :value nil", ":ok, :f :read, :value 9"), True,
+     "--failed-cas", "missed", "--initial", "9")
 _end("jepsen", _LOG % ("fail", "[nil 1], :reason :full"), "the member reason isn't "
                                                           "understood", "--failed-cas",
      "missed")
@@ -88,6 +94,18 @@ _ETCD = ('{"ClientId":0,"Input":{"Op":2,"Arg1":null,"Arg2":1},"Call":1,"Output":
 _end("porcupine", _ETCD % '{"Ok":true,"Exists":false,"Value":0,"Unknown":false}', False)
 _end("porcupine", _ETCD % '{"Ok":false,"Exists":false,"Value":0,"Unknown":false}', False)
 _end("porcupine", _ETCD % '{"Ok":false,"Exists":false,"Value":0,"Unknown":true}', True)
+_end("porcupine", _ETCD % '{"Ok":true,"Value":5}', "the output of a cas has the value 5")
+_MIXED = ('{"Input":{"Op":1,"Arg1":1,"Arg2":0},"Call":1,"Return":2,'
+          '"Output":{"Ok":false,"Exists":false,"Value":0,"Unknown":false}}\n'
+          '{"Input":{"Op":1,"Arg1":2,"Arg2":0},"Call":3,"Return":4,'
+          '"Output":{"Ok":%s,"Exists":false,"Value":0,"Unknown":false}}\n'
+          '{"Input":{"Op":0,"Arg1":0,"Arg2":0},"Call":5,"Return":6,'
+          '"Output":{"Ok":%s,"Exists":true,"Value":2,"Unknown":false}}')
+_end("porcupine", _MIXED % ("false", "false"), True)
+_end("porcupine", _MIXED % ("true", "true"), "Ok is true at line 2 and false at line 1, and this is a write")
+_end("porcupine", _MIXED % ("true", "true"), True, "--ok-when", "Ok=true")
+_end("porcupine", _ETCD.replace('"Exists":false}', '"Exists":true}') % '{"Ok":true}',
+     "the output of a read has Exists, true or false, and Value")
 _end("porcupine", _ETCD % '{"Exists":false}', "the output of a cas has no Ok, true or false")
 _end("porcupine", _ETCD % '{"Ok":true,"Error":"late"}', "the member Error isn't understood")
 _PUT = ('{"ClientId":0,"Input":{"Op":1,"Key":"x","Value":"a","Version":0},"Call":1,"Output":%s,"Return":2}\n'
@@ -144,6 +162,10 @@ _end("operations", _OBJECT % ',"ok":"late"', "ok is late, and true or false is e
 _end("operations", _OBJECT % ',"ok":1', "ok is 1, and true or false is expected")
 _end("operations", _OBJECT % ',"ok":true,"error":"late"', "the member error isn't understood")
 _end("operations", _OBJECT % ',"ok":true,"error":"late"', True, "--ok-when", "error=")
+_end("operations", _OBJECT % ',"error":""', "the row of a cas doesn't say whether it took place", "--ok-when",
+     "error=")
+_end("operations", (_OBJECT % ',"code":200').replace("null}", 'null,"code":200}'), False, "--ok-when",
+     "code=200")
 _end("operations", _OBJECT.replace('"start":3', '"start":2') % ',"ok":true', True)  # a tie
 _EVENTS = (CAS_CALL.replace('"from":1,"to":2', '"from":null,"to":1') + '{"process":1,"event":%s}\n'
            '{"process":2,"event":"call","op":"read","register":"x"}\n'
@@ -163,6 +185,7 @@ _end("jsonl", _EVENTS % '"reply","ok":false,"error":"late"', True, "--ok-when", 
      "late=fail")
 _end("jsonl", _EVENTS % '"reply","ok":"late"', "a cas's reply has no ok, true or false")
 _end("jsonl", _EVENTS % '"reply","ok":false', True, "--ok-when", "ok=true")
+_end("jsonl", _EVENTS % '"reply"', "a cas's reply has no ok, true or false", "--ok-when", "ok=true,")
 _end("jsonl", _EVENTS % '"reply","ok":true', "a cas's reply has no ok", "--ignore-member", "ok")
 _end("jsonl", _EVENTS % '"reply","ok":true,"to":2', "to is 2, and the call at line 1 has 1: is it the answer")
 

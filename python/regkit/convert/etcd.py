@@ -26,16 +26,17 @@ def asked(word: str, given: Members, line: int) -> Tuple[str, Any]:
         return kind, (given["arg1"], given["arg2"])
     if kind in KNOWN and given.get("arg2") not in (None, 0):
         raise Refused(f"Arg2 is {spelled(given['arg2'])[:40]}, and only a cas, which is Op 2, has one: say "
-                      "which "
-                      "operation each Op is, as in --ops 1=cas", line)
+                      "which operation each Op is, as in --ops 1=cas", line)
     return kind, None if kind in READS else given.get("arg1")
 
 
-def ended(operation: Operation, told: Members, line: int) -> Tuple[Optional[str], Members]:
+def ended(operation: Operation, told: Members, said: Dict[bool, int],
+          line: int) -> Tuple[Optional[str], Members]:
     """How an operation ended, and what its output says of values.
 
     The model gives Ok to a cas alone, so that Go writes false for the others. That is taken for nothing only
-    in a whole output of the model, since elsewhere it may say that the operation failed.
+    in a whole output of the model, and if no read or write has true, since it may say that the operation
+    failed. `said` keeps the lines where reads and writes have either.
     """
     for name in _TOLD:
         if name in told and type(told[name]) is not bool:
@@ -44,13 +45,15 @@ def ended(operation: Operation, told: Members, line: int) -> Tuple[Optional[str]
     if told.get("unknown"):
         return None, told
     if operation.kind == CAS:
-        return "reply", {name: value for name, value in told.items() if name == "ok"}
-    if told.get("ok") is False and not all(name in told for name in _TOLD):
-        raise Refused(f"Ok is false, and this is a {operation.kind}: say --ok-when Ok=true if it took place "
-                      "only "
-                      "then", line)
-    if operation.kind not in READS:
-        return "reply", {}
-    if "exists" not in told:
-        raise Refused("the output of a read has Exists, true or false", line)
-    return "reply", {"value": told.get("value") if told["exists"] else None}
+        return "reply", told
+    if "ok" in told:
+        said.setdefault(told["ok"], line)
+    if told.get("ok") is False and not all(name in told for name in _TOLD) or len(said) == 2:
+        either = "false" if len(said) < 2 else f"true at line {said[True]} and false at line {said[False]}"
+        raise Refused(f"Ok is {either}, and this is a {operation.kind}: say --ok-when Ok=true if it took "
+                      "place only then", line)
+    if operation.kind in READS:
+        if "exists" not in told or (told["exists"] and "value" not in told):
+            raise Refused("the output of a read has Exists, true or false, and Value", line)
+        return "reply", {"value": told["value"] if told["exists"] else None}
+    return "reply", told

@@ -68,8 +68,7 @@ class _Log:
             called.end_time = _time(event)
             if ending in ("fail", "missed") and event.get("ok") not in (None, False):
                 raise Refused(f"the cas ends by {edn.write(what)}, and ok is {edn.write(event['ok'])}: did "
-                              "it "
-                              "take place or not?", line)
+                              "it take place or not?", line)
             if ending == "reply":
                 ending = self._reply(event, called, line)
             self.pairing.end(line, client, ending, called.answer)
@@ -117,8 +116,7 @@ class _Log:
         for name, asked in zip(("from", "to"), called.value if called.kind == CAS else ()):
             if event.get(name) is not None and edn.write(event[name]) != edn.write(asked):
                 raise Refused(f"{name} is {edn.write(event[name])[:40]}, and the call at line {called.line} "
-                              "has "
-                              f"{edn.write(asked)[:40]}: is it the answer to another call?", line)
+                              f"has {edn.write(asked)[:40]}: is it the answer to another call?", line)
         op = event.get("op")
         if op is not None and self.choices.kind_of(op if type(op) is str else edn.write(op)) != called.kind:
             raise Refused(f"op is {edn.write(op)}, and the call at line {called.line} has "
@@ -147,13 +145,12 @@ class _Log:
             raise Refused(f"the reply of a cas has ok and no value, but this is "
                           f"{edn.write(event['value'])[:40]}: say --ok-when value=WORD,.. with the words by "
                           "which it took place, or --ignore-member value if it means nothing", line)
-        if ending != "reply" or "ok" in self.choices.ok_when:
+        if ending != "reply" or ("ok" in self.choices.ok_when and event.get("ok") is not None):
             return ending
         took_place = event.get("ok")
         if type(took_place) is not bool or "ok" in self.choices.ignored:
             raise Refused("a cas's reply has no ok, true or false: write true if it took place, and false "
-                          "if the "
-                          "store said that it found another value", line)
+                          "if the store said that it found another value", line)
         return "reply" if took_place else "missed"
 
 

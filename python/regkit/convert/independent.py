@@ -49,8 +49,7 @@ def are_independent(operations: List[Operation], choices: Choices) -> bool:
                     either = either or call
     if either is not None and not others:
         raise Refused(f"the value {edn.write(either.value)[:60]} may be a key with [from to], or from and "
-                      "to: say "
-                      "--keys independent or --keys none", either.line)
+                      "to: say --keys independent or --keys none", either.line)
     return pairs > 0 and not others
 
 

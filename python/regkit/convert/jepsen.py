@@ -16,7 +16,7 @@ from collections import Counter
 from typing import Any, Dict, Iterable, Iterator, List, Optional, Tuple
 
 from regkit import edn
-from regkit.convert.independent import are_independent, nothing_for, part
+from regkit.convert.independent import are_independent, nothing_for, pair_of, part
 from regkit.convert.jepsen_lines import NO_OPERATION, line_events
 from regkit.convert.json_values import is_json, json_values
 from regkit.convert.members import Ended, Known, Outcomes, word_of
@@ -28,7 +28,7 @@ from regkit.convert.transactions import refuse_appends, take_apart
 from regkit.convert.values import spelled
 
 _NO_KEY = "key-does-not-exist"  # Maelstrom's definite error of a read that found no such key
-_OTHER_VALUE = frozenset({_NO_KEY, "precondition-failed"})  # and its errors of a cas that missed
+_OTHER_VALUE = "precondition-failed"  # and that of a cas that missed
 _TYPES = {":ok": "reply", ":fail": "fail", ":info": "crash"}
 _ERRORS = (":error", ":exception")
 
@@ -110,8 +110,7 @@ class _Log:
         source.notes.extend(self.outcomes.notes())
         if self.refused_cas:
             source.notes.append(f"took {self.refused_cas:,} cas that failed with an error as failed, and "
-                                "not as "
-                                "missed: the error may have another reason than the value")
+                                "not as missed: the error may have another reason than the value")
         operations = list(source.operations())
         refuse_appends(operations)
         independent = are_independent(operations, self.choices)
@@ -211,10 +210,18 @@ class _Log:
         But an error may say that it failed for another reason, and then it is no more than a failure.
         """
         ending, error = self.choices.failure_of(called.kind), _error(event)
-        if ending == "missed" and error is not None and folded(word_of(error)) not in _OTHER_VALUE:
-            self.refused_cas += 1
-            return "fail"
-        return ending
+        if ending != "missed" or error is None or folded(word_of(error)) == _OTHER_VALUE:
+            return ending
+        if folded(word_of(error)) == _NO_KEY and not self._asks_for_null(called):
+            return ending
+        self.refused_cas += 1
+        return "fail"
+
+    def _asks_for_null(self, called: Operation) -> bool:
+        """Whether a cas may ask for what a key has that doesn't exist."""
+        pair = pair_of(called.value) or (None, None)
+        word = word_of((pair_of(pair[1]) or pair)[0])
+        return not word or self.choices.initial is not None or self.outcomes.names_null(word)
 
     def _found_no_key(self, event: Event) -> bool:
         """Whether a read failed because the key has no value: that is a read of null."""

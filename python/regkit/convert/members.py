@@ -133,6 +133,11 @@ class Outcomes:
             endings.add(self._ending(name, word))
         return Ended(next(ending for ending in _WEAKEST_FIRST if ending in endings))
 
+    def say(self, members: Mapping[Any, Any]) -> bool:
+        """Whether a member of --ok-when has a word. No word says too little of whether a cas took place."""
+        members = by_folded_name(members)
+        return any(word_of(members.get(name)) for name in self.choices.ok_when)
+
     def names_null(self, word: str) -> bool:
         return word in self.choices.nulls or word.lstrip(":") in self.choices.nulls
 

@@ -58,6 +58,7 @@ class _Values:
             for place in ("input", "output"):
                 self.known[place] = Known(choices, place, [choices.versions])
         self.etcd: Set[Operation] = set()  # those of the model of etcd
+        self.etcd_said: Dict[bool, int] = {}
 
     def source(self, lines: Iterable[str]) -> Source:
         for line, value in json_values(lines):
@@ -118,13 +119,13 @@ class _Values:
         is_read = operation.kind in READS
         ending, found_nothing = self.outcomes.of({**beside, **members}, is_read)
         if ending == "reply" and is_etcd:
-            ending, members = etcd.ended(operation, members, line)
+            ending, members = etcd.ended(operation, members, self.etcd_said, line)
         if ending != "reply":
             return ending
         if is_cas:
             if version is not None:
                 versions.agree(members, version, operation.value, line)
-            return self._end_cas(members, line)
+            return self._end_cas({**beside, **members}, line)
         if is_read and not found_nothing:
             operation.answer = (self._read(members, line) if version is None
                                 else versions.found(members, version, line))
@@ -135,15 +136,14 @@ class _Values:
     def _end_cas(self, members: Members, line: int) -> str:
         """By Ok, unless the options say which words mean that it took place."""
         took_place, answer = ok_of(members.get("ok")), _written(members)
-        by_words = bool(self.choices.ok_when) and (took_place is None or self.choices.explains("ok"))
+        by_words = (took_place is None or self.choices.explains("ok")) and self.outcomes.say(members)
         if took_place is None and not by_words:
             raise Refused("the output of a cas has no Ok, true or false: write true if it took place, and "
                           "false if the store found another value, or say --ok-when MEMBER=WORD,.. with the "
                           "words by which it took place", line)
         if answer is not None and not self.choices.explains("output", "value"):
             raise Refused(f"the output of a cas has the value {spelled(answer)[:40]}: say --ignore-member "
-                          "Value "
-                          "if it means nothing", line)
+                          "Value if it means nothing", line)
         return "reply" if took_place or by_words else "missed"
 
     def _read(self, members: Members, line: int) -> Any:

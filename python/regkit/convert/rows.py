@@ -85,22 +85,20 @@ class Rows:
         took_place = ok_of(told)
         if took_place is None and not _is_nothing(told):
             raise Refused(f"{name} is {spelled(told)[:40]}, and true or false is expected, whether the cas "
-                          "took "
-                          "place", line)
+                          "took place", line)
         if took_place and operation.ending != "reply":
             raise Refused(f"{name} is true, and the outcome is another: did the cas take place or not?", line)
         if took_place is None and operation.ending == "reply" and not self._says_ok(row):
             raise Refused("the row of a cas doesn't say whether it took place: write true or false in "
-                          f"{name}, "
-                          "or ok, missed, fail or unknown as its outcome", line)
+                          f"{name}, or ok, missed, fail or unknown as its outcome", line)
         if took_place is False and operation.ending == "reply":
             operation.ending = "missed"
 
     def _says_ok(self, row: Row) -> bool:
-        """Whether the outcome of a row, or a member by --ok-when, says that all went well."""
+        """Whether the outcome of a row, or a member by --ok-when, says by a word that all went well."""
         outcome = row.columns[_FROM - 1]
         word = "" if _is_nothing(outcome) else spelled(outcome).strip()
-        return bool(word or self.choices.ok_when or "" in self.choices.outcomes)
+        return bool(word) or "" in self.choices.outcomes or self.outcomes.say(row.members)
 
     def _refuse_cas_members(self, row: Row) -> None:
         """A read and a write have nothing in the columns of a cas, unless the options say what it means."""

@@ -85,8 +85,7 @@ def _settle_kind(operation: Operation, keeps_cas: bool) -> None:
                       f"({', '.join(sorted(WRITES))}) or a cas: say {option}read or {option}write or "
                       f"{option}cas "
                       f"if it is one, leave out the keys that it touches with {option}other --cas skip-key, "
-                      "or "
-                      "check queues, sets and counters with Knossos or Porcupine", operation.line)
+                      "or check queues, sets and counters with Knossos or Porcupine", operation.line)
 
 
 def _settle_ending(operation: Operation) -> None:
@@ -109,8 +108,7 @@ def _settle_cas(operation: Operation, read_value: Callable[[Any], Value], form: 
     called = _halves(operation.value)
     if called is None:
         raise Refused(f"the value {edn.write(operation.value)[:60]} of a cas isn't [from to], what it asks "
-                      "for "
-                      "and what it writes", operation.line)
+                      "for and what it writes", operation.line)
     for half in called:
         _refuse_opaque(half, operation.line)
     operation.expected, operation.value = map(read_value, called)
@@ -122,8 +120,7 @@ def _settle_cas(operation: Operation, read_value: Callable[[Any], Value], form: 
         raise Refused(f"the reply of a cas has the value {edn.write(operation.answer)[:60]}, which isn't "
                       "that "
                       f"of its call, at line {operation.line}: say --ok-when {name}=WORD,.. with the words "
-                      "by "
-                      f"which the cas took place, or --ignore-member {name} if what a cas answers means "
+                      f"by which the cas took place, or --ignore-member {name} if what a cas answers means "
                       "nothing", operation.end_line)
 
 

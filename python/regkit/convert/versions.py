@@ -10,8 +10,7 @@ from regkit.convert.model import GREATEST, Refused
 from regkit.convert.values import spelled
 
 NOTE = ("each register has the versions of its key, and a put is a cas from its version to the next: the "
-        "values "
-        "aren't checked")
+        "values aren't checked")
 
 
 def as_cas(given: Mapping[str, Any], member: str, line: int) -> Tuple[Optional[int], int]:
@@ -30,8 +29,7 @@ def agree(told: Mapping[str, Any], member: str, asked: Tuple[Optional[int], int]
     version = told.get(member)
     if version not in (None, 0, asked[1]):
         raise Refused(f"the output of a put has the version {spelled(version)[:40]}, and the put gives the "
-                      "version "
-                      f"{asked[1]}: do versions go up by 1?", line)
+                      f"version {asked[1]}: do versions go up by 1?", line)
 
 
 def _version(members: Mapping[str, Any], member: str, line: int, where: str) -> int:

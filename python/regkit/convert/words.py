@@ -57,8 +57,7 @@ def _add_meanings(parser: argparse.ArgumentParser) -> None:
         "skip-key leaves out")
     add("--outcomes", metavar="WORD=OUTCOME,..", action="append", default=[],
         help="what the source's words for outcomes mean: ok, fail (it surely had no effect), unknown, or of "
-             "a "
-        "cas missed (the store found another value)")
+             "a cas missed (the store found another value)")
     add("--ok-when", metavar="MEMBER=WORD,..", action="append", default=[],
         help="an operation took place only if this member or column has one of these words; any other is an "
         "unknown outcome unless --outcomes has it; the empty word is null too, and no such member")
