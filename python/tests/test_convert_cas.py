@@ -39,6 +39,8 @@ _end("jepsen", (_LOG % ("fail", ":none, :error :key-does-not-exist")).replace("[
 _end("jepsen", (_LOG % ("fail", "[9 1], :error :key-does-not-exist")).replace("read nil", "read 9").replace(
     "[nil 1]", "[9 1]").replace(":ok, :f :read, :value nil", ":ok, :f :read, :value 9"), True,
      "--failed-cas", "missed", "--initial", "9")
+_end("jepsen", jepsen("0 invoke cas [1 0]", "0 fail cas [1 0]", "1 invoke read nil", "1 ok read 0"),
+     "a read gave 0, which nothing writes to x: say --initial=0", "--failed-cas", "missed")
 _end("jepsen", _LOG % ("fail", "[nil 1], :reason :full"), "the member reason isn't "
                                                           "understood", "--failed-cas",
      "missed")
@@ -108,6 +110,7 @@ _end("porcupine", _ETCD.replace('"Exists":false}', '"Exists":true}') % '{"Ok":tr
      "the output of a read has Exists, true or false, and Value")
 _end("porcupine", _ETCD % '{"Exists":false}', "the output of a cas has no Ok, true or false")
 _end("porcupine", _ETCD % '{"Ok":true,"Error":"late"}', "the member Error isn't understood")
+_end("porcupine", _GO.replace('"Call":3', '"Call":2') % '"Output":{"Ok":true},"Return":2', True)  # a tie
 _PUT = ('{"ClientId":0,"Input":{"Op":1,"Key":"x","Value":"a","Version":0},"Call":1,"Output":%s,"Return":2}\n'
         '{"ClientId":0,"Input":{"Op":0,"Key":"x","Value":"","Version":0},"Call":3,'
         '"Output":{"Value":"","Version":0,"Err":"ErrNoKey"},"Return":4}')
@@ -164,6 +167,10 @@ _end("operations", _OBJECT % ',"ok":true,"error":"late"', "the member error isn'
 _end("operations", _OBJECT % ',"ok":true,"error":"late"', True, "--ok-when", "error=")
 _end("operations", _OBJECT % ',"error":""', "the row of a cas doesn't say whether it took place", "--ok-when",
      "error=")
+_TWO = ("--ok-when", "error=", "--ok-when", "code=200", "--outcomes", "412=missed,409=fail")
+_end("operations", (_OBJECT % ',"code":412,"error":"late"').replace("null}", 'null,"code":200}'), True, *_TWO)
+_end("operations", (_OBJECT % ',"code":412,"error":"409"').replace("null}", 'null,"code":200}'), True, *_TWO)
+_end("operations", (_OBJECT % ',"code":412').replace("null}", 'null,"code":200}'), False, *_TWO)
 _end("operations", (_OBJECT % ',"code":200').replace("null}", 'null,"code":200}'), False, "--ok-when",
      "code=200")
 _end("operations", _OBJECT.replace('"start":3', '"start":2') % ',"ok":true', True)  # a tie
