@@ -1,7 +1,8 @@
 """`regkit explain` of a no by `regsearch`: the fault is made small, and told."""
 import random
 import unittest
-from typing import List, Optional
+from itertools import permutations
+from typing import Iterator, List, Optional
 from unittest import mock
 
 from regkit import reaching, shrinking
@@ -21,6 +22,32 @@ def calls_of(events: List[Line]) -> List[Operation]:
 
 def lines(kept: List[Kept]) -> List[int]:
     return [each.call.line for each in kept]
+
+
+def legal_orders(kept: List[Kept]) -> Iterator[List[Kept]]:
+    """All legal orders of those that replied, with any of the others."""
+    free = [each for each in kept if not each.replied]
+    for chosen in range(2 ** len(free)):
+        for order in permutations(each for each in kept if each.replied or chosen >> free.index(each) & 1):
+            value: Optional[int] = None
+            for place, each in enumerate(order):
+                call, end = each.call, each.call.end_line if each.replied else None
+                wanted = call.asked if call.kind == "cas" else call.value
+                late = any(end is not None and end < earlier.call.line for earlier in order[:place])
+                if late or (call.kind != "write" and (value == wanted) == call.missed):
+                    break
+                value = call.value if call.writes else value
+            else:
+                yield list(order)
+
+
+def values_behind(order: List[Kept], call: Operation) -> List[int]:
+    """Whose values there are in an order from the call on, by line; 0 is the initial one."""
+    trace = [0]
+    for each in order:
+        trace.append(each.call.line if each.call.writes else trace[-1])
+    ended = [place for place, each in enumerate(order, 1) if each.replied and (each.call.end_line or 0) < call.line]
+    return trace[max(ended, default=0):]
 
 
 def faulty_reply(events: List[Line]) -> Optional[int]:
@@ -137,6 +164,25 @@ class Values(unittest.TestCase):
     def test_a_miss(self) -> None:
         found = self.reached([cas(1, None, 5), took(1, False)], 1)
         self.assertEqual((found.values, found.taken), ([0], []))
+
+    def test_against_all_orders(self) -> None:
+        """The values behind whatever ended before the call, in all legal orders of the rest."""
+        seen = 0
+        for seed in range(200):
+            events = random_events(seed)
+            line = faulty_reply(events)
+            kept = until(calls_of(events), line or 0)
+            if line is None or len(kept) > 6:
+                continue
+            call = next(each.call for each in kept if each.replied and each.call.end_line == line)
+            found = reaching.reached(kept, call, line)
+            assert found is not None
+            traces = [trace for order in legal_orders([each for each in kept if each.call is not call])
+                      for trace in [values_behind(order, call)]]
+            self.assertEqual(found.values, sorted({by for trace in traces for by in trace}), seed)
+            self.assertEqual(found.last, sorted({trace[-1] for trace in traces}), seed)
+            seen += 1
+        self.assertGreater(seen, 40)
 
     def test_too_many_orders(self) -> None:
         events = [*(write(n, n) for n in range(3, 12)), read(1), gave(1, 99)]

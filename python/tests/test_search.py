@@ -245,13 +245,15 @@ class Annotations(Files):
 class Drawings(Files):
     def test_a_page_of_each_answer(self) -> None:
         path, page = self.folder / "h.jsonl", self.folder / "h.html"
-        table = [(FINE, "Linearizable", False), (TWO_WINNERS, "The reply of line 6, of the cas from 0 to 2", True)]
-        for events, words, unmarked in table:
+        table = [(FINE, "Linearizable", False), (TWO_WINNERS, "The reply of line 6, of the cas from 0 to 2", True),
+                 ([cas(1, 7, 5), took(1, True)], "found 7, which nobody wrote", True),
+                 ([write(3, 5), *TWO_WINNERS, write(2, 7)], "The reply of line 7, of the cas from 0 to 2", True)]
+        for events, words, marked in table:
             path.write_bytes(text(*events))
             ran = run("draw", str(path), "-o", str(page))
             self.assertEqual((ran.status, ran.err), (0, ""))
             self.assertIn(words, page.read_text())
-            self.assertEqual("mark yet what a search found" in page.read_text(), unmarked)
+            self.assertEqual("no order gives its reply" in page.read_text(), marked)
         self.assertIn("c 0\u21922", page.read_text())
         path.write_bytes(text(*NULL_TWICE))
         run("check", "--draw", str(self.folder), "--configurations", "1", str(path))

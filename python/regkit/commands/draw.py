@@ -22,7 +22,7 @@ examples:
   regkit draw h.jsonl --register x -o h.html  draws one register
 
 The page stands alone: one file, no script, nothing loaded. It begins with the fault of the first register
-that isn't linearizable; the fault of a search (regsearch) isn't marked yet. If all are, it shows the point at which each operation takes effect. Of a long
+that isn't linearizable. If all are, it shows the point at which each operation takes effect. Of a long
 history it shows windows around what matters, and says what is left out.
 
 exit status:

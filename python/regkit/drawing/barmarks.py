@@ -10,9 +10,11 @@ from regkit.drawing.svg import tag
 from regkit.sentences import capital, named
 
 SIGNS: Dict[str, Callable[[float, float], str]] = {
-    "unexplained": shapes.exclamation, "stale": shapes.exclamation, "fresh": shapes.tick,
+    "unexplained": shapes.exclamation, "contradicted": shapes.exclamation, "stale": shapes.exclamation,
+    "fresh": shapes.tick,
     "overlapped": shapes.parallel, "failed": shapes.cross}
 SIGN_WORDS = {"unexplained": "the first read that can't be explained",
+              "contradicted": "no order gives its reply",
               "stale": "the stale read: it gave the older value",
               "fresh": "the fresh read: it gave the newer value",
               "overlapped": "it was open at the same time as the first read that can't be explained",
@@ -22,7 +24,7 @@ SIGN_WORDS = {"unexplained": "the first read that can't be explained",
 def classes(bar: Bar) -> str:
     call = bar.operation
     state = "failed" if call.failed else "pending" if call.pending else ""
-    colour = bar.cluster or ("stale" if {"unexplained", "stale"} & set(bar.signs) else "")
+    colour = bar.cluster or ("stale" if {"unexplained", "contradicted", "stale"} & set(bar.signs) else "")
     return " ".join(filter(None, ["bar", "read" if call.kind == "read" else "write", colour, "strong" if bar.strong else "", state]))
 
 

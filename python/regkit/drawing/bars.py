@@ -23,7 +23,7 @@ class Bar(NamedTuple):
     process: str  # beside the label, if the lane doesn't say it
     place: str  # in the order, if there is one
     cluster: str
-    signs: List[str]  # of "unexplained", "stale", "fresh", "overlapped", "failed"
+    signs: List[str]  # of "unexplained", "contradicted", "stale", "fresh", "overlapped", "failed"
     strong: bool  # the contradiction rests on it
 
     @property
@@ -53,7 +53,7 @@ def label_of(operation: Operation) -> str:
 def signs_of(operation: Operation, marks: Marks) -> List[str]:
     signs = []
     if marks.unexplained is not None and operation.line == marks.unexplained.line:
-        signs.append("unexplained")
+        signs.append("contradicted" if marks.by_search else "unexplained")
     elif marks.pair is not None and operation is marks.pair.stale:
         signs.append("stale")
     if marks.pair is not None and operation is marks.pair.fresh and operation.kind == "read":

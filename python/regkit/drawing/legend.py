@@ -50,6 +50,7 @@ def entries(found: Set[str]) -> List[str]:
         ("arrow", sign_alone(arrow, 36), "ended before"),
         ("zone", sign_alone(zone, WIDTH), "zone"),
         ("unexplained", sign_alone(shapes.exclamation(9, 11)), "first unexplained read"),
+        ("contradicted", sign_alone(shapes.exclamation(9, 11)), "no order gives its reply"),
         ("stale", sign_alone(shapes.exclamation(9, 11)), "stale read"),
         ("fresh", sign_alone(shapes.tick(9, 11)), "fresh read"),
         ("overlapped", sign_alone(shapes.parallel(9, 11)), "write that overlaps it"),

@@ -4,6 +4,7 @@ from typing import Any, Dict, List, NamedTuple, Optional, Set, Tuple
 
 from regkit.causes import StalePair, stale_pair
 from regkit.history import History, Operation
+from regkit.searched import contradicted, is_unwritten, value_after, without_effect
 from regkit.sentences import pairs_of, value_of
 from regkit.unexplained import Unexplained
 
@@ -42,6 +43,7 @@ class Marks:
         self.pair: Optional[StalePair] = None
         self.overlapped: List[Operation] = []  # the writes that were open while the unexplained read was
         self.overlapped_lines: Set[int] = set()
+        self.by_search = False  # whether the unexplained reply is one for which a search found no order
 
     def name(self, operation: Operation) -> None:
         self.named[operation.line] = operation
@@ -76,6 +78,7 @@ class Marks:
         marks = Marks()
         marks.clusters, marks.unexplained, marks.pair = self.clusters, self.unexplained, self.pair
         marks.overlapped, marks.overlapped_lines = self.overlapped, self.overlapped_lines
+        marks.by_search = self.by_search
         marks.named = {line: operation for line, operation in self.named.items() if line}
         return marks
 
@@ -85,7 +88,7 @@ def overlapped_writes(read: Operation, calls: List[Operation]) -> List[Operation
     good."""
     assert read.end_line is not None
     end = read.end_line
-    found = [call for call in calls if call.line < end and call.kind == "write" and not call.failed
+    found = [call for call in calls if call.line < end and call.writes and not call.failed and call is not read
              and (call.pending or (call.end_line or 0) > read.line)]
     return sorted(found, key=lambda call: call.pending)
 
@@ -125,6 +128,23 @@ def marks_of_read(found: Unexplained, calls: List[Operation]) -> Marks:
         marks.add_pairs([(found.read, found.write)])
     marks.add_pair(stale_pair(found.pairs, calls, found.read))
     marks.add_unexplained(found.read, calls)
+    return marks
+
+
+def marks_of_search(history: History, row: Row) -> Marks:
+    """The reply for which a search found no order, and what wrote the value that the register may have there."""
+    marks = Marks()
+    if is_unwritten(row):
+        call = history.operation(row["register"], row["fault"]["call"])
+        other = without_effect(history, call)
+    else:
+        told = contradicted(history, row)
+        call, other = told.call, value_after(told.before or [])
+    if other is not None:
+        marks.clusters[other.value] = FIRST
+        marks.name(other)
+    marks.add_unexplained(call, history.registers[row["register"]])
+    marks.by_search = True
     return marks
 
 

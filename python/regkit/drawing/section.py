@@ -4,19 +4,18 @@ from typing import List, NamedTuple
 from regkit import causes, sentences
 from regkit.drawing import shapes
 from regkit.drawing.figure import PAGE_WIDTH, RIGHT, Figure, gutter_of
-from regkit.drawing.marks import FIRST, SECOND, Marks, marks_of_fault, marks_of_read
+from regkit.drawing.marks import FIRST, SECOND, Marks, marks_of_fault, marks_of_read, marks_of_search
 from regkit.drawing.scene import Register, Scene, fitted, strips
 from regkit.drawing.svg import tag
 from regkit.drawing.text import name, words
 from regkit.history import History, Operation
 from regkit.report import Row
-from regkit.searched import sentences_of
+from regkit.searched import sentences_of, what_to_do
 from regkit.sentences import capital, counted, named
 from regkit.unexplained import Unexplained, find_unexplained
 
 WHOLE = 600  # events; a register of no more is drawn whole, below its fault
 FIRST_EVENTS = 400  # of a register that is atomic, so many are drawn
-NO_MARKS = "the picture can't mark yet what a search found: it shows the operations from the beginning"
 MOST_NAMED = 3  # writes beside the unexplained read, or lost, that are named in words
 
 
@@ -66,12 +65,18 @@ class Author:
         return Section(heading, pictures, self.scenes)
 
     def of_search(self, heading: str) -> Section:
-        """What a search found or gave up, in sentences, and the operations without marks."""
-        said = [NO_MARKS]
-        if self.row["atomic"] == "no":
-            said = [*sentences_of(self.history, self.row), NO_MARKS]
-        heading += "".join(tag("p", words(capital(sentence) + ".")) for sentence in said)
-        return Section(heading, self.whole(Marks(), FIRST_EVENTS), self.scenes)
+        """What a search found, in sentences and around the reply that no order gives; or what it gave up."""
+        if self.row["atomic"] == "unknown":
+            heading += tag("p", words(capital(what_to_do([self.row])) + "."))
+            return Section(heading, self.whole(Marks(), FIRST_EVENTS), self.scenes)
+        marks = marks_of_search(self.history, self.row)
+        said = sentences_of(self.history, self.row)
+        heading += reasons(said[:1], numbered=False)
+        heading += "".join(tag("p", words(capital(sentence) + ".")) for sentence in said[1:])
+        pictures = self.windows(marks, "the reply that no order gives")
+        if len(self.register.events) <= WHOLE and all(scene.left_out for scene in self.scenes):
+            pictures += tag("h3", "The whole register") + self.whole(marks.without_arrows(), WHOLE)
+        return Section(heading, pictures, self.scenes)
 
     def causes(self, found: Unexplained) -> str:
         """The writes that were lost, and what to ask."""
