@@ -27,8 +27,15 @@ class Searcher(NamedTuple):
     reach: Callable[[int], None] = lambda runs: None  # is told the number of runs so far
 
 
-def made_small(page: Page, told: Contradicted, calls: List[Operation], searcher: Searcher) -> List[Kept]:
-    """The operations that are left, and what the page says of them."""
+class Left(NamedTuple):
+    """The operations that are left, and the write that hides what was answered before it."""
+
+    kept: List[Kept]
+    fence: Optional[Operation] = None
+
+
+def made_small(page: Page, told: Contradicted, calls: List[Operation], searcher: Searcher) -> Left:
+    """What is left, and what the page says of it."""
     small: Optional[Small] = None
     try:
         small = shrink(calls, told.line, asker(searcher.bounds), searcher.reach)
@@ -40,15 +47,17 @@ def made_small(page: Page, told: Contradicted, calls: List[Operation], searcher:
         kept = until(calls, told.line)
         page.sentence(f"it wasn't made smaller: {counted(len(kept), 'operation')} called before line {told.line} may "
                       "have to do with it")
-        return kept
+        return Left(kept)
     rest = "" if small.ended else f"; after {MOST_RUNS} runs of regsearch no more was tried"
     page.sentence(f"these {len(small.kept):,} of the {small.whole:,} operations called before line {told.line} have no "
                   f"order by themselves: {list_of(small.kept)}{rest}")
+    if small.fence is not None:
+        page.sentence(f"what was answered before line {small.fence.line} isn't needed, since {named(small.fence)} hides it")
     loose = [each for each in small.kept if each.call.completed and not each.replied]
     if loose:
         them = list_of(loose) if len(loose) <= MOST_OPEN else f"{len(loose)} of them"
         page.sentence(f"that holds even if nothing had answered {them}")
-    return small.kept
+    return Left(small.kept, small.fence)
 
 
 def answered(kept: List[Kept], told: Contradicted) -> List[Kept]:
@@ -72,7 +81,7 @@ def by_what(calls: List[Operation], lines: List[int]) -> str:
     return "; or ".join(said) + (f"; or one by {counted(rest, 'other call')}" if rest > 0 else "")
 
 
-def why_not(told: Contradicted, calls: List[Operation], kept: List[Kept], found: Optional[Reached]) -> List[str]:
+def why_not(told: Contradicted, calls: List[Operation], left: Left, found: Optional[Reached]) -> List[str]:
     """Why nothing gives what the reply says."""
     call = told.call
     if found is None:
@@ -83,10 +92,10 @@ def why_not(told: Contradicted, calls: List[Operation], kept: List[Kept], found:
         lines.append(f"it could have taken effect on {by_what(calls, found.taken)}; but no order then gives the reply of "
                      f"line {found.broken.end_line}, of {named(found.broken)}")
         return lines
-    return lines + nothing_gives(told, calls, kept)
+    return lines + nothing_gives(told, calls, left)
 
 
-def nothing_gives(told: Contradicted, calls: List[Operation], kept: List[Kept]) -> List[str]:
+def nothing_gives(told: Contradicted, calls: List[Operation], left: Left) -> List[str]:
     """What becomes of the writes of the value that the reply needs."""
     call = told.call
     if call.missed:
@@ -97,11 +106,13 @@ def nothing_gives(told: Contradicted, calls: List[Operation], kept: List[Kept]) 
     lines = []
     if writes and len(later) == len(writes):
         lines.append(f"{wanted_of(call)} is written only later, first by {named(later[0])}")
-    past = [each.call for each in kept if each.call in writes and not is_open(each.call, told.line)]
+    past = [each.call for each in left.kept if each.call in writes and not is_open(each.call, told.line)]
     if past:
         lines.append(f"the last write of {wanted_of(call)} that was answered is {named(past[-1])}, and its value was "
                      "overwritten by then")
-    for each in kept:
+    elif left.fence is not None and any(each.line < left.fence.line for each in writes):
+        lines.append(f"what wrote {wanted_of(call)} before is hidden by {named(left.fence)}")
+    for each in left.kept:
         if each.call in writes and is_open(each.call, told.line):
             lines.append(f"{named(each.call)} was open, but in none of these orders it takes effect from line "
                          f"{call.line} on")
@@ -147,11 +158,11 @@ def explain_search(page: Page, history: History, row: Row, searcher: Searcher) -
         return
     told, calls = contradicted(history, row), history.registers[row["register"]]
     page.heading("What is enough for it")
-    kept = made_small(page, told, calls, searcher)
+    left = made_small(page, told, calls, searcher)
     page.heading("Why no order gives the reply")
-    for sentence in why_not(told, calls, kept, reached(answered(kept, told), told.call, told.line)):
+    for sentence in why_not(told, calls, left, reached(answered(left.kept, told), told.call, told.line)):
         page.sentence(sentence)
-    add_timeline(page, [entry_of(each, told) for each in kept])
+    add_timeline(page, [entry_of(each, told) for each in left.kept])
 
 
 def entry_of(each: Kept, told: Contradicted) -> timeline.Entry:

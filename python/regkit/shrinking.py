@@ -1,8 +1,10 @@
 """Makes a no of `regsearch` small: fewer operations, and fewer replies, that still have no order.
 
 Each step claims less. An order of more, without a read, or without a cas that missed, is an order of less; and a
-write or a cas whose reply is taken away may still stand where it stood. So if there is no order of less, there is
-none of more either, and the answer to each step is asked of regsearch itself."""
+write or a cas whose reply is taken away may still stand where it stood. What was answered before a write that overlaps
+nothing else that was answered comes before that write, which hides it: an order of all is, from that write on, one of
+the rest. So if there is no order of less, there is none of more either, and the answer to each step is asked of
+regsearch itself."""
 import json
 from typing import Callable, List, NamedTuple, Optional, Sequence, Set, Tuple
 
@@ -28,6 +30,7 @@ class Small(NamedTuple):
     whole: int  # how many operations were called before the reply
     runs: int  # of regsearch
     ended: bool  # whether each step was tried that was left
+    fence: Optional[Operation] = None  # the write that hides what was answered before it, if that was left out
 
 
 def until(calls: Sequence[Operation], reply: int) -> List[Kept]:
@@ -55,6 +58,23 @@ def without_idle(kept: List[Kept]) -> List[Kept]:
             break
         kept = fewer
     return kept
+
+
+def fences(kept: Sequence[Kept]) -> List[Operation]:
+    """The writes that were answered and overlap nothing else that was answered, by line."""
+    answered = sorted((each.call for each in kept if each.replied), key=lambda call: call.line)
+    found, latest = [], 0
+    for call, following in zip(answered, [*answered[1:], None]):
+        end = call.end_line or 0
+        if call.kind == "write" and latest < call.line and (following is None or end < following.line):
+            found.append(call)
+        latest = max(latest, end)
+    return found
+
+
+def since(kept: List[Kept], fence: Operation) -> List[Kept]:
+    """The same without what was answered before a write that overlaps nothing else that was answered."""
+    return without_idle([each for each in kept if not each.replied or each.call.line >= fence.line])
 
 
 def less(kept: List[Kept], chosen: Sequence[Operation]) -> List[Kept]:
@@ -108,31 +128,69 @@ class NoFault(ValueError):
     """What was called before the reply has an order."""
 
 
-def shrink(calls: Sequence[Operation], reply: int, ask: Callable[[List[Kept]], int],
-           reach: Callable[[int], None] = lambda runs: None) -> Optional[Small]:
-    """The no of a reply, made small. None if regsearch doesn't decide it in so few steps. Raises NoFault."""
-    kept = without_idle(until(calls, reply))
-    whole = sum(call.line < reply and not call.failed for call in calls)
-    runs = 1
-    first = ask(kept)
-    if first == ExitStatus.ATOMIC:
-        raise NoFault
-    if first != ExitStatus.NOT_ATOMIC:
-        return None
-    for writes in (False, True):
-        left = [each.call for each in kept if each.replied and each.call.writes == writes
-                and each.call.end_line != reply]
+class Shrinker:
+    """Asks regsearch about less and less."""
+
+    def __init__(self, kept: List[Kept], ask: Callable[[List[Kept]], int], reach: Callable[[int], None]) -> None:
+        self.kept = kept
+        self.ask = ask
+        self.reach = reach
+        self.runs = 0
+        self.fence: Optional[Operation] = None  # its reply has to stay
+
+    @property
+    def may_ask(self) -> bool:
+        return self.runs < MOST_RUNS
+
+    def try_out(self, fewer: List[Kept]) -> bool:
+        """Keeps no more than this if there is no order of it."""
+        self.runs += 1
+        self.reach(self.runs)
+        if self.ask(fewer) != ExitStatus.NOT_ATOMIC:
+            return False
+        self.kept = fewer
+        return True
+
+    def forget(self) -> None:
+        """Leaves out what was answered before some write: the last one that does, of a few."""
+        found = [fence for fence in fences(self.kept) if any(
+            each.replied and each.call.line < fence.line for each in self.kept)]
+        back = 1
+        while back <= len(found) and self.may_ask:
+            if self.try_out(since(self.kept, found[-back])):
+                self.fence = found[-back]
+                return
+            back *= 2
+
+    def drop(self, writes: bool, reply: int) -> None:
+        """Leaves out reads and misses, or takes away replies of writes and other cas: all, half of them, and so
+        on to each by itself."""
+        left = [each.call for each in self.kept if each.replied and each.call.writes == writes
+                and each.call.end_line != reply and each.call is not self.fence]
         size = len(left)
-        while size and runs < MOST_RUNS:
+        while size and self.may_ask:
             place = 0
-            while place < len(left) and runs < MOST_RUNS:
-                fewer = less(kept, left[place:place + size])
-                runs += 1
-                reach(runs)
-                if ask(fewer) == ExitStatus.NOT_ATOMIC:
-                    kept = fewer
+            while place < len(left) and self.may_ask:
+                if self.try_out(less(self.kept, left[place:place + size])):
                     del left[place:place + size]
                 else:
                     place += size
             size = 0 if size == 1 else (size + 1) // 2
-    return Small(kept, whole, runs, runs < MOST_RUNS)
+
+
+def shrink(calls: Sequence[Operation], reply: int, ask: Callable[[List[Kept]], int],
+           reach: Callable[[int], None] = lambda runs: None) -> Optional[Small]:
+    """The no of a reply, made small. None if regsearch doesn't decide it in so few steps. Raises NoFault."""
+    whole = sum(call.line < reply and not call.failed for call in calls)
+    shrinker = Shrinker(without_idle(until(calls, reply)), ask, reach)
+    first = ask(shrinker.kept)
+    shrinker.runs = 1
+    if first == ExitStatus.ATOMIC:
+        raise NoFault
+    if first != ExitStatus.NOT_ATOMIC:
+        return None
+    shrinker.forget()
+    for writes in (False, True):
+        shrinker.drop(writes, reply)
+        shrinker.forget()
+    return Small(shrinker.kept, whole, shrinker.runs, shrinker.may_ask, shrinker.fence)

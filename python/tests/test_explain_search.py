@@ -9,7 +9,7 @@ from regkit import reaching, shrinking
 from regkit.checker import SEARCH, decide, find_program, run_checker
 from regkit.history import Operation, read_history
 from regkit.report import read_report
-from regkit.shrinking import Kept, asker, history_of, less, shrink, until, without_idle
+from regkit.shrinking import Kept, asker, fences, history_of, less, shrink, since, until, without_idle
 
 from .events import Line, cas, crash, fail, gave, read, reply, run, text, took, write
 from .test_search import FINE, NULL_TWICE, STALE, TWO_WINNERS, Files
@@ -102,6 +102,27 @@ class Steps(unittest.TestCase):
             self.assertEqual(ask(less(kept, chosen)), 0, seed)
         self.assertGreater(tried, 50)
 
+    def test_nothing_before_a_fence_is_needed(self) -> None:
+        """If there is an order of all, there is one of what is left from the fence on."""
+        ask, tried = asker([]), 0
+        for seed in range(400):
+            events = random_events(seed)
+            kept = until(calls_of(events), len(events) + 1)
+            for fence in fences(kept):
+                fewer = since(kept, fence)
+                if len(fewer) < len(kept) and ask(kept) == 0:
+                    tried += 1
+                    self.assertEqual(ask(fewer), 0, seed)
+        self.assertGreater(tried, 40)
+
+    def test_fences(self) -> None:
+        """Pending calls may overlap a fence, and stay."""
+        events = [write(9, 8), write(1, 5), reply(1), write(1, 6), read(2), reply(1), gave(2, 6), write(1, 7), write(3, 8),
+                  reply(1), write(1, 4), reply(1), read(2), gave(2, 8)]
+        kept = until(calls_of(events), len(events) + 1)
+        self.assertEqual([call.line for call in fences(kept)], [2, 8, 11])
+        self.assertEqual(lines(since(kept, fences(kept)[1])), [1, 8, 9, 11, 13])
+
     def test_small(self) -> None:
         """What is left has no order, and each further step would let it have one."""
         ask, shrunk = asker([]), 0
@@ -124,10 +145,10 @@ class Steps(unittest.TestCase):
         events = [each for n in range(40) for each in (write(1, n % 3), reply(1), read(2), gave(2, n % 3))]
         events += [read(2), gave(2, 1)]
         runs: List[int] = []
-        with mock.patch.object(shrinking, "MOST_RUNS", 7):
+        with mock.patch.object(shrinking, "MOST_RUNS", 3):
             small = shrink(calls_of(events), len(events), asker([]), runs.append)
         assert small is not None
-        self.assertEqual((small.runs, small.ended, runs), (7, False, [2, 3, 4, 5, 6, 7]))
+        self.assertEqual((small.runs, small.ended, runs), (3, False, [2, 3]))
 
     def test_bounds_of_its_runs(self) -> None:
         """They are never above those that were asked for."""
@@ -212,10 +233,14 @@ class Told(Files):
 
     def test_a_read(self) -> None:
         said = self.explained([read(3), gave(3, None), *STALE, read(3)])
-        for words in ("These 3 of the 5 operations called before line 10", "the value can only be 5, by the write of 5",
-                      "The last write of 6 that was answered is the write of 6 by process 1 (lines 5 to 6), and its "
-                      "value was overwritten by then."):
+        for words in ("These 2 of the 5 operations called before line 10", "the value can only be 5, by the write of 5",
+                      "What was answered before line 7 isn't needed, since the write of 5 by process 1 (lines 7 to 8) "
+                      "hides it.", "What wrote 6 before is hidden by the write of 5 by process 1 (lines 7 to 8)."):
             self.assertIn(words, said)
+        overlapped = [write(1, 6), write(3, 5), reply(1), reply(3), read(2), gave(2, 5), read(2), gave(2, 6)]
+        said = self.explained([*overlapped, write(1, 5)])
+        self.assertIn("The last write of 6 that was answered is the write of 6 by process 1 (lines 1 to 3), and its value "
+                      "was overwritten by then.", said)
 
     def test_a_write_that_comes_later(self) -> None:
         said = self.explained([read(1), gave(1, 5), write(2, 5), reply(2), write(2, 5)])
