@@ -91,6 +91,13 @@ def gave_up(report: Report) -> List[str]:
     return [row["register"] for row in report.unknown]
 
 
+def check_status(answer: Answer, report: Report) -> None:
+    """Raises Untrue if regsearch didn't end as its report says."""
+    due = (ExitStatus.NOT_ATOMIC if report.faulty else ExitStatus.UNKNOWN if report.unknown else ExitStatus.ATOMIC)
+    if answer.status != due:
+        raise Untrue(f"its exit status is {answer.status}, and by its report {int(due)}")
+
+
 def unknown_advice(report: Report) -> str:
     """What to do about the registers that a search gave up. Raises Untrue if they name no bound."""
     from regkit.searched import what_to_do as for_unknown  # only who needs it waits for this
@@ -180,6 +187,7 @@ class Judge:
             unsearched = verify(data, written)
         reads = self.unusual_reads_of(data) if reads is None else reads
         if answer.by_search:
+            check_status(answer, report)
             outcome = self.verdict_of_search(name, data, report, reads)
         else:
             outcome = self.verdict(name, data, report, reads)

@@ -10,12 +10,13 @@ import re
 import tempfile
 from typing import Optional, Union
 
-from regkit.checker import Answer, NoChecker, judge
+from regkit.checker import WOULD_DECIDE, Answer, NoChecker, decide, is_for_search
 from regkit.evidence import Evidence, count_evidence
 from regkit.history import read_history
 from regkit.record import Recorder, RecordingError
 from regkit.report import read_report
 from regkit.sentences import counted
+from regkit.statuses import ExitStatus
 
 Recorded = Union[Recorder, bytes, str, "os.PathLike[str]"]
 
@@ -29,7 +30,7 @@ class TooLittleEvidence(AssertionError):
 
 
 class NotChecked(Exception):
-    """The checker gave no verdict: it refused the history, or it failed."""
+    """The checker gave no verdict: it refused the history, its search gave up, or it failed."""
 
 
 def assert_atomic(history: Recorded, *, least_reads: int = 1, least_overlaps: int = 0) -> Evidence:
@@ -37,15 +38,15 @@ def assert_atomic(history: Recorded, *, least_reads: int = 1, least_overlaps: in
 
     The history is a Recorder, bytes, or a path. It needs at least `least_reads` completed reads, of which at
     least `least_overlaps` overlap a write: a history that proves nothing, say since its recorder died, fails
-    too. Gives the evidence. Raises NotChecked if the checker gives no verdict, and RecordingError if the
+    too. A cas that was answered counts as a read. Gives the evidence. Raises NotChecked if the checker gives no verdict, and RecordingError if the
     recorder was used wrongly."""
     __tracebackhide__ = True  # pytest then shows the test's own line
     _trust(history)
     data, path = _data(history), _path(history)
     name = str(path) if path else "the history"
-    answer = judge(data)
+    answer = decide(data)
     if answer.status not in (0, 1):
-        raise NotChecked(f"{name}: {answer.refusal}")
+        raise NotChecked(f"{name}: {_without_verdict(data, answer)}")
     if answer.status == 1:
         raise NotAtomic(_not_atomic(data, answer, path))
     evidence = count_evidence(read_history(data))
@@ -71,7 +72,7 @@ def verdict(recorder: Recorder) -> str:
         return f"the recorder was used wrongly: {recorder.mistakes[0]}"
     data = recorder.history()
     try:
-        answer = judge(data)
+        answer = decide(data)
     except NoChecker as error:
         return str(error)
     if answer.status == 0:
@@ -79,7 +80,7 @@ def verdict(recorder: Recorder) -> str:
         return (f"linearizable: {counted(evidence.operations, 'operation')}; "
                 f"{counted(evidence.completed_reads, 'completed read')}, "
                 f"{evidence.overlapping_reads:,} overlap a write")
-    return explanation(data, answer.report) if answer.status == 1 else answer.refusal
+    return explanation(data, answer.report) if answer.status == 1 else _without_verdict(data, answer)
 
 
 def keep(recorder: Recorder, directory: "os.PathLike[str]", test: str) -> pathlib.Path:
@@ -111,6 +112,15 @@ def _path(history: Recorded) -> Optional[pathlib.Path]:
     if isinstance(history, Recorder):
         return history.path
     return None if isinstance(history, bytes) else pathlib.Path(history)
+
+
+def _without_verdict(data: bytes, answer: Answer) -> str:
+    """Why there is no verdict."""
+    if answer.status == ExitStatus.UNKNOWN:
+        from regkit.searched import what_to_do  # only a search that gave up needs it
+
+        return f"unknown: the search gave up; {what_to_do(read_report(answer.report).unknown)}"
+    return f"{answer.refusal}; {WOULD_DECIDE}" if is_for_search(data, answer) else answer.refusal
 
 
 def _not_atomic(data: bytes, answer: Answer, path: Optional[pathlib.Path]) -> str:

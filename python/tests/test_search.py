@@ -10,6 +10,7 @@ from unittest import mock
 
 from regkit import checker
 from regkit.checker import CHECK, SEARCH, Answer, decide, find_program, is_for_search
+from regkit.testing import NotAtomic, NotChecked, TooLittleEvidence, assert_atomic
 
 from .events import Line, cas, crash, fail, gave, read, reply, run, text, took, write
 
@@ -96,6 +97,17 @@ class WhichProgram(Files):
             ran = run("check", given=text(*STALE))
         self.assertEqual(ran.status, 4)
         self.assertIn("failed: regsearch ended with status 4: no memory or no thread\n", ran.err)
+
+    def test_an_answer_that_contradicts_itself(self) -> None:
+        """Its exit status and its report have to say the same."""
+        path = self.folder / "lying"
+        for status in (0, 6):
+            path.write_text(f'#!/bin/sh\n{find_program(SEARCH)} "$@"\nexit {status}\n')
+            path.chmod(path.stat().st_mode | stat.S_IXUSR)
+            with mock.patch.dict(os.environ, {"REGSEARCH": str(path)}):
+                ran = run("check", given=text(*STALE))
+            self.assertEqual(ran.status, 4)
+            self.assertIn(f"the answer of regsearch is wrong: its exit status is {status}, and by its report 1", ran.err)
 
     def test_the_options_are_those_of_the_search(self) -> None:
         self.assertEqual(decide(text(*NULL_TWICE), ["--configurations", "1"]).status, 6)
@@ -240,6 +252,25 @@ class Annotations(Files):
         for events, line in ((TWO_WINNERS, 6), ([cas(1, 7, 5), took(1, True)], 1)):
             path.write_bytes(text(*events))
             self.assertIn(f",line={line},title=", run("check", "--quiet", "--annotate", str(path)).out)
+
+
+class Assertions(Files):
+    def test_each_answer(self) -> None:
+        self.assertEqual(assert_atomic(text(*FINE)).completed_reads, 1)
+        with self.assertRaisesRegex(NotAtomic, "The reply of line 6, of the cas from 0 to 2"):
+            assert_atomic(text(*TWO_WINNERS))
+        with self.assertRaises(TooLittleEvidence):
+            assert_atomic(text(*FINE[:-2]))
+        with without_search(), self.assertRaisesRegex(NotChecked, "line 5: value already .*; regsearch would decide"):
+            assert_atomic(text(*FINE))
+
+    def test_unknown(self) -> None:
+        path = self.folder / "search"
+        path.write_text(f'#!/bin/sh\nexec {find_program(SEARCH)} --steps 1 "$@"\n')
+        path.chmod(path.stat().st_mode | stat.S_IXUSR)
+        with mock.patch.dict(os.environ, {"REGSEARCH": str(path)}):
+            with self.assertRaisesRegex(NotChecked, "unknown: the search gave up; raise `--steps`"):
+                assert_atomic(text(*NULL_TWICE))
 
 
 class Drawings(Files):
