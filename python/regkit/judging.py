@@ -15,7 +15,7 @@ from regkit.inputs import STANDARD_INPUT, TooLong, read_input, shown_name
 from regkit.outcome import Fault, Outcome, evidence_in_words, faults_of, faults_of_search, lacks
 from regkit.progress import Progress
 from regkit.quoting import plain
-from regkit.report import Report, read_verdict
+from regkit.report import Report, least_completed_reads, read_verdict
 from regkit.sentences import counted
 from regkit.statuses import ExitStatus
 
@@ -182,6 +182,7 @@ class Judge:
         """The outcome of a history that was accepted."""
         written = answer.report
         report = parsed(written)
+        reads = self.settled(data, written, reads)
         if self.wishes.verify:
             self.progress.step(f"{self.label}: verifying")
             unsearched = verify(data, written)
@@ -199,17 +200,32 @@ class Judge:
             outcome = outcome._replace(drawing=str(self.draw(name, data, written)))
         return outcome
 
+    def overlaps_enough(self, reads: Optional[Reads]) -> bool:
+        """Whether the beginning of a history has the overlaps that are asked for."""
+        return reads is not None and reads.overlapping >= self.wishes.least_overlaps
+
     def enough(self, reads: Optional[Reads]) -> bool:
         """Whether the beginning of a history has the evidence that is asked for."""
-        return (reads is not None and reads.completed >= self.wishes.least_reads
-                and reads.overlapping >= self.wishes.least_overlaps)
+        return reads is not None and reads.completed >= self.wishes.least_reads and self.overlaps_enough(reads)
 
     def reads_of(self, data: bytes) -> Optional[Reads]:
-        """The completed reads: of a long history those of its beginning, if they are enough. None if a line
-        that matters is unusual."""
+        """The completed reads: of a long history those of its beginning, if it has the overlaps that are asked
+        for. None if a line that matters is unusual."""
         try:
             reads = None if self.wishes.count_all else reads_of_beginning(data)
-            return reads if self.enough(reads) else count_reads(data)
+            return reads if self.overlaps_enough(reads) else count_reads(data)
+        except Unusual:
+            return None
+
+    def settled(self, data: bytes, written: bytes, reads: Optional[Reads]) -> Optional[Reads]:
+        """The same; if the beginning has too few, by the report where that has enough, or else all of them."""
+        if reads is None or not reads.at_least or reads.completed >= self.wishes.least_reads:
+            return reads
+        completed = least_completed_reads(written)
+        if completed >= self.wishes.least_reads:
+            return reads._replace(completed=completed)
+        try:
+            return count_reads(data)
         except Unusual:
             return None
 

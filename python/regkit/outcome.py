@@ -1,7 +1,7 @@
 """What came out of checking one history: the exit status, and words for people and for machines."""
 from typing import Any, Dict, List, NamedTuple, Optional, Tuple
 
-from regkit.beginning import LINES
+from regkit import beginning
 from regkit.checker import CHECK
 from regkit.evidence import Evidence
 from regkit.history import History
@@ -65,7 +65,7 @@ def evidence_in_words(evidence: Evidence, at_least: bool, with_cas: bool = False
     reads, overlapping = evidence.completed_reads, evidence.overlapping_reads
     verb, least = "overlaps" if overlapping == 1 else "overlap", "at least " if at_least else ""
     found = f"{least}{overlapping:,} {verb} a write" if overlapping or not at_least else (
-        f"no overlap with a write counted in the first {LINES:,} lines (--count-all counts all)")
+        f"no overlap with a write counted in the first {beginning.LINES:,} lines (--count-all counts all)")
     return (f"{counted(evidence.operations, 'operation')} on {counted(evidence.registers, 'register')}; "
             f"{least}{counted(reads, 'completed read')}{' or cas' if with_cas else ''}, {found}")
 

@@ -1,5 +1,6 @@
 """A report of `regcheck` or `regsearch`, as it was written."""
 import json
+import re
 from typing import Any, Dict, List
 
 Row = Dict[str, Any]
@@ -58,3 +59,16 @@ def read_verdict(data: bytes) -> Report:
     end = data.find(b"],", begin) if begin >= 0 else -1
     summary = data[last:] if end < 0 else data[last:begin] + data[end + 2:]
     return read_report(b"".join([*faulty, summary]))
+
+
+def number_behind(line: bytes, key: bytes) -> int:
+    """The number behind the last such key, which no name of a register can hold: there its quotes are escaped."""
+    place = line.rfind(key)
+    found = re.match(rb"\d+", line[place + len(key):place + len(key) + 20]) if place >= 0 else None
+    return int(found[0]) if found else 0
+
+
+def least_completed_reads(written: bytes) -> int:
+    """At least how many reads were completed: of each register all reads but as many as operations are pending."""
+    return sum(max(0, number_behind(line, b'"reads":') - number_behind(line, b'"pending":'))
+               for line in written.splitlines()[:-1])
