@@ -2,7 +2,7 @@
 # make try: the same at once, unproved and with checks at run time; for a first look.
 # make test: the gate: every proof from nothing, edits that must fail, tests, and scripts over the built program.
 # make edits: try the wrong bodies that `make test` leaves out, in half an hour: after a change of a contract or of a body that they edit.
-# make costs: write the table of what the program spends, after a change that is meant to cost more or less.
+# make costs: write the tables of what the programs spend, after a change that is meant to cost more or less.
 # make fuzz: compare the program with the reference on spoiled histories for SECONDS=...
 # make library: bin/libregcheck.a, bin/libregcheck.so and bin/regcheck.pc, to call the checker from C and other languages.
 # make embed-test: compare the library with the program from C, Python, Go and Rust, on COUNT=... histories; under valgrind too;
@@ -96,8 +96,9 @@ edits:
 	tests/check_edits
 	tests/try_edits
 
-costs: bin/regcheck
-	tests/costs --write
+costs: bin/regcheck bin/regsearch
+	tests/costs bin/regcheck --write
+	tests/costs bin/regsearch --write
 
 fuzz: bin/regcheck bin/history_generator
 	tests/spoiled_bytes bin/regcheck --seconds $(SECONDS)
