@@ -4,7 +4,7 @@
     examples/recorder.py | bin/regcheck
 
 The store is a dictionary behind a lock, so the history is atomic. Put the store under test in its place: what
-times out there is `TimeoutError` here, and what surely did nothing is `ConnectionRefusedError`. The line with
+times out there is `TimeoutError` here, and what certainly did nothing is `ConnectionRefusedError`. The line with
 `sys.path` is for the repository. With a release, say `export PYTHONPATH=$(command -v regkit)` first."""
 import pathlib
 import random

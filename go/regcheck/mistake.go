@@ -35,7 +35,7 @@ func Number(text string) (*int64, error) {
 	return &number, nil
 }
 
-// NoEffect marks the error of a call that surely had no effect, and never will have: the connection was refused, say. Don't
+// NoEffect marks the error of a call that certainly had no effect, and never will have: the connection was refused, say. Don't
 // say it of a call that timed out: if the store did the write after all, that invents a fault.
 func NoEffect(err error) error { return &noEffect{err} }
 

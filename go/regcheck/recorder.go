@@ -65,7 +65,7 @@ func (recorder *Recorder) expect(name, what string) {
 //
 //   - nil: the write took effect, and the history has its reply.
 //   - an error: nobody knows what the store did. The call stays pending, and the client goes on under a new process number.
-//   - an error marked by NoEffect: the call surely had no effect.
+//   - an error marked by NoEffect: the call certainly had no effect.
 //
 // It gives the error of set, or a *Mistake.
 func (client *Client) Write(register string, set func(value int64) error) error {

@@ -157,7 +157,7 @@ public final class Recorder {
     }
 
     /**
-     * Throw it from a call that surely had no effect, and never will have: the connection was refused, say. Don't throw
+     * Throw it from a call that certainly had no effect, and never will have: the connection was refused, say. Don't throw
      * it when a call timed out: if the store did the write after all, that invents a fault.
      */
     public static final class NoEffect extends RuntimeException {
@@ -192,7 +192,7 @@ public final class Recorder {
         /**
          * Records a write. How the setter ends decides how the call ends. If it returns, the history has its reply. If
          * it throws, nobody knows what the store did: the call stays pending, and the client goes on under a new
-         * process number. If it throws NoEffect, the call surely had no effect.
+         * process number. If it throws NoEffect, the call certainly had no effect.
          */
         public <E extends Exception> void write(String register, Setter<E> setter) throws E {
             long value = begin("write", register);

@@ -118,7 +118,7 @@ def no_event(place: Place) -> str:
         return f"the event is {shown(event)}: leave it out, as a call whose outcome is unknown stays pending"
     own = synonym(event, OTHER_EVENTS)
     if own == "fail":
-        return f"the event is {shown(event)}: a call that surely had no effect is ended by `fail`"
+        return f"the event is {shown(event)}: a call that certainly had no effect is ended by `fail`"
     return f"the event is {shown(event)}: write {f'`{own}`' if own else 'one of these'}"
 
 

@@ -45,7 +45,7 @@ class Operation:
 
     @property
     def failed(self) -> bool:
-        """A call that surely had no effect: it is no operation of the history."""
+        """A call that certainly had no effect: it is no operation of the history."""
         return self.ending == "fail"
 
     @property

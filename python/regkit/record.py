@@ -13,7 +13,7 @@ Entering a block writes the line of the call. How the block is left decides what
 - By an exception: nothing, since nobody knows what the store did. The call stays pending. Its process number
   is never used again; the client goes on under a new one.
 - After `call.failed()`, or by one of the exceptions in `Recorder(failures=...)`: a fail. It says that the
-  call surely had no effect. Don't say it of a call that timed out: if the store did the write after all, that
+  call certainly had no effect. Don't say it of a call that timed out: if the store did the write after all, that
   invents a fault.
 
 The values of a register's writes are 1, 2, 3, and so on. A store of texts is given `str(write.value)`; a read
@@ -150,7 +150,7 @@ class Call:
         self._number: Optional[int] = None
 
     def failed(self) -> None:
-        """Says that the call surely had no effect, however the block is left."""
+        """Says that the call certainly had no effect, however the block is left."""
         self._say(FAIL)
 
     def unknown(self) -> None:
@@ -256,7 +256,7 @@ class Read(Call):
 class Recorder:
     """A history in the making. `output` is a path, a stream such as sys.stdout, or None to keep it in memory.
 
-    - `failures`: an exception of these that leaves the block of a call says that it surely had no effect.
+    - `failures`: an exception of these that leaves the block of a call says that it certainly had no effect.
     - `prefix`: each register's name begins with it. `call.register` is the whole name, for the store.
     - `values_after`: the values of a register's writes are this number plus 1, 2, 3, and so on.
     - `clock`: gives the time of each line, in whole nanoseconds, such as time.monotonic_ns."""

@@ -307,7 +307,7 @@ class Refusals(unittest.TestCase):
             (but(event="invoke"), 'the event is "invoke": write `call`'),
             (but(event="ok"), 'the event is "ok": write `reply`'),
             (but(event="info"), "leave it out, as a call whose outcome is unknown stays pending"),
-            (but(event="error"), "a call that surely had no effect is ended by `fail`"),
+            (but(event="error"), "a call that certainly had no effect is ended by `fail`"),
             (but(event=3), "the event is 3: write one of these"),
             (but(op="none", f="write"), "has `f` where `op` is meant"),
             (but(op="put"), 'the op is "put": write `write`'), (but(op="get"), "write `read`"),

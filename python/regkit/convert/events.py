@@ -108,7 +108,7 @@ class _Log:
         said = "absent" if what is None else edn.write(what)
         option = shlex.quote(f"{what}=unknown") if type(what) is str else "WORD=unknown"
         raise Refused(f"event is {said}, and call, reply, fail or crash is expected: if it ends a call, say "
-                      f"with --outcomes {option} what it means (or ok, or fail, if it surely had no "
+                      f"with --outcomes {option} what it means (or ok, or fail, if it certainly had no "
                       "effect)", line)
 
     def _agree(self, event: Event, called: Operation, line: int) -> None:

@@ -6,7 +6,7 @@ One operation is a map or a record of EDN, an object of JSON with the same membe
     {"process":0,"type":"invoke","f":"write","value":[3,11],"index":0,"time":12}
     INFO  jepsen.util - 0 :invoke :write 11
 
-`:ok` is a reply, `:fail` a failure that surely had no effect, and `:info` a crash of the client: the outcome
+`:ok` is a reply, `:fail` a failure that certainly had no effect, and `:info` a crash of the client: the outcome
 is unknown and the process does nothing more. A cas has [from to] as its value; if its `:fail` says that the
 store found another value, `--failed-cas missed` says so. Processes that aren't numbers, such as :nemesis, are
 no clients.
@@ -147,7 +147,7 @@ class _Log:
             ending = _TYPES[kind]
         else:
             raise Refused(f":type is {kind}, and :invoke, :ok, :fail or :info is expected: say what it means "
-                          f"with --outcomes {folded(kind)}=unknown (or ok, or fail, if it surely had no "
+                          f"with --outcomes {folded(kind)}=unknown (or ok, or fail, if it certainly had no "
                           "effect)", line)
         if ending == "crash":
             self._agree(client, event, line)

@@ -151,7 +151,7 @@ class Outcomes:
         for (name, word), number in sorted(self.unknown.items()):
             said = f"{name} {word}" if word else f"no {name}"
             yield (f"took {counted(number, 'operation')} with {said} as of unknown outcome: if that means "
-                   f"that it surely had no effect, say --outcomes {shlex.quote(word + '=fail')}")
+                   f"that it certainly had no effect, say --outcomes {shlex.quote(word + '=fail')}")
 
 
 def ok_of(told: Any) -> Optional[bool]:

@@ -117,7 +117,7 @@ class Rows:
             raise Refused(f"the outcome is {word}, and ok, fail, unknown or info is expected, or missed: "
                           "say what it "
                           f"means with --outcomes {shlex.quote(word + '=unknown')} (or ok, or fail, if it "
-                          "surely had no effect), or which column is the outcome with --columns "
+                          "certainly had no effect), or which column is the outcome with --columns "
                           "outcome=NAME", row.line)
         if outcome is not None and not word:
             self.empty = self.empty or row.line

@@ -18,7 +18,7 @@ SIGN_WORDS = {"unexplained": "the first read that can't be explained",
               "stale": "the stale read: it gave the older value",
               "fresh": "the fresh read: it gave the newer value",
               "overlapped": "it was open at the same time as the first read that can't be explained",
-              "failed": "it surely had no effect"}
+              "failed": "it certainly had no effect"}
 
 
 def classes(bar: Bar) -> str:

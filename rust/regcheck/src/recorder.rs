@@ -298,7 +298,7 @@ impl Write<'_> {
         self.call.end("reply", "");
     }
 
-    /// The call surely had no effect, and never will have: the connection was refused, say. Don't say it of a call that
+    /// The call certainly had no effect, and never will have: the connection was refused, say. Don't say it of a call that
     /// timed out: if the store did the write after all, that invents a fault.
     pub fn failed(self) {
         self.call.end("fail", "");
@@ -318,7 +318,7 @@ impl Read<'_> {
         self.call.end("reply", &format!(",\"value\":{value}"));
     }
 
-    /// The call surely had no effect.
+    /// The call certainly had no effect.
     pub fn failed(self) {
         self.call.end("fail", "");
     }
