@@ -117,20 +117,23 @@ class Journal:
             raise self.mistake(str(error)) from None
         return members(client, node)
 
-    def call(self, process: Optional[int], op: str, register: str, who: str) -> Tuple[int, Optional[int]]:
-        """Writes a call, under a free number if none is given. Gives the number, and a write's value."""
+    def call(self, process: Optional[int], op: str, register: str, behind: Optional[str],
+             who: str) -> Tuple[int, Optional[int]]:
+        """Writes a call, under a free number if none is given. Gives the number.
+
+        `behind` is what the line says behind its register. If it is None, that is a value which the register never
+        had from here, and the value is given too."""
         with self._lock:
             if self._closed:
                 raise RecordingError("the recorder is closed: let its clients end before you close it")
             name = self._names.get(register) or self._new_name(register)
             if process is None:
                 process = self._free_process()
-            line = f'{{"process":{process},"event":"call","op":"{op}","register":{name}'
             value = None
-            if op == "write":
+            if behind is None:
                 value = self._values[register] = self._values.get(register, self._values_after) + 1
-                line += f',"value":{value}'
-            self._append(line + who)
+                behind = f',"value":{value}'
+            self._append(f'{{"process":{process},"event":"call","op":"{op}","register":{name}{behind}{who}')
         return process, value
 
     def reply(self, process: int, register: str, value: str, who: str) -> None:

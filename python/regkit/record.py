@@ -9,7 +9,8 @@
 
 Entering a block writes the line of the call. How the block is left decides what is written then:
 
-- Normally: a reply. By then a write must have been asked for its value, and a read must have been given one.
+- Normally: a reply. By then a write must have been asked for its value, a read must have been given one, and a
+  cas must have been told whether it took place.
 - By an exception: nothing, since nobody knows what the store did. The call stays pending. Its process number
   is never used again; the client goes on under a new one.
 - After `call.failed()`, or by one of the exceptions in `Recorder(failures=...)`: a fail. It says that the
@@ -18,6 +19,14 @@ Entering a block writes the line of the call. How the block is left decides what
 
 The values of a register's writes are 1, 2, 3, and so on. A store of texts is given `str(write.value)`; a read
 takes the number, its text, its bytes, or None if the store has no value.
+
+A caller may choose the values itself, and repeat them, and may compare and swap (cas). `regsearch` checks such a
+history, and `assert_atomic` chooses it:
+
+    with client.write("lock", 0):
+        store.set("lock", 0)
+    with client.cas("lock", 0, 1) as cas:
+        cas.ok = store.compare_and_set("lock", 0, 1)  # False only if the store says that it found another value
 
 Threads and asyncio tasks share one recorder, and each takes a client of its own. No lock is held inside a
 block, so a block may await. A program that forks needs a recorder in each of its processes, each with values
@@ -36,7 +45,7 @@ A client's name and its node stand on its lines, so that `regkit explain` and `r
 import pathlib
 import re
 from types import TracebackType
-from typing import Any, List, Optional, Type, TypeVar
+from typing import Any, Callable, List, Optional, Type, TypeVar
 
 from regkit.journal import Clock, Failures, Journal, Output, RecordingError
 
@@ -44,9 +53,10 @@ LEAST, GREATEST = -(2**63), 2**63 - 1
 WHOLE_NUMBER = re.compile(r"-?[0-9]{1,19}")
 REPLY, FAIL, NOTHING = "reply", "fail", "nothing"  # what is written at the end of a call
 
-__all__ = ["Call", "Client", "Read", "Recorder", "RecordingError", "Write", "number_of"]
+__all__ = ["Call", "Cas", "Client", "Read", "Recorder", "RecordingError", "Write", "number_of"]
 
 AnyCall = TypeVar("AnyCall", bound="Call")
+Number = TypeVar("Number", int, Optional[int])
 
 
 def number_of(value: object) -> Optional[int]:
@@ -57,6 +67,17 @@ def number_of(value: object) -> Optional[int]:
         return number
     raise RecordingError(f"the store gave {value!r}, but a value is a whole number of 64 bits, "
                          "its text or bytes, or None")
+
+
+def chosen(value: object) -> int:
+    """A value that the caller lets a call write. Raises RecordingError if it is none."""
+    if type(value) is int and LEAST <= value <= GREATEST:
+        return value
+    raise RecordingError(f"{value!r} can't be written: a value is a whole number of 64 bits")
+
+
+def member(value: Optional[int]) -> str:
+    return "null" if value is None else str(value)
 
 
 class Client:
@@ -86,13 +107,19 @@ class Client:
         self._who = self.journal.who(self.name, node)
         self._node = node
 
-    def write(self, register: str) -> "Write":
-        """The call of a write, for a `with` statement. Its `value` is what to write."""
-        return Write(self, register)
+    def write(self, register: str, value: Optional[int] = None) -> "Write":
+        """The call of a write, for a `with` statement. Its `value` is what to write: the one that is given here,
+        which may repeat, or one that the recorder chooses, which no other write of the register has."""
+        return Write(self, register, value)
 
     def read(self, register: str) -> "Read":
         """The call of a read, for a `with` statement. Set its `value` to what the store gives."""
         return Read(self, register)
+
+    def cas(self, register: str, from_: Optional[int], to: int) -> "Cas":
+        """The call of a compare-and-swap, for a `with` statement. It writes `to` if the register holds `from_`,
+        which is None for no value. Set its `ok` to whether it took place."""
+        return Cas(self, register, from_, to)
 
     def crash(self) -> None:
         """Says that this client does nothing more. A call that it has open, or left pending, stays so."""
@@ -112,15 +139,15 @@ class Client:
     def __exit__(self, kind: Optional[Type[BaseException]], *_: object) -> None:
         self.close() if kind is None else self.crash()
 
-    def begin(self, op: str, register: str) -> Optional[int]:
-        """Writes the line of a call, and gives the value of a write. For Call alone."""
+    def begin(self, op: str, register: str, behind: Optional[str]) -> Optional[int]:
+        """Writes the line of a call, and gives the value that the recorder chose, if it did. For Call alone."""
         if self._open:
             raise self.journal.mistake(f"the client has a call open while it calls a {op} of {register!r}: "
                                        "take a client for each thread and each task")
         if self._gone:
             raise self.journal.mistake(f"the client is closed or crashed, and calls a {op} of {register!r}")
         kept, self._spent = None if self._spent else self._process, True
-        process, value = self.journal.call(kept, op, register, self._who)
+        process, value = self.journal.call(kept, op, register, behind, self._who)
         self._process, self._open, self._spent = process, True, False
         return value
 
@@ -140,13 +167,15 @@ class Call:
     """A call, open from the beginning of its `with` block to the end."""
 
     op = ""
+    rest = ""  # of its arguments, for a person
+    behind: Optional[str] = ""  # what its line says behind the register; None for a value of the recorder's choice
 
     def __init__(self, client: Client, register: str, alone: bool = False) -> None:
         self.register = client.journal.key(register)  # its name in the store, too
         self._client = client
         self._alone = alone  # whether the client makes this one call
         self._stage = "new"  # then "open", then "ended"
-        self._said: Optional[str] = None  # the ending, if the caller said it
+        self._said: Optional[str] = None  # if the caller said it
         self._number: Optional[int] = None
 
     def failed(self) -> None:
@@ -163,16 +192,24 @@ class Call:
         self._said = ending
 
     def outside(self) -> RecordingError:
-        block = f"with client.{self.op}({self.register!r}) as {self.op}:"
+        block = f"with client.{self.op}({self.register!r}{self.rest}) as {self.op}:"
         return self.mistake(f"is used outside its block: `{block}`")
 
     def mistake(self, text: str) -> RecordingError:
         return self._client.journal.mistake(f"a {self.op} of {self.register!r} {text}")
 
+    def checked(self, check: Callable[[object], Number], value: object) -> Number:
+        """The number of a value. A value that is none is a mistake."""
+        try:
+            return check(value)
+        except RecordingError as error:
+            raise self.mistake(f"was refused: {error}") from None
+
     def __enter__(self: AnyCall) -> AnyCall:
         if self._stage != "new":
             raise self.mistake("is called a second time: make each call anew")
-        self._number = self._client.begin(self.op, self.register)
+        number = self._client.begin(self.op, self.register, self.behind)
+        self._number = self._number if number is None else number
         self._stage = "open"
         return self
 
@@ -208,9 +245,16 @@ class Write(Call):
     op = "write"
     _asked = False
 
+    def __init__(self, client: Client, register: str, value: Optional[int] = None, alone: bool = False) -> None:
+        super().__init__(client, register, alone)
+        self.behind = None
+        if value is not None:
+            self._number, self._asked = self.checked(chosen, value), True
+            self.behind = f',"value":{self._number}'
+
     @property
     def value(self) -> int:
-        """The value to write, which no other write of the register has."""
+        """The value to write."""
         if self._number is None:
             raise self.outside()
         self._asked = True
@@ -240,17 +284,50 @@ class Read(Call):
     def value(self, value: object) -> None:
         if self._stage != "open":
             raise self.outside()
-        try:
-            self._number = number_of(value)
-        except RecordingError as error:
-            raise self.mistake(f"was refused: {error}") from None
+        self._number = self.checked(number_of, value)
         self._given = True
 
     def missing(self) -> str:
         return "" if self._given else "was given no value: set `read.value`, to None if the store has none"
 
     def reply_value(self) -> str:
-        return ',"value":null' if self._number is None else f',"value":{self._number}'
+        return f',"value":{member(self._number)}'
+
+
+class Cas(Call):
+    """The call of a compare-and-swap."""
+
+    op = "cas"
+    rest = ", from_, to"
+    _ok: Optional[bool] = None
+
+    def __init__(self, client: Client, register: str, from_: Optional[int], to: int, alone: bool = False) -> None:
+        super().__init__(client, register, alone)
+        self.from_ = None if from_ is None else self.checked(chosen, from_)
+        self.to = self.checked(chosen, to)
+        self.behind = f',"from":{member(self.from_)},"to":{self.to}'
+
+    @property
+    def ok(self) -> Optional[bool]:
+        """Whether it took place: it found `from_`, and wrote `to`. None if that isn't said yet.
+
+        False says that it missed: the store compared, and found another value. If the store refused without
+        comparing, say `failed()`; if nobody knows what it did, say `unknown()`."""
+        return self._ok
+
+    @ok.setter
+    def ok(self, ok: bool) -> None:
+        if self._stage != "open":
+            raise self.outside()
+        if type(ok) is not bool:
+            raise self.mistake(f"was told {ok!r}: `cas.ok` is True if it took place, and False if it missed")
+        self._ok = ok
+
+    def missing(self) -> str:
+        return "" if self._ok is not None else "wasn't told how it ended: set `cas.ok` to whether it took place"
+
+    def reply_value(self) -> str:
+        return f',"ok":{"true" if self._ok else "false"}'
 
 
 class Recorder:
@@ -272,13 +349,17 @@ class Recorder:
         Its lines have its name, and the node (the server of the store) that it asks, if they are given."""
         return Client(self._journal, name, node)
 
-    def write(self, register: str) -> Write:
+    def write(self, register: str, value: Optional[int] = None) -> Write:
         """A write under any free process number. Take a client where one thread makes several calls."""
-        return Write(Client(self._journal), register, alone=True)
+        return Write(Client(self._journal), register, value, alone=True)
 
     def read(self, register: str) -> Read:
         """A read under any free process number. Take a client where one thread makes several calls."""
         return Read(Client(self._journal), register, alone=True)
+
+    def cas(self, register: str, from_: Optional[int], to: int) -> Cas:
+        """A cas under any free process number. Take a client where one thread makes several calls."""
+        return Cas(Client(self._journal), register, from_, to, alone=True)
 
     @property
     def path(self) -> Optional[pathlib.Path]:

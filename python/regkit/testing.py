@@ -8,7 +8,7 @@ import os
 import pathlib
 import re
 import tempfile
-from typing import Optional, Union
+from typing import List, Optional, Union
 
 from regkit.checker import WOULD_DECIDE, Answer, NoChecker, decide, is_for_search
 from regkit.evidence import Evidence, count_evidence
@@ -33,18 +33,20 @@ class NotChecked(Exception):
     """The checker gave no verdict: it refused the history, its search gave up, or it failed."""
 
 
-def assert_atomic(history: Recorded, *, least_reads: int = 1, least_overlaps: int = 0) -> Evidence:
+def assert_atomic(history: Recorded, *, least_reads: int = 1, least_overlaps: int = 0,
+                  steps: Optional[int] = None, configurations: Optional[int] = None) -> Evidence:
     """Raises AssertionError, with an explanation, unless the history is atomic with enough evidence.
 
     The history is a Recorder, bytes, or a path. It needs at least `least_reads` completed reads, of which at
     least `least_overlaps` overlap a write: a history that proves nothing, say since its recorder died, fails
-    too. A cas that was answered counts as a read. Gives the evidence. Raises NotChecked if the checker gives no verdict, and RecordingError if the
-    recorder was used wrongly."""
+    too. A cas that was answered counts as a read. `steps` and `configurations` are the bounds of regsearch, if
+    the defaults aren't enough. Gives the evidence. Raises NotChecked if the checker gives no verdict, and
+    RecordingError if the recorder was used wrongly."""
     __tracebackhide__ = True  # pytest then shows the test's own line
     _trust(history)
     data, path = _data(history), _path(history)
     name = str(path) if path else "the history"
-    answer = decide(data)
+    answer = decide(data, _options(steps, configurations))
     if answer.status not in (0, 1):
         raise NotChecked(f"{name}: {_without_verdict(data, answer)}")
     if answer.status == 1:
@@ -112,6 +114,12 @@ def _path(history: Recorded) -> Optional[pathlib.Path]:
     if isinstance(history, Recorder):
         return history.path
     return None if isinstance(history, bytes) else pathlib.Path(history)
+
+
+def _options(steps: Optional[int], configurations: Optional[int]) -> List[str]:
+    """The options of regsearch."""
+    bounds = [("--steps", steps), ("--configurations", configurations)]
+    return [word for option, most in bounds if most is not None for word in (option, str(most))]
 
 
 def _without_verdict(data: bytes, answer: Answer) -> str:

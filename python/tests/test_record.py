@@ -181,6 +181,57 @@ class Lines(unittest.TestCase):
                 self.assertEqual(len(recorder.mistakes), 1)
 
 
+class ValuesOfTheCaller(unittest.TestCase):
+    def test_the_lines_of_writes_and_of_each_end_of_a_cas(self) -> None:
+        recorder = Recorder(failures=Refused)
+        with recorder.client() as client:
+            for _ in range(2):
+                with client.write("x", 0) as write:
+                    self.assertEqual(write.value, 0)
+            for from_, ok in [(None, False), (0, True)]:
+                with client.cas("x", from_, 1) as cas:
+                    cas.ok = ok
+                self.assertEqual((cas.from_, cas.to, cas.ok), (from_, 1, ok))
+            with contextlib.suppress(Refused), client.cas("x", 1, -2):
+                raise Refused
+            with contextlib.suppress(Lost), client.cas("x", 1, -2):
+                raise Lost
+        with recorder.cas("x", -2, 3) as cas:
+            cas.ok = True
+        reply = '{"process":1,"event":"reply","register":"x"'
+        call = '{"process":%d,"event":"call","op":"%s","register":"x",%s}'
+        self.assertEqual(lines(recorder), [
+            call % (1, "write", '"value":0'), reply + "}", call % (1, "write", '"value":0'), reply + "}",
+            call % (1, "cas", '"from":null,"to":1'), reply + ',"ok":false}',
+            call % (1, "cas", '"from":0,"to":1'), reply + ',"ok":true}',
+            call % (1, "cas", '"from":1,"to":-2'), '{"process":1,"event":"fail","register":"x"}',
+            call % (1, "cas", '"from":1,"to":-2'),
+            call % (2, "cas", '"from":-2,"to":3'), '{"process":2,"event":"reply","register":"x","ok":true}'])
+        self.assertEqual(recorder.mistakes, [])
+
+    def test_the_recorder_counts_its_own_values_alone(self) -> None:
+        recorder, values = Recorder(), []
+        for value in (None, 7, None):
+            with recorder.write("x", value) as write:
+                values.append(write.value)
+        self.assertEqual(values, [1, 7, 2])
+
+    def test_values_that_are_none(self) -> None:
+        wrong: List[Any] = [True, 1.0, "1", 2**63, -2**63 - 1]
+        for value in wrong:
+            calls: List[Callable[[Recorder], Any]] = [
+                lambda recorder: recorder.write("x", value), lambda recorder: recorder.cas("x", value, 1),
+                lambda recorder: recorder.cas("x", 1, value)]
+            for call in calls:
+                recorder = Recorder()
+                with self.subTest(value), self.assertRaisesRegex(RecordingError, "can't be written: a value is a whole"):
+                    call(recorder)
+                self.assertEqual((lines(recorder), len(recorder.mistakes)), ([], 1))
+        nothing: Any = None
+        with self.assertRaisesRegex(RecordingError, "a cas of 'x' was refused: None can't be written"):
+            Recorder().cas("x", 1, nothing)
+
+
 class Processes(unittest.TestCase):
     def processes(self, recorder: Recorder) -> List[int]:
         return [json.loads(line)["process"] for line in lines(recorder) if '"call"' in line]
@@ -392,6 +443,27 @@ class Misuse(unittest.TestCase):
             with recorder.read("x"):
                 pass
         self.check(recorder, 1)
+
+    def test_a_cas_without_an_end(self) -> None:
+        recorder = Recorder()
+        with self.assertRaisesRegex(RecordingError, "a cas of 'x' wasn't told how it ended: set `cas.ok`"):
+            with recorder.cas("x", None, 1):
+                pass
+        self.check(recorder, 1)
+
+    def test_a_cas_that_ended_otherwise(self) -> None:
+        wrong: List[Any] = [1, None, "OK"]
+        for ok in wrong:
+            recorder = Recorder()
+            with self.subTest(ok), self.assertRaisesRegex(RecordingError, "`cas.ok` is True if it took place"):
+                with recorder.cas("x", None, 1) as cas:
+                    cas.ok = ok
+            self.check(recorder, 1)
+        recorder = Recorder()
+        cas = recorder.cas("x", None, 1)
+        with self.assertRaisesRegex(RecordingError, r"is used outside its block: `with client.cas\('x', from_, to\) as cas"):
+            cas.ok = True
+        self.check(recorder, 0)
 
     def test_a_write_of_another_value(self) -> None:
         recorder, store = Recorder(), {}

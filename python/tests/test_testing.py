@@ -8,7 +8,7 @@ import tempfile
 import textwrap
 import threading
 import unittest
-from typing import Any, List, Optional, Tuple
+from typing import Any, Callable, List, Optional, Tuple
 from unittest import mock
 
 from regkit import pytest_plugin, testing
@@ -32,6 +32,45 @@ def recorded(steps: List[Step], recorder: Optional[Recorder] = None) -> Recorder
             else:
                 with client.read("x") as read:
                     read.value = value
+    return recorder
+
+
+class Register:
+    """A register that compares and swaps in two steps. If it looks again, it swaps only what it still finds."""
+
+    def __init__(self, looks_again: bool) -> None:
+        self.looks_again = looks_again
+        self.value: Optional[int] = None
+
+    def swap(self, from_: int, to: int, compared: Callable[[], None] = lambda: None) -> bool:
+        """`compared` is called between its two steps."""
+        found = self.value == from_
+        compared()
+        if not found or self.looks_again and self.value != from_:
+            return False
+        self.value = to
+        return True
+
+
+def locked(looks_again: bool) -> Recorder:
+    """Two clients take one lock at once, and the second one gives it back."""
+    recorder, store = Recorder(), Register(looks_again)
+    first, second = recorder.client(), recorder.client()
+
+    def write(value: int) -> None:
+        with second.write("lock", value):
+            store.value = value
+
+    def swap_too() -> None:
+        with second.cas("lock", 0, 1) as cas:
+            cas.ok = store.swap(0, 1)
+
+    write(0)
+    with first.cas("lock", 0, 1) as cas:
+        cas.ok = store.swap(0, 1, swap_too)
+    write(0)
+    with first.read("lock") as read:
+        read.value = store.value
     return recorder
 
 
@@ -120,6 +159,17 @@ class Verdicts(unittest.TestCase):
                             self.assertEqual(assert_atomic(history).completed_reads, 1)
                         else:
                             self.assertRaises(status, assert_atomic, history)
+
+    def test_a_lock_by_cas(self) -> None:
+        self.assertEqual(assert_atomic(locked(True)).completed_reads, 3)
+        with self.assertRaisesRegex(NotAtomic, "the cas from 0 to 1 that took place, by process 2 "):
+            assert_atomic(locked(False))
+
+    def test_bounds_of_the_search(self) -> None:
+        with self.assertRaisesRegex(NotChecked, "unknown: .* raise `--steps`"):
+            assert_atomic(locked(True), steps=1)
+        with self.assertRaisesRegex(NotChecked, "'0' for '--configurations"):
+            assert_atomic(locked(True), configurations=0)
 
     def test_a_refused_history_is_no_verdict(self) -> None:
         twice = b'{"process":1,"event":"call","op":"read","register":"x"}\n' * 2
