@@ -1,8 +1,6 @@
 package regcheck
 
 import (
-	"bytes"
-	"errors"
 	"fmt"
 	"os"
 	"path/filepath"
@@ -31,11 +29,12 @@ func Record(test TB) *Recorder {
 	return recorder
 }
 
-// Assert fails the test unless the history is linearizable, a read was completed, and the recorder was used rightly. It says
-// whether the test may go on.
+// Assert fails the test unless the history is linearizable, a read was completed, and the recorder was used rightly. A
+// compare-and-swap that was answered counts as a read. It says whether the test may go on.
 //
-// It says why in words, and leaves the history, its report and a page that shows the fault in Folder. The words and the page
-// are made by regkit: where it isn't there, Assert says so, and gives the lines of the report instead.
+// It says why in words, and leaves the history, its report and a page that shows the fault in Folder. If the search for an
+// order gave up, nobody knows: that fails the test too, and the words say what to do. The words and the page are made by
+// regkit: where it isn't there, Assert says so, and gives the lines of the report instead.
 func (recorder *Recorder) Assert(test TB) bool {
 	test.Helper()
 	if err := recorder.Err(); err != nil {
@@ -43,13 +42,17 @@ func (recorder *Recorder) Assert(test TB) bool {
 		return false
 	}
 	recorder.lock.Lock()
-	reads, folder := recorder.reads, recorder.Folder
+	reads, folder, bounds := recorder.reads, recorder.Folder, recorder.Bounds
 	recorder.lock.Unlock()
-	return assert(test, folder, recorder.History(), reads)
+	if folder == "" {
+		folder = failuresFolder
+	}
+	answer, err := CheckHistory(recorder.History(), bounds...)
+	return assert(test, filesOf(folder, test.Name()), answer, err, reads)
 }
 
 // AssertOperations is CheckOperations for a test: it fails the test as Assert does.
-func AssertOperations[O any](test TB, operations []O, as func(O) Operation) bool {
+func AssertOperations[O any](test TB, operations []O, as func(O) Operation, bounds ...Bound) bool {
 	test.Helper()
 	reads, known := 0, convert(operations, as)
 	for _, operation := range known {
@@ -62,29 +65,25 @@ func AssertOperations[O any](test TB, operations []O, as func(O) Operation) bool
 		test.Errorf("%v", err)
 		return false
 	}
-	return assert(test, "", history, reads)
+	answer, err := CheckHistory(history, bounds...)
+	return assert(test, filesOf(failuresFolder, test.Name()), answer, err, reads)
 }
 
-func assert(test TB, folder string, history []byte, reads int) bool {
+func assert(test TB, files files, answer Answer, err error, reads int) bool {
 	test.Helper()
-	atomic, report, err := Report(history)
-	if atomic && err == nil && reads > 0 {
+	if err == nil && answer.Verdict == Yes && reads > 0 {
 		return true
 	}
-	if folder == "" {
-		folder = failuresFolder
-	}
-	files := filesOf(folder, test.Name())
-	if unkept := files.keep(history, report); unkept != nil {
+	if unkept := files.keep(answer.History, answer.Report); unkept != nil {
 		test.Errorf("what the test recorded can't be kept: %v", unkept)
 	}
 	switch {
 	case err != nil:
 		test.Errorf("no verdict: %v\n\nhistory: %s", err, files.history)
-	case atomic:
+	case answer.Verdict == Yes:
 		test.Errorf("too little evidence: the history is linearizable, but no read was completed\n\nhistory: %s", files.history)
 	default:
-		test.Errorf("%s", files.explain(report))
+		test.Errorf("%s", files.explain(answer))
 	}
 	return false
 }
@@ -114,45 +113,64 @@ func (files files) keep(history, report []byte) error {
 	return os.WriteFile(files.report, report, 0o666)
 }
 
-// explain says why the kept history isn't linearizable, in the words of regkit, and has it drawn.
-func (files files) explain(report []byte) string {
+// explain says why the kept history isn't linearizable, or what to do if nobody knows, and has it drawn.
+func (files files) explain(answer Answer) string {
 	kept := "history: " + files.history + "\nreport: " + files.report
-	words, page, err := files.byRegkit()
+	words, err := files.byRegkit(answer)
 	if err != nil {
-		return fmt.Sprintf("%s: not linearizable\n%s\n%v\n%s", files.history, faulty(report), err, kept)
+		return fmt.Sprintf("%s: %s\n%v\n%s", files.history, shown(answer), err, kept)
 	}
-	return words + "\n\n" + kept + "\n" + page
+	words += "\n\n" + kept + "\n" + files.draw()
+	if answer.Verdict == Unknown {
+		words += "\nbounds: give the recorder Bounds, such as Steps and Configurations"
+	}
+	return words
 }
 
-const explained = 1 // the exit status of `regkit explain`
-
-func (files files) byRegkit() (words, page string, err error) {
+// byRegkit gives the words of regkit for the kept history.
+func (files files) byRegkit(answer Answer) (string, error) {
 	path, err := regkit()
 	if err != nil {
-		return "", "", err
+		return "", err
 	}
-	status, output, complaint, err := run(path, nil, "explain", "--color", "never", files.history, files.report)
-	if err == nil && status != explained {
-		err = errors.New(complaint)
-	}
+	words := append([]string{"explain", "--color", "never", files.history, files.report}, options(answer.bounds)...)
+	said, err := run(path, nil, words...)
 	if err != nil {
-		return "", "", err
+		return "", err
 	}
-	page = "page: " + files.page
-	status, _, complaint, err = run(path, nil, "draw", files.history, files.report, "-o", files.page)
-	if err == nil && status != 0 {
-		page = "no page: " + complaint
+	if said.status != statusNotAtomic && said.status != statusUnknown {
+		return "", said.failure(path)
 	}
-	return string(bytes.TrimRight(output, "\n")), page, err
+	return strings.TrimRight(string(said.output), "\n"), nil
 }
 
-// faulty gives the lines of a report that name a fault.
-func faulty(report []byte) string {
-	var lines strings.Builder
-	for _, line := range strings.Split(string(report), "\n") {
-		if strings.Contains(line, `"fault":`) {
-			fmt.Fprintf(&lines, "  %s\n", line)
+// draw has the kept history drawn, and says where.
+func (files files) draw() string {
+	path, err := regkit()
+	if err != nil {
+		return "no page: " + err.Error()
+	}
+	said, err := run(path, nil, "draw", files.history, files.report, "-o", files.page)
+	switch {
+	case err != nil:
+		return "no page: " + err.Error()
+	case said.status != 0:
+		return "no page: " + said.complaint
+	}
+	return "page: " + files.page
+}
+
+// shown gives the verdict, and the lines of the report that it rests on.
+func shown(answer Answer) string {
+	verdict, key := "not linearizable", `"fault":`
+	if answer.Verdict == Unknown {
+		verdict, key = "unknown: the search gave up; raise its bounds, or record runs with fewer calls open at once", `"gave_up":`
+	}
+	lines := []string{verdict}
+	for _, line := range strings.Split(string(answer.Report), "\n") {
+		if strings.Contains(line, key) {
+			lines = append(lines, "  "+line)
 		}
 	}
-	return lines.String()
+	return strings.Join(lines, "\n")
 }

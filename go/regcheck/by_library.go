@@ -13,7 +13,7 @@ import "C"
 
 import "unsafe"
 
-// check gives whether the history is atomic, and the bytes of its report.
+// check gives whether the history is atomic, and the bytes of its report. A refusal has numbers, and no words yet.
 func check(history []byte) (atomic bool, report []byte, err error) {
 	input := history
 	if len(input) == 0 {
@@ -29,7 +29,7 @@ func check(history []byte) (atomic bool, report []byte, err error) {
 	case C.REGCHECK_ATOMIC, C.REGCHECK_NOT_ATOMIC:
 		return answer.status == C.REGCHECK_ATOMIC, report[:answer.length], nil
 	case C.REGCHECK_REFUSED:
-		return false, nil, &Refusal{int(answer.number), int(answer.line), int(answer.other)}
+		return false, nil, &Refusal{Number: int(answer.number), Line: int(answer.line), Other: int(answer.other)}
 	default:
 		return false, nil, ErrMemory
 	}

@@ -39,14 +39,8 @@ type step struct {
 func inOrder(operations []Operation) ([]step, error) {
 	steps := make([]step, 0, 2*len(operations))
 	for place, operation := range operations {
-		if operation.Return < operation.Call {
-			return nil, fmt.Errorf("the operation at index %d returned at %d, before its call at %d", place, operation.Return, operation.Call)
-		}
-		if operation.Write && operation.Value == nil {
-			return nil, fmt.Errorf("the operation at index %d writes no value", place)
-		}
-		if !utf8.ValidString(operation.Register) {
-			return nil, fmt.Errorf("the operation at index %d has a register that isn't UTF-8: %q", place, operation.Register)
+		if wrong := operation.wrong(); wrong != "" {
+			return nil, fmt.Errorf("the operation at index %d %s", place, wrong)
 		}
 		steps = append(steps, step{operation.Call, false, place})
 		if operation.Return != Pending {
@@ -62,6 +56,26 @@ func inOrder(operations []Operation) ([]step, error) {
 	return steps, nil
 }
 
+// wrong says what of an operation can't be, or nothing.
+func (operation Operation) wrong() string {
+	cas := operation.Cas
+	switch {
+	case operation.Return < operation.Call:
+		return fmt.Sprintf("returned at %d, before its call at %d", operation.Return, operation.Call)
+	case operation.Write && operation.Value == nil:
+		return "writes no value"
+	case !utf8.ValidString(operation.Register):
+		return fmt.Sprintf("has a register that isn't UTF-8: %q", operation.Register)
+	case cas == nil:
+		return ""
+	case operation.Write || operation.Value != nil:
+		return "is a cas, and has Write or Value too"
+	case operation.Return != Pending && cas.Outcome != TookPlace && cas.Outcome != Missed:
+		return "is a cas that returned: say whether it TookPlace or Missed"
+	}
+	return ""
+}
+
 // A line is one event.
 type line struct {
 	Process  int     `json:"process"`
@@ -69,6 +83,9 @@ type line struct {
 	Op       string  `json:"op,omitempty"`
 	Register string  `json:"register,omitempty"`
 	Value    **int64 `json:"value,omitempty"` // nil for no value, a pointer to nil for null
+	From     **int64 `json:"from,omitempty"`
+	To       *int64  `json:"to,omitempty"`
+	Ok       *bool   `json:"ok,omitempty"`
 	Client   string  `json:"client,omitempty"`
 	Node     string  `json:"node,omitempty"`
 	Time     *int64  `json:"time,omitempty"`
@@ -76,18 +93,38 @@ type line struct {
 
 func (step step) line(operations []Operation, processes *processes) line {
 	operation := &operations[step.operation]
-	switch {
-	case step.isReturn && operation.Write:
-		return line{Process: processes.give(step.operation, operation.ClientId), Event: "reply"}
-	case step.isReturn:
-		return line{Process: processes.give(step.operation, operation.ClientId), Event: "reply", Value: &operation.Value}
-	case operation.Write:
-		return line{Process: processes.take(step.operation, operation.ClientId), Event: "call", Op: "write",
-			Register: operation.Register, Value: &operation.Value}
-	default:
-		return line{Process: processes.take(step.operation, operation.ClientId), Event: "call", Op: "read",
-			Register: operation.Register}
+	if step.isReturn {
+		reply := operation.reply()
+		reply.Process, reply.Event = processes.give(step.operation, operation.ClientId), "reply"
+		return reply
 	}
+	call := operation.call()
+	call.Process, call.Event = processes.take(step.operation, operation.ClientId), "call"
+	call.Register = operation.Register
+	return call
+}
+
+// call gives what the line of the call says of the operation.
+func (operation *Operation) call() line {
+	switch {
+	case operation.Cas != nil:
+		return line{Op: "cas", From: &operation.Cas.From, To: &operation.Cas.To}
+	case operation.Write:
+		return line{Op: "write", Value: &operation.Value}
+	}
+	return line{Op: "read"}
+}
+
+// reply gives what the line of the reply says of the operation.
+func (operation *Operation) reply() line {
+	switch {
+	case operation.Cas != nil:
+		tookPlace := operation.Cas.Outcome == TookPlace
+		return line{Ok: &tookPlace}
+	case operation.Write:
+		return line{}
+	}
+	return line{Value: &operation.Value}
 }
 
 // processes has the processes of the clients, each with at most one open call.

@@ -10,6 +10,23 @@ import (
 	"strings"
 )
 
+// The exit statuses of regcheck and regsearch, and of `regkit explain`.
+const (
+	statusAtomic    = 0
+	statusNotAtomic = 1
+	statusRefused   = 2
+	statusUnknown   = 6
+)
+
+// checker gives the path of regcheck: the one in its variable, or that on PATH.
+func checker() (string, error) { return program("REGCHECK", "regcheck") }
+
+// search gives the path of regsearch.
+func search() (string, error) { return companion("REGSEARCH", "regsearch") }
+
+// regkit gives the path of regkit.
+func regkit() (string, error) { return companion("REGKIT", "regkit") }
+
 // program gives the path in the variable, or the program on PATH.
 func program(variable, name string) (string, error) {
 	if named := os.Getenv(variable); named != "" {
@@ -21,25 +38,37 @@ func program(variable, name string) (string, error) {
 	return "", fmt.Errorf("%s was not found: put it on PATH, or set %s to its path", name, variable)
 }
 
-// regkit gives the path of regkit: the one in its variable, the one beside regcheck, as a release has it, or that on PATH.
-func regkit() (string, error) {
-	checker, err := program("REGCHECK", "regcheck")
-	beside := filepath.Join(filepath.Dir(checker), "regkit")
-	if _, missing := os.Stat(beside); err == nil && missing == nil && os.Getenv("REGKIT") == "" {
+// companion gives the path in the variable, the program beside regcheck, as a release has it, or that on PATH.
+func companion(variable, name string) (string, error) {
+	checker, err := checker()
+	beside := filepath.Join(filepath.Dir(checker), name)
+	if _, missing := os.Stat(beside); err == nil && missing == nil && os.Getenv(variable) == "" {
 		return beside, nil
 	}
-	return program("REGKIT", "regkit")
+	return program(variable, name)
 }
 
-// run gives the exit status and the output of a program.
-func run(path string, input []byte, arguments ...string) (status int, output []byte, complaint string, err error) {
+// A said is what a program wrote, and how it ended.
+type said struct {
+	status    int
+	output    []byte
+	complaint string
+}
+
+// failure is the error of a program that ended as it shouldn't.
+func (said said) failure(path string) error {
+	return fmt.Errorf("%s ended with status %d: %s", path, said.status, said.complaint)
+}
+
+// run runs a program to its end.
+func run(path string, input []byte, arguments ...string) (said, error) {
 	command := exec.Command(path, arguments...)
-	var said, complained bytes.Buffer
-	command.Stdin, command.Stdout, command.Stderr = bytes.NewReader(input), &said, &complained
-	err = command.Run()
+	var output, complaint bytes.Buffer
+	command.Stdin, command.Stdout, command.Stderr = bytes.NewReader(input), &output, &complaint
+	err := command.Run()
 	var ended *exec.ExitError
 	if err != nil && !errors.As(err, &ended) {
-		return 0, nil, "", fmt.Errorf("%s could not be run: %w", path, err)
+		return said{}, fmt.Errorf("%s could not be run: %w", path, err)
 	}
-	return command.ProcessState.ExitCode(), said.Bytes(), strings.TrimRight(complained.String(), "\n"), nil
+	return said{command.ProcessState.ExitCode(), output.Bytes(), strings.TrimRight(complaint.String(), "\n")}, nil
 }

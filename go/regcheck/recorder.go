@@ -11,11 +11,13 @@ import (
 // A Recorder writes down what the clients of a store call and get. Its zero value is ready. Goroutines share one recorder,
 // and each takes a client of its own.
 //
-// The values of a register's writes are 1, 2, 3, and so on, so that a read's value tells which write it saw.
+// The values of a register's writes are 1, 2, 3, and so on, so that a read's value tells which write it saw. WriteValue and
+// Cas take values of the caller's own, which may repeat.
 type Recorder struct {
 	Output io.Writer    // gets each line at once, if it isn't nil
 	Clock  func() int64 // nanoseconds; if nil, those of the machine's monotonic clock
 	Folder string       // where Assert leaves what it found; if empty, regcheck-failures
+	Bounds []Bound      // of the search that cas and repeated values need; if empty, the defaults
 
 	// ValuesAfter is what the values of a register's writes come after. Where several processes record one run, give each a
 	// number of its own, far from the others.
@@ -25,7 +27,7 @@ type Recorder struct {
 	history   bytes.Buffer
 	processes int
 	values    map[string]int64 // how many writes each register has
-	reads     int              // completed ones
+	reads     int              // completed ones, and cas that were answered
 	mistakes  []*Mistake
 }
 
@@ -69,12 +71,20 @@ func (recorder *Recorder) expect(name, what string) {
 //
 // It gives the error of set, or a *Mistake.
 func (client *Client) Write(register string, set func(value int64) error) error {
-	value, err := client.begin("write", register)
-	if err != nil {
+	return client.write(register, nil, set)
+}
+
+// WriteValue records a write of a value of the caller's own, which may repeat. It is as Write otherwise.
+func (client *Client) WriteValue(register string, value int64, set func(value int64) error) error {
+	return client.write(register, &value, set)
+}
+
+func (client *Client) write(register string, value *int64, set func(value int64) error) error {
+	if err := client.begin(line{Op: "write", Register: register, Value: &value}); err != nil {
 		return err
 	}
 	defer client.leave()
-	err = set(value)
+	err := set(*value)
 	client.end(line{Register: register}, err)
 	return err
 }
@@ -82,13 +92,28 @@ func (client *Client) Write(register string, set func(value int64) error) error 
 // Read records a read, in which get asks the store. It gives what get returns, which is nil if the store has no value. An
 // error of get ends the call as one of Write does.
 func (client *Client) Read(register string, get func() (*int64, error)) (*int64, error) {
-	if _, err := client.begin("read", register); err != nil {
+	if err := client.begin(line{Op: "read", Register: register}); err != nil {
 		return nil, err
 	}
 	defer client.leave()
 	value, err := get()
 	client.end(line{Register: register, Value: &value}, err)
 	return value, err
+}
+
+// Cas records a compare-and-swap: swap asks the store to write to if the register holds from, nil if it has no value, and
+// tells whether that took place. It gives what swap returns. An error of swap ends the call as one of Write does.
+//
+// Let swap return false only if the store compared, and said that it found another value. If the store refused without
+// comparing, the call had NoEffect.
+func (client *Client) Cas(register string, from *int64, to int64, swap func() (bool, error)) (bool, error) {
+	if err := client.begin(line{Op: "cas", Register: register, From: &from, To: &to}); err != nil {
+		return false, err
+	}
+	defer client.leave()
+	tookPlace, err := swap()
+	client.end(line{Register: register, Ok: &tookPlace}, err)
+	return tookPlace, err
 }
 
 // History gives the lines so far, which are a history at any moment: what is open is pending.
@@ -98,31 +123,30 @@ func (recorder *Recorder) History() []byte {
 	return append([]byte(nil), recorder.history.Bytes()...)
 }
 
-// begin writes the line of a call, and gives the value of a write.
-func (client *Client) begin(op, register string) (int64, error) {
+// begin writes the line of a call, and puts the next value into a write that has none.
+func (client *Client) begin(call line) error {
 	recorder := client.recorder
 	recorder.lock.Lock()
 	defer recorder.lock.Unlock()
-	if !isName(register) {
-		return 0, recorder.note(noName(register, "register"))
+	if !isName(call.Register) {
+		return recorder.note(noName(call.Register, "register"))
 	}
 	if client.open {
-		return 0, recorder.note(mistaken("the client has a call open while it calls a %s of %q: take a client for each goroutine", op, register))
+		return recorder.note(mistaken("the client has a call open while it calls a %s of %q: take a client for each goroutine",
+			call.Op, call.Register))
 	}
 	if client.spent {
 		recorder.processes++
 		client.process = recorder.processes
 	}
 	client.open, client.spent = true, true
-	event := line{Event: "call", Op: op, Register: register}
-	var value int64
-	if op == "write" {
-		value = recorder.next(register)
-		written := &value
-		event.Value = &written
+	if call.Value != nil && *call.Value == nil {
+		value := recorder.next(call.Register)
+		*call.Value = &value
 	}
-	client.append(event)
-	return value, nil
+	call.Event = "call"
+	client.append(call)
+	return nil
 }
 
 // end writes how a call ended. After an error that leaves it open, its process number is spent.
@@ -135,11 +159,11 @@ func (client *Client) end(reply line, err error) {
 	switch {
 	case err == nil:
 		reply.Event = "reply"
-		if reply.Value != nil {
+		if reply.Value != nil || reply.Ok != nil {
 			recorder.reads++
 		}
 	case errors.As(err, &failed):
-		reply.Event, reply.Value = "fail", nil
+		reply.Event, reply.Value, reply.Ok = "fail", nil, nil
 	case errors.As(err, &mistake):
 		recorder.note(mistake)
 		return

@@ -53,6 +53,14 @@ func TestRecorder(t *testing.T) {
 	}
 	_, _ = one.Read("x", gives(nil, errTime))
 	_, _ = one.Read("x", gives(nil, nil))
+	_ = one.WriteValue("x", -3, returns(nil))
+	for place, end := range []error{nil, nil, regcheck.NoEffect(errRefused), errTime} {
+		from := []*int64{nil, regcheck.Value(-3), nil, nil}[place]
+		tookPlace, err := one.Cas("x", from, 1, func() (bool, error) { return place == 1, end })
+		if tookPlace != (place == 1) || err != end {
+			t.Errorf("the cas at index %d gave %v, %v", place, tookPlace, err)
+		}
+	}
 	want := `{"process":1,"event":"call","op":"write","register":"x","value":1,"client":"one","node":"a","time":1000000}
 {"process":1,"event":"reply","register":"x","client":"one","node":"a","time":2000000}
 {"process":1,"event":"call","op":"write","register":"x","value":2,"client":"one","node":"a","time":3000000}
@@ -66,6 +74,15 @@ func TestRecorder(t *testing.T) {
 {"process":4,"event":"call","op":"read","register":"x","client":"one","node":"a","time":11000000}
 {"process":5,"event":"call","op":"read","register":"x","client":"one","node":"a","time":12000000}
 {"process":5,"event":"reply","register":"x","value":null,"client":"one","node":"a","time":13000000}
+{"process":5,"event":"call","op":"write","register":"x","value":-3,"client":"one","node":"a","time":14000000}
+{"process":5,"event":"reply","register":"x","client":"one","node":"a","time":15000000}
+{"process":5,"event":"call","op":"cas","register":"x","from":null,"to":1,"client":"one","node":"a","time":16000000}
+{"process":5,"event":"reply","register":"x","ok":false,"client":"one","node":"a","time":17000000}
+{"process":5,"event":"call","op":"cas","register":"x","from":-3,"to":1,"client":"one","node":"a","time":18000000}
+{"process":5,"event":"reply","register":"x","ok":true,"client":"one","node":"a","time":19000000}
+{"process":5,"event":"call","op":"cas","register":"x","from":null,"to":1,"client":"one","node":"a","time":20000000}
+{"process":5,"event":"fail","register":"x","client":"one","node":"a","time":21000000}
+{"process":5,"event":"call","op":"cas","register":"x","from":null,"to":1,"client":"one","node":"a","time":22000000}
 `
 	if have := string(recorder.History()); have != want || output.String() != want || recorder.Err() != nil {
 		t.Errorf("%v\n%s%s", recorder.Err(), have, output.String())
@@ -223,6 +240,41 @@ func TestTooLittle(t *testing.T) {
 	}
 }
 
+func TestCasIsEvidence(t *testing.T) {
+	recorder := &regcheck.Recorder{Folder: t.TempDir()}
+	_, _ = recorder.Client("one").Cas("x", nil, 1, func() (bool, error) { return true, nil })
+	if said := asserted(recorder); said != "" {
+		t.Errorf("%q", said)
+	}
+}
+
+// Two cas that find no value, at once, without regkit. A search of one step gives up, and one without configurations is none.
+func TestUnknown(t *testing.T) {
+	recorder := &regcheck.Recorder{Folder: t.TempDir()}
+	one, two := recorder.Client("one"), recorder.Client("two")
+	_, _ = one.Cas("x", nil, 1, func() (bool, error) {
+		return two.Cas("x", nil, 1, func() (bool, error) { return true, nil })
+	})
+	t.Setenv("REGKIT", "/nowhere/regkit")
+	for _, test := range []struct {
+		bounds []regcheck.Bound
+		wants  []string
+	}{
+		{nil, []string{"TestTold_a_b.jsonl: not linearizable", `"kind":"search"`}},
+		{[]regcheck.Bound{regcheck.Steps(1)}, []string{
+			"TestTold_a_b.jsonl: unknown: the search gave up; raise its bounds", `"gave_up":{"bound":"steps"}`}},
+		{[]regcheck.Bound{regcheck.Configurations(0)}, []string{"no verdict: ", "'0' for '--configurations"}},
+	} {
+		recorder.Bounds = test.bounds
+		said := asserted(recorder)
+		for _, want := range test.wants {
+			if !strings.Contains(said, want) {
+				t.Errorf("%q isn't in %q", want, said)
+			}
+		}
+	}
+}
+
 // A read that gives what nobody wrote, with regkit and without.
 func TestFault(t *testing.T) {
 	recorder := &regcheck.Recorder{Folder: t.TempDir()}
@@ -251,8 +303,11 @@ func TestAssertOperations(t *testing.T) {
 		"not atomic": {inversion(1), "not linearizable"},
 		"no read":    {inversion(2)[:2], "no read was completed"},
 		"no value":   {[]regcheck.Operation{{Register: "x", Write: true, Call: 1, Return: 2}}, "writes no value"},
-		"a value twice": {append(inversion(2)[:1:1], regcheck.Operation{
-			Register: "x", Write: true, Value: regcheck.Value(1), Call: 11, Return: 12}), "no verdict: line 3: "},
+		"a value twice": {append(inversion(2), regcheck.Operation{
+			Register: "x", Write: true, Value: regcheck.Value(1), Call: 100, Return: 110}), ""},
+		"one cas":   {cas(regcheck.TookPlace, regcheck.Missed), ""},
+		"two cas":   {cas(regcheck.TookPlace, regcheck.TookPlace), "not linearizable"},
+		"no client": {[]regcheck.Operation{{ClientId: -1, Register: "x", Call: 1, Return: 2}}, "no verdict: line 1: "},
 	} {
 		told := &told{}
 		may := regcheck.AssertOperations(told, test.operations, as)

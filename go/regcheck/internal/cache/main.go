@@ -7,11 +7,10 @@
 package main
 
 import (
-	"fmt"
-	"os"
 	"sync"
 
 	"regcheck"
+	"regcheck/internal/toy"
 )
 
 type cache struct {
@@ -70,23 +69,4 @@ func record(recorder *regcheck.Recorder, counts bool) {
 	_, _ = use("thread-3").Read("x", get)
 }
 
-// printed is a test that prints why it fails.
-type printed struct{}
-
-func (printed) Helper() {}
-
-func (printed) Name() string { return "cache" }
-
-func (printed) Errorf(format string, arguments ...any) { fmt.Printf(format+"\n", arguments...) }
-
-func (printed) Cleanup(func()) {}
-
-func main() {
-	var time int64
-	recorder := &regcheck.Recorder{Folder: "kept", Clock: func() int64 { time += 1_000_000; return time }}
-	record(recorder, len(os.Args) == 2 && os.Args[1] == "right")
-	if !recorder.Assert(printed{}) {
-		os.Exit(1)
-	}
-	fmt.Println("linearizable")
-}
+func main() { toy.Run("cache", record) }
