@@ -4,8 +4,10 @@
 //!     cargo run --example cache -- right
 //!
 //! The faulty one keeps a value that it read before a write. tests/languages compares what all languages say of it.
+mod toy;
+
 use regcheck::{Client, Recorder};
-use std::{collections::HashMap, env, process, sync::Mutex, thread};
+use std::{collections::HashMap, sync::Mutex, thread};
 
 #[derive(Default)]
 struct Keys {
@@ -73,17 +75,5 @@ fn record(recorder: &Recorder, counts: bool) {
 }
 
 fn main() {
-    let mut time = 0;
-    let recorder = Recorder::new().keep_in("kept").clock(move || {
-        time += 1_000_000;
-        time
-    });
-    record(&recorder, env::args().nth(1).as_deref() == Some("right"));
-    match recorder.check("cache") {
-        Ok(()) => println!("linearizable"),
-        Err(trouble) => {
-            println!("{trouble}");
-            process::exit(1);
-        }
-    }
+    toy::run("cache", record);
 }

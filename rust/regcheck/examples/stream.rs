@@ -9,11 +9,12 @@ fn answer(history: &[u8]) -> ([u32; 4], Vec<u8>) {
         Ok(checked) => ([u32::from(!checked.atomic), 0, 0, 0], checked.report),
         Err(error) => {
             let numbers = match &error {
-                Error::Refused {
-                    number,
-                    line,
-                    other,
-                } => [2, *number, line.unwrap_or(0), other.unwrap_or(0)],
+                Error::Refused(refusal) => [
+                    2,
+                    refusal.number.unwrap_or(0),
+                    refusal.line.unwrap_or(0),
+                    refusal.other.unwrap_or(0),
+                ],
                 Error::NoMemory | Error::Program(_) => [4, 17, 0, 0],
             };
             (numbers, error.to_string().into_bytes())

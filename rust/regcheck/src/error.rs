@@ -1,63 +1,76 @@
-//! Why there is no report, and why a test fails.
+//! Why there is no answer, and why a test fails.
+use crate::programs::{complaint, regcheck, run, REFUSED};
 use std::fmt;
 
-/// Why there is no report.
+/// Why there is no answer.
 #[derive(Clone, Debug, PartialEq, Eq)]
 pub enum Error {
     /// The history is refused.
-    Refused {
-        /// The number of the refusal, 1 to 15 or 19.
-        number: u32,
-        /// The refused line, from 1, if a line is refused.
-        line: Option<u32>,
-        /// The line of the open call (9), of the earlier write (13) or of the crash (19).
-        other: Option<u32>,
-    },
-    /// Memory ran out.
+    Refused(Refusal),
+    /// Memory ran out in the library. A program says so in words.
     NoMemory,
     /// The program couldn't be run, or said what no refusal is. The library never says this.
     Program(String),
 }
 
-fn reason(number: u32) -> &'static str {
-    match number {
-        1 => "line is longer than 65536 bytes",
-        2 => "not JSON",
-        3 => "not an object",
-        4 => "process is not a whole number from 0 to 4294967295",
-        5 => "event is not call, reply, fail or crash",
-        6 => "op is neither read nor write",
-        7 => "register is not a text of 1 to 255 bytes",
-        8 => "value does not fit the event",
-        9 => "the process has an open call at line",
-        10 => "reply without an open call",
-        11 => "reply disagrees with its call",
-        12 => "a read's reply has no value",
-        13 => "value already written to this register at line",
-        14 => "more than 1048576 events",
-        19 => "the process crashed at line",
-        _ => "input is longer than 67108864 bytes",
+/// Why a history is refused.
+#[derive(Clone, Debug, PartialEq, Eq)]
+pub struct Refusal {
+    /// The number of the refusal in docs/format.md, if the library refused the history: a program tells words alone.
+    pub number: Option<u32>,
+    /// The refused line, from 1, if a line is refused.
+    pub line: Option<u32>,
+    /// The line of the open call, of the earlier write or of the crash that it contradicts.
+    pub other: Option<u32>,
+    /// What the program says of it.
+    pub words: String,
+}
+
+impl Refusal {
+    /// Reads what a program said.
+    pub(crate) fn read(words: String) -> Refusal {
+        let of_line = words.strip_prefix("line ");
+        let line = of_line.and_then(|rest| rest.split(':').next()?.parse().ok());
+        let other = words
+            .rsplit_once(" at line ")
+            .and_then(|(_, other)| other.parse().ok());
+        Refusal {
+            number: None,
+            line,
+            other: line.and(other),
+            words,
+        }
+    }
+
+    /// Asks the program for the words of a refusal by the library, which knows numbers alone.
+    pub(crate) fn told(mut self, history: &[u8]) -> Refusal {
+        if !self.words.is_empty() {
+            return self;
+        }
+        let asked = regcheck().and_then(|program| run(&program, [""; 0], history));
+        self.words = match asked {
+            Ok(said) if said.status.code() == REFUSED => complaint(&said),
+            _ => self.in_numbers(),
+        };
+        self
+    }
+
+    fn in_numbers(&self) -> String {
+        let reason = self.number.unwrap_or_default();
+        let line = self.line.map(|line| format!("line {line}: "));
+        format!(
+            "{}refused for reason {reason} of docs/format.md",
+            line.unwrap_or_default()
+        )
     }
 }
 
 impl fmt::Display for Error {
     fn fmt(&self, to: &mut fmt::Formatter<'_>) -> fmt::Result {
-        let (number, line, other) = match self {
-            Error::NoMemory => return to.write_str("no memory or no thread"),
-            Error::Program(words) => return to.write_str(words),
-            Error::Refused {
-                number,
-                line,
-                other,
-            } => (number, line, other),
-        };
-        if let Some(line) = line {
-            write!(to, "line {line}: ")?;
-        }
-        to.write_str(reason(*number))?;
-        match other {
-            Some(other) => write!(to, " {other}"),
-            None => Ok(()),
+        match self {
+            Error::Refused(refusal) => to.write_str(&refusal.words),
+            Error::NoMemory => to.write_str("memory ran out"),
+            Error::Program(words) => to.write_str(words),
         }
     }
 }
@@ -71,6 +84,8 @@ pub enum Trouble {
     Mistake(String),
     /// No order of the operations explains what the clients saw, or too little was read to say so.
     NotLinearizable(String),
+    /// The search for an order gave up at a bound. The words say what to do.
+    Unknown(String),
     /// The checker gave no verdict.
     NotChecked(String),
 }
@@ -79,10 +94,45 @@ impl fmt::Display for Trouble {
     fn fmt(&self, to: &mut fmt::Formatter<'_>) -> fmt::Result {
         match self {
             Trouble::Mistake(words) => write!(to, "the recorder was used wrongly: {words}"),
-            Trouble::NotLinearizable(words) => to.write_str(words),
+            Trouble::NotLinearizable(words) | Trouble::Unknown(words) => to.write_str(words),
             Trouble::NotChecked(words) => write!(to, "no verdict: {words}"),
         }
     }
 }
 
 impl std::error::Error for Trouble {}
+
+#[cfg(test)]
+mod tests {
+    use super::Refusal;
+
+    #[test]
+    fn the_lines_of_a_refusal_are_read() {
+        let rows = [
+            ("line 3: why", Some(3), None),
+            ("line 12: why at line 7", Some(12), Some(7)),
+            ("why", None, None),
+        ];
+        for (words, line, other) in rows {
+            let refusal = Refusal::read(words.to_owned());
+            assert_eq!((refusal.line, refusal.other), (line, other), "{words}");
+            assert_eq!(refusal.words, words);
+        }
+    }
+
+    #[test]
+    fn without_the_program_a_refusal_has_a_number() {
+        let refusal = |number, line| Refusal {
+            number: Some(number),
+            line,
+            other: None,
+            words: String::new(),
+        };
+        for (number, line, words) in [
+            (3, Some(1), "line 1: refused for reason 3 of docs/format.md"),
+            (15, None, "refused for reason 15 of docs/format.md"),
+        ] {
+            assert_eq!(refusal(number, line).in_numbers(), words);
+        }
+    }
+}

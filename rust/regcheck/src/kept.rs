@@ -1,14 +1,14 @@
 //! What a failed test leaves behind, and what it says.
 use crate::{
+    answer, programs,
     programs::{complaint, regkit, run},
-    report, Checked, Trouble,
+    Answer, Bounds, Trouble, Verdict,
 };
 use std::{
     fs,
     path::{Path, PathBuf},
 };
 
-const EXPLAINED: Option<i32> = Some(1); // the exit status of `regkit explain`
 const LONGEST: usize = 200; // bytes of a file's name
 
 /// Files whose names begin alike.
@@ -46,33 +46,39 @@ impl Files {
             .map_err(|error| format!("{} can't be kept: {error}", self.history.display()))
     }
 
-    /// Why the kept history isn't linearizable, in the words of regkit. It draws the page too.
-    fn explain(&self, report: &[u8]) -> String {
+    /// Why the kept history isn't linearizable, or what to do if nobody knows, in the words of regkit. It draws the page too.
+    fn explain(&self, answer: &Answer, bounds: Bounds) -> String {
         let kept = format!(
             "history: {}\nreport: {}",
             self.history.display(),
             self.report.display()
         );
-        match self.explained().and_then(|words| Ok((words, self.draw()?))) {
+        let told = self.explained(bounds);
+        match told.and_then(|words| Ok((words, self.draw()?))) {
             Ok((words, page)) => format!("{words}\n\n{kept}\n{page}"),
             Err(why) => {
                 let history = self.history.display();
-                format!(
-                    "{history}: not linearizable\n{}\n{why}\n{kept}",
-                    faulty(report)
-                )
+                format!("{history}: {}\n{why}\n{kept}", shown(answer))
             }
         }
     }
 
-    fn explained(&self) -> Result<String, String> {
-        let words = ["explain".as_ref(), "--color".as_ref(), "never".as_ref()];
-        let files = [self.history.as_path(), &self.report];
-        let said = run(regkit()?, words.into_iter().chain(files), b"")?;
-        if said.status.code() != EXPLAINED {
-            return Err(complaint(&said));
+    fn explained(&self, bounds: Bounds) -> Result<String, String> {
+        let words = ["explain", "--color", "never"].map(AsRef::as_ref);
+        let files = [self.history.as_os_str(), self.report.as_os_str()];
+        let options = bounds.options();
+        let options = options.iter().map(AsRef::as_ref);
+        let said = run(
+            &regkit()?,
+            words.into_iter().chain(files).chain(options),
+            b"",
+        )?;
+        match said.status.code() {
+            programs::NOT_ATOMIC | programs::GAVE_UP => {
+                Ok(String::from_utf8_lossy(&said.stdout).trim_end().to_owned())
+            }
+            _ => Err(complaint(&said)),
         }
-        Ok(String::from_utf8_lossy(&said.stdout).trim_end().to_owned())
     }
 
     fn draw(&self) -> Result<String, String> {
@@ -83,7 +89,7 @@ impl Files {
             "-o".as_ref(),
             &self.page,
         ];
-        let said = run(regkit()?, words, b"")?;
+        let said = run(&regkit()?, words, b"")?;
         Ok(if said.status.success() {
             format!("page: {}", self.page.display())
         } else {
@@ -92,33 +98,51 @@ impl Files {
     }
 }
 
-/// The lines of a report that name a fault.
-fn faulty(report: &[u8]) -> String {
-    let text = String::from_utf8_lossy(report);
-    let lines = text.lines().filter(|line| line.contains("\"fault\":"));
-    lines.map(|line| format!("  {line}\n")).collect()
+/// The verdict, and the lines of the report that it rests on.
+fn shown(answer: &Answer) -> String {
+    let (verdict, key) = if answer.verdict == Verdict::Unknown {
+        (
+            "unknown: the search gave up; raise its bounds, or record runs with fewer calls open at once",
+            "\"gave_up\":",
+        )
+    } else {
+        ("not linearizable", "\"fault\":")
+    };
+    let text = String::from_utf8_lossy(&answer.report);
+    let lines = text.lines().filter(|line| line.contains(key));
+    lines.fold(verdict.to_owned(), |words, line| words + "\n  " + line)
 }
 
 /// Says why a history fails its test, if it does, and keeps it then.
-pub fn check(folder: &Path, test: &str, history: &[u8], reads: u64) -> Result<(), Trouble> {
+pub fn check(
+    folder: &Path,
+    test: &str,
+    history: &[u8],
+    reads: u64,
+    bounds: Bounds,
+) -> Result<(), Trouble> {
     let files = Files::named(folder, test);
     let place = format!("history: {}", files.history.display());
     let keep = |report| files.keep(history, report).map_err(Trouble::NotChecked);
-    match report(history) {
-        Ok(Checked { atomic: true, .. }) if reads > 0 => Ok(()),
-        Ok(Checked { atomic: true, .. }) => {
-            keep(None)?;
-            Err(Trouble::NotLinearizable(format!(
-                "too little evidence: the history is linearizable, but no read was completed\n\n{place}"
-            )))
-        }
-        Ok(Checked { report, .. }) => {
-            keep(Some(&report))?;
-            Err(Trouble::NotLinearizable(files.explain(&report)))
-        }
+    let answer = match answer::check(history, bounds) {
+        Ok(answer) => answer,
         Err(error) => {
             keep(None)?;
-            Err(Trouble::NotChecked(format!("{error}\n\n{place}")))
+            return Err(Trouble::NotChecked(format!("{error}\n\n{place}")));
         }
+    };
+    if answer.verdict == Verdict::Yes && reads > 0 {
+        return Ok(());
     }
+    keep(Some(&answer.report))?;
+    Err(match answer.verdict {
+        Verdict::Yes => Trouble::NotLinearizable(format!(
+            "too little evidence: the history is linearizable, but no read was completed\n\n{place}"
+        )),
+        Verdict::No => Trouble::NotLinearizable(files.explain(&answer, bounds)),
+        Verdict::Unknown => Trouble::Unknown(
+            files.explain(&answer, bounds)
+                + "\nbounds: give the recorder bounds with more steps or configurations",
+        ),
+    })
 }

@@ -1,18 +1,22 @@
-//! Says whether recorded runs of read/write registers are linearizable, by the proved checker `regcheck`.
+//! Says whether recorded runs of registers are linearizable, by the proved checkers `regcheck` and `regsearch`.
 //!
 //! ```
-//! let history = br#"{"process":1,"event":"call","op":"read","register":"x"}
-//! {"process":1,"event":"reply","value":null}
+//! use regcheck::{check, Bounds, Verdict};
+//!
+//! let history = br#"{"process":1,"event":"call","op":"cas","register":"x","from":null,"to":1}
+//! {"process":1,"event":"reply","ok":true}
 //! "#;
-//! let checked = regcheck::report(history)?;
-//! assert!(checked.atomic);
+//! assert_eq!(check(history, Bounds::default())?.verdict, Verdict::Yes);
 //! # Ok::<(), regcheck::Error>(())
 //! ```
 //!
 //! A [`Recorder`] writes such a history while threads use a store, and fails the test in words.
 //!
 //! It links `libregcheck.a`, and depends on nothing else. Without the feature `library` it runs the program `regcheck`: the
-//! one that the variable `REGCHECK` names, or the one on `PATH`.
+//! one that the variable `REGCHECK` names, or the one on `PATH`. What regcheck refuses, above all histories with
+//! compare-and-swap or repeated values, goes to the program `regsearch`: the one that `REGSEARCH` names, the one beside
+//! `regcheck`, or the one on `PATH`.
+mod answer;
 mod clock;
 mod error;
 mod kept;
@@ -21,10 +25,16 @@ mod library;
 mod programs;
 mod recorder;
 
-pub use error::{Error, Trouble};
-pub use recorder::{Client, Read, Recorder, Write};
+pub use answer::{check, Answer, Bounds, Verdict};
+pub use error::{Error, Refusal, Trouble};
+pub use recorder::{Cas, Client, Read, Recorder, Write};
 
-/// The report of a history.
+#[cfg(feature = "library")]
+use library::ask;
+#[cfg(not(feature = "library"))]
+use programs::ask;
+
+/// The report of regcheck on a history.
 #[derive(Clone, Debug, PartialEq, Eq)]
 pub struct Checked {
     /// Whether the history is atomic, that is, linearizable.
@@ -33,13 +43,13 @@ pub struct Checked {
     pub report: Vec<u8>,
 }
 
-/// Checks a history. Threads may call it at once.
+/// Asks regcheck alone about a history. Threads may call it at once.
 ///
 /// # Errors
 /// Why there is no report.
 pub fn report(history: &[u8]) -> Result<Checked, Error> {
-    #[cfg(feature = "library")]
-    return library::report(history);
-    #[cfg(not(feature = "library"))]
-    return programs::report(history);
+    ask(history).map_err(|error| match error {
+        Error::Refused(refusal) => Error::Refused(refusal.told(history)),
+        error => error,
+    })
 }

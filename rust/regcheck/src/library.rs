@@ -1,8 +1,9 @@
 //! Calls the library in this process.
-use crate::{Checked, Error};
+use crate::{Checked, Error, Refusal};
 use regcheck_sys::{regcheck_report, Answer, ATOMIC, NOT_ATOMIC, REFUSED, TOO_SMALL};
 
-pub fn report(history: &[u8]) -> Result<Checked, Error> {
+/// A refusal has numbers, and no words yet.
+pub fn ask(history: &[u8]) -> Result<Checked, Error> {
     // Enough unless registers have one operation or two.
     let mut out = vec![0; history.len() + 1024];
     let mut answer = call(history, &mut out);
@@ -18,11 +19,12 @@ pub fn report(history: &[u8]) -> Result<Checked, Error> {
                 report: out,
             })
         }
-        REFUSED => Err(Error::Refused {
-            number: answer.number,
+        REFUSED => Err(Error::Refused(Refusal {
+            number: Some(answer.number),
             line: Some(answer.line).filter(|line| *line > 0),
             other: Some(answer.other).filter(|line| *line > 0),
-        }),
+            words: String::new(),
+        })),
         _ => Err(Error::NoMemory),
     }
 }

@@ -1,11 +1,17 @@
-//! Runs the programs regcheck and regkit.
+//! Runs the programs regcheck, regsearch and regkit.
 use std::{
     env,
     ffi::OsStr,
     io::Write,
-    path::PathBuf,
+    path::{Path, PathBuf},
     process::{Command, Output, Stdio},
 };
+
+// The exit statuses of regcheck and regsearch, and of `regkit explain`.
+pub const ATOMIC: Option<i32> = Some(0);
+pub const NOT_ATOMIC: Option<i32> = Some(1);
+pub const REFUSED: Option<i32> = Some(2);
+pub const GAVE_UP: Option<i32> = Some(6);
 
 /// The path in the variable.
 fn named(variable: &str) -> Option<PathBuf> {
@@ -26,25 +32,40 @@ fn missing(variable: &str, name: &str) -> String {
     format!("{name} was not found: put it on PATH, or set {variable} to its path")
 }
 
-/// The path of regkit: the one in its variable, the one beside regcheck, as a release has it, or that on PATH.
+/// The path of regcheck.
+pub fn regcheck() -> Result<PathBuf, String> {
+    find("REGCHECK", "regcheck").ok_or_else(|| missing("REGCHECK", "regcheck"))
+}
+
+/// The path of regsearch.
+pub fn regsearch() -> Result<PathBuf, String> {
+    companion("REGSEARCH", "regsearch")
+}
+
+/// The path of regkit.
 pub fn regkit() -> Result<PathBuf, String> {
-    named("REGKIT")
+    companion("REGKIT", "regkit")
+}
+
+/// The path in the variable, that of the program beside regcheck, as a release has it, or that of the one on PATH.
+fn companion(variable: &str, name: &str) -> Result<PathBuf, String> {
+    named(variable)
         .or_else(|| {
-            let beside = find("REGCHECK", "regcheck")?.with_file_name("regkit");
+            let beside = find("REGCHECK", "regcheck")?.with_file_name(name);
             Some(beside).filter(|place| place.is_file())
         })
-        .or_else(|| find("REGKIT", "regkit"))
-        .ok_or_else(|| missing("REGKIT", "regkit"))
+        .or_else(|| find(variable, name))
+        .ok_or_else(|| missing(variable, name))
 }
 
 /// What a program says.
 pub fn run<W: AsRef<OsStr>>(
-    program: PathBuf,
+    program: &Path,
     words: impl IntoIterator<Item = W>,
     input: &[u8],
 ) -> Result<Output, String> {
     let failed = |error| format!("{} could not be run: {error}", program.display());
-    let mut child = Command::new(&program)
+    let mut child = Command::new(program)
         .args(words)
         .stdin(Stdio::piped())
         .stdout(Stdio::piped())
@@ -63,46 +84,34 @@ pub fn complaint(said: &Output) -> String {
     String::from_utf8_lossy(&said.stderr).trim_end().to_owned()
 }
 
+/// What is wrong if a program ends as it shouldn't.
+pub fn failure(program: &Path, said: &Output) -> String {
+    format!(
+        "{} ended with {}: {}",
+        program.display(),
+        said.status,
+        complaint(said)
+    )
+}
+
 #[cfg(not(feature = "library"))]
-pub use by_program::report;
+pub use by_program::ask;
 
 #[cfg(not(feature = "library"))]
 mod by_program {
-    use super::{complaint, find, missing, run};
-    use crate::{Checked, Error};
+    use super::{complaint, failure, regcheck, run, ATOMIC, NOT_ATOMIC, REFUSED};
+    use crate::{Checked, Error, Refusal};
 
-    const ATOMIC: Option<i32> = Some(0);
-    const NOT_ATOMIC: Option<i32> = Some(1);
-
-    pub fn report(history: &[u8]) -> Result<Checked, Error> {
-        let program = find("REGCHECK", "regcheck");
-        let program = program.ok_or_else(|| Error::Program(missing("REGCHECK", "regcheck")))?;
-        let said = run(program, [""; 0], history).map_err(Error::Program)?;
+    pub fn ask(history: &[u8]) -> Result<Checked, Error> {
+        let program = regcheck().map_err(Error::Program)?;
+        let said = run(&program, [""; 0], history).map_err(Error::Program)?;
         match said.status.code() {
             status @ (ATOMIC | NOT_ATOMIC) => Ok(Checked {
                 atomic: status == ATOMIC,
                 report: said.stdout,
             }),
-            _ => Err(error_of(complaint(&said))),
+            REFUSED => Err(Error::Refused(Refusal::read(complaint(&said)))),
+            _ => Err(Error::Program(failure(&program, &said))),
         }
-    }
-
-    /// Reads what the program said.
-    fn error_of(words: String) -> Error {
-        let line = words
-            .strip_prefix("line ")
-            .and_then(|rest| rest.split(':').next()?.parse().ok());
-        // Another line, or the end of the reason.
-        let last = words.rsplit(' ').next().and_then(|last| last.parse().ok());
-        let refused = |number, other| Error::Refused {
-            number,
-            line,
-            other,
-        };
-        (1..20)
-            .flat_map(|number| [refused(number, None), refused(number, last)])
-            .chain([Error::NoMemory])
-            .find(|error| error.to_string() == words)
-            .unwrap_or(Error::Program(words))
     }
 }

@@ -1,5 +1,5 @@
 //! Records what the clients of a store call and get.
-use crate::{clock::now, kept, Trouble};
+use crate::{clock::now, kept, Bounds, Trouble};
 use std::{
     collections::HashMap,
     io,
@@ -27,12 +27,13 @@ const NAME_BYTES: usize = 255;
 /// recorder.assert_linearizable("the store");
 /// ```
 ///
-/// The values of a register's writes are 1, 2, 3, and so on, so that a read's value tells which write it saw. A call that is
-/// dropped without a word stays pending: nobody knows what the store did. So `?` does what is right after a time-out.
+/// The values of a register's writes are 1, 2, 3, and so on, so that a read's value tells which write it saw.
+/// [`Client::write_value`] and [`Client::cas`] take values of the caller's own, which may repeat. A call that is dropped without a word stays pending: nobody knows what the store did. So `?` does what is right after a time-out.
 #[derive(Clone, Default)]
 pub struct Recorder {
     journal: Arc<Mutex<Journal>>,
     folder: Option<PathBuf>,
+    bounds: Bounds,
 }
 
 type Clock = Box<dyn FnMut() -> i64 + Send>;
@@ -46,7 +47,7 @@ struct Journal {
     processes: u32,
     values_after: i64,
     values: HashMap<String, i64>, // the latest of each register
-    reads: u64,                   // completed ones
+    reads: u64,                   // completed ones, and cas that were answered
     mistakes: Vec<String>,
 }
 
@@ -57,7 +58,7 @@ impl Journal {
         words
     }
 
-    /// A value that the register never had.
+    /// A value that the register never had from here.
     fn next(&mut self, register: &str) -> i64 {
         let after = self.values_after;
         let latest = self.values.entry(register.to_owned()).or_insert(after);
@@ -134,6 +135,12 @@ impl Recorder {
         self
     }
 
+    /// Says where the search gives up that cas and repeated values need, in place of the defaults.
+    pub fn bounds(mut self, bounds: Bounds) -> Recorder {
+        self.bounds = bounds;
+        self
+    }
+
     /// A client for one thread. `regkit explain` says its name, unless it is empty.
     pub fn client(&self, name: &str) -> Client {
         let mut client = Client {
@@ -152,8 +159,9 @@ impl Recorder {
     }
 
     /// Says why the history fails the test, unless it is linearizable, a read was completed, and the recorder was used
-    /// rightly. It leaves the history, its report and a page that shows the fault in `regcheck-failures`, named after the
-    /// test. The words and the page are made by `regkit`: where it isn't there, the report stands in their place.
+    /// rightly. A cas that was answered counts as a read. It leaves the history, its report and a page that shows the fault
+    /// in `regcheck-failures`, named after the test. If the search for an order gave up, nobody knows: that fails the test
+    /// too. The words and the page are made by `regkit`: where it isn't there, the report stands in their place.
     ///
     /// # Errors
     /// What is wrong, in words.
@@ -170,6 +178,7 @@ impl Recorder {
             test,
             &history,
             reads,
+            self.bounds,
         )
     }
 
@@ -214,17 +223,21 @@ impl Client {
         made.unwrap_or_else(|words| panic!("{}", locked(&self.journal).mistake(words)))
     }
 
-    /// The call of a write. Give its value to the store.
+    /// The call of a write. Give its value to the store: no other write by this function has it.
     ///
     /// # Panics
     /// If the name is no text of 1 to 255 bytes.
     pub fn write(&mut self, register: &str) -> Write<'_> {
-        let name = self.expect(quoted(register, "register"));
-        let journal = Arc::clone(&self.journal);
-        let mut journal = locked(&journal);
-        let value = journal.next(register);
-        let said = format!(",\"value\":{value}");
-        let call = Call::begin(self, &mut journal, "write", name, &said);
+        let value = locked(&self.journal).next(register);
+        self.write_value(register, value)
+    }
+
+    /// The call of a write of a value of the caller's own, which may repeat.
+    ///
+    /// # Panics
+    /// If the name is no text of 1 to 255 bytes.
+    pub fn write_value(&mut self, register: &str, value: i64) -> Write<'_> {
+        let call = Call::begin(self, "write", register, &format!(",\"value\":{value}"));
         Write { call, value }
     }
 
@@ -233,11 +246,24 @@ impl Client {
     /// # Panics
     /// If the name is no text of 1 to 255 bytes.
     pub fn read(&mut self, register: &str) -> Read<'_> {
-        let name = self.expect(quoted(register, "register"));
-        let journal = Arc::clone(&self.journal);
-        let call = Call::begin(self, &mut locked(&journal), "read", name, "");
+        let call = Call::begin(self, "read", register, "");
         Read { call }
     }
+
+    /// The call of a compare-and-swap, which writes `to` if the register holds `from`, `None` for no value.
+    ///
+    /// # Panics
+    /// If the name is no text of 1 to 255 bytes.
+    pub fn cas(&mut self, register: &str, from: Option<i64>, to: i64) -> Cas<'_> {
+        let said = format!(",\"from\":{},\"to\":{to}", member(from));
+        let call = Call::begin(self, "cas", register, &said);
+        Cas { call }
+    }
+}
+
+/// A value in JSON.
+fn member(value: Option<i64>) -> String {
+    value.map_or_else(|| "null".to_owned(), |value| value.to_string())
 }
 
 /// A call of a client. Its process is the client's again only if the call is ended.
@@ -248,18 +274,16 @@ struct Call<'c> {
 }
 
 impl<'c> Call<'c> {
-    fn begin(
-        client: &'c mut Client,
-        journal: &mut Journal,
-        op: &str,
-        register: String,
-        value: &str,
-    ) -> Call<'c> {
+    /// Writes the line of a call. `said` is what it says behind its register.
+    fn begin(client: &'c mut Client, op: &str, register: &str, said: &str) -> Call<'c> {
+        let register = client.expect(quoted(register, "register"));
+        let journal = Arc::clone(&client.journal);
+        let mut journal = locked(&journal);
         let process = client.process.take().unwrap_or_else(|| {
             journal.processes += 1;
             journal.processes
         });
-        let members = format!("\"event\":\"call\",\"op\":\"{op}\",\"register\":{register}{value}");
+        let members = format!("\"event\":\"call\",\"op\":\"{op}\",\"register\":{register}{said}");
         journal.append(process, &members, &client.who);
         Call {
             client,
@@ -268,14 +292,14 @@ impl<'c> Call<'c> {
         }
     }
 
-    fn end(self, event: &str, value: &str) {
+    fn end(self, event: &str, answer: &str) {
         let mut journal = locked(&self.client.journal);
         let members = format!(
-            "\"event\":\"{event}\",\"register\":{}{value}",
+            "\"event\":\"{event}\",\"register\":{}{answer}",
             self.register
         );
         journal.append(self.process, &members, &self.client.who);
-        journal.reads += u64::from(!value.is_empty());
+        journal.reads += u64::from(!answer.is_empty());
         self.client.process = Some(self.process);
     }
 }
@@ -288,7 +312,7 @@ pub struct Write<'c> {
 }
 
 impl Write<'_> {
-    /// What to write. No other write of the register has it.
+    /// What to write.
     pub fn value(&self) -> i64 {
         self.value
     }
@@ -314,11 +338,30 @@ pub struct Read<'c> {
 impl Read<'_> {
     /// The store gave this value, or said that it has none.
     pub fn replied(self, value: Option<i64>) {
-        let value = value.map_or_else(|| "null".to_owned(), |value| value.to_string());
-        self.call.end("reply", &format!(",\"value\":{value}"));
+        self.call
+            .end("reply", &format!(",\"value\":{}", member(value)));
     }
 
     /// The call certainly had no effect.
+    pub fn failed(self) {
+        self.call.end("fail", "");
+    }
+}
+
+/// The call of a compare-and-swap, pending until the store answered.
+#[must_use = "a call that is dropped stays pending"]
+pub struct Cas<'c> {
+    call: Call<'c>,
+}
+
+impl Cas<'_> {
+    /// The store compared, and said whether that took place. Say false only if it found another value. If it refused
+    /// without comparing, the call has failed.
+    pub fn replied(self, took_place: bool) {
+        self.call.end("reply", &format!(",\"ok\":{took_place}"));
+    }
+
+    /// The call certainly had no effect, and never will have.
     pub fn failed(self) {
         self.call.end("fail", "");
     }

@@ -1,5 +1,5 @@
 //! What is said of histories whose answers were worked out by hand.
-use regcheck::{report, Error};
+use regcheck::{check, report, Bounds, Error, Verdict};
 
 const INVERSION: &str = r#"{"process":1,"event":"call","op":"write","register":"x","value":1}
 {"process":1,"event":"reply"}
@@ -32,42 +32,97 @@ fn no_bytes() {
     );
 }
 
+const OPEN: &str = r#"{"process":1,"event":"call","op":"read","register":"x"}"#;
+
 #[test]
 fn refusals() {
-    let open = r#"{"process":1,"event":"call","op":"read","register":"x"}"#;
-    let error = report(format!("\n{open}\n{open}\n").as_bytes()).expect_err("a refusal");
-    assert_eq!(
-        error,
-        Error::Refused {
-            number: 9,
-            line: Some(3),
-            other: Some(2)
+    let rows = [
+        (
+            format!("\n{OPEN}\n{OPEN}\n"),
+            Some(3),
+            Some(2),
+            "line 3: the process has an open call at line 2",
+        ),
+        ("[]".to_owned(), Some(1), None, "line 1: not an object"),
+        (
+            "\n".repeat(67_108_865),
+            None,
+            None,
+            "input is longer than 67108864 bytes",
+        ),
+    ];
+    for (history, line, other, words) in rows {
+        let history = history.as_bytes();
+        let refused = [
+            report(history).map(|_| ()),
+            check(history, Bounds::default()).map(|_| ()),
+        ];
+        for error in refused.map(|answer| answer.expect_err("a refusal")) {
+            assert_eq!(error.to_string(), words);
+            match error {
+                Error::Refused(refusal) => {
+                    assert_eq!((refusal.line, refusal.other), (line, other));
+                    assert_eq!(refusal.words, words);
+                }
+                error => panic!("{error:?}"),
+            }
         }
+    }
+}
+
+/// Two cas from null to 1 that overlap, and end so; and a write of 1 between them and after them.
+fn two_cas(first: bool, second: bool) -> String {
+    let cas = |process| {
+        format!(
+            r#"{{"process":{process},"event":"call","op":"cas","register":"x","from":null,"to":1}}"#
+        )
+    };
+    let ended = |process, ok| format!(r#"{{"process":{process},"event":"reply","ok":{ok}}}"#);
+    let write = r#"{"process":3,"event":"call","op":"write","register":"x","value":1}
+{"process":3,"event":"reply"}"#;
+    [
+        cas(1),
+        cas(2),
+        ended(1, first),
+        write.to_owned(),
+        ended(2, second),
+        write.to_owned(),
+    ]
+    .join("\n")
+}
+
+#[test]
+fn cas_and_repeated_values() {
+    let narrow = Bounds {
+        steps: Some(1),
+        ..Bounds::default()
+    };
+    let rows = [
+        (true, false, Bounds::default(), Verdict::Yes),
+        (true, true, Bounds::default(), Verdict::No),
+        (true, false, narrow, Verdict::Unknown),
+    ];
+    for (first, second, bounds, verdict) in rows {
+        let history = two_cas(first, second);
+        let answer = check(history.as_bytes(), bounds).expect("an answer");
+        assert_eq!(answer.verdict, verdict, "{history}");
+        let report = String::from_utf8(answer.report).expect("a text");
+        assert!(report.contains("\"cas\":2"), "{report}");
+        assert!(matches!(report_of(&history), Error::Refused(_)));
+    }
+    let none = Bounds {
+        configurations: Some(0),
+        ..Bounds::default()
+    };
+    let error = check(two_cas(true, false).as_bytes(), none).expect_err("no bound");
+    assert!(
+        error.to_string().contains("'0' for '--configurations"),
+        "{error}"
     );
-    assert_eq!(
-        error.to_string(),
-        "line 3: the process has an open call at line 2"
-    );
-    let error = report(b"[]").expect_err("a refusal");
-    assert_eq!(
-        error,
-        Error::Refused {
-            number: 3,
-            line: Some(1),
-            other: None
-        }
-    );
-    assert_eq!(error.to_string(), "line 1: not an object");
-    let error = report(&vec![b'\n'; 67_108_865]).expect_err("a refusal");
-    assert_eq!(
-        error,
-        Error::Refused {
-            number: 15,
-            line: None,
-            other: None
-        }
-    );
-    assert_eq!(error.to_string(), "input is longer than 67108864 bytes");
+}
+
+fn report_of(history: &str) -> Error {
+    report(history.as_bytes()).expect_err("regcheck takes no cas")
 }
 
 // Many registers with one operation each make a report that is longer than the room that is tried first.

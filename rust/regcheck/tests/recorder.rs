@@ -1,5 +1,5 @@
 //! What the recorder writes, and what it says of a test.
-use regcheck::{report, Client, Error, Recorder, Trouble};
+use regcheck::{report, Bounds, Client, Recorder, Trouble};
 use std::{
     collections::HashMap,
     env, fs, io,
@@ -21,7 +21,16 @@ const LINES: &str = r#"{"process":1,"event":"call","op":"write","register":"x","
 {"process":3,"event":"reply","register":"x","value":-3,"node":"b","time":9000000}
 {"process":2,"event":"call","op":"read","register":"x","client":"one","node":"a","time":10000000}
 {"process":2,"event":"fail","register":"x","client":"one","node":"a","time":11000000}
-{"process":2,"event":"call","op":"read","register":"x","client":"one","node":"a","time":12000000}
+{"process":3,"event":"call","op":"write","register":"x","value":-3,"node":"b","time":12000000}
+{"process":3,"event":"reply","register":"x","node":"b","time":13000000}
+{"process":3,"event":"call","op":"cas","register":"x","from":null,"to":1,"node":"b","time":14000000}
+{"process":3,"event":"reply","register":"x","ok":false,"node":"b","time":15000000}
+{"process":3,"event":"call","op":"cas","register":"x","from":-3,"to":1,"node":"b","time":16000000}
+{"process":3,"event":"reply","register":"x","ok":true,"node":"b","time":17000000}
+{"process":3,"event":"call","op":"cas","register":"x","from":1,"to":0,"node":"b","time":18000000}
+{"process":3,"event":"fail","register":"x","node":"b","time":19000000}
+{"process":3,"event":"call","op":"cas","register":"x","from":1,"to":0,"node":"b","time":20000000}
+{"process":2,"event":"call","op":"read","register":"x","client":"one","node":"a","time":21000000}
 "#;
 
 /// A folder that is gone with it.
@@ -81,6 +90,13 @@ fn each_line_says_what_happened_who_called_and_when() {
     let mut two = two.on("b");
     two.read("x").replied(Some(-3));
     one.read("x").failed();
+    let write = two.write_value("x", -3);
+    assert_eq!(write.value(), -3);
+    write.replied();
+    two.cas("x", None, 1).replied(false);
+    two.cas("x", Some(-3), 1).replied(true);
+    two.cas("x", Some(1), 0).failed();
+    drop(two.cas("x", Some(1), 0));
     drop(one.read("x"));
     assert_eq!(String::from_utf8(recorder.history()).unwrap(), LINES);
     assert_eq!(
@@ -181,6 +197,37 @@ fn a_yes_without_a_completed_read_is_none() {
     );
     recorder.client("one").read("x").replied(Some(1));
     assert_eq!(recorder.check("little"), Ok(()));
+    let recorder = Recorder::new().keep_in(&folder.0);
+    recorder.client("one").cas("x", None, 1).replied(true);
+    assert_eq!(recorder.check("a cas that was answered"), Ok(()));
+}
+
+#[test]
+fn a_search_that_gives_up_fails_the_test() {
+    let folder = Folder::new("unknown");
+    let mut recorder = Recorder::new().keep_in(&folder.0);
+    let (mut one, mut two) = (recorder.client("one"), recorder.client("two"));
+    let (first, second) = (one.cas("x", None, 1), two.cas("x", None, 1));
+    first.replied(true);
+    second.replied(true);
+    let no = recorder.check("two").expect_err("two found no value");
+    assert!(matches!(no, Trouble::NotLinearizable(_)), "{no}");
+    recorder = recorder.bounds(Bounds {
+        steps: Some(1),
+        ..Bounds::default()
+    });
+    let unknown = recorder.check("two").expect_err("a bound");
+    assert!(matches!(unknown, Trouble::Unknown(_)), "{unknown}");
+    let words = unknown.to_string();
+    assert!(
+        words.contains("two.jsonl: unknown: the search gave up"),
+        "{words}"
+    );
+    let kept = fs::read_to_string(folder.0.join("two.report")).unwrap();
+    assert!(
+        kept.contains(r#""gave_up":{"bound":"steps"}"#),
+        "{kept}"
+    );
 }
 
 #[test]
@@ -205,33 +252,4 @@ fn a_fault_panics_and_its_history_is_kept() {
     );
     let kept = fs::read(folder.0.join("a_fault_1.report")).unwrap();
     assert_eq!(kept, report(&recorder.history()).unwrap().report);
-}
-
-#[test]
-fn the_words_of_each_kind_of_refusal_are_read() {
-    let open = r#"{"process":1,"event":"call","op":"read","register":"x"}"#;
-    let error = report(br#"{"process":-1}"#).expect_err("a refusal");
-    assert!(
-        matches!(
-            error,
-            Error::Refused {
-                number: 4,
-                line: Some(1),
-                other: None
-            }
-        ),
-        "{error:?}"
-    );
-    let error = report(format!("{open}\n{open}\n").as_bytes()).expect_err("a refusal");
-    assert!(
-        matches!(
-            error,
-            Error::Refused {
-                number: 9,
-                line: Some(2),
-                other: Some(1)
-            }
-        ),
-        "{error:?}"
-    );
 }
