@@ -14,12 +14,15 @@ import java.util.HashMap;
 import java.util.List;
 import java.util.Map;
 import java.util.Optional;
+import java.util.TreeMap;
+import java.util.function.Function;
 import java.util.function.LongSupplier;
 import java.util.stream.Collectors;
 import java.util.stream.Stream;
 
 /**
- * Records what the clients of a store call and get, and asks the program {@code regcheck} whether it is linearizable.
+ * Records what the clients of a store call and get, and asks the programs {@code regcheck} and {@code regsearch} whether it
+ * is linearizable.
  *
  * <pre>{@code
  * Recorder recorder = new Recorder();
@@ -30,12 +33,12 @@ import java.util.stream.Stream;
  * }</pre>
  *
  * It needs JDK 17 and nothing else. Threads share one recorder, and each takes a client of its own. The values of a
- * register's writes are 1, 2, 3, and so on, so that a read's value tells which write it saw.
+ * register's writes are 1, 2, 3, and so on, so that a read's value tells which write it saw. A caller may choose values of
+ * its own, and repeat them, and may compare and swap (cas).
  */
 public final class Recorder {
     private static final int NAME_BYTES = 255;
-    private static final int ATOMIC = 0, NOT_ATOMIC = 1; // exit statuses of regcheck
-    private static final int EXPLAINED = 1; // the exit status of `regkit explain`
+    private static final int ATOMIC = 0, NOT_ATOMIC = 1, REFUSED = 2, GAVE_UP = 6; // exit statuses of the programs
 
     private final ByteArrayOutputStream history = new ByteArrayOutputStream();
     private final OutputStream output;
@@ -45,7 +48,8 @@ public final class Recorder {
     private long valuesAfter;
     private Path folder = Path.of("regcheck-failures");
     private long processes;
-    private long reads; // completed ones
+    private final Map<String, Long> bounds = new TreeMap<>(); // of regsearch, by its options
+    private long reads; // completed ones, and cas that were answered
 
     /** Keeps the history in memory, with the times of the machine's monotonic clock. */
     public Recorder() {
@@ -73,6 +77,18 @@ public final class Recorder {
         return this;
     }
 
+    /** Says how many steps the search that cas and repeated values need may take, in place of 10,000,000,000. */
+    public Recorder steps(long most) {
+        bounds.put("--steps", most);
+        return this;
+    }
+
+    /** Says how many configurations that search may hold in one list, in place of 65,536. */
+    public Recorder configurations(long most) {
+        bounds.put("--configurations", most);
+        return this;
+    }
+
     /** A client for one thread. {@code regkit explain} says its name and its node, unless they are empty. */
     public Client client(String name, String node) {
         return new Client(this, member("client", name) + member("node", node));
@@ -94,9 +110,11 @@ public final class Recorder {
     }
 
     /**
-     * Throws unless the history is linearizable, a read was completed, and the recorder was used rightly. It says why
-     * in words, and leaves the history, its report and a page that shows the fault in the folder, named after the test.
-     * The words and the page are made by {@code regkit}: where it isn't there, the report stands in their place.
+     * Throws unless the history is linearizable, a read was completed, and the recorder was used rightly. A cas that was
+     * answered counts as a read. It says why in words, and leaves the history, its report and a page that shows the fault
+     * in the folder, named after the test. If the search for an order gave up, nobody knows: it throws NotChecked, which
+     * says what to do. The words and the page are made by {@code regkit}: where it isn't there, the report stands in
+     * their place.
      */
     public void assertLinearizable(String test) {
         for (Mistake mistake : mistakes()) {
@@ -106,33 +124,65 @@ public final class Recorder {
         Kept kept = new Kept(folder.resolve(name.substring(Math.max(0, name.length() - 200))).toString());
         Answer answer;
         try {
-            answer = check(history());
+            answer = check(history(), options());
         } catch (NotChecked none) {
             kept.keep(kept.history(), history());
             throw new NotChecked("no verdict: " + none.getMessage() + "\n\nhistory: " + kept.history());
         }
-        if (answer.linearizable() && hasRead()) {
+        if (answer.verdict() == Verdict.YES && hasRead()) {
             return;
         }
         kept.keep(kept.history(), history());
-        if (answer.linearizable()) {
-            throw new NotLinearizable("too little evidence: the history is linearizable, but no read was completed\n\n"
-                    + "history: " + kept.history());
-        }
         kept.keep(kept.report(), answer.report());
-        throw new NotLinearizable(kept.explain(answer.report()));
+        switch (answer.verdict()) {
+            case YES -> throw new NotLinearizable("too little evidence: the history is linearizable, but no read was "
+                    + "completed\n\nhistory: " + kept.history());
+            case NO -> throw new NotLinearizable(kept.explain(answer, options()));
+            case UNKNOWN -> throw new NotChecked(kept.explain(answer, options())
+                    + "\nbounds: give the recorder more steps or configurations");
+        }
     }
 
-    /** The verdict of regcheck on a history, and its report. */
-    public record Answer(boolean linearizable, byte[] report) {}
+    private List<String> options() {
+        return bounds.entrySet().stream().flatMap(bound -> Stream.of(bound.getKey(), bound.getValue().toString())).toList();
+    }
 
-    /** Runs regcheck. Throws NotChecked, in its own words, if it gives no verdict. */
+    /** Whether a history is linearizable. Of UNKNOWN the search for an order gave up at a bound. */
+    public enum Verdict { YES, NO, UNKNOWN }
+
+    /** The verdict on a history, and the report of regcheck, or of regsearch where regcheck refuses the history. */
+    public record Answer(Verdict verdict, byte[] report) {}
+
+    /**
+     * Asks regcheck, and of what it refuses, such as cas and repeated values, regsearch. Throws NotChecked, in the words of
+     * the program, if there is no verdict.
+     */
     public static Answer check(byte[] history) {
-        Ran ran = Ran.run(history, Programs.regcheck());
-        if (ran.status() == ATOMIC || ran.status() == NOT_ATOMIC) {
-            return new Answer(ran.status() == ATOMIC, ran.output());
+        return check(history, List.of());
+    }
+
+    private static Answer check(byte[] history, List<String> bounds) {
+        String program = Programs.regcheck();
+        Ran ran = Ran.run(history, List.of(program));
+        if (ran.status() == REFUSED) {
+            try {
+                program = Programs.regsearch();
+            } catch (NotChecked none) {
+                throw new NotChecked(ran.words() + "; repeated values and cas need regsearch, but " + none.getMessage());
+            }
+            ran = Ran.run(history, concat(List.of(program), bounds));
         }
-        throw new NotChecked(ran.words());
+        return switch (ran.status()) {
+            case ATOMIC -> new Answer(Verdict.YES, ran.output());
+            case NOT_ATOMIC -> new Answer(Verdict.NO, ran.output());
+            case GAVE_UP -> new Answer(Verdict.UNKNOWN, ran.output());
+            case REFUSED -> throw new NotChecked(ran.words());
+            default -> throw new NotChecked(program + " ended with status " + ran.status() + ": " + ran.words());
+        };
+    }
+
+    private static List<String> concat(List<String> first, List<String> second) {
+        return Stream.concat(first.stream(), second.stream()).toList();
     }
 
     /** The recorder was used in a way that would make the history wrong. The call stays pending, or isn't made. */
@@ -149,7 +199,7 @@ public final class Recorder {
         }
     }
 
-    /** The checker gave no verdict: it refused the history, or it failed. */
+    /** The checker gave no verdict: it refused the history, its search gave up, or it failed. */
     public static final class NotChecked extends RuntimeException {
         private NotChecked(String words) {
             super(words);
@@ -169,6 +219,11 @@ public final class Recorder {
     /** Gives the store a value. */
     public interface Setter<E extends Exception> {
         void set(long value) throws E;
+    }
+
+    /** Asks the store to compare and swap, and tells whether that took place. */
+    public interface Swapper<E extends Exception> {
+        boolean swap() throws E;
     }
 
     /** Asks the store: for a whole number, its text, or null if the store has no value. */
@@ -195,24 +250,39 @@ public final class Recorder {
          * process number. If it throws NoEffect, the call certainly had no effect.
          */
         public <E extends Exception> void write(String register, Setter<E> setter) throws E {
-            long value = begin("write", register);
-            try {
+            write(register, recorder.next(register), setter);
+        }
+
+        /** Records a write of a value of the caller's own, which may repeat. */
+        public <E extends Exception> void write(String register, long value, Setter<E> setter) throws E {
+            during("write", register, ",\"value\":" + value, () -> {
                 setter.set(value);
-                end("reply", register, "");
-            } catch (NoEffect failed) {
-                end("fail", register, "");
-                throw failed;
-            } finally {
-                leave();
-            }
+                return null;
+            }, nothing -> "");
         }
 
         /** Records a read, and gives what the getter gives. An exception ends the call as one of a write does. */
         public <T, E extends Exception> T read(String register, Getter<T, E> getter) throws E {
-            begin("read", register);
+            return during("read", register, "", getter, given -> ",\"value\":" + recorder.numberOf(given));
+        }
+
+        /**
+         * Records a compare-and-swap: the swapper asks the store to write {@code to} if the register holds {@code from},
+         * null if it has no value, and tells whether that took place. It gives what the swapper gives. Let that be false
+         * only if the store compared, and said that it found another value. If the store refused without comparing, throw
+         * NoEffect. An exception ends the call as one of a write does.
+         */
+        public <E extends Exception> boolean cas(String register, Long from, long to, Swapper<E> swapper) throws E {
+            return during("cas", register, ",\"from\":" + from + ",\"to\":" + to, swapper::swap, ok -> ",\"ok\":" + ok);
+        }
+
+        /** Records a call, from what its line says to what its answer says. */
+        private <T, E extends Exception> T during(String op, String register, String said, Getter<T, E> action,
+                Function<T, String> answer) throws E {
+            begin(op, register, said);
             try {
-                T given = getter.get();
-                end("reply", register, ",\"value\":" + recorder.numberOf(given));
+                T given = action.get();
+                end("reply", register, answer.apply(given));
                 return given;
             } catch (NoEffect failed) {
                 end("fail", register, "");
@@ -222,8 +292,8 @@ public final class Recorder {
             }
         }
 
-        /** Writes the line of a call, and gives the value of a write. */
-        private long begin(String op, String register) {
+        /** Writes the line of a call. */
+        private void begin(String op, String register, String said) {
             synchronized (recorder) {
                 String name = recorder.quoted(register, "register");
                 if (open) {
@@ -234,17 +304,14 @@ public final class Recorder {
                     process = ++recorder.processes;
                 }
                 open = spent = true;
-                long value = op.equals("write") ? recorder.next(register) : 0;
-                String said = op.equals("write") ? ",\"value\":" + value : "";
                 append("\"event\":\"call\",\"op\":\"" + op + "\",\"register\":" + name + said);
-                return value;
             }
         }
 
-        private void end(String event, String register, String value) {
+        private void end(String event, String register, String answer) {
             synchronized (recorder) {
-                append("\"event\":\"" + event + "\",\"register\":" + recorder.quoted(register, "register") + value);
-                recorder.reads += value.isEmpty() ? 0 : 1;
+                append("\"event\":\"" + event + "\",\"register\":" + recorder.quoted(register, "register") + answer);
+                recorder.reads += answer.isEmpty() ? 0 : 1;
                 spent = false;
             }
         }
@@ -260,8 +327,8 @@ public final class Recorder {
         }
     }
 
-    /** A value that the register never had. */
-    private long next(String register) {
+    /** A value that the register never had from here. */
+    private synchronized long next(String register) {
         return values.merge(register, valuesAfter + 1, (latest, first) -> latest + 1);
     }
 
@@ -332,12 +399,20 @@ public final class Recorder {
             return find("REGCHECK", "regcheck").orElseThrow(() -> missing("REGCHECK", "regcheck"));
         }
 
-        /** The one that is named, the one beside regcheck, as a release has it, or that on PATH. */
+        static String regsearch() {
+            return companion("REGSEARCH", "regsearch");
+        }
+
         static String regkit() {
-            return named("REGKIT")
-                    .or(() -> find("REGCHECK", "regcheck").map(checker -> Path.of(checker).resolveSibling("regkit"))
+            return companion("REGKIT", "regkit");
+        }
+
+        /** The one that is named, the one beside regcheck, as a release has it, or that on PATH. */
+        private static String companion(String variable, String name) {
+            return named(variable)
+                    .or(() -> find("REGCHECK", "regcheck").map(checker -> Path.of(checker).resolveSibling(name))
                             .filter(Files::isExecutable).map(Path::toString))
-                    .or(() -> find("REGKIT", "regkit")).orElseThrow(() -> missing("REGKIT", "regkit"));
+                    .or(() -> find(variable, name)).orElseThrow(() -> missing(variable, name));
         }
 
         private static Optional<String> find(String variable, String name) {
@@ -358,7 +433,7 @@ public final class Recorder {
 
     /** What a run of a program gave. */
     private record Ran(int status, byte[] output, String words) {
-        static Ran run(byte[] input, String... command) {
+        static Ran run(byte[] input, List<String> command) {
             try {
                 Path given = Files.createTempFile("regcheck-", ".jsonl");
                 Path said = Files.createTempFile("regcheck-", ".words");
@@ -373,10 +448,10 @@ public final class Recorder {
                     Files.delete(said);
                 }
             } catch (IOException error) {
-                throw new NotChecked(command[0] + " could not be run: " + error.getMessage());
+                throw new NotChecked(command.get(0) + " could not be run: " + error.getMessage());
             } catch (InterruptedException error) {
                 Thread.currentThread().interrupt();
-                throw new NotChecked(command[0] + " was interrupted");
+                throw new NotChecked(command.get(0) + " was interrupted");
             }
         }
     }
@@ -401,25 +476,34 @@ public final class Recorder {
             }
         }
 
-        /** Why the kept history isn't linearizable, in the words of regkit; it draws the page too. */
-        String explain(byte[] report) {
+        /** Why the kept history isn't linearizable, or what to do if nobody knows, in the words of regkit; drawn too. */
+        String explain(Answer answer, List<String> bounds) {
             String kept = "history: " + history() + "\nreport: " + report();
             String page = begin + ".html";
             try {
                 String regkit = Programs.regkit();
-                Ran told = Ran.run(new byte[0], regkit, "explain", "--color", "never", history(), report());
-                if (told.status() != EXPLAINED) {
+                Ran told = Ran.run(new byte[0],
+                        concat(List.of(regkit, "explain", "--color", "never", history(), report()), bounds));
+                if (told.status() != NOT_ATOMIC && told.status() != GAVE_UP) {
                     throw new NotChecked(told.words());
                 }
-                Ran drawn = Ran.run(new byte[0], regkit, "draw", history(), report(), "-o", page);
+                Ran drawn = Ran.run(new byte[0], List.of(regkit, "draw", history(), report(), "-o", page));
                 return new String(told.output(), StandardCharsets.UTF_8).stripTrailing() + "\n\n" + kept + "\n"
                         + (drawn.status() == 0 ? "page: " + page : "no page: " + drawn.words());
             } catch (NotChecked none) {
-                String faulty = new String(report, StandardCharsets.UTF_8).lines()
-                        .filter(line -> line.contains("\"fault\":")).map(line -> "  " + line)
-                        .collect(Collectors.joining("\n"));
-                return history() + ": not linearizable\n" + faulty + "\n\n" + none.getMessage() + "\n" + kept;
+                return history() + ": " + shown(answer) + "\n\n" + none.getMessage() + "\n" + kept;
             }
+        }
+
+        /** The verdict, and the lines of the report that it rests on. */
+        private static String shown(Answer answer) {
+            boolean unknown = answer.verdict() == Verdict.UNKNOWN;
+            String verdict = unknown
+                    ? "unknown: the search gave up; raise its bounds, or record runs with fewer calls open at once"
+                    : "not linearizable";
+            Stream<String> lines = new String(answer.report(), StandardCharsets.UTF_8).lines()
+                    .filter(line -> line.contains(unknown ? "\"gave_up\":" : "\"fault\":")).map(line -> "  " + line);
+            return Stream.concat(Stream.of(verdict), lines).collect(Collectors.joining("\n"));
         }
     }
 }

@@ -1,8 +1,5 @@
-import java.io.OutputStream;
-import java.nio.file.Path;
 import java.util.HashMap;
 import java.util.Map;
-import java.util.concurrent.atomic.AtomicLong;
 
 import regcheck.Recorder;
 
@@ -52,30 +49,12 @@ final class Cache {
         Cache store = new Cache(counts);
         Recorder.Client writer = recorder.client("thread-1", "cache");
         writer.write("x", value -> store.set("x", value));
-        store.loaded = () -> {
-            Thread writing = new Thread(() -> writer.write("x", value -> store.set("x", value)));
-            writing.start();
-            try {
-                writing.join();
-            } catch (InterruptedException error) {
-                throw new IllegalStateException(error);
-            }
-        };
+        store.loaded = () -> Toy.aside(() -> writer.write("x", value -> store.set("x", value)));
         recorder.client("thread-2", "cache").read("x", () -> store.get("x"));
         recorder.client("thread-3", "cache").read("x", () -> store.get("x"));
     }
 
     public static void main(String[] words) {
-        AtomicLong time = new AtomicLong();
-        Recorder recorder = new Recorder(OutputStream.nullOutputStream(), () -> time.addAndGet(1_000_000))
-                .keepIn(Path.of("kept"));
-        record(recorder, words[0].equals("right"));
-        try {
-            recorder.assertLinearizable("cache");
-            System.out.println("linearizable");
-        } catch (Recorder.NotLinearizable fault) {
-            System.out.println(fault.getMessage());
-            System.exit(1);
-        }
+        Toy.run("cache", words, Cache::record);
     }
 }

@@ -33,7 +33,16 @@ final class RecorderTest {
             {"process":3,"event":"reply","register":"x","value":-3,"time":9000000}
             {"process":3,"event":"call","op":"read","register":"x","time":10000000}
             {"process":3,"event":"reply","register":"x","value":9223372036854775807,"time":11000000}
-            {"process":2,"event":"call","op":"read","register":"x","client":"one","node":"a","time":12000000}
+            {"process":3,"event":"call","op":"write","register":"x","value":-3,"time":12000000}
+            {"process":3,"event":"reply","register":"x","time":13000000}
+            {"process":3,"event":"call","op":"cas","register":"x","from":null,"to":1,"time":14000000}
+            {"process":3,"event":"reply","register":"x","ok":false,"time":15000000}
+            {"process":3,"event":"call","op":"cas","register":"x","from":-3,"to":1,"time":16000000}
+            {"process":3,"event":"reply","register":"x","ok":true,"time":17000000}
+            {"process":3,"event":"call","op":"cas","register":"x","from":1,"to":0,"time":18000000}
+            {"process":3,"event":"fail","register":"x","time":19000000}
+            {"process":3,"event":"call","op":"cas","register":"x","from":1,"to":0,"time":20000000}
+            {"process":2,"event":"call","op":"read","register":"x","client":"one","node":"a","time":21000000}
             """;
 
     private record Row(String name, String words, Consumer<Recorder> use) {}
@@ -68,6 +77,15 @@ final class RecorderTest {
         two.read("x", () -> null);
         two.read("x", () -> "-3".getBytes(StandardCharsets.UTF_8));
         expect(two.<Long, RuntimeException>read("x", () -> Long.MAX_VALUE) == Long.MAX_VALUE, "the value is handed on");
+        two.write("x", -3, value -> expect(value == -3, "the value is handed on"));
+        expect(!two.<RuntimeException>cas("x", null, 1, () -> false), "it missed");
+        expect(two.<RuntimeException>cas("x", -3L, 1, () -> true), "it took place");
+        thrown(Recorder.NoEffect.class, () -> two.cas("x", 1L, 0, () -> {
+            throw new Recorder.NoEffect(new IOException("connection refused"));
+        }));
+        thrown(TimeoutException.class, () -> two.<TimeoutException>cas("x", 1L, 0, () -> {
+            throw new TimeoutException();
+        }));
         thrown(TimeoutException.class, () -> one.<Long, TimeoutException>read("x", () -> {
             throw new TimeoutException();
         }));
@@ -130,6 +148,26 @@ final class RecorderTest {
         expect(little.getMessage().contains("no read was completed"), little.getMessage());
         recorder.client("one").read("x", () -> 1);
         recorder.assertLinearizable("little");
+        Recorder cas = new Recorder().keepIn(folder);
+        cas.client("one").cas("x", null, 1, () -> true);
+        cas.assertLinearizable("a cas that was answered");
+    }
+
+    /** Two cas that find no value, at once. A search of one step gives up, and one without configurations is none. */
+    static void unknown() {
+        Recorder recorder = new Recorder().keepIn(folder);
+        recorder.client("one").cas("x", null, 1, () -> recorder.client("two").cas("x", null, 1, () -> true));
+        System.setProperty("regkit", "/nowhere/regkit");
+        String no = thrown(Recorder.NotLinearizable.class, () -> recorder.assertLinearizable("two")).getMessage();
+        recorder.steps(1);
+        String unknown = thrown(Recorder.NotChecked.class, () -> recorder.assertLinearizable("two")).getMessage();
+        recorder.configurations(0);
+        String refused = thrown(Recorder.NotChecked.class, () -> recorder.assertLinearizable("two")).getMessage();
+        System.clearProperty("regkit");
+        expect(refused.contains("no verdict: ") && refused.contains("'0' for '--configurations"), refused);
+        expect(no.contains("two.jsonl: not linearizable") && no.contains("\"kind\":\"search\""), no);
+        expect(unknown.contains("two.jsonl: unknown: the search gave up; raise its bounds")
+                && unknown.contains("\"gave_up\":{\"bound\":\"steps\"}"), unknown);
     }
 
     static void valuesAfter() {
@@ -155,6 +193,10 @@ final class RecorderTest {
     static void noVerdict() {
         byte[] none = "[]\n".getBytes(StandardCharsets.UTF_8);
         expect(thrown(Recorder.NotChecked.class, () -> Recorder.check(none)).getMessage().startsWith("line 1: "), "refused");
+        System.setProperty("regsearch", "/nowhere/regsearch");
+        String refused = thrown(Recorder.NotChecked.class, () -> Recorder.check(none)).getMessage();
+        System.clearProperty("regsearch");
+        expect(refused.contains("/nowhere/regsearch could not be run"), refused);
         System.setProperty("regcheck", "/nowhere/regcheck");
         String words = thrown(Recorder.NotChecked.class, () -> Recorder.check(none)).getMessage();
         System.clearProperty("regcheck");
@@ -188,8 +230,9 @@ final class RecorderTest {
     public static void main(String[] none) throws Exception {
         folder = Files.createTempDirectory("regcheck-");
         Map<String, Action> tests = Map.of("lines", RecorderTest::lines, "mistakes", RecorderTest::mistakes,
-                "threads", RecorderTest::threads, "evidence", RecorderTest::evidence, "valuesAfter", RecorderTest::valuesAfter,
-                "faultWithoutRegkit", RecorderTest::faultWithoutRegkit, "noVerdict", RecorderTest::noVerdict);
+                "threads", RecorderTest::threads, "evidence", RecorderTest::evidence, "unknown", RecorderTest::unknown,
+                "valuesAfter", RecorderTest::valuesAfter, "faultWithoutRegkit", RecorderTest::faultWithoutRegkit,
+                "noVerdict", RecorderTest::noVerdict);
         int failed = 0;
         for (Map.Entry<String, Action> test : tests.entrySet()) {
             try {
