@@ -1,6 +1,7 @@
 "use strict";
 /**
- * Records what the clients of a store call and get, and asks the program `regcheck` whether it is linearizable.
+ * Records what the clients of a store call and get, and asks the programs `regcheck` and `regsearch` whether it is
+ * linearizable.
  *
  *     const { Recorder } = require("./regcheck.cjs");
  *
@@ -18,8 +19,8 @@ const path = require("node:path");
 
 const NAME_BYTES = 255;
 const [LEAST, GREATEST] = [-(2n ** 63n), 2n ** 63n - 1n];
-const [ATOMIC, NOT_ATOMIC, REFUSED] = [0, 1, 2]; // exit statuses of regcheck
-const EXPLAINED = 1; // the exit status of `regkit explain`
+const [ATOMIC, NOT_ATOMIC, REFUSED, GAVE_UP] = [0, 1, 2, 6]; // exit statuses of the programs
+const VERDICTS = { [ATOMIC]: "yes", [NOT_ATOMIC]: "no", [GAVE_UP]: "unknown" };
 
 /** The recorder was used in a way that would make the history wrong. The call stays pending, or isn't made. */
 class Mistake extends Error {}
@@ -27,11 +28,11 @@ class Mistake extends Error {}
 /** No order of the operations explains what the clients saw, or too little was read to say so. */
 class NotLinearizable extends Error {}
 
-/** The checker gave no verdict: it refused the history, or it failed. */
+/** The checker gave no verdict: it refused the history, its search gave up, or it failed. */
 class NotChecked extends Error {}
 
 /**
- * Throw it from a call that surely had no effect, and never will have: the connection was refused, say. Don't throw it
+ * Throw it from a call that certainly had no effect, and never will have: the connection was refused, say. Don't throw it
  * when a call timed out: if the store did the write after all, that invents a fault.
  */
 class NoEffect extends Error {
@@ -48,6 +49,8 @@ function quoted(name, what) {
   throw new Mistake(`${JSON.stringify(name)} is no ${what}: name it by a text of 1 to ${NAME_BYTES} bytes`);
 }
 
+const shown = (value) => (typeof value === "string" ? JSON.stringify(value) : String(value));
+
 /** What the store gave, as the history has it. Throws Mistake if it is no value of a register. */
 function numberOf(value) {
   if (value === null || value === undefined) return "null";
@@ -55,8 +58,22 @@ function numberOf(value) {
   const isWhole = Number.isSafeInteger(value) || typeof value === "bigint"
     || (typeof value === "string" && /^-?[0-9]{1,19}$/.test(value));
   if (isWhole && BigInt(value) >= LEAST && BigInt(value) <= GREATEST) return BigInt(value).toString();
-  throw new Mistake(`the store gave ${typeof value === "string" ? JSON.stringify(value) : String(value)}, but a value is `
-    + "a whole number of 64 bits, its text, or null; give a number above 9007199254740991 as a BigInt");
+  throw new Mistake(`the store gave ${shown(value)}, but a value is a whole number of 64 bits, its text, or null; `
+    + "give a number above 9007199254740991 as a BigInt");
+}
+
+/** A value that the caller lets a call write, as the history has it. Throws Mistake if it is none. */
+function written(value) {
+  const isWhole = Number.isSafeInteger(value) || typeof value === "bigint";
+  if (isWhole && BigInt(value) >= LEAST && BigInt(value) <= GREATEST) return BigInt(value).toString();
+  throw new Mistake(`${shown(value)} can't be written: a value is a whole number of 64 bits; `
+    + "give one above 9007199254740991 as a BigInt");
+}
+
+/** Whether a cas took place, as the history has it. Throws Mistake if the store didn't say. */
+function outcomeOf(value) {
+  if (typeof value === "boolean") return String(value);
+  throw new Mistake(`the store gave ${shown(value)}, but a cas took place, true, or missed, false`);
 }
 
 /** Makes one call after another. */
@@ -75,40 +92,55 @@ class Client {
   /**
    * Records a write, in which `set` gives the store the value. How `set` ends decides how the call ends. If it returns,
    * the history has its reply. If it throws, nobody knows what the store did: the call stays pending, and the client
-   * goes on under a new process number. If it throws NoEffect, the call surely had no effect.
+   * goes on under a new process number. If it throws NoEffect, the call certainly had no effect.
    */
   async write(register, set) {
-    const value = this.#begin("write", register);
+    const value = this.#recorder.nextValue(register);
+    return this.writeValue(register, value, set);
+  }
+
+  /** Records a write of a value of the caller's own, which may repeat. */
+  async writeValue(register, value, set) {
+    this.#begin("write", register, () => `,"value":${written(value)}`);
     return this.#end(register, () => set(value), () => "");
   }
 
   /** Records a read, in which `get` asks the store: a whole number, its text, or null. Gives what `get` gives. */
   async read(register, get) {
-    this.#begin("read", register);
+    this.#begin("read", register, () => "");
     return this.#end(register, get, (value) => `,"value":${numberOf(value)}`);
   }
 
-  #begin(op, register) {
+  /**
+   * Records a compare-and-swap, in which `swap` asks the store to write `to` if the register holds `from`, null if it has
+   * no value, and tells whether that took place: true or false. It gives what `swap` gives. Let that be false only if the
+   * store compared, and said that it found another value. If the store refused without comparing, throw NoEffect.
+   */
+  async cas(register, from, to, swap) {
+    this.#begin("cas", register, () => `,"from":${from === null ? "null" : written(from)},"to":${written(to)}`);
+    return this.#end(register, swap, (tookPlace) => `,"ok":${outcomeOf(tookPlace)}`);
+  }
+
+  #begin(op, register, values) {
     const recorder = this.#recorder;
-    const name = recorder.noting(() => quoted(register, "register"));
+    const said = recorder.noting(() => quoted(register, "register") + values());
     if (this.#open) {
       recorder.noting(() => {
-        throw new Mistake(`the client has a call open while it calls a ${op} of ${name}: take a client for each task`);
+        throw new Mistake(`the client has a call open while it calls a ${op} of ${JSON.stringify(register)}: `
+          + "take a client for each task");
       });
     }
     if (this.#spent) this.#process = recorder.nextProcess();
     this.#open = this.#spent = true;
-    const value = op === "write" ? recorder.nextValue(register) : undefined;
-    this.#append(`"event":"call","op":"${op}","register":${name}${value ? `,"value":${value}` : ""}`);
-    return value;
+    this.#append(`"event":"call","op":"${op}","register":${said}`);
   }
 
-  async #end(register, call, valueOf) {
+  async #end(register, call, answerOf) {
     try {
       const given = await call();
-      const value = this.#recorder.noting(() => valueOf(given));
-      this.#append(`"event":"reply","register":${JSON.stringify(register)}${value}`);
-      this.#recorder.reads += value === "" ? 0 : 1;
+      const answer = this.#recorder.noting(() => answerOf(given));
+      this.#append(`"event":"reply","register":${JSON.stringify(register)}${answer}`);
+      this.#recorder.reads += answer === "" ? 0 : 1;
       this.#spent = false;
       return given;
     } catch (error) {
@@ -128,13 +160,15 @@ class Client {
 }
 
 /**
- * A history in the making. The values of a register's writes are 1, 2, 3, and so on.
+ * A history in the making. The values of a register's writes are 1, 2, 3, and so on, unless the caller chooses them.
  *
  * - `output`: a path whose file gets each line at once;
  * - `clock`: gives nanoseconds as a BigInt; by default the machine's monotonic clock;
  * - `valuesAfter`: what the values come after, by default 0. Where several processes or worker threads record one run,
  *   give each a number of its own, far from the others;
- * - `folder`: where assertLinearizable leaves what it found; by default regcheck-failures.
+ * - `folder`: where assertLinearizable leaves what it found; by default regcheck-failures;
+ * - `bounds`: of the search that cas and repeated values need: `steps`, by default 10,000,000,000, and `configurations`,
+ *   by default 65,536.
  */
 class Recorder {
   #lines = [];
@@ -143,11 +177,13 @@ class Recorder {
   #valuesAfter;
   #clock;
   #output;
-  reads = 0; // completed ones
+  reads = 0; // completed ones, and cas that were answered
   mistakes = [];
 
-  constructor({ output = null, clock = process.hrtime.bigint, valuesAfter = 0, folder = "regcheck-failures" } = {}) {
+  constructor({ output = null, clock = process.hrtime.bigint, valuesAfter = 0, folder = "regcheck-failures",
+    bounds = {} } = {}) {
     this.folder = folder;
+    this.bounds = bounds;
     this.#valuesAfter = valuesAfter;
     this.#clock = clock;
     this.#output = output === null ? null : fs.openSync(output, "w");
@@ -165,14 +201,15 @@ class Recorder {
   }
 
   /**
-   * Throws unless the history is linearizable, a read was completed, and the recorder was used rightly. It says why in
-   * words, and leaves the history, its report and a page that shows the fault in the folder, named after the test. The
-   * words and the page are made by `regkit`: where it isn't there, the report stands in their place.
+   * Throws unless the history is linearizable, a read was completed, and the recorder was used rightly. A cas that was
+   * answered counts as a read. It says why in words, and leaves the history, its report and a page that shows the fault in
+   * the folder, named after the test. If the search for an order gave up, nobody knows: it throws NotChecked, which says
+   * what to do. The words and the page are made by `regkit`: where it isn't there, the report stands in their place.
    */
   assertLinearizable(test) {
     if (this.mistakes.length > 0) throw this.mistakes[0];
     const begin = path.join(this.folder, test.replace(/[^A-Za-z0-9._-]+/g, "_").slice(-200));
-    assertLinearizable(this.history(), this.reads, begin);
+    assertLinearizable(this, { history: `${begin}.jsonl`, report: `${begin}.report`, page: `${begin}.html` });
   }
 
   /** For Client: what the function gives; a Mistake that it throws is kept, for a caller that doesn't look at it. */
@@ -211,14 +248,12 @@ function find(variable, name) {
   return process.env[variable] || places.find((place) => fs.existsSync(place));
 }
 
-function notFound(variable, name) {
-  return `${name} was not found: put it on PATH, or set ${variable} to its path`;
-}
-
-/** The path of regkit: the one in its variable, the one beside regcheck, as a release has it, or that on PATH. */
-function findRegkit() {
-  const beside = path.join(path.dirname(find("REGCHECK", "regcheck") ?? ""), "regkit");
-  return !process.env.REGKIT && fs.existsSync(beside) ? beside : find("REGKIT", "regkit");
+/** The path of a program, or that of regcheck's companion beside it, as a release has it. Throws NotChecked. */
+function mustFind(variable, name) {
+  const beside = path.join(path.dirname(find("REGCHECK", "regcheck") ?? ""), name);
+  const found = !process.env[variable] && fs.existsSync(beside) ? beside : find(variable, name);
+  if (found !== undefined) return found;
+  throw new NotChecked(`${name} was not found: put it on PATH, or set ${variable} to its path`);
 }
 
 /** The exit status and the output of a program, as texts. Throws NotChecked if it can't be run. */
@@ -228,53 +263,83 @@ function run(program, words, input = "") {
   return { status: ran.status, output: ran.stdout, words: ran.stderr.trimEnd() };
 }
 
-/** The verdict on a history, true or false, and its report. Throws NotChecked, in the words of regcheck. */
-function check(history) {
-  const program = find("REGCHECK", "regcheck");
-  if (program === undefined) throw new NotChecked(notFound("REGCHECK", "regcheck"));
-  const { status, output, words } = run(program, [], history);
-  if (status === ATOMIC || status === NOT_ATOMIC) return { linearizable: status === ATOMIC, report: output };
+/** The path of regsearch. Throws NotChecked, with the words by which regcheck refused the history. */
+function findRegsearch(refusal) {
+  try {
+    return mustFind("REGSEARCH", "regsearch");
+  } catch (error) {
+    throw new NotChecked(`${refusal}; repeated values and cas need regsearch, but ${error.message}`);
+  }
+}
+
+const optionsOf = (bounds) => Object.entries(bounds).flatMap(([name, most]) => [`--${name}`, `${most}`]);
+
+/**
+ * The verdict on a history, "yes", "no" or "unknown", and the report. regcheck decides what it accepts, and regsearch what
+ * else there is: cas and repeated values. The bounds are those of regsearch. Throws NotChecked, in the words of the
+ * program, if there is no verdict.
+ */
+function check(history, bounds = {}) {
+  let program = mustFind("REGCHECK", "regcheck");
+  let ran = run(program, [], history);
+  if (ran.status === REFUSED) {
+    program = findRegsearch(ran.words);
+    ran = run(program, optionsOf(bounds), history);
+  }
+  const { status, output, words } = ran;
+  if (status in VERDICTS) return { verdict: VERDICTS[status], report: output };
   throw new NotChecked(status === REFUSED ? words : `${program} ended with status ${status}: ${words}`);
 }
 
-function assertLinearizable(history, reads, begin) {
-  const files = { history: `${begin}.jsonl`, report: `${begin}.report`, page: `${begin}.html` };
-  const keep = (file, text) => {
-    fs.mkdirSync(path.dirname(file), { recursive: true });
-    fs.writeFileSync(file, text);
-  };
+function keep(file, text) {
+  fs.mkdirSync(path.dirname(file), { recursive: true });
+  fs.writeFileSync(file, text);
+}
+
+function assertLinearizable(recorder, files) {
+  const { bounds, reads } = recorder;
+  const history = recorder.history();
   let checked;
   try {
-    checked = check(history);
+    checked = check(history, bounds);
   } catch (error) {
     keep(files.history, history);
     throw new NotChecked(`no verdict: ${error.message}\n\nhistory: ${files.history}`, { cause: error });
   }
-  if (checked.linearizable && reads > 0) return;
+  if (checked.verdict === "yes" && reads > 0) return;
   keep(files.history, history);
-  if (checked.linearizable) {
+  keep(files.report, checked.report);
+  if (checked.verdict === "yes") {
     throw new NotLinearizable("too little evidence: the history is linearizable, but no read was completed\n\n"
       + `history: ${files.history}`);
   }
-  keep(files.report, checked.report);
-  throw new NotLinearizable(explain(files, checked.report));
+  const words = explain(files, checked, bounds);
+  if (checked.verdict === "no") throw new NotLinearizable(words);
+  throw new NotChecked(`${words}\nbounds: give the recorder bounds with more steps or configurations`);
 }
 
-/** Why the kept history isn't linearizable, in the words of regkit; it draws the page too. */
-function explain(files, report) {
+/** Why the kept history isn't linearizable, or what to do if nobody knows, in the words of regkit; it draws the page too. */
+function explain(files, checked, bounds) {
   const kept = `history: ${files.history}\nreport: ${files.report}`;
-  const regkit = findRegkit();
   try {
-    if (regkit === undefined) throw new NotChecked(notFound("REGKIT", "regkit"));
-    const explained = run(regkit, ["explain", "--color", "never", files.history, files.report]);
-    if (explained.status !== EXPLAINED) throw new NotChecked(explained.words);
+    const regkit = mustFind("REGKIT", "regkit");
+    const options = ["--color", "never", ...optionsOf(bounds)];
+    const explained = run(regkit, ["explain", files.history, files.report, ...options]);
+    if (explained.status !== NOT_ATOMIC && explained.status !== GAVE_UP) throw new NotChecked(explained.words);
     const drawn = run(regkit, ["draw", files.history, files.report, "-o", files.page]);
     const page = drawn.status === 0 ? `page: ${files.page}` : `no page: ${drawn.words}`;
     return `${explained.output.trimEnd()}\n\n${kept}\n${page}`;
   } catch (error) {
-    const faulty = report.split("\n").filter((line) => line.includes('"fault":')).map((line) => `  ${line}`).join("\n");
-    return `${files.history}: not linearizable\n${faulty}\n\n${error.message}\n${kept}`;
+    return `${files.history}: ${reported(checked)}\n\n${error.message}\n${kept}`;
   }
+}
+
+/** The verdict, and the lines of the report that it rests on. */
+function reported({ verdict, report }) {
+  const [words, key] = verdict === "no" ? ["not linearizable", '"fault":']
+    : ["unknown: the search gave up; raise its bounds, or record runs with fewer calls open at once", '"gave_up":'];
+  const lines = report.split("\n").filter((line) => line.includes(key)).map((line) => `  ${line}`);
+  return [words, ...lines].join("\n");
 }
 
 module.exports = { Recorder, Client, Mistake, NoEffect, NotLinearizable, NotChecked, check };

@@ -7,7 +7,7 @@
  *
  * The faulty one keeps a value that it read before a write. tests/languages compares what all languages say of it.
  */
-const { Recorder } = require("../regcheck.cjs");
+const { run } = require("./toy.cjs");
 
 class Cache {
   constructor(counts) {
@@ -44,17 +44,4 @@ async function record(recorder, counts) {
   await late.read("x", get);
 }
 
-async function main() {
-  let time = 0n;
-  const recorder = new Recorder({ folder: "kept", clock: () => (time += 1000000n) });
-  await record(recorder, process.argv[2] === "right");
-  try {
-    recorder.assertLinearizable("cache");
-    console.log("linearizable");
-  } catch (error) {
-    console.log(error.message);
-    process.exitCode = 1;
-  }
-}
-
-main();
+run("cache", record);

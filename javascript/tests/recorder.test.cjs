@@ -43,6 +43,11 @@ test("each line says what happened, who called, and when", async () => {
   for (const given of [null, undefined, "-3", 9223372036854775807n, Buffer.from("12")]) {
     assert.strictEqual(await two.read("x", async () => given), given);
   }
+  await two.writeValue("x", -3n, (value) => assert.strictEqual(value, -3n));
+  assert.strictEqual(await two.cas("x", null, 1, () => false), false);
+  assert.strictEqual(await two.cas("x", -3, 1, async () => true), true);
+  await assert.rejects(two.cas("x", 1, 0, throws(new NoEffect(refused))), NoEffect);
+  await assert.rejects(two.cas("x", 1, 0, throws(late)), late);
   await assert.rejects(one.read("x", throws(late)), late);
   const want = `{"process":1,"event":"call","op":"write","register":"x","value":1,"client":"one","node":"a","time":1000000}
 {"process":1,"event":"reply","register":"x","client":"one","node":"a","time":2000000}
@@ -59,7 +64,16 @@ test("each line says what happened, who called, and when", async () => {
 {"process":3,"event":"reply","register":"x","value":9223372036854775807,"time":13000000}
 {"process":3,"event":"call","op":"read","register":"x","time":14000000}
 {"process":3,"event":"reply","register":"x","value":12,"time":15000000}
-{"process":2,"event":"call","op":"read","register":"x","client":"one","node":"a","time":16000000}
+{"process":3,"event":"call","op":"write","register":"x","value":-3,"time":16000000}
+{"process":3,"event":"reply","register":"x","time":17000000}
+{"process":3,"event":"call","op":"cas","register":"x","from":null,"to":1,"time":18000000}
+{"process":3,"event":"reply","register":"x","ok":false,"time":19000000}
+{"process":3,"event":"call","op":"cas","register":"x","from":-3,"to":1,"time":20000000}
+{"process":3,"event":"reply","register":"x","ok":true,"time":21000000}
+{"process":3,"event":"call","op":"cas","register":"x","from":1,"to":0,"time":22000000}
+{"process":3,"event":"fail","register":"x","time":23000000}
+{"process":3,"event":"call","op":"cas","register":"x","from":1,"to":0,"time":24000000}
+{"process":2,"event":"call","op":"read","register":"x","client":"one","node":"a","time":25000000}
 `;
   assert.strictEqual(recorder.history(), want);
   assert.strictEqual(fs.readFileSync(output, "utf8"), want);
@@ -84,6 +98,11 @@ test("a wrong use is a mistake, also for who doesn't look", async (t) => {
     ["a rounded number", (client) => client.read("x", () => 2 ** 53), "as a BigInt"],
     ["65 bits", (client) => client.read("x", () => 2n ** 63n), "64 bits"],
     ["a text", (client) => client.read("x", () => "7a"), 'the store gave "7a"'],
+    ["a text to write", (client) => client.writeValue("x", "7", () => {}), '"7" can\'t be written'],
+    ["nothing to swap for", (client) => client.cas("x", 1, null, () => true), "null can't be written"],
+    ["nobody knows what", (client) => client.cas("x", undefined, 1, () => true), "undefined can't be written"],
+    ["a rounded cas", (client) => client.cas("x", 1, 2 ** 53, () => true), "as a BigInt"],
+    ["no outcome", (client) => client.cas("x", 1, 2, () => "OK"), 'the store gave "OK", but a cas took place'],
     ["a truth", (client) => client.read("x", () => true), "the store gave true"],
   ];
   for (const [name, use, words] of rows) {
@@ -122,6 +141,26 @@ test("a yes without a completed read is none", async () => {
   assert.throws(() => recorder.assertLinearizable("little"), /no read was completed/);
   await recorder.client().read("x", () => 1);
   recorder.assertLinearizable("little");
+  const other = new Recorder({ folder });
+  await other.client().cas("x", null, 1, () => true);
+  other.assertLinearizable("a cas that was answered");
+});
+
+test("two cas that find no value, at once; a search of one step gives up", async () => {
+  const recorder = new Recorder({ folder });
+  const [one, two] = [recorder.client(), recorder.client()];
+  await one.cas("x", null, 1, () => two.cas("x", null, 1, () => true));
+  const told = (kind, ...words) => (error) => error instanceof kind && words.every((said) => error.message.includes(said));
+  withProgram("REGKIT", "/nowhere/regkit", () => {
+    const no = told(NotLinearizable, "two.jsonl: not linearizable", '"kind":"search"');
+    assert.throws(() => recorder.assertLinearizable("two"), no);
+    recorder.bounds = { steps: 1 };
+    const unknown = told(NotChecked, "two.jsonl: unknown: the search gave up", '"gave_up":{"bound":"steps"}');
+    assert.throws(() => recorder.assertLinearizable("two"), unknown);
+  });
+  assert.strictEqual(check(recorder.history()).verdict, "no");
+  assert.strictEqual(check(recorder.history(), { steps: 1 }).verdict, "unknown");
+  assert.throws(() => check(recorder.history(), { configurations: 0 }), /'0' for '--configurations/);
 });
 
 test("a fault is told without regkit too", async () => {
@@ -135,5 +174,7 @@ test("a fault is told without regkit too", async () => {
 
 test("the checker's own words say why there is no verdict", () => {
   assert.throws(() => check("[]\n"), (error) => error instanceof NotChecked && error.message.startsWith("line 1: "));
+  withProgram("REGSEARCH", "/nowhere/regsearch", () => assert.throws(() => check("[]\n"),
+    /\/nowhere\/regsearch could not be run/));
   withProgram("REGCHECK", "/nowhere/regcheck", () => assert.throws(() => check(""), /\/nowhere\/regcheck could not be run/));
 });
