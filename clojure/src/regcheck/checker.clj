@@ -5,11 +5,12 @@
       {:checker (regcheck/checker {})}
 
   It takes the history of one register, or that of many by jepsen.independent, with or without
-  jepsen.independent/checker around it. It runs the proved program regcheck, which decides, and regkit, which tells a fault
-  in words and draws it."
+  jepsen.independent/checker around it. It runs the proved programs: regcheck decides what it accepts, and regsearch what
+  else there is, such as cas and repeated values. regkit tells a fault in words and draws it."
   (:require [clojure.string :as str]
             [jepsen.checker :as checker]
             [jepsen.store :as store]
+            [regcheck.fault :as fault]
             [regcheck.history :as history]
             [regcheck.programs :as programs]
             [regcheck.report :as report]))
@@ -23,44 +24,49 @@
                               :words "regcheck.txt" :page "regcheck.html"}]
              [what (.getCanonicalPath (store/path! test (:subdirectory check-opts) name))])))
 
-(defn- fault-of
-  "A faulty register's fault, with the operations of Jepsen in the place of their lines. Of the initial write there is none."
-  [operations {:keys [fault]}]
-  (let [lines (dissoc fault :kind)
-        of (fn [line] (if (sequential? line) (mapv operations line) (operations line)))]
-    (assoc (update-vals lines of) :kind (keyword (:kind fault)))))
-
-(defn- last-op
-  "The operation of a fault that was answered last."
-  [fault]
-  (apply max-key #(or (:index %) 0) (filter some? (flatten (vals (dissoc fault :kind))))))
-
 (defn- in-words
-  "What regkit says of a fault; it draws the page too. Without regkit, why there are no words."
+  "What regkit says of a fault, or of a search that gave up; it draws the page too. Without regkit, why there are no words."
   [opts {:keys [history report words page]}]
   (try (let [regkit (programs/regkit opts)
-             told (programs/run regkit "explain" "--color" "never" history report)
+             told (apply programs/run regkit "explain" "--color" "never" history report (programs/bounds opts))
              drawn (programs/run regkit "draw" history report "-o" page)]
-         (when-not (= 1 (:exit told)) (history/unknown! (:err told)))
+         (when-not (contains? #{false :unknown} (programs/verdicts (:exit told))) (history/unknown! (:err told)))
          (spit words (:out told))
          {:words (str/trimr (:out told))
           :files (cond-> {:words words} (zero? (:exit drawn)) (assoc :page page))})
        (catch clojure.lang.ExceptionInfo error
          (if (history/unknown? error) {:words (ex-message error) :files {}} (throw error)))))
 
+(defn- with-words
+  "A result with what regkit says of it."
+  [result opts paths]
+  (let [{:keys [words files]} (in-words opts paths)]
+    (assoc result :words words :files (merge (select-keys paths [:history :report]) files))))
+
 (defn- no
   "The result of a history that isn't linearizable."
   [opts paths events rows]
   (let [operations (history/operations events)
         faulty (filter :fault rows)
-        faults (mapv #(fault-of operations %) (take most-faults faulty))
-        told (in-words opts paths)]
-    {:valid? false
-     :op (last-op (first faults))
-     :faulty-registers (count faulty)
-     :faults faults
-     :words (:words told)
-     :files (merge (select-keys paths [:history :report]) (:files told))}))
+        faults (mapv #(fault/named operations %) (take most-faults faulty))
+        op (fault/blamed (first faults))]
+    (-> {:valid? false
+         :op op
+         :previous-ok (fault/previous-ok events op)
+         :faulty-registers (count faulty)
+         :faults faults}
+        (merge (fault/paths operations events (first faulty)))
+        (with-words opts paths))))
+
+(defn- gave-up
+  "The result of a search that gave up."
+  [opts paths rows]
+  (let [registers (filter :gave_up rows)
+        bounds (sort (set (map #(str ":" (get-in % [:gave_up :bound])) registers)))]
+    (-> {:valid? :unknown
+         :cause (str "the search gave up on " (count registers) " of the registers: raise the option "
+                     (str/join " and " bounds) ", or let fewer operations be open at once")}
+        (with-words opts paths))))
 
 (defn- yes
   "The result of a linearizable history. One in which nothing was read says nothing."
@@ -75,33 +81,42 @@
 (defn- result
   [opts test events paths]
   (spit (:history paths) (str/join (map :line events)))
-  (let [ran (programs/run (programs/regcheck opts) (:history paths))
-        rows (when (#{0 1} (:exit ran)) (report/rows (:out ran)))]
-    (when rows (spit (:report paths) (:out ran)))
-    (merge (case (long (:exit ran))
-             0 (yes paths events)
-             1 (no opts paths events rows)
-             {:valid? :unknown :cause (:err ran) :files (select-keys paths [:history])})
+  (let [{:keys [exit out err analyzer]} (programs/check opts (:history paths))
+        verdict (programs/verdicts exit)
+        rows (when (some? verdict) (report/rows out))]
+    (when rows (spit (:report paths) out))
+    (merge {:analyzer analyzer}
+           (case verdict
+             true (yes paths events)
+             false (no opts paths events rows)
+             :unknown (gave-up opts paths rows)
+             {:valid? :unknown :cause err :files (select-keys paths [:history])})
            (select-keys (peek rows) [:operations :registers]))))
 
 (defn checker
   "A checker of linearizability for registers. Options, none of which is needed:
 
-    :regcheck  the path of the program regcheck; by default the one that the variable REGCHECK names, or the one on PATH
-    :regkit    the path of regkit; by default as REGKIT says, the one on PATH, or the one beside regcheck
-    :register  the name of the register of a history without keys; by default that of jepsen.independent's key, or \"x\"
+    :register        the name of the register of a history without keys; by default that of jepsen.independent's key, or \"x\"
+    :failed-cas      what the :fail of a :cas says. By default that it had no effect, and nothing of the value; with :missed
+                     that the store compared, and found another value, unless its :error says otherwise
+    :steps           where the search of regsearch gives up, in place of 10,000,000,000 steps for a register
+    :configurations  the same, in place of 65,536 configurations in one list
+    :regcheck        the path of the program regcheck; by default as the variable REGCHECK says, or the one on PATH
+    :regsearch       the path of regsearch; by default as REGSEARCH says, the one beside regcheck, or the one on PATH
+    :regkit          the path of regkit; by default as REGKIT says, and so on
 
-  Its result has :valid?, which is true, false or :unknown; :cause, the reason of :unknown in a sentence; for false :op, the
-  operation of the first fault that was answered last, :faults, and :words; and :files, by their paths."
+  Its result is laid out as that of jepsen.checker/linearizable. It has :valid?, which is true, false or :unknown; :cause,
+  the reason of :unknown in a sentence; for false :op, the operation that no order explains, :previous-ok, :faults, and
+  :words; :files, by their paths; and :analyzer, the program."
   ([] (checker {}))
   ([opts]
    (reify checker/Checker
      (check [_ test history check-opts]
        (let [history-key (find check-opts :history-key)
-             register (or (:register opts) (if history-key (pr-str (val history-key)) "x"))]
+             register (or (:register opts) (if history-key (pr-str (val history-key)) "x"))
+             names {:register register :failed-cas (:failed-cas opts)}]
          (try
-           (assoc (result opts test (history/events test history register) (files test check-opts))
-                  :analyzer :regcheck)
+           (result opts test (history/events test history names) (files test check-opts))
            (catch clojure.lang.ExceptionInfo error
              (if (history/unknown? error)
                {:valid? :unknown :analyzer :regcheck :cause (ex-message error)}

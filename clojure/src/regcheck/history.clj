@@ -1,16 +1,17 @@
 (ns regcheck.history
-  "A history of Jepsen as the lines that regcheck reads.
+  "A history of Jepsen as the lines that regcheck and regsearch read.
 
   A client is a process with a number; what others do, such as the nemesis, is left out. An :invoke is a call, an :ok its
-  reply, and a :fail says that the call had no effect. After an :info nobody knows, so the call stays pending.
+  reply, and a :fail says that the call had no effect. After an :info nobody knows, so the call stays pending. The value of a
+  :cas is [from to].
 
   What isn't understood is no event: it is thrown, so that the verdict is :unknown and says why."
   (:require [clojure.string :as str]
             [jepsen.independent :as independent]))
 
 (def op-names
-  "The functions of Jepsen's register workloads that regcheck knows."
-  {:read "read" :write "write"})
+  "The functions of Jepsen's register workloads."
+  {:read "read" :write "write" :cas "cas"})
 
 (def least (bigint Long/MIN_VALUE))
 (def greatest (bigint Long/MAX_VALUE))
@@ -48,13 +49,22 @@
   [history]
   (boolean (some #(independent/tuple? (:value %)) (filter client-op? history))))
 
+(defn register-of
+  "The key of an operation, if it has one."
+  [{:keys [value]}]
+  (when (independent/tuple? value) (key value)))
+
+(defn plain
+  "The value of an operation, without its key."
+  [{:keys [value]}]
+  (if (independent/tuple? value) (val value) value))
+
 (defn- split
   "The register of an operation, and its value without the key."
   [op {:keys [keyed register]}]
-  (let [value (:value op)]
-    (cond (not keyed) [register value]
-          (independent/tuple? value) [(pr-str (key value)) (val value)]
-          :else (unknown! (pr-str op) " has no key, and other operations have one"))))
+  (cond (not keyed) [register (:value op)]
+        (independent/tuple? (:value op)) [(pr-str (register-of op)) (plain op)]
+        :else (unknown! (pr-str op) " has no key, and other operations have one")))
 
 (defn- who
   "The members that say which client called which node, and when. Jepsen gives the thread after a crash another process
@@ -66,44 +76,82 @@
          (when node (str ",\"node\":" (quoted (str node))))
          (when (integer? time) (str ",\"time\":" time)))))
 
-(defn- members
-  "The members of an event behind its process, or nil if the operation is none."
-  [op names]
+(defn- changed
+  "The members that say what a cas asks for and what it writes."
+  [value op]
+  (when-not (and (sequential? value) (= 2 (count value)) (some? (second value)))
+    (unknown! "the value " (pr-str value) " of " (pr-str op) " is no [from to]"))
+  (str ",\"from\":" (number (first value) op) ",\"to\":" (number (second value) op)))
+
+(defn- missed?
+  "Whether a cas that failed tells that the store compared: it found another value, or a key without the value asked for."
+  [{:keys [error exception]} [from]]
+  (let [reason (or error exception)
+        word (if (sequential? reason) (first reason) reason)]
+    (or (nil? word)
+        (contains? #{:precondition-failed "precondition-failed"} word)
+        (and (contains? #{:key-does-not-exist "key-does-not-exist"} word) (some? from)))))
+
+(defn- call
+  "The members of a call behind its process."
+  [op op-name [register value]]
+  (str "\"event\":\"call\",\"op\":" (quoted op-name) ",\"register\":" (quoted register)
+       (case (:f op)
+         :read nil
+         :write (str ",\"value\":" (number value op))
+         :cas (changed value op))))
+
+(defn- reply
+  "The members of a reply behind its process. Of a cas, ok says whether it took place."
+  [op op-name [register value] ok]
+  (str "\"event\":\"reply\",\"op\":" (quoted op-name) ",\"register\":" (quoted register)
+       (case (:f op)
+         :read (str ",\"value\":" (number value op))
+         :write nil
+         :cas (str ",\"ok\":" ok))))
+
+(defn- event
+  "What an operation is: its :said, the members behind its process, and whether it :tells something of the register's value.
+  Nil if nobody knows how it ended."
+  [op {:keys [failed-cas] :as names}]
   (let [op-name (or (op-names (:f op))
-                    (unknown! "regcheck knows :read and :write, and not the :f of " (pr-str op)))
-        shown (fn [[register value] with-value]
-                (str ",\"op\":" (quoted op-name) ",\"register\":" (quoted register)
-                     (when with-value (str ",\"value\":" (number value op)))))]
+                    (unknown! "regcheck knows :read, :write and :cas, and not the :f of " (pr-str op)))
+        of (split op names)]
     (case (:type op)
-      :invoke (str "\"event\":\"call\"" (shown (split op names) (= :write (:f op))))
-      :ok (str "\"event\":\"reply\"" (shown (split op names) (= :read (:f op))))
-      :fail "\"event\":\"fail\""
+      :invoke {:said (call op op-name of)}
+      :ok {:said (reply op op-name of true) :tells (not= :write (:f op))}
+      :fail (if (and (= :cas (:f op)) (= :missed failed-cas) (missed? op (second of)))
+              {:said (reply op op-name of false) :tells true}
+              {:said "\"event\":\"fail\""})
       :info nil
       (unknown! "the :type of " (pr-str op) " is none of :invoke, :ok, :fail and :info"))))
 
 (defn events
-  "The events of a history, in order: each has its :line and its :op. The register is named if the values have no keys."
-  [test history register]
-  (let [names {:keyed (keyed? history) :register register}]
+  "The events of a history, in order: each has its :line, its :op, and whether it :tells something of a register's value.
+  The options name the :register, if the values have no keys, and say what a :failed-cas is."
+  [test history opts]
+  (let [names (assoc opts :keyed (keyed? history))]
     (into [] (comp (filter client-op?)
                    (keep (fn [op]
-                           (when-let [said (members op names)]
-                             {:op op :line (str "{\"process\":" (:process op) "," said (who test op) "}\n")}))))
+                           (when-let [{:keys [said tells]} (event op names)]
+                             {:op op :tells tells
+                              :line (str "{\"process\":" (:process op) "," said (who test op) "}\n")}))))
           history)))
 
 (defn operations
-  "From the number of the line of each call, from 1, to the operation of Jepsen that answered it, or else that called it."
+  "From the number of the line of each call and of each answer, from 1, to the operation of Jepsen that answered, or else
+  that called."
   [events]
   (:known
    (reduce (fn [{:keys [open known]} [line {:keys [op]}]]
              (let [process (:process op)]
                (if (= :invoke (:type op))
                  {:open (assoc open process line) :known (assoc known line op)}
-                 {:open (dissoc open process) :known (assoc known (open process) op)})))
+                 {:open (dissoc open process) :known (assoc known (open process) op line op)})))
            {:open {} :known {}}
            (map-indexed (fn [index event] [(inc index) event]) events))))
 
 (defn completed-reads
-  "How many reads were answered."
+  "How many reads were answered. A cas that was answered counts as one."
   [events]
-  (count (filter (fn [{:keys [op]}] (and (= :ok (:type op)) (= :read (:f op)))) events)))
+  (count (filter :tells events)))

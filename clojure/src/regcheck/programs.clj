@@ -1,10 +1,16 @@
 (ns regcheck.programs
-  "Runs the programs regcheck and regkit."
+  "Runs the programs regcheck, regsearch and regkit."
   (:require [clojure.java.io :as io]
             [clojure.java.shell :as shell]
             [clojure.string :as str]
             [regcheck.history :refer [unknown!]])
   (:import (java.io File IOException)))
+
+(def verdicts
+  "What :valid? is, by the exit status of regcheck, of regsearch and of `regkit explain`."
+  {0 true, 1 false, 6 :unknown})
+
+(def ^:private refused "Their exit status for what isn't a history to them." 2)
 
 (defn- named
   "The path that is given, or the one in the variable; else nil."
@@ -29,14 +35,30 @@
       (on-path "regcheck")
       (missing! "REGCHECK" "regcheck")))
 
-(defn regkit
-  "The path of regkit: the one that is named, the one beside regcheck, as a release has it, or that on PATH."
-  [opts]
-  (or (named (:regkit opts) "REGKIT")
-      (let [beside (io/file (.getParentFile (.getAbsoluteFile (io/file (regcheck opts)))) "regkit")]
+(defn- companion
+  "The path of a program: the one that is named, the one beside regcheck, as a release has it, or that on PATH."
+  [opts given variable program]
+  (or (named given variable)
+      (let [beside (io/file (.getParentFile (.getAbsoluteFile (io/file (regcheck opts)))) program)]
         (when (.canExecute beside) (str beside)))
-      (on-path "regkit")
-      (missing! "REGKIT" "regkit")))
+      (on-path program)
+      (missing! variable program)))
+
+(defn regsearch
+  "The path of regsearch."
+  [opts]
+  (companion opts (:regsearch opts) "REGSEARCH" "regsearch"))
+
+(defn regkit
+  "The path of regkit."
+  [opts]
+  (companion opts (:regkit opts) "REGKIT" "regkit"))
+
+(defn bounds
+  "The options of regsearch."
+  [opts]
+  (mapcat (fn [[option most]] (when most [option most]))
+          {"--steps" (:steps opts) "--configurations" (:configurations opts)}))
 
 (defn run
   "The :exit status, and what the program wrote to :out and :err."
@@ -44,3 +66,20 @@
   (try (update (apply shell/sh program (map str words)) :err str/trim-newline)
        (catch IOException error
          (unknown! program " could not be run: " (ex-message error)))))
+
+(defn- must-search
+  "The path of regsearch. Without it, why there is no verdict on what regcheck refused in these words."
+  [opts words]
+  (try (regsearch opts)
+       (catch clojure.lang.ExceptionInfo error
+         (unknown! words "; repeated values and cas need regsearch, but " (ex-message error)))))
+
+(defn check
+  "What regcheck says of a history, or of what it refuses, such as cas and repeated values, regsearch. The :analyzer is the
+  program."
+  [opts history]
+  (let [{:keys [exit err] :as ran} (run (regcheck opts) history)]
+    (if (= refused exit)
+      (let [words (concat (bounds opts) [history])]
+        (assoc (apply run (must-search opts err) words) :analyzer :regsearch))
+      (assoc ran :analyzer :regcheck))))

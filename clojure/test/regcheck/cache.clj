@@ -5,10 +5,7 @@
       clojure -cp src:test -m regcheck.cache right
 
   The faulty one keeps a value that it read before a write. tests/languages compares what all languages say of it."
-  (:require [jepsen.checker :as checker]
-            [regcheck.checker :as regcheck]))
-
-(defrecord Op [index time type process f value])
+  (:require [regcheck.toy :as toy]))
 
 (defn write! [store k v]
   (swap! store #(-> % (assoc-in [:database k] v) (update-in [:writes k] (fnil inc 0)) (update :kept dissoc k)))
@@ -25,12 +22,9 @@
           v))))
 
 (defn record
-  "The history of a run. The writer writes again while the reader's answer from the database is on its way."
-  [counts]
+  "The writer writes again while the reader's answer from the database is on its way."
+  [op! counts]
   (let [store (atom {:database {} :kept {} :writes {}})
-        history (atom [])
-        op! (fn [type process f value]
-              (swap! history #(conj % (->Op (count %) (* 1000000 (inc (count %))) type process f value))))
         write (fn [v]
                 (op! :invoke 1 :write v)
                 (op! :ok 1 :write (write! store "x" v)))
@@ -39,15 +33,7 @@
                (op! :ok process :read (read! store counts "x" loaded)))]
     (write 1)
     (read 2 #(write 2))
-    (read 3 (fn []))
-    @history))
+    (read 3 (fn []))))
 
 (defn -main [kind]
-  (let [test {:folder "kept" :concurrency 4 :nodes ["cache"]}
-        {:keys [valid? words cause]} (checker/check (regcheck/checker {}) test (record (= kind "right")) {})]
-    (println (case valid?
-               true "linearizable"
-               false words
-               cause))
-    (shutdown-agents)
-    (System/exit (if (true? valid?) 0 1))))
+  (toy/run kind {:nodes ["cache"]} {} record))
