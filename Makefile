@@ -72,7 +72,7 @@ bin/regcheck.pc: library/regcheck.pc.in VERSION
 	mkdir -p bin
 	sed 's|@VERSION@|$(VERSION)|' library/regcheck.pc.in > $@
 
-embed-test: library bin/regcheck bin/history_generator
+embed-test: library bin/regcheck bin/regsearch bin/history_generator
 	tests/embed --count $(COUNT)
 	tests/languages
 
