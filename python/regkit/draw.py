@@ -3,6 +3,7 @@ from regkit.drawing.page import Asked, page
 from regkit.garbage import many_objects
 from regkit.history import History, read_history
 from regkit.report import Report, read_report
+from regkit.shrinking import NoFault, Searcher
 
 
 class Mismatch(ValueError):
@@ -12,11 +13,11 @@ class Mismatch(ValueError):
         super().__init__("the report isn't of this history")
 
 
-def draw_page(history: bytes, report: bytes, title: str) -> str:
+def draw_page(history: bytes, report: bytes, title: str, searcher: Searcher = Searcher()) -> str:
     """The page for a history that the checker accepted. Raises ValueError if the report is of another
     history."""
     with many_objects():
-        return page_of(read_history(history), read_report(report), title)
+        return page_of(read_history(history), read_report(report), title, Asked(searcher=searcher))
 
 
 def page_of(history: History, report: Report, title: str, asked: Asked = Asked()) -> str:
@@ -26,5 +27,5 @@ def page_of(history: History, report: Report, title: str, asked: Asked = Asked()
         raise Mismatch
     try:
         return page(history, report, title, asked)
-    except (KeyError, AssertionError) as error:
+    except (KeyError, AssertionError, NoFault) as error:
         raise Mismatch from error

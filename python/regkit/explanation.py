@@ -224,7 +224,8 @@ def explain(history: History, report: Report, wishes: Wishes) -> str:
             if "cas" not in row:
                 explain_register(page, history, row)
                 continue
-            from regkit.search_explanation import Searcher, explain_search  # only a search waits for this
+            from regkit.search_explanation import explain_search  # only a search waits for this
+            from regkit.shrinking import Searcher
 
             explain_search(page, history, row, Searcher(wishes.bounds, wishes.reach))
     except (KeyError, TypeError, AssertionError) as error:
@@ -236,6 +237,6 @@ def explain(history: History, report: Report, wishes: Wishes) -> str:
     return page.text().lstrip("\n")
 
 
-def explain_text(history: bytes, report: bytes) -> str:
-    """The explanation as plain text, for a test that failed."""
-    return explain(read_history(history), read_report(report), Wishes())
+def explain_text(history: bytes, report: bytes, bounds: Sequence[str] = ()) -> str:
+    """The explanation as plain text, for a test that failed. The bounds are options of regsearch."""
+    return explain(read_history(history), read_report(report), Wishes(bounds=bounds))

@@ -274,14 +274,16 @@ class Judge:
     def draw(self, name: str, data: bytes, written: bytes) -> pathlib.Path:
         """Writes the page of a history into the folder, under a name of its own."""
         from regkit.draw import draw_page  # only who asks for pages waits for this
+        from regkit.shrinking import MOST_RUNS, Searcher
 
         assert self.wishes.draw is not None
-        self.progress.step(f"{self.label}: drawing")
         self.wishes.draw.mkdir(parents=True, exist_ok=True)
         stem = "stdin" if name == STANDARD_INPUT else pathlib.Path(name).stem
         names = (self.wishes.draw / f"{stem}{end}.html" for end in chain([""], (f"-{n}" for n in count(2))))
         path = next(path for path in names if path not in self.taken)
         self.taken.add(path)
-        page = draw_page(data, written, shown_name(name))
+        self.progress.step(f"{self.label}: drawing", MOST_RUNS if self.program == SEARCH else 0)
+        searcher = Searcher(self.wishes.bounds, self.progress.reach)
+        page = draw_page(data, written, shown_name(name), searcher)
         path.write_text(page, encoding="utf-8", errors="surrogateescape")
         return path

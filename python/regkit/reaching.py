@@ -23,6 +23,18 @@ class Reached(NamedTuple):
     broken: Optional[Operation]  # the call whose reply none of those orders gives
 
 
+class Moment(NamedTuple):
+    """A call or a reply, and what the register may have from then until the next one."""
+
+    line: int
+    call: Operation
+    values: List[Optional[int]]  # none behind the reply that no order gives
+
+    @property
+    def is_call(self) -> bool:
+        return self.line == self.call.line
+
+
 class TooMany(Exception):
     """There are too many orders."""
 
@@ -74,14 +86,44 @@ class Orders:
         return known
 
 
-def reached(kept: Sequence[Kept], call: Operation, reply: int) -> Optional[Reached]:
-    """What may be before the reply of a call. None if there are too many orders."""
+def null_first(value: Optional[int]) -> Tuple[bool, int]:
+    return value is not None, value or 0
+
+
+def events_of(kept: Sequence[Kept]) -> List[Tuple[int, Operation]]:
+    """The calls and the replies that count, by line."""
     events = [(each.call.line, each.call) for each in kept]
     events += [(each.call.end_line or 0, each.call) for each in kept if each.replied]
+    return sorted(events, key=lambda event: event[0])
+
+
+def moments(kept: Sequence[Kept], call: Operation, reply: int) -> Optional[List[Moment]]:
+    """What may be at each moment up to the reply of a call. None if there are too many orders."""
+    orders, found = Orders(kept, call), []
+    states: Set[State] = {(0, frozenset(), frozenset(), False)}
+    try:
+        for line, each in events_of(kept):
+            if line == each.line:
+                orders.opened.append(each)
+            else:
+                states = {state for state in states if each.line in state[1]}
+                orders.opened.remove(each)
+            states = orders.closed(states)
+            values = sorted({orders.value(state[0]) for state in states}, key=null_first)
+            found.append(Moment(line, each, values))
+            if line == reply:
+                break
+    except TooMany:
+        return None
+    return found
+
+
+def reached(kept: Sequence[Kept], call: Operation, reply: int) -> Optional[Reached]:
+    """What may be before the reply of a call. None if there are too many orders."""
     orders, broken = Orders(kept, call), None
     states: Set[State] = {(0, frozenset(), frozenset(), False)}
     try:
-        for line, each in sorted(events, key=lambda event: event[0]):
+        for line, each in events_of(kept):
             if line == each.line:
                 states = orders.closed(states)  # what happens before the call is not seen by it
                 orders.opened.append(each)

@@ -7,7 +7,7 @@ from urllib.parse import quote
 
 from regkit.drawing.page import document
 from regkit.drawing.svg import tag
-from regkit.drawing.text import name, words
+from regkit.drawing.text import name, with_code, words
 from regkit.outcome import VERDICTS, Outcome
 from regkit.quoting import plain
 from regkit.sentences import capital, counted
@@ -42,10 +42,11 @@ def row(run: Run, page: pathlib.Path) -> str:
     kind = "yes" if run.outcome.status == ExitStatus.ATOMIC else "no"
     shown = name(run.path.name) if run.picture is None else link(run.picture, page, name(run.path.name))
     faults = [capital(fault.sentences[0]) for fault in run.outcome.faults]
-    said = [run.outcome.words, *faults, *([run.outcome.advice] if run.outcome.advice else [])]
+    said = [words(plain(each)) for each in (run.outcome.words, *faults)]
+    said += [with_code(plain(run.outcome.advice))] if run.outcome.advice else []
     cells = [tag("td", f"{when:%Y-%m-%d %H:%M} UTC", class_="when"),
              tag("td", words(VERDICTS[run.outcome.status]), class_=kind), tag("td", shown),
-             tag("td", "<br>".join(words(plain(each)) for each in said))]
+             tag("td", "<br>".join(said))]
     return tag("tr", "".join(cells))
 
 

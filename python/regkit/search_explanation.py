@@ -1,6 +1,6 @@
 """Why `regsearch` says that a register isn't linearizable: the few operations that have no order, what the value
 can be before the reply, and why nothing gives what the reply says."""
-from typing import Callable, List, NamedTuple, Optional, Sequence
+from typing import List, NamedTuple, Optional
 
 from regkit import timeline
 from regkit.causes import EMPTY
@@ -12,19 +12,12 @@ from regkit.reaching import Reached, reached
 from regkit.report import Row
 from regkit.searched import (MOST_OPEN, Contradicted, contradicted, is_open, is_unwritten, sentences_of, without_effect)
 from regkit.sentences import counted, named, value_of, wanted_of
-from regkit.shrinking import MOST_RUNS, Kept, NoFault, Small, asker, shrink, until
+from regkit.shrinking import MOST_RUNS, Kept, NoFault, Searcher, Small, asker, shrink, until
 
 MOST_SHOWN = 40  # rows of the time line
 LOOSE_SIGN = "~"
 SIGNS = {READ_SIGN: "no order gives its reply", ACTOR_SIGN: "its reply counts",
          LOOSE_SIGN: "its reply needn't count"}
-
-
-class Searcher(NamedTuple):
-    """How to make a no small."""
-
-    bounds: Sequence[str] = ()  # options of regsearch
-    reach: Callable[[int], None] = lambda runs: None  # is told the number of runs so far
 
 
 class Left(NamedTuple):
@@ -48,16 +41,24 @@ def made_small(page: Page, told: Contradicted, calls: List[Operation], searcher:
         page.sentence(f"it wasn't made smaller: {counted(len(kept), 'operation')} called before line {told.line} may "
                       "have to do with it")
         return Left(kept)
+    for sentence in enough(small, told, "in the time line"):
+        page.sentence(sentence)
+    return Left(small.kept, small.fence)
+
+
+def enough(small: Small, told: Contradicted, where: str) -> List[str]:
+    """What a no was made to, in sentences. Of many operations they say where these are."""
     rest = "" if small.ended else f"; after {MOST_RUNS} runs of regsearch no more was tried"
-    page.sentence(f"these {len(small.kept):,} of the {small.whole:,} operations called before line {told.line} have no "
-                  f"order by themselves: {list_of(small.kept)}{rest}")
+    said = [f"these {len(small.kept):,} of the {small.whole:,} operations called before line {told.line} have "
+            f"no order by themselves: {list_of(small.kept, where)}{rest}"]
     if small.fence is not None:
-        page.sentence(f"what was answered before line {small.fence.line} isn't needed, since {named(small.fence)} hides it")
+        said.append(f"what was answered before line {small.fence.line} isn't needed, since "
+                    f"{named(small.fence)} hides it")
     loose = [each for each in small.kept if each.call.completed and not each.replied]
     if loose:
-        them = list_of(loose) if len(loose) <= MOST_OPEN else f"{len(loose)} of them"
-        page.sentence(f"that holds even if nothing had answered {them}")
-    return Left(small.kept, small.fence)
+        them = list_of(loose, where) if len(loose) <= MOST_OPEN else f"{len(loose)} of them"
+        said.append(f"that holds even if nothing had answered {them}")
+    return said
 
 
 def answered(kept: List[Kept], told: Contradicted) -> List[Kept]:
@@ -65,10 +66,10 @@ def answered(kept: List[Kept], told: Contradicted) -> List[Kept]:
     return [Kept(each.call, each.call.completed and (each.call.end_line or 0) <= told.line) for each in kept]
 
 
-def list_of(kept: List[Kept]) -> str:
+def list_of(kept: List[Kept], where: str) -> str:
     """The operations in a sentence, if they are few."""
     if len(kept) > MOST_OPEN:
-        return "they are in the time line"
+        return f"they are {where}"
     return "; ".join(named(each.call) for each in kept)
 
 

@@ -6,7 +6,7 @@ from regkit.report import Row
 from regkit.sentences import counted, named, value_of, wanted_of
 
 MOST_OPEN = 6  # open calls that are named
-OPTIONS = {"steps": "--steps", "configurations": "--configurations"}  # by the bound of a search
+BOUNDS = ("configurations", "steps")  # of a search
 
 
 class Contradicted(NamedTuple):
@@ -99,14 +99,14 @@ def sentences_of(history: History, row: Row) -> List[str]:
 
 
 def bounds_of(rows: Sequence[Row]) -> List[str]:
-    """The options of the bounds at which the searches of some registers gave up. Raises KeyError."""
-    bounds = {row["gave_up"]["bound"] for row in rows}
-    return [option for bound, option in sorted(OPTIONS.items()) if bound in bounds]
+    """The bounds at which the searches of some registers gave up. Raises KeyError."""
+    met = {row["gave_up"]["bound"] for row in rows}
+    return [bound for bound in BOUNDS if bound in met]
 
 
-def what_to_do(rows: Sequence[Row]) -> str:
-    """What to do about registers that are unknown."""
-    return (f"raise {' and '.join(f'`{option}`' for option in bounds_of(rows))}; or record runs with fewer "
-            "calls open at once, fewer crashed calls (a call that nothing answers stays open to the end), or "
-            "more registers; or let each write of a register write a value of its own, and use no cas: that "
-            "needs no search")
+def what_to_do(rows: Sequence[Row], dashes: str = "--") -> str:
+    """What to do about registers that are unknown. Arguments of a function are named without dashes."""
+    raised = " and ".join(f"`{dashes}{bound}`" for bound in bounds_of(rows))
+    return (f"raise {raised}; or record runs with fewer calls open at once, fewer crashed calls (a call that "
+            "nothing answers stays open to the end), or more registers; or let each write of a register "
+            "write a value of its own, and use no cas: that needs no search")

@@ -128,6 +128,13 @@ class NoFault(ValueError):
     """What was called before the reply has an order."""
 
 
+class Searcher(NamedTuple):
+    """How to make a no small."""
+
+    bounds: Sequence[str] = ()  # options of regsearch
+    reach: Callable[[int], None] = lambda runs: None  # is told the number of runs so far
+
+
 class Shrinker:
     """Asks regsearch about less and less."""
 

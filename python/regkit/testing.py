@@ -8,11 +8,12 @@ import os
 import pathlib
 import re
 import tempfile
-from typing import List, Optional, Union
+from typing import Optional, Sequence, Union
 
 from regkit.checker import WOULD_DECIDE, Answer, NoChecker, decide, is_for_search
 from regkit.evidence import Evidence, count_evidence
 from regkit.history import read_history
+from regkit.options import bounds
 from regkit.record import Recorder, RecordingError
 from regkit.report import read_report
 from regkit.sentences import counted
@@ -39,18 +40,21 @@ def assert_atomic(history: Recorded, *, least_reads: int = 1, least_overlaps: in
 
     The history is a Recorder, bytes, or a path. It needs at least `least_reads` completed reads, of which at
     least `least_overlaps` overlap a write: a history that proves nothing, say since its recorder died, fails
-    too. A cas that was answered counts as a read. `steps` and `configurations` are the bounds of regsearch, if
-    the defaults aren't enough. Gives the evidence. Raises NotChecked if the checker gives no verdict, and
-    RecordingError if the recorder was used wrongly."""
+    too. A cas that was answered counts as a read. Gives the evidence.
+
+    A history in which values repeat, or with cas, is decided by regsearch, within `steps` and
+    `configurations` (by default its own bounds). Raises NotChecked if there is no verdict, as when that
+    search gives up, and RecordingError if the recorder was used wrongly."""
     __tracebackhide__ = True  # pytest then shows the test's own line
     _trust(history)
     data, path = _data(history), _path(history)
     name = str(path) if path else "the history"
-    answer = decide(data, _options(steps, configurations))
+    options = bounds(steps, configurations)
+    answer = decide(data, options)
     if answer.status not in (0, 1):
         raise NotChecked(f"{name}: {_without_verdict(data, answer)}")
     if answer.status == 1:
-        raise NotAtomic(_not_atomic(data, answer, path))
+        raise NotAtomic(_not_atomic(data, answer, path, options))
     evidence = count_evidence(read_history(data))
     reads, overlaps = evidence.completed_reads, evidence.overlapping_reads
     for least, seen, what in [(least_reads, reads, "completed reads"),
@@ -61,11 +65,11 @@ def assert_atomic(history: Recorded, *, least_reads: int = 1, least_overlaps: in
     return evidence
 
 
-def explanation(history: bytes, report: bytes) -> str:
-    """Why a history isn't atomic, as `regkit explain` says it."""
+def explanation(history: bytes, report: bytes, options: Sequence[str] = ()) -> str:
+    """Why a history isn't atomic, as `regkit explain` says it. The options are those of regsearch."""
     from regkit.explanation import explain_text  # only a test that fails needs it
 
-    return explain_text(history, report)
+    return explain_text(history, report, options)
 
 
 def verdict(recorder: Recorder) -> str:
@@ -116,22 +120,17 @@ def _path(history: Recorded) -> Optional[pathlib.Path]:
     return None if isinstance(history, bytes) else pathlib.Path(history)
 
 
-def _options(steps: Optional[int], configurations: Optional[int]) -> List[str]:
-    """The options of regsearch."""
-    bounds = [("--steps", steps), ("--configurations", configurations)]
-    return [word for option, most in bounds if most is not None for word in (option, str(most))]
-
-
 def _without_verdict(data: bytes, answer: Answer) -> str:
     """Why there is no verdict."""
     if answer.status == ExitStatus.UNKNOWN:
         from regkit.searched import what_to_do  # only a search that gave up needs it
 
-        return f"unknown: the search gave up; {what_to_do(read_report(answer.report).unknown)}"
+        unknown = read_report(answer.report).unknown
+        return f"unknown: the search gave up; {what_to_do(unknown, dashes='')}"
     return f"{answer.refusal}; {WOULD_DECIDE}" if is_for_search(data, answer) else answer.refusal
 
 
-def _not_atomic(data: bytes, answer: Answer, path: Optional[pathlib.Path]) -> str:
+def _not_atomic(data: bytes, answer: Answer, path: Optional[pathlib.Path], options: Sequence[str]) -> str:
     """The explanation, and how to see the history drawn. It goes to a file if it isn't in one."""
     if path is None:
         handle, name = tempfile.mkstemp(prefix="regkit-", suffix=".jsonl")
@@ -140,4 +139,5 @@ def _not_atomic(data: bytes, answer: Answer, path: Optional[pathlib.Path]) -> st
         path = pathlib.Path(name)
     report = read_report(answer.report)
     return (f"not linearizable: {len(report.faulty):,} of {counted(len(report.rows), 'register')}\n\n"
-            f"{explanation(data, answer.report)}\n\nto see it: python3 -m regkit draw {path} -o fault.html")
+            f"{explanation(data, answer.report, options)}\n\n"
+            f"to see it: {' '.join(['python3 -m regkit draw', *options])} {path} -o fault.html")

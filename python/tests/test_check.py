@@ -18,6 +18,7 @@ from regkit import inputs, progress
 from regkit.advice import advice
 from regkit.checker import find_checker, run_checker
 from regkit.outcome import gravest
+from regkit.shrinking import Searcher
 
 from .events import Line, gave, read, reply, run, stale, text, write
 
@@ -457,7 +458,7 @@ exit 1"""
             self.assertIn("the answer of regcheck is wrong: ", ran.err)
 
     def test_draw(self) -> None:
-        def drawn(history: bytes, report: bytes, title: str) -> str:
+        def drawn(history: bytes, report: bytes, title: str, searcher: Searcher) -> str:
             return f"<p>{title} {len(history)} {len(report)}"
 
         pages = self.folder / "new" / "pages"

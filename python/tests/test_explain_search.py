@@ -205,11 +205,37 @@ class Values(unittest.TestCase):
             seen += 1
         self.assertGreater(seen, 40)
 
+    def test_moments_against_all_orders(self) -> None:
+        """The values behind all legal orders of what was known by then."""
+        seen = 0
+        for seed in range(200):
+            events = random_events(seed)
+            line = faulty_reply(events)
+            kept = until(calls_of(events), line or 0)
+            if line is None or len(kept) > 6:
+                continue
+            call = next(each.call for each in kept if each.replied and each.call.end_line == line)
+            found = reaching.moments(kept, call, line)
+            assert found is not None
+            ends = [each.call.end_line for each in kept if each.replied]
+            self.assertEqual([moment.line for moment in found], sorted([*lines(kept), *ends]))
+            for moment in found:
+                known = [Kept(each.call, each.replied and (each.call.end_line or 0) <= moment.line)
+                         for each in kept if each.call.line <= moment.line]
+                values = {next((each.call.value for each in reversed(order) if each.call.writes), None)
+                          for order in legal_orders(known)}
+                self.assertEqual(set(moment.values), values, (seed, moment))
+                self.assertEqual(len(moment.values), len(values))
+                self.assertEqual(not moment.values, moment.line == line)
+            seen += 1
+        self.assertGreater(seen, 40)
+
     def test_too_many_orders(self) -> None:
         events = [*(write(n, n) for n in range(3, 12)), read(1), gave(1, 99)]
         calls = calls_of(events)
         with mock.patch.object(reaching, "MOST_STEPS", 100):
             self.assertIsNone(reaching.reached(until(calls, 11), calls[-1], 11))
+            self.assertIsNone(reaching.moments(until(calls, 11), calls[-1], 11))
 
 
 class Told(Files):

@@ -2,17 +2,22 @@
 import json
 import os
 import pathlib
+import re
 import stat
 import tempfile
 import unittest
-from typing import Any, List, Tuple
+from typing import Any, List, Optional, Tuple
 from unittest import mock
 
-from regkit import checker
+from regkit import checker, reaching
 from regkit.checker import CHECK, SEARCH, Answer, decide, find_program, is_for_search
+from regkit.drawing.reduced import values
+from regkit.history import read_history
+from regkit.reaching import Moment
 from regkit.testing import NotAtomic, NotChecked, TooLittleEvidence, assert_atomic
 
 from .events import Line, cas, crash, fail, gave, read, reply, run, text, took, write
+from .test_draw import Elements
 
 AGAIN = [write(1, 5), reply(1), write(1, 6), reply(1), write(1, 5), reply(1), read(2)]
 FINE, STALE = [*AGAIN, gave(2, 5)], [*AGAIN, gave(2, 6)]
@@ -29,12 +34,13 @@ class Files(unittest.TestCase):
     def logged(self, program: str) -> "mock._patch_dict":
         """Lets each run of a program add its name to the log."""
         real, path = find_program(program), self.folder / program
-        path.write_text(f'#!/bin/sh\necho {program} >> {self.folder}/log\nexec {real} "$@"\n')
+        path.write_text(f'#!/bin/sh\necho {program} "$@" >> {self.folder}/log\nexec {real} "$@"\n')
         path.chmod(path.stat().st_mode | stat.S_IXUSR)
         return mock.patch.dict(os.environ, {checker.VARIABLES[program]: str(path)})
 
     def log(self) -> List[str]:
-        return (self.folder / "log").read_text().split()
+        """The runs so far, each with its options."""
+        return (self.folder / "log").read_text().splitlines()
 
 
 def without_search() -> Any:
@@ -264,13 +270,28 @@ class Assertions(Files):
         with without_search(), self.assertRaisesRegex(NotChecked, "line 5: value already .*; regsearch would decide"):
             assert_atomic(text(*FINE))
 
-    def test_unknown(self) -> None:
-        path = self.folder / "search"
-        path.write_text(f'#!/bin/sh\nexec {find_program(SEARCH)} --steps 1 "$@"\n')
-        path.chmod(path.stat().st_mode | stat.S_IXUSR)
-        with mock.patch.dict(os.environ, {"REGSEARCH": str(path)}):
-            with self.assertRaisesRegex(NotChecked, "unknown: the search gave up; raise `--steps`"):
-                assert_atomic(text(*NULL_TWICE))
+    def test_bounds(self) -> None:
+        """A search that gives up is no verdict; the message names the argument. Both bounds are handed on to
+        the runs that make a fault small, too, and to the command that draws it."""
+        history = text(*NULL_TWICE)
+        with self.assertRaisesRegex(NotChecked, "unknown: the search gave up; raise `steps`; or record"):
+            assert_atomic(history, steps=1)
+        with self.assertRaisesRegex(NotChecked, "unknown: the search gave up; raise `configurations`; or"):
+            assert_atomic(history, configurations=1)
+        drawn = "regkit draw --steps 90000 --configurations 8 /"
+        with self.logged(SEARCH), self.assertRaisesRegex(NotAtomic, drawn):
+            assert_atomic(history, steps=90_000, configurations=8)
+        runs = [line for line in self.log() if line.startswith(SEARCH)]
+        self.assertGreater(len(runs), 1)
+        self.assertEqual(set(runs), {"regsearch --steps 90000 --configurations 8"})
+        self.assertEqual(assert_atomic(text(*FINE), steps=10**12, configurations=2**20).completed_reads, 1)
+
+    def test_bounds_that_regsearch_does_not_take(self) -> None:
+        table: List[Any] = [({"steps": 0}, "steps is 0, and a whole number from 1 to 1000000000000"),
+                            ({"configurations": 2**20 + 1}, "configurations is 1048577, and a whole number")]
+        for arguments, words in table:
+            with self.subTest(arguments), self.assertRaisesRegex(ValueError, words):
+                assert_atomic(text(write(1, 5), reply(1), read(2), gave(2, 5)), **arguments)
 
 
 class Drawings(Files):
@@ -289,6 +310,129 @@ class Drawings(Files):
         path.write_bytes(text(*NULL_TWICE))
         run("check", "--draw", str(self.folder), "--configurations", "1", str(path))
         self.assertIn("Unknown: ", page.read_text())
+
+    def test_bounds(self) -> None:
+        path, page = self.folder / "h.jsonl", self.folder / "h.html"
+        path.write_bytes(text(*NULL_TWICE))
+        for bound in ("--steps", "--configurations"):
+            ran = run("draw", bound, "1", str(path), "-o", str(page))
+            self.assertEqual((ran.status, ran.err), (0, ""))
+            self.assertIn(f"Raise <code>{bound}</code>; or record", page.read_text())
+
+    def test_the_index_draws_again_what_a_search_gave_up(self) -> None:
+        """By other bounds it may get another verdict, though the picture is newer than the history."""
+        picture = self.folder / "pictures" / "h.html"
+        (self.folder / "h.jsonl").write_bytes(text(*NULL_TWICE))
+        for bound in ("--steps", "--configurations"):
+            table: List[Tuple[List[str], str]] = [([bound, "1"], "unknown"), ([], "not linearizable")]
+            for words, verdict in table:
+                ran = run("index", *words, str(self.folder))
+                self.assertEqual((ran.status, ran.err), (0, ""))
+                self.assertIn(f'">{verdict}</td>', (self.folder / "index.html").read_text())
+                self.assertIn(f"<title>{verdict.capitalize()}: ", picture.read_text())
+                self.assertEqual(f"raise <code>{bound}</code>; or" in (self.folder / "index.html").read_text(),
+                                 verdict == "unknown")
+            picture.unlink()
+
+    def drawn(self, events: List[Line], *words: str) -> str:
+        path, page = self.folder / "h.jsonl", self.folder / "h.html"
+        path.write_bytes(text(*events))
+        ran = run("draw", *words, str(path), "-o", str(page))
+        self.assertEqual((ran.status, ran.err), (0, ""))
+        found = Elements(page.read_text())
+        self.assertEqual((found.odd, found.open), ([], []))
+        return page.read_text()
+
+    def rows(self, page: str) -> List[List[str]]:
+        """The cells of the table of moments."""
+        return [re.findall("<td.*?>(.*?)</td>", row) for row in re.findall("<tr>(.*?)</tr>", page)[1:]]
+
+    def test_what_is_enough_for_a_fault(self) -> None:
+        """The few operations that have no order, and what the value can be at each moment."""
+        page = self.drawn([*TWO_WINNERS, write(4, 9), crash(4)])
+        self.assertIn(">What is enough for it<", page)
+        self.assertIn("These 3 of the 3 operations called before line 6 have no order by themselves", page)
+        self.assertEqual(self.rows(page), [
+            ["1", "Process 1 calls a write of 0", "null or 0"],
+            ["2", "Process 1 has its answer: the write of 0 is done", "0"],
+            ["3", "Process 1 calls a cas from 0 to 1", "0 or 1"],
+            ["4", "Process 2 calls a cas from 0 to 2", "0, 1 or 2"],
+            ["5", "Process 1 has its answer: the cas from 0 to 1 took place", "1"],
+            ["6", "Process 2 has its answer: the cas from 0 to 2 took place",
+             "none: no order gives this answer"]])
+        self.assertEqual(page.count("its reply needn&#x27;t count: there is no order without it either"), 1)
+        self.assertEqual(page.count("it overlaps the call whose reply no order gives"), 2)
+        self.assertIn("</svg>its reply needn&#x27;t count</li>", page)
+
+    def test_words_of_moments(self) -> None:
+        page = self.drawn([*(write(n, n) for n in range(11, 14)), cas(1, None, 5), took(1, False), read(2),
+                           gave(2, None), read(2), gave(2, 11), read(2), gave(2, None)])
+        said = {cell for row in self.rows(page) for cell in row}
+        self.assertIn("Process 2 has its answer: the read gave null", said)
+        page = self.drawn([write(1, 5), reply(1), cas(2, 5, 6), took(2, False)])
+        self.assertIn("Process 2 has its answer: the cas from 5 to 6 missed", page)
+        call = read_history(text(write(1, 5))).calls[0]
+        table: List[Tuple[List[Optional[int]], str]] = [
+            ([None], "null"), ([3, 4], "3 or 4"), ([None, *range(1, 8)], "null, 1, 2, 3, 4, 5, 6 or 7"),
+            ([None, *range(1, 10)], "null, 1, 2, 3, 4, 5, 6, 7 or 2 others")]
+        for found, words in table:
+            self.assertEqual(values(Moment(1, call, found)), words)
+        with mock.patch.object(reaching, "MOST_STEPS", 1):
+            self.assertEqual(self.rows(self.drawn(TWO_WINNERS)), [])
+
+    def test_many_moments(self) -> None:
+        chain = [each for n in range(1, 25) for each in (cas(n, n - 1 or None, n), took(n, True))]
+        page = self.drawn([*chain, cas(30, 3, 4), took(30, True)])
+        self.assertIn(">The last 40 of 50 moments:<", page)
+        self.assertEqual(len(self.rows(page)), 40)
+
+    def test_a_fault_that_is_not_made_small(self) -> None:
+        """Without regsearch, or where it takes too long, the page has the rest."""
+        path, page = self.folder / "h.jsonl", self.folder / "h.html"
+        path.write_bytes(text(*TWO_WINNERS))
+        (self.folder / "report").write_bytes(decide(text(*TWO_WINNERS)).report)
+        with mock.patch("regkit.shrinking.find_program", lambda name: None):
+            ran = run("draw", str(path), str(self.folder / "report"), "-o", str(page))
+        self.assertEqual((ran.status, ran.err), (0, ""))
+        self.assertNotIn("What is enough", page.read_text())
+        self.assertIn("no order gives its reply", page.read_text())
+        run("draw", "--steps", "1", str(path), str(self.folder / "report"), "-o", str(page))
+        self.assertNotIn("What is enough", page.read_text())
+        for most, is_there in ((2, False), (3, True)):
+            with mock.patch("regkit.drawing.reduced.MOST_CALLS", most):
+                self.assertEqual("What is enough" in self.drawn(TWO_WINNERS), is_there)
+        self.assertNotIn("What is enough", self.drawn([cas(1, 7, 5), took(1, True)]))
+
+    def test_a_report_of_another_history(self) -> None:
+        path, report = self.folder / "h.jsonl", self.folder / "report"
+        path.write_bytes(text(*TWO_WINNERS[:-1], took(2, False)))
+        report.write_bytes(decide(text(*TWO_WINNERS)).report)
+        ran = run("draw", str(path), str(report), "-o", str(self.folder / "page"))
+        self.assertEqual(ran.status, 2)
+        self.assertIn("the report isn't of this history", ran.err)
+
+    def test_a_cas_that_missed_is_of_no_value(self) -> None:
+        """It is drawn in no value's colour, and the reply that no order gives in that of a stale read."""
+        page = self.drawn([*FINE, cas(3, 7, 5), took(3, False), cas(2, 6, 5), took(2, True)])
+        found = re.findall(r'<g class="bar ([a-z ]+)">(?:(?!<g class="bar ).)*?<title>(.*?) by process', page)
+        kinds = {words: kind for kind, words in found}
+        self.assertEqual(kinds["The cas from 7 to 5 that missed,"], "write")
+        self.assertEqual(kinds["The cas from 6 to 5 that took place,"], "write stale strong")
+        self.assertEqual(kinds["The write of 5"], "write first strong")
+
+    def test_unknown(self) -> None:
+        """It has a sign of its own, neither a tick nor a cross."""
+        other = [{**event, "register": "y"} for event in STALE]
+        page = self.drawn(NULL_TWICE, "--configurations", "1")
+        self.assertIn('<h1 class="verdict unknown">', page)
+        self.assertIn("Raise <code>--configurations</code>; or record", page)
+        page = self.drawn([*NULL_TWICE, *other], "--configurations", "1")
+        self.assertIn('<h1 class="verdict no">', page)
+        self.assertIn("2 registers; 1 of them not linearizable; 1 of them unknown.", page)
+        self.assertIn("1 other register is unknown: ", page)
+        twice = [{**event, "register": name} for name in ("a", "b") for event in NULL_TWICE]
+        page = self.drawn(twice, "--configurations", "1", "--most", "1")
+        self.assertIn("1 more register is unknown: ", page)
 
     def test_without_regsearch(self) -> None:
         path = self.folder / "h.jsonl"

@@ -2,7 +2,7 @@
 import argparse
 import os
 import sys
-from typing import Optional, Union
+from typing import Union
 
 from regkit.checker import WOULD_DECIDE, NoChecker, decide, is_for_search
 from regkit.draw import page_of
@@ -10,8 +10,10 @@ from regkit.drawing.page import Asked
 from regkit.garbage import many_objects
 from regkit.history import NoRegister, read_history
 from regkit.inputs import TooLong, read_input, shown_name
+from regkit.options import add_bounds, bounds_of
 from regkit.progress import Progress
 from regkit.report import read_report
+from regkit.shrinking import MOST_RUNS, Searcher
 from regkit.statuses import ExitStatus
 
 HELP = "draw a history on a page for a browser: the fault, or the order of a yes"
@@ -22,12 +24,13 @@ examples:
   regkit draw h.jsonl --register x -o h.html  draws one register
 
 The page stands alone: one file, no script, nothing loaded. It begins with the fault of the first register
-that isn't linearizable. If all are, it shows the point at which each operation takes effect. Of a long
-history it shows windows around what matters, and says what is left out.
+that isn't linearizable. If all are, it shows the point at which each operation takes effect. If the search
+gave up on some, it shows those and says what to do. Of a long history it shows windows around what matters,
+and says what is left out.
 
 exit status:
   0  the page was written, whatever it says
-  2  regcheck refused the history, or the report visibly isn't of it (`regkit verify` checks every claim)
+  2  the history is refused, or the report visibly isn't of it (`regkit verify` checks every claim)
   3  the command line is wrong
   4  a file couldn't be read or written, or regcheck wasn't found
 """
@@ -36,13 +39,14 @@ exit status:
 def add_arguments(parser: argparse.ArgumentParser) -> None:
     parser.add_argument("history", metavar="HISTORY", help="the history; - is standard input")
     parser.add_argument("report", metavar="REPORT", nargs="?",
-                        help="its report by regcheck; without one, regcheck is run")
+                        help="its report; without one, regcheck or regsearch is run")
     parser.add_argument("-o", "--output", metavar="OUT.html", required=True,
                         help="the page; - is standard output")
     parser.add_argument("--register", metavar="NAME", action="append", default=[],
                         help="draw this register; may be given again")
     parser.add_argument("--most", metavar="N", type=positive, default=5,
                         help="draw at most N registers (default 5)")
+    add_bounds(parser)
 
 
 def positive(word: str) -> int:
@@ -75,24 +79,25 @@ def draw(arguments: argparse.Namespace) -> int:
     with Progress() as progress, many_objects():
         data = read_input(arguments.history)
         progress.step("regcheck")
-        report = report_of(arguments.report, data)
+        report = report_of(arguments, data)
         if isinstance(report, int):
             return report
         verdict = read_report(report)
         progress.step("reading", data.count(b"\n"))
         history = read_history(data, progress.reach)
-        progress.step("drawing")
+        progress.step("drawing", MOST_RUNS if verdict.by_search else 0)
         title = os.path.basename(shown_name(arguments.history))
-        page = page_of(history, verdict, title, Asked(arguments.most, arguments.register))
+        searcher = Searcher(bounds_of(arguments), progress.reach)
+        page = page_of(history, verdict, title, Asked(arguments.most, arguments.register, searcher))
     write(arguments.output, page)
     return ExitStatus.DONE
 
 
-def report_of(name: Optional[str], history: bytes) -> Union[bytes, int]:
-    """The report in a file, or of the checker; the status if it refused."""
-    if name is not None:
-        return read_input(name)
-    answer = decide(history)
+def report_of(arguments: argparse.Namespace, history: bytes) -> Union[bytes, int]:
+    """The report in a file, or of a new run; the status if there is none."""
+    if arguments.report is not None:
+        return read_input(arguments.report)
+    answer = decide(history, bounds_of(arguments))
     if answer.decided:
         return answer.report
     refused = answer.status == ExitStatus.REFUSED

@@ -2,10 +2,11 @@
 import argparse
 import pathlib
 import sys
-from typing import List
+from typing import List, Sequence
 
+from regkit.drawing.page import shows_unknown
 from regkit.judging import Judge, Wishes
-from regkit.options import count
+from regkit.options import add_bounds, bounds_of, count
 from regkit.progress import Progress
 from regkit.quoting import plain
 from regkit.runs import PICTURES, Run, page, runs_in
@@ -19,7 +20,8 @@ examples:
   regkit index --most 20 runs -o latest.html  lists the newest 20 histories of runs alone
 
 A history is a file whose name ends with .jsonl or .jsonl.gz. Its picture is drawn anew only if the history
-is newer. The page and the pictures load nothing and have no script.
+is newer, or if the picture is of a search that gave up. The page and the pictures load nothing and have no
+script.
 
 exit status:
   0  the page was written, whatever it says
@@ -28,23 +30,29 @@ exit status:
 """
 
 
-
 def add_arguments(parser: argparse.ArgumentParser) -> None:
     parser.add_argument("folder", metavar="DIR", type=pathlib.Path, help="where the histories are")
     parser.add_argument("-o", "--output", metavar="OUT.html", type=pathlib.Path,
                         help="the page (default: index.html in DIR)")
     parser.add_argument("--most", metavar="N", type=count, default=100,
                         help="list at most N histories, the newest (default %(default)s)")
+    add_bounds(parser)
 
 
-def judged(paths: List[pathlib.Path], pictures: pathlib.Path, progress: Progress) -> List[Run]:
-    """The runs with their outcomes. A picture that is older than its history is drawn."""
-    judge = Judge(Wishes(1, 1, 0, False, False, None), progress)
+def is_fresh(picture: pathlib.Path, changed: float) -> bool:
+    """Whether a picture is newer than its history. One of a search that gave up may get another verdict by
+    other bounds."""
+    return picture.exists() and picture.stat().st_mtime >= changed and not shows_unknown(picture)
+
+
+def judged(paths: List[pathlib.Path], pictures: pathlib.Path, bounds: Sequence[str],
+           progress: Progress) -> List[Run]:
+    """The runs with their outcomes. A picture that isn't fresh is drawn."""
+    judge = Judge(Wishes(1, 1, 0, False, False, None, bounds=bounds), progress)
     runs = []
     for place, path in enumerate(paths, 1):
         picture, changed = pictures / f"{path.stem}.html", path.stat().st_mtime
-        fresh = picture.exists() and picture.stat().st_mtime >= changed
-        judge.wishes = judge.wishes._replace(draw=None if fresh else pictures)
+        judge.wishes = judge.wishes._replace(draw=None if is_fresh(picture, changed) else pictures)
         outcome = judge.judge(str(path), f"{plain(path.name)} ({place} of {len(paths)})")
         drawn = pathlib.Path(outcome.drawing) if outcome.drawing else picture
         runs.append(Run(path, changed, outcome, drawn if outcome.evidence is not None else None))
@@ -56,7 +64,7 @@ def run(arguments: argparse.Namespace) -> int:
     output: pathlib.Path = arguments.output or folder / "index.html"
     paths = runs_in(folder)
     with Progress() as progress:
-        runs = judged(paths[:arguments.most], folder / PICTURES, progress)
+        runs = judged(paths[:arguments.most], folder / PICTURES, bounds_of(arguments), progress)
     output.write_text(page(runs, len(paths), folder, output), encoding="utf-8", errors="surrogateescape")
     wrong = sum(each.outcome.status == ExitStatus.NOT_ATOMIC for each in runs)
     print(f"{plain(str(output))}: {counted(len(runs), 'run')}, {wrong:,} not linearizable", file=sys.stdout)

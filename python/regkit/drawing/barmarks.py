@@ -12,20 +12,25 @@ from regkit.sentences import capital, named
 SIGNS: Dict[str, Callable[[float, float], str]] = {
     "unexplained": shapes.exclamation, "contradicted": shapes.exclamation, "stale": shapes.exclamation,
     "fresh": shapes.tick,
-    "overlapped": shapes.parallel, "failed": shapes.cross}
+    "overlapped": shapes.parallel, "beside": shapes.parallel, "loose": shapes.tilde, "failed": shapes.cross}
 SIGN_WORDS = {"unexplained": "the first read that can't be explained",
               "contradicted": "no order gives its reply",
               "stale": "the stale read: it gave the older value",
               "fresh": "the fresh read: it gave the newer value",
               "overlapped": "it was open at the same time as the first read that can't be explained",
+              "beside": "it overlaps the call whose reply no order gives",
+              "loose": "its reply needn't count: there is no order without it either",
               "failed": "it certainly had no effect"}
 
 
 def classes(bar: Bar) -> str:
     call = bar.operation
     state = "failed" if call.failed else "pending" if call.pending else ""
-    colour = bar.cluster or ("stale" if {"unexplained", "contradicted", "stale"} & set(bar.signs) else "")
-    return " ".join(filter(None, ["bar", "read" if call.kind == "read" else "write", colour, "strong" if bar.strong else "", state]))
+    colour = bar.cluster or ("stale" if {"unexplained", "stale"} & set(bar.signs) else "")
+    if "contradicted" in bar.signs:  # whatever it writes
+        colour = "stale"
+    kind, strong = "read" if call.kind == "read" else "write", "strong" if bar.strong else ""
+    return " ".join(filter(None, ["bar", kind, colour, strong, state]))
 
 
 def bar_title(bar: Bar) -> str:

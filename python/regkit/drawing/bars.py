@@ -23,7 +23,7 @@ class Bar(NamedTuple):
     process: str  # beside the label, if the lane doesn't say it
     place: str  # in the order, if there is one
     cluster: str
-    signs: List[str]  # of "unexplained", "contradicted", "stale", "fresh", "overlapped", "failed"
+    signs: List[str]  # the names of its signs, as barmarks.py has them
     strong: bool  # the contradiction rests on it
 
     @property
@@ -59,7 +59,9 @@ def signs_of(operation: Operation, marks: Marks) -> List[str]:
     if marks.pair is not None and operation is marks.pair.fresh and operation.kind == "read":
         signs.append("fresh")
     if operation.line in marks.overlapped_lines:
-        signs.append("overlapped")
+        signs.append("beside" if marks.by_search else "overlapped")
+    if operation.line in marks.loose:
+        signs.append("loose")
     if operation.failed:
         signs.append("failed")
     return signs

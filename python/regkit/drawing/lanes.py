@@ -43,7 +43,7 @@ def urgency(bar: Bar, axis: Axis) -> Tuple[int, int]:
         return (2 if bar.signs else 3), bar.begin
     if bar.end is not None:
         return (4 if bar.signs else 5), bar.begin
-    return (6 if bar.operation.kind == "write" else 7), -bar.begin
+    return (6 if bar.operation.writes else 7), -bar.begin
 
 
 def packed(bars: List[Bar], axis: Axis) -> Lanes:

@@ -54,6 +54,8 @@ def entries(found: Set[str]) -> List[str]:
         ("stale", sign_alone(shapes.exclamation(9, 11)), "stale read"),
         ("fresh", sign_alone(shapes.tick(9, 11)), "fresh read"),
         ("overlapped", sign_alone(shapes.parallel(9, 11)), "write that overlaps it"),
+        ("beside", sign_alone(shapes.parallel(9, 11)), "write or cas that overlaps it"),
+        ("loose", sign_alone(shapes.tilde(9, 11)), "its reply needn't count"),
         ("pending", sample("write pending", "torn"), "never answered"),
         ("failed", sample("write failed", "closed", shapes.cross(center, middle)), "failed, no effect"),
         ("crash", sign_alone(shapes.bolt(9, 11)), "its process crashed"),

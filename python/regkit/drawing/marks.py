@@ -43,14 +43,16 @@ class Marks:
         self.pair: Optional[StalePair] = None
         self.overlapped: List[Operation] = []  # the writes that were open while the unexplained read was
         self.overlapped_lines: Set[int] = set()
+        self.loose: Set[int] = set()  # the lines of calls whose replies needn't count
         self.by_search = False  # whether the unexplained reply is one for which a search found no order
 
     def name(self, operation: Operation) -> None:
         self.named[operation.line] = operation
 
     def cluster_of(self, operation: Operation) -> str:
-        """The cluster of an operation, or nothing. A failed call is in none, nor is a pending read."""
-        if operation.failed or (operation.kind == "read" and not operation.completed):
+        """The cluster of an operation, or nothing. A failed call is in none, nor is a pending read, nor a cas
+        that missed."""
+        if operation.failed or operation.missed or (operation.kind == "read" and not operation.completed):
             return ""
         return self.clusters.get(operation.value, "")
 
@@ -80,6 +82,15 @@ class Marks:
         marks.overlapped, marks.overlapped_lines = self.overlapped, self.overlapped_lines
         marks.by_search = self.by_search
         marks.named = {line: operation for line, operation in self.named.items() if line}
+        return marks
+
+
+    def of(self, calls: List[Operation], loose: Set[int]) -> "Marks":
+        """The same for a picture of a few of the calls, some of whose replies needn't count."""
+        marks = Marks()
+        marks.clusters, marks.by_search, marks.loose = self.clusters, self.by_search, loose
+        if self.unexplained is not None:
+            marks.add_unexplained(self.unexplained, calls)
         return marks
 
 

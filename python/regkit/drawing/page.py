@@ -1,7 +1,8 @@
 """The page: the verdict in words, the legend, and a section for each register that is shown."""
 import base64
 import hashlib
-from typing import List, NamedTuple, Sequence
+import pathlib
+from typing import Dict, List, NamedTuple, Sequence
 
 from regkit.drawing.legend import legend
 from regkit.drawing.section import Section, section
@@ -12,10 +13,13 @@ from regkit.history import History
 from regkit.report import Report, Row
 from regkit.outcome import VERDICTS
 from regkit.sentences import capital, counted
+from regkit.shrinking import Searcher
 from regkit.statuses import ExitStatus
 
 MOST_LISTED = 12  # names of registers that aren't drawn
+HEAD = 1024  # bytes of a page in which its title begins
 TICK, CROSS = "M7 12.5 l3.5 3.5 l6.5 -8", "M8 8 l8 8 m0 -8 l-8 8"
+QUESTION = "M8.6 9.6 a3.4 3.4 0 1 1 5 3 q-1.6 .8 -1.6 2.4 m0 2.3 v1.4"
 STRIPES = ('<svg class="defs" aria-hidden="true"><defs><pattern id="stripes" width="7" height="7" '
            'patternUnits="userSpaceOnUse" patternTransform="rotate(45)">'
            '<rect class="stripe-ground" width="7" height="7"/><rect class="stripe" width="3" height="7"/>'
@@ -27,6 +31,7 @@ class Asked(NamedTuple):
 
     most: int = 5  # registers
     registers: Sequence[str] = ()  # these alone, if there are any
+    searcher: Searcher = Searcher()  # by which what a search found is made small
 
 
 def policy() -> str:
@@ -48,22 +53,36 @@ def chosen_rows(history: History, report: Report, asked: Asked) -> List[Row]:
     return (report.faulty or report.unknown or rows)[:asked.most]
 
 
+def is_unknown(report: Report) -> bool:
+    """Whether a search gave up, and no register is known not to be linearizable."""
+    return bool(report.unknown) and not report.faulty
+
+
 def verdict_word(report: Report) -> str:
     """The verdict in the terminal's words."""
-    if report.unknown and not report.faulty:
+    if is_unknown(report):
         return VERDICTS[ExitStatus.UNKNOWN]
     return VERDICTS[ExitStatus.ATOMIC if report.atomic else ExitStatus.NOT_ATOMIC]
 
 
+def shows_unknown(page: pathlib.Path) -> bool:
+    """Whether a page is of a history that a search gave up, by its title."""
+    title = f"<title>{capital(VERDICTS[ExitStatus.UNKNOWN])}: ".encode("utf-8")
+    with open(page, "rb") as stream:
+        return title in stream.read(HEAD)
+
+
 def verdict(report: Report, title: str) -> str:
     kind, mark = ("yes", TICK) if report.atomic else ("no", CROSS)
+    if is_unknown(report):
+        kind, mark = "unknown", QUESTION
     icon = tag("svg", tag("circle", cx=12, cy=12, r=11) + tag("path", d=mark), viewBox="0 0 24 24",
                aria_hidden="true")
     return tag("h1", f"{icon}{capital(verdict_word(report))}: {name(title)}", class_=f"verdict {kind}")
 
 
 def summary(history: History, report: Report) -> str:
-    """The size of the history, and how many of its registers are at fault."""
+    """The size of the history, and how many of its registers are at fault or unknown."""
     operations = sum(not call.failed for call in history.calls)
     failed, crashed = len(history.calls) - operations, len(history.crashes)
     parts = [f"{counted(operations, 'operation')} on {counted(len(history.registers), 'register')}"]
@@ -71,6 +90,8 @@ def summary(history: History, report: Report) -> str:
         parts.append("an early answer, which names the first register that isn't linearizable and no other")
     elif len(history.registers) > 1 and report.faulty:
         parts.append(f"{len(report.faulty):,} of them not linearizable")
+    if len(history.registers) > 1 and report.unknown:
+        parts.append(f"{len(report.unknown):,} of them unknown")
     if failed:
         parts.append(f"{counted(failed, 'call')} failed")
     if crashed:
@@ -80,7 +101,7 @@ def summary(history: History, report: Report) -> str:
 
 def page(history: History, report: Report, title: str, asked: Asked) -> str:
     rows = chosen_rows(history, report, asked)
-    sections = [section(history, row) for row in rows]
+    sections = [section(history, row, asked.searcher) for row in rows]
     body = [STRIPES, verdict(report, title), summary(history, report)]
     if not rows:
         body.append(tag("p", words("The history has no operation, so there is nothing to draw.")))
@@ -92,14 +113,18 @@ def page(history: History, report: Report, title: str, asked: Asked) -> str:
 
 
 def left_out(history: History, report: Report, rows: List[Row]) -> str:
-    """The registers that aren't shown, the faulty ones first."""
+    """The registers that aren't shown, the faulty ones first, and then those that a search gave up."""
+    state_of = {row["register"]: "unknown" for row in report.unknown}
+    state_of.update({row["register"]: "not linearizable" for row in report.faulty})
     shown = {row["register"] for row in rows}
-    faulty = {row["register"] for row in report.faulty}
-    hidden = [register for register in history.registers if register not in shown]
+    hidden: Dict[str, List[str]] = {"not linearizable": [], "unknown": [], "not drawn": []}
+    for register in history.registers:
+        if register not in shown:
+            hidden[state_of.get(register, "not drawn")].append(register)
     text = ""
-    for names, kind, state in (([each for each in hidden if each in faulty], "more", "not linearizable"),
-                               ([each for each in hidden if each not in faulty], "other", "not drawn")):
+    for state, names in hidden.items():
         if names:
+            kind = "other" if state == "not drawn" or (state == "unknown" and report.faulty) else "more"
             verb = "is" if len(names) == 1 else "are"
             sentence = f"{counted(len(names), f'{kind} register')} {verb} {state}: {listed(names)}."
             text += tag("p", sentence, class_="note")

@@ -1,17 +1,19 @@
 """What the page says and shows of one register."""
-from typing import List, NamedTuple
+from typing import List, NamedTuple, Optional
 
 from regkit import causes, sentences
 from regkit.drawing import shapes
 from regkit.drawing.figure import PAGE_WIDTH, RIGHT, Figure, gutter_of
 from regkit.drawing.marks import FIRST, SECOND, Marks, marks_of_fault, marks_of_read, marks_of_search
+from regkit.drawing.reduced import Reduced, reduced, table
 from regkit.drawing.scene import Register, Scene, fitted, strips
 from regkit.drawing.svg import tag
-from regkit.drawing.text import name, words
+from regkit.drawing.text import name, with_code, words
 from regkit.history import History, Operation
 from regkit.report import Row
-from regkit.searched import sentences_of, what_to_do
+from regkit.searched import contradicted, is_unwritten, sentences_of, what_to_do
 from regkit.sentences import capital, counted, named
+from regkit.shrinking import Searcher
 from regkit.unexplained import Unexplained, find_unexplained
 
 WHOLE = 600  # events; a register of no more is drawn whole, below its fault
@@ -30,10 +32,12 @@ class Section(NamedTuple):
 class Author:
     """Writes the section of one register."""
 
-    def __init__(self, history: History, row: Row) -> None:
+    def __init__(self, history: History, row: Row, searcher: Searcher,
+                 calls: Optional[List[Operation]] = None) -> None:
         self.history = history
         self.row = row
-        self.calls = history.registers[row["register"]]
+        self.searcher = searcher
+        self.calls = history.registers[row["register"]] if calls is None else calls
         self.register = Register(self.calls, row.get("order", []), row.get("points", []))
         self.scenes: List[Scene] = []
 
@@ -67,16 +71,30 @@ class Author:
     def of_search(self, heading: str) -> Section:
         """What a search found, in sentences and around the reply that no order gives; or what it gave up."""
         if self.row["atomic"] == "unknown":
-            heading += tag("p", words(capital(what_to_do([self.row])) + "."))
+            heading += tag("p", with_code(capital(what_to_do([self.row])) + "."))
             return Section(heading, self.whole(Marks(), FIRST_EVENTS), self.scenes)
         marks = marks_of_search(self.history, self.row)
         said = sentences_of(self.history, self.row)
         heading += reasons(said[:1], numbered=False)
         heading += "".join(tag("p", words(capital(sentence) + ".")) for sentence in said[1:])
+        small = None if is_unwritten(self.row) else reduced(
+            self.calls, contradicted(self.history, self.row), self.searcher)
         pictures = self.windows(marks, "the reply that no order gives")
         if len(self.register.events) <= WHOLE and all(scene.left_out for scene in self.scenes):
             pictures += tag("h3", "The whole register") + self.whole(marks.without_arrows(), WHOLE)
+        if small is not None:
+            pictures = self.enough(small, marks, pictures)
         return Section(heading, pictures, self.scenes)
+
+    def enough(self, small: Reduced, marks: Marks, pictures: str) -> str:
+        """What is enough for the fault, before the pictures of what is around it."""
+        text = tag("h3", "What is enough for it")
+        text += "".join(tag("p", words(capital(sentence) + ".")) for sentence in small.sentences)
+        part = Author(self.history, self.row, self.searcher, small.calls)
+        text += part.whole(marks.of(small.calls, small.loose), WHOLE)
+        self.scenes += part.scenes
+        text += table(small.moments)
+        return text + tag("h3", "Around the reply that no order gives") + pictures
 
     def causes(self, found: Unexplained) -> str:
         """The writes that were lost, and what to ask."""
@@ -197,5 +215,5 @@ def unexplained_words(found: Unexplained, count: int, overlapped: List[Operation
     return f"{text} It overlaps {listed(overlapped) if overlapped else 'no write'}."
 
 
-def section(history: History, row: Row) -> Section:
-    return Author(history, row).write()
+def section(history: History, row: Row, searcher: Searcher) -> Section:
+    return Author(history, row, searcher).write()

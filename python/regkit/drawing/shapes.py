@@ -61,6 +61,11 @@ def parallel(x: float, y: float) -> str:
     return tag("path", class_="parallel", d=path("M", x - 2.5, y - 5, "v 10 m 5 -10 v 10"))
 
 
+def tilde(x: float, y: float) -> str:
+    """The sign of a call whose reply needn't count: a wave."""
+    return tag("path", class_="parallel", d=path("M", x - 5, y + 1.5, "q 2.5 -5 5 -1.5 t 5 -1.5"))
+
+
 def bolt(x: float, y: float) -> str:
     """The sign of a crash."""
     return tag("path", class_="bolt", d=path("M", x + 2, y - 9, "l -7 10 h 4.5 l -2 8 l 7.5 -11 h -4.5 z"))

@@ -31,6 +31,7 @@ p{margin:0 0 4px;overflow-wrap:anywhere}
 .verdict svg{width:24px;height:24px;vertical-align:-4px;margin-right:8px;
   stroke:var(--on);fill:none;stroke-width:2.4}
 .verdict.no circle{fill:var(--two);stroke:none}
+.verdict.unknown circle{fill:var(--dim);stroke:none}
 .verdict.yes circle{fill:var(--good);stroke:none}
 .name{font-family:MONOSPACE;font-size:.92em;font-weight:500;background:var(--chip);border-radius:4px;
   padding:1px 5px;white-space:pre-wrap;overflow-wrap:anywhere;unicode-bidi:isolate}
@@ -56,6 +57,13 @@ table.runs{border-collapse:collapse;margin-top:18px}
 .runs .yes{color:var(--good-ink)}
 .runs .no{color:var(--two);font-weight:600}
 .runs a{color:inherit}
+code{font-family:MONOSPACE;font-size:.92em}
+table.moments{border-collapse:collapse;margin-top:12px;font-size:13px}
+.moments th,.moments td{text-align:left;vertical-align:top;padding:4px 18px 4px 0;
+  border-bottom:1px solid var(--faint)}
+.moments th{color:var(--dim);font-weight:600}
+.moments td:first-child{text-align:right;color:var(--dim)}
+.moments .no{color:var(--two);font-weight:600}
 """
 
 PICTURES = """

@@ -1,6 +1,7 @@
 """Any text as text of a page. A register's name may hold markup, control characters, or letters that turn the
 text beside them around; none of that may reach the reader as anything but itself."""
 import html
+import re
 import unicodedata
 from typing import List
 
@@ -19,6 +20,11 @@ def attribute(text: str) -> str:
 def words(text: str) -> str:
     """A sentence of our own for the content of an element."""
     return html.escape(text, quote=True)
+
+
+def with_code(text: str) -> str:
+    """The same of a sentence that has words of a command line between backticks."""
+    return re.sub("`(.*?)`", r"<code>\1</code>", words(text))
 
 
 def name(text: str) -> str:
