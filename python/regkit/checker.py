@@ -151,6 +151,12 @@ def run_checker(history: bytes, options: Sequence[str] = (), program: Optional[s
         return run.answer()
 
 
+def run_search(history: bytes, options: Sequence[str], program: str) -> Answer:
+    """Runs `regsearch`, at a path, on a history. Raises NoChecker if it can't be started."""
+    with Run(history, options, program, SEARCH) as run:
+        return run.answer()
+
+
 def begin(history: bytes, options: Sequence[str] = ()) -> Union[Run, Told]:
     """Begins to judge a history: by the library if the history is small and there are no options, else by the
     program. Their answers are the same."""
@@ -192,10 +198,7 @@ def searched(history: bytes, answer: Answer, options: Sequence[str] = ()) -> Ans
     """The answer of regsearch where that takes what regcheck refused, and is there; else the same answer.
     Raises NoChecker if it can't be started."""
     path = find_program(SEARCH) if is_for_search(history, answer) else None
-    if path is None:
-        return answer
-    with Run(history, options, path, SEARCH) as run:
-        return run.answer()
+    return answer if path is None else run_search(history, options, path)
 
 
 def decide(history: bytes, options: Sequence[str] = ()) -> Answer:

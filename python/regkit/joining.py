@@ -1,29 +1,46 @@
-"""Joins the answers of the parts into the answer that one run over the whole history would give."""
+"""Joins the answers of the parts into the answer that one run over the whole history would give.
+
+One program checked all parts, `regcheck` or `regsearch`, and the answer is one of that program."""
 import json
 import pathlib
 import resource
 import shlex
 from array import array
 from contextlib import ExitStack, suppress
-from typing import Any, BinaryIO, Callable, Dict, Iterator, NamedTuple, Optional, Sequence, Union
+from typing import Any, BinaryIO, Callable, Iterator, NamedTuple, Optional, Sequence, Tuple, Union
 
-from regkit.checker import NoChecker, find_checker
+from regkit.checker import CHECK, REPEATED, SEARCH, Answer, find_program, is_for_search
 from regkit.parts import MAP, LineMap, Manifest, file_of, same_line
-from regkit.refusals import Refusal, read_refusal
+from regkit.refusals import SEARCH_TEXTS, TEXTS, Refusal, read_refusal
 from regkit.report import Row
+from regkit.statuses import ExitStatus
 
 # The keys of a register's line whose values are line numbers.
 LINE_KEYS = ("fault", "inversion", "order", "points", "regular_read", "safe_read")
+BAD_OP = 6
+VERDICTS = {ExitStatus.ATOMIC: "yes", ExitStatus.NOT_ATOMIC: "no", ExitStatus.UNKNOWN: "unknown"}
+GRAVITY = ("no", "unknown", "yes")  # of the parts' verdicts, the first that there is is that of the whole
 LineOf = Callable[[int], int]
 
 
 class Answered(NamedTuple):
     """A part with a report: what its summary says, and where its lines are in the whole."""
 
+    part: int
+    program: str  # which wrote the report
     report: pathlib.Path
     line_of: LineOf
-    atomic: bool
+    atomic: str  # yes, no or unknown
     operations: int
+
+
+class RefusedPart(NamedTuple):
+    """A part that was refused."""
+
+    part: int
+    program: Optional[str]  # which refused it, if the other one would have said something else
+    refusal: Refusal
+    words: str  # the program's own, with the lines of the part
 
 
 class Unanswered(NamedTuple):
@@ -33,7 +50,7 @@ class Unanswered(NamedTuple):
     why: str
 
 
-Outcome = Union[Answered, Refusal, Unanswered]
+Outcome = Union[Answered, RefusedPart, Unanswered]
 
 
 # ---- what the runs of the parts left
@@ -74,44 +91,62 @@ def outcome(directory: str, part: int, registers: int, line_of: LineOf) -> Outco
     status = file_of(directory, part, "status").read_text(encoding="utf-8", errors="replace").strip()
     words = file_of(directory, part, "err").read_text(encoding="utf-8", errors="replace").strip()
     if status == "2":
-        return read_refusal(words, line_of) or Unanswered(part, f"unexpected refusal: {words}")
-    if status not in ("0", "1"):
+        refusal = read_refusal(words, line_of)
+        if refusal is None:
+            return Unanswered(part, f"unexpected refusal: {words}")
+        return RefusedPart(part, program_of_refusal(refusal), refusal, words)
+    verdicts = {str(int(number)): said for number, said in VERDICTS.items()}
+    if status not in verdicts:
         return Unanswered(part, f"status {status or 'unknown'}" + (f": {words}" if words else ""))
     report = file_of(directory, part, "report")
-    summary = summary_of(report, registers)
-    atomic = status == "0"
-    if summary["atomic"] != ("yes" if atomic else "no"):
+    first, summary = ends_of(report, registers)
+    if summary["atomic"] != verdicts[status]:
         raise ValueError(f"{report} does not fit its status {status}")
-    return Answered(report, line_of, atomic, summary["operations"])
+    by_search = "cas" in first if registers else "order" not in summary
+    program = SEARCH if by_search else CHECK
+    return Answered(part, program, report, line_of, verdicts[status], summary["operations"])
 
 
-def summary_of(report: pathlib.Path, registers: int) -> Dict[str, Any]:
-    """The last line of a report. Raises ValueError unless there is a line for each register before it."""
-    lines, last = 0, b""
+def program_of_refusal(refusal: Refusal) -> Optional[str]:
+    """Which program refuses so, if the other one doesn't."""
+    if refusal.text in SEARCH_TEXTS.values():
+        return SEARCH
+    return CHECK if refusal.number == REPEATED or refusal.text == TEXTS[BAD_OP] else None
+
+
+def ends_of(report: pathlib.Path, registers: int) -> Tuple[Row, Row]:
+    """The first and the last line of a report. Raises ValueError unless there is a line for each register
+    before the summary."""
+    lines, first, last = 0, b"", b""
     with open(report, "rb") as stream:
         for lines, last in enumerate(stream, 1):
-            pass
+            first = first or last
     if lines != registers + 1:
         raise ValueError(f"{report} has {lines} lines; {registers} registers and the summary need one each")
     try:
-        summary = json.loads(last)
+        row, summary = dict(json.loads(first)), dict(json.loads(last))
         whole = summary["registers"] == registers and {"atomic", "operations"} <= set(summary)
     except (ValueError, KeyError, TypeError):
         whole = False
     if not whole or not last.endswith(b"\n"):
         raise ValueError(f"{report} does not end with the summary of {registers} registers")
-    return dict(summary)
+    return row, summary
 
 
-def command_again(directory: str, part: int) -> str:
+def takes_search(directory: str, refused: RefusedPart) -> bool:
+    """Whether regcheck refused a part for what regsearch takes."""
+    if refused.program != CHECK:
+        return False
+    history = file_of(directory, refused.part, "jsonl").read_bytes()
+    return is_for_search(history, Answer(ExitStatus.REFUSED, b"", refused.words))
+
+
+def command_again(directory: str, part: int, program: str) -> str:
     """The command for a shell that runs a part once more."""
-    try:
-        checker = find_checker()
-    except NoChecker:
-        checker = "regcheck"
+    path = find_program(program) or program
     history, report, words, status = (shlex.quote(str(file_of(directory, part, ending)))
                                       for ending in ("jsonl", "report", "err", "status"))
-    return f"{shlex.quote(checker)} {history} > {report} 2> {words}; echo $? > {status}"
+    return f"{shlex.quote(path)} {history} > {report} 2> {words}; echo $? > {status}"
 
 
 # ---- one report
@@ -135,11 +170,16 @@ class Merge:
         return map(self.lines.__getitem__, sorted(range(len(self.lines)), key=self.points.__getitem__))
 
 
+def verdict_of(parts: Sequence[Answered]) -> str:
+    """The verdict of the whole: yes, no or unknown."""
+    return min((part.atomic for part in parts), key=GRAVITY.index)
+
+
 def write_report(parts: Sequence[Answered], manifest: Manifest, with_order: bool, out: BinaryIO,
                  reach: Callable[[int], None]) -> None:
     """Writes the lines of the registers in the order of their first calls in the whole, then the summary."""
-    atomic = all(part.atomic for part in parts)
-    merge = Merge() if with_order and atomic else None
+    atomic = verdict_of(parts)
+    merge = Merge() if with_order and atomic == "yes" else None
     with ExitStack() as opened:
         reports = [opened.enter_context(open(part.report, "rb")) for part in parts]
         for done, part in enumerate(manifest.registers):
@@ -149,7 +189,7 @@ def write_report(parts: Sequence[Answered], manifest: Manifest, with_order: bool
             out.write(row)
             reach(done)
     operations = sum(part.operations for part in parts)
-    out.write(b'{"atomic":"%s","operations":%d,' % (b"yes" if atomic else b"no", operations))
+    out.write(b'{"atomic":"%s","operations":%d,' % (atomic.encode(), operations))
     if merge is not None:
         out.write(b'"order":[%s],' % ",".join(map(str, merge.order())).encode())
     out.write(b'"registers":%d}\n' % len(manifest.registers))

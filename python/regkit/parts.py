@@ -26,6 +26,7 @@ class Manifest(NamedTuple):
     last_line: int  # the last line that was read
     stopped: Optional[int]  # the line that was sure to be refused; nothing after it was read
     registers: List[int]  # the part of each register, in the order of their first calls
+    cas: bool = False  # whether any call is a cas, which only regsearch takes
 
 
 def file_of(directory: str, part: int, ending: str) -> pathlib.Path:

@@ -1,6 +1,6 @@
 """The refusals of the parts of a history, and the one that a run over the whole history would give."""
 import re
-from typing import Callable, Iterable, NamedTuple, Optional
+from typing import Callable, NamedTuple, Optional, Tuple
 
 # The texts of the refusals of a line, by their numbers in docs/format.md. On one line the lowest number counts.
 TEXTS = {
@@ -39,6 +39,11 @@ class Refusal(NamedTuple):
     text: str
     other: Optional[int]  # the line of the event that the refused one contradicts
 
+    @property
+    def rank(self) -> Tuple[int, int]:
+        """By which one run names the lowest."""
+        return self.line, self.number
+
     def __str__(self) -> str:
         return f"line {self.line}: {self.text}" + ("" if self.other is None else f" at line {self.other}")
 
@@ -56,8 +61,3 @@ def read_refusal(words: str, line_of: Callable[[int], int]) -> Optional[Refusal]
         return None
     other = None if found[3] is None else line_of(int(found[3]))
     return Refusal(line_of(int(found[1])), NUMBERS[found[2]], found[2], other)
-
-
-def first_refusal(refusals: Iterable[Refusal]) -> Optional[Refusal]:
-    ordered = sorted(refusals, key=lambda refusal: (refusal.line, refusal.number))
-    return ordered[0] if ordered else None

@@ -8,7 +8,7 @@ history finds."""
 import heapq
 import re
 from array import array
-from typing import Any, Dict, List, Optional, Tuple
+from typing import Any, Dict, List, NamedTuple, Optional, Tuple
 
 from regkit.limits import MAX_EVENTS, MAX_LINE, MAX_NAME, MAX_PROCESS
 from regkit.lines import BLANK, NotJson, json_of
@@ -17,15 +17,19 @@ from regkit.lines import BLANK, NotJson, json_of
 # line is read as JSON, which takes longer. Values are left to the checker.
 _START = rb'\{"process": ?(0|[1-9][0-9]{0,8}), ?"event": ?'
 _REGISTER = rb'"register": ?"([^"\\\x00-\x1f]{1,255})"'
-_VALUE = rb'(?:, ?"value": ?(?:-?[1-9][0-9]{0,17}|0|null))?'
+_NUMBER = rb"(?:-?[1-9][0-9]{0,17}|0|null)"
+_VALUE = rb'(?:, ?"value": ?' + _NUMBER + rb")?"
+_CHANGE = rb'(?:, ?"from": ?' + _NUMBER + rb', ?"to": ?' + _NUMBER + rb")?"
+_OK = rb'(?:, ?"ok": ?(?:true|false))?'
 _TEXT = rb'"[^"\\\x00-\x1f]{0,255}"'
 _TIME = rb'(?:, ?"time": ?(?:0|[1-9][0-9]{0,18}))?'
 _WHO = rb'(?:, ?"client": ?' + _TEXT + rb')?(?:, ?"node": ?' + _TEXT + rb")?" + _TIME
 _END = _WHO + rb'\}\r?\n?'
-_OP = rb'"op": ?"(?:read|write)"'
-PLAIN_CALL = re.compile(_START + rb'"call", ?' + _OP + rb", ?" + _REGISTER + _VALUE + _END)
+_OP = rb'"op": ?"(?:read|write|cas)"'
+PLAIN_CALL = re.compile(_START + rb'"call", ?"op": ?"(read|write|cas)", ?' + _REGISTER + _VALUE + _CHANGE
+                        + _END)
 PLAIN_END = re.compile(_START + rb'"(reply|fail|crash)"(?:, ?' + _OP + rb")?(?:, ?" + _REGISTER + rb")?"
-                       + _VALUE + _END)
+                       + _VALUE + _OK + _END)
 
 
 class CertainRefusal(Exception):
@@ -44,6 +48,15 @@ class TooManyEvents(Exception):
         self.name = name.decode("utf-8", "replace")
 
 
+class Event(NamedTuple):
+    """What a line says of its part."""
+
+    process: bytes
+    what: bytes
+    register: Optional[bytes] = None  # of a call
+    is_cas: bool = False  # of a call
+
+
 class Router:
     """Sends each line to its part. It keeps the registers, the open calls and the crashed processes.
 
@@ -56,13 +69,14 @@ class Router:
         self.registers: Dict[bytes, int] = {}  # numbered by their first calls
         self.open: Dict[bytes, int] = {}  # the register of the open call of each process
         self.crashed: Dict[bytes, int] = {}  # the part of the crash of each process
+        self.has_cas = False
         self._least: List[Tuple[int, int]] = [(0, part) for part in range(parts)]
 
     def route(self, line: bytes) -> Optional[int]:
         """The part of a line, or None if the line is blank. Raises CertainRefusal and TooManyEvents."""
         call = PLAIN_CALL.fullmatch(line)
         if call:
-            part = self._call(*call.groups())
+            part = self._call(call[1], call[3], call[2] == b"cas")
         else:
             end = PLAIN_END.fullmatch(line)
             if end:
@@ -78,11 +92,13 @@ class Router:
         event = read_event(line)
         if event is None:
             raise CertainRefusal(0)
-        process, what, name = event
-        return self._end(process, what) if name is None else self._call(process, name)
+        if event.register is None:
+            return self._end(event.process, event.what)
+        return self._call(event.process, event.register, event.is_cas)
 
-    def _call(self, process: bytes, name: bytes) -> int:
+    def _call(self, process: bytes, name: bytes, is_cas: bool) -> int:
         register = self.registers.get(name)
+        self.has_cas = self.has_cas or is_cas
         if process in self.open:
             raise CertainRefusal(self.part_of[self.open[process]])
         if process in self.crashed:
@@ -126,8 +142,8 @@ class Router:
             heapq.heapreplace(self._least, (self.events[part], part))
 
 
-def read_event(line: bytes) -> Optional[Tuple[bytes, bytes, Optional[bytes]]]:
-    """The process, the event and, of a call, the register. None if the line is faulty by itself."""
+def read_event(line: bytes) -> Optional[Event]:
+    """The event of a line. None if the line is faulty by itself."""
     text = line[:-1] if line.endswith(b"\n") else line
     if len(text) > MAX_LINE:
         return None
@@ -143,8 +159,8 @@ def read_event(line: bytes) -> Optional[Tuple[bytes, bytes, Optional[bytes]]]:
     number = b"%d" % process
     if what == "call":
         name = name_of(event.get("register"))
-        return None if name is None else (number, b"call", name)
-    return (number, what.encode(), None) if what in ("reply", "fail", "crash") else None
+        return None if name is None else Event(number, b"call", name, event.get("op") == "cas")
+    return Event(number, what.encode()) if what in ("reply", "fail", "crash") else None
 
 
 def name_of(member: Any) -> Optional[bytes]:

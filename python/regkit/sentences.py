@@ -12,6 +12,13 @@ def counted(number: int, noun: str) -> str:
     return f"{number:,} {noun}" if number == 1 else f"{number:,} {noun}s"
 
 
+def for_regsearch(cas: bool, repeats: bool) -> str:
+    """What a history has that only regsearch takes. Empty if it has nothing of that kind."""
+    found = " and ".join(what for what, is_there in (("cas", cas), ("repeated values", repeats)) if is_there)
+    return (f"the history has {found}, so it is one for regsearch; regkit check chooses the program by itself"
+            if found else "")
+
+
 def value_of(operation: Operation) -> str:
     return "null" if operation.value is None else str(operation.value)
 

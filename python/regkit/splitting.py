@@ -139,7 +139,8 @@ def write_parts(history: BinaryIO, plan: Plan, router: Router, writers: List[Par
     for writer in writers:
         writer.flush()
     events = sum(router.events) + (stopped is not None)
-    return Manifest(plan.name, plan.lines, plan.parts, events, number, stopped, list(router.part_of))
+    registers = list(router.part_of)
+    return Manifest(plan.name, plan.lines, plan.parts, events, number, stopped, registers, router.has_cas)
 
 
 def check_limits(plan: Plan, router: Router, writers: List[PartWriter]) -> None:

@@ -10,7 +10,7 @@ import tempfile
 from contextlib import redirect_stderr, redirect_stdout
 from typing import Any, Callable, Dict, List, NamedTuple, Optional, Tuple
 
-from regkit.checker import Answer, run_checker
+from regkit.checker import SEARCH, Answer, find_program, is_for_search, run_checker, run_search, searched
 from regkit.commands import join, split
 from regkit.parts import file_of, read_manifest
 
@@ -26,6 +26,7 @@ ODD_LINES = ["", " \t", "\r", "[]", "null", "7", "{}", "not json", "\ufeff{}", '
              '{"process":1,"event":"call","op":"read","register":""}',
              '{"process":1,"event":"call","op":"write","register":"a","value":1.0}']
 WHO: List[Tuple[str, Any]] = [("client", "w-3"), ("node", "\u00e9"), ("time", 12031000000)]
+FOR_SEARCH = "regsearch takes repeated values and cas: check each part with it in place of regcheck\n"
 
 
 class Ran(NamedTuple):
@@ -66,9 +67,25 @@ def check_parts(directory: str, check: Check = run_checker) -> None:
 
 
 def whole(history: bytes, check: Check = run_checker) -> Ran:
-    """What one run over the whole history answers."""
+    """What one run over the whole history answers, and what join adds where another program takes more."""
     answer = check(history)
-    return Ran(answer.status, answer.report, answer.refusal + "\n" if answer.refusal else "")
+    words = answer.refusal + "\n" if answer.refusal else ""
+    return Ran(answer.status, answer.report, words + (FOR_SEARCH if is_for_search(history, answer) else ""))
+
+
+def refused(history: bytes, check: Check) -> Ran:
+    """What split says of a history that is certain to be refused. It asks regcheck, and then regsearch where
+    that takes more."""
+    answer = check(history)
+    answer = searched(history, run_checker(history) if answer.by_search else answer)
+    return Ran(answer.status, b"", answer.refusal + "\n")
+
+
+def search(history: bytes) -> Answer:
+    """The answer of regsearch."""
+    program = find_program(SEARCH)
+    assert program is not None
+    return run_search(history, (), program)
 
 
 def by_parts(history: bytes, parts: int, lines: str, check: Check = run_checker) -> Tuple[Ran, Ran]:
@@ -270,9 +287,70 @@ class Maker:
         self.lines.insert(place, json.dumps({"process": process, **said}))
 
 
+class SearchMaker(Maker):
+    """The same with cas, and values that repeat. A call takes effect with its reply."""
+
+    def __init__(self, seed: int, ends: float) -> None:
+        super().__init__(seed, ends)
+        self.store: Dict[str, Optional[int]] = {}
+        self.asked: Dict[int, Optional[int]] = {}  # what the open cas of a process asks for
+
+    def call(self, process: int) -> None:
+        name, op = self.chance.choice(self.names), self.chance.choice(["read", "write", "cas", "cas"])
+        line: Line = {"process": process, "event": "call", "op": op, "register": name}
+        value = None if op == "read" else self.chance.randrange(1, 4)
+        if op == "cas":
+            asked = self.asked[process] = self.chance.choice([None, 1, 2, 3])
+            line.update({"from": asked, "to": value})
+        elif op == "write":
+            line["value"] = value
+        self.open[process] = Client(op, name, value)
+        self.say(line)
+
+    def end(self, process: int, client: Client) -> None:
+        line: Line = {"process": process, "event": "reply"}
+        if self.chance.random() < self.ends:
+            line["event"] = "fail"
+        elif client.op == "read":
+            line["value"] = self.read(client.register)
+        elif client.op == "cas":
+            line["ok"] = self.swap_in(process, client)
+        else:
+            self.store[client.register] = client.value
+        self.say(line)
+
+    def read(self, name: str) -> Optional[int]:
+        if self.chance.random() < self.lies:
+            return self.chance.choice([None, 1, 2, 3])
+        return self.store.get(name)
+
+    def swap_in(self, process: int, client: Client) -> bool:
+        """Whether a cas takes place."""
+        if self.chance.random() < self.lies:
+            return self.chance.random() < 0.5
+        found = self.store.get(client.register) == self.asked[process]
+        if found:
+            self.store[client.register] = client.value
+        return found
+
+    def change(self, at: int) -> None:
+        old, new = self.chance.choice([
+            ('"from":', ["", '"', "1.5,", '0,"x":']), ('"to":', ["null,", '"', '0,"x":']),
+            ('"ok":', ["1,", "null,", '"true","x":']), ('"cas"', [" ", '"x":"cas",'])])
+        if old in self.lines[at]:
+            self.lines[at] = self.lines[at].replace(old, old + self.chance.choice(new), 1)
+        else:
+            super().change(at)
+
+
 def random_history(seed: int) -> bytes:
     """A history of the seed, often with failed calls and crashes."""
     return Maker(seed, random.Random(-seed - 1).choice([0, 0.1, 0.3])).history()
+
+
+def random_search_history(seed: int) -> bytes:
+    """The same with cas and repeated values."""
+    return SearchMaker(seed, random.Random(-seed - 1).choice([0, 0.1, 0.3])).history()
 
 
 def differences(parts: int, lines: str, history: bytes, check: Check = run_checker) -> List[str]:
@@ -282,7 +360,7 @@ def differences(parts: int, lines: str, history: bytes, check: Check = run_check
     found = []
     if joined != expected:
         found.append(f"join: {joined}")
-    if said.status and (said.status, said.words) != (expected.status, expected.words):
+    if said.status and said != refused(history, check):
         found.append(f"split: {said}")
     if found:
         found.append(f"one run: {expected}")

@@ -8,15 +8,18 @@ import unittest
 from typing import List, Optional, Sequence, Tuple
 from unittest import mock
 
+from regkit.checker import SEARCH, Answer, find_program, run_search
 from regkit.commands import join as command
 from regkit.parts import BLANK, MAP, MAP_LINE, Manifest, file_of, write_manifest
 from regkit.refusals import NUMBERS, SEARCH_TEXTS
 from regkit.report import Row
 from tests import split_support
-from tests.split_support import check_parts, differences, random_history, run_command
-from tests.test_split import Folder, call, end, has_checker, history_of
+from tests.split_support import (FOR_SEARCH, check_parts, differences, random_history, random_search_history,
+                                 run_command, search, whole)
+from tests.test_split import Folder, call, cas, end, has_checker, history_of
 
 YES = {"pending": 0, "reads": 0, "regular": "yes", "safe": "yes", "writes": 1}
+COUNTS = {"cas": 1, "pending": 0, "reads": 0, "writes": 0}
 
 
 def line_of(members: Row) -> bytes:
@@ -116,6 +119,97 @@ class Reports(HandMade):
         self.assertEqual((0, line_of(summary("yes", 0, 0, [])), ""), self.join())
 
 
+def searched(register: str, atomic: str, **told: object) -> Row:
+    return {"atomic": atomic, "register": register, **COUNTS, **told}
+
+
+FOUND = searched("x", "yes", order=[1], points=[1])
+NO = searched("y", "no", fault={"before": [1, 3], "kind": "search", "reply": 4})
+GAVE_UP = searched("z", "unknown", gave_up={"bound": "steps"})
+
+
+class Searched(HandMade):
+    """Reports of regsearch: the whole is one of it too, without a merged order."""
+
+    def test_the_verdict_of_the_whole(self) -> None:
+        rows = {"yes": FOUND, "no": NO, "unknown": GAVE_UP}
+        status = {"yes": "0", "no": "1", "unknown": "6"}
+        for parts, verdict in [(["yes", "yes"], "yes"), (["yes", "unknown"], "unknown"),
+                               (["no", "yes"], "no"), (["unknown", "no"], "no"),
+                               (["unknown", "unknown"], "unknown")]:
+            with self.subTest(parts):
+                self.manifest(2, [0, 1])
+                for part, said in enumerate(parts):
+                    self.part(part, status[said], [rows[said], summary(said, 1, 1)])
+                expected: List[Row] = [*(rows[said] for said in parts), summary(verdict, 2, 2)]
+                self.assertEqual((int(status[verdict]), b"".join(map(line_of, expected)), ""), self.join())
+
+    def test_lines_of_the_whole(self) -> None:
+        self.manifest(1, [0, 0, 0, 0], MAP)
+        self.map_of(0, [10, 20, 30, 40, 50])
+        unwritten = searched("u", "no", fault={"call": 5, "kind": "unwritten"})
+        self.part(0, "1", [FOUND, NO, GAVE_UP, unwritten, summary("no", 4, 4)])
+        rows: List[Row] = [
+            {**FOUND, "order": [10], "points": [10]},
+            {**NO, "fault": {"before": [10, 30], "kind": "search", "reply": 40}}, GAVE_UP,
+            {**unwritten, "fault": {"call": 50, "kind": "unwritten"}}, summary("no", 4, 4)]
+        self.assertEqual((1, b"".join(map(line_of, rows)), ""), self.join())
+
+    def test_no_merged_order(self) -> None:
+        self.manifest(1, [0])
+        self.part(0, "0", [FOUND, summary("yes", 1, 1)])
+        ran = self.join("--order", "always")
+        self.assertEqual((3, b""), ran[:2])
+        self.assertIn("a report of regsearch has no merged order: leave out --order", ran.words)
+        self.assertEqual(self.join("--order", "never"), self.join())
+
+    def test_a_status_that_does_not_fit(self) -> None:
+        self.manifest(1, [0])
+        for status, said in [("0", "unknown"), ("6", "yes"), ("6", "no"), ("1", "unknown")]:
+            with self.subTest(status, said=said):
+                self.part(0, status, [FOUND, summary(said, 1, 1)])
+                ran = self.join()
+                self.assertEqual((4, b""), ran[:2])
+                self.assertIn(f"part-000.report does not fit its status {status}", ran.words)
+
+    def test_parts_of_both_programs(self) -> None:
+        """One report is of one program: those of regcheck run again, refused ones too."""
+        again = "line 5: value already written to this register at line 1"
+        table: List[Tuple[str, List[Row], str, List[int]]] = [
+            ("0", [row("x", [1], [1]), summary("yes", 1, 1, [1])], "", [0]), ("2", [], again, [0]),
+            ("2", [], "line 5: op is neither read nor write", [0])]
+        for status, rows, words, named in table:
+            with self.subTest(status, words=words):
+                self.manifest(2, [0, 1])
+                self.part(0, status, rows, words)
+                self.part(1, "1", [NO, summary("no", 1, 1)])
+                ran = self.join()
+                self.assertEqual((4, b""), ran[:2])
+                lines = ran.words.splitlines()
+                self.assertEqual([f"part-{part:03} was checked by regcheck, and other parts by regsearch; "
+                                  "run it again:" for part in named], lines[::2])
+                self.assertRegex(lines[1], "regsearch'? .*part-000.jsonl > .*part-000.report")
+
+    def test_refusals(self) -> None:
+        """Those that both programs have fit both; the first one counts."""
+        self.manifest(2, [0, 1])
+        self.part(0, "6", [GAVE_UP, summary("unknown", 1, 1)])
+        for words in ("line 7: not JSON", "line 7: a cas's reply has no ok, true or false"):
+            self.part(1, "2", words=words)
+            self.assertEqual((2, b"", f"{words}\n"), self.join())
+
+    def test_which_program_runs_a_part_again(self) -> None:
+        """That of the other parts, or regsearch if there is a cas."""
+        for has_cas, answered, expected in [(False, False, "regcheck"), (True, False, "regsearch"),
+                                            (False, True, "regsearch")]:
+            manifest = Manifest("history", BLANK, 2, 100, 100, None, [0, 1], has_cas)
+            write_manifest(self.directory, manifest)
+            self.part(0, "4", words="no memory or no thread")
+            self.part(1, "6" if answered else "4", [GAVE_UP, summary("unknown", 1, 1)] if answered else [])
+            with mock.patch("regkit.joining.find_program", lambda name: None):
+                self.assertIn(f"  {expected} {self.directory}/part-000.jsonl > ", self.join().words)
+
+
 class RefusedParts(HandMade):
     """The refusal of one run: of the first line, and on it the lowest number."""
 
@@ -136,7 +230,17 @@ class RefusedParts(HandMade):
                 self.manifest(3, [], stopped=11)
                 for part, word in enumerate(words):
                     self.part(part, "2" if word else "0", [] if word else [summary("yes", 0, 0, [])], word)
-                self.assertEqual((2, b"", expected + "\n"), self.join())
+                advice = FOR_SEARCH if expected == again else ""
+                self.assertEqual((2, b"", expected + "\n" + advice), self.join())
+
+    def test_advice_where_regsearch_takes_the_line(self) -> None:
+        """Of a refused op only if it is a cas."""
+        refusal = "line 1: op is neither read nor write"
+        self.manifest(1, [])
+        for history, advice in [(cas(1, "x"), FOR_SEARCH), (cas(1, "x").replace("cas", "add"), "")]:
+            self.part(0, "2", words=refusal)
+            file_of(self.directory, 0, "jsonl").write_text(history)
+            self.assertEqual((2, b"", f"{refusal}\n{advice}"), self.join())
 
     def test_lines_of_the_whole(self) -> None:
         self.manifest(1, [], MAP)
@@ -262,6 +366,38 @@ class WholeRuns(Folder):
         words = run_command(command, self.directory).words
         subprocess.run(["sh", "-c", words.splitlines()[1]], check=True, env={**os.environ})
         self.assertEqual(whole, run_command(command, self.directory))
+
+
+@unittest.skipUnless(find_program(SEARCH), "regsearch is not built")
+class WholeRunsOfSearch(Folder):
+    """The same with cas and repeated values, by regsearch."""
+
+    def test_random_histories(self) -> None:
+        statuses = set()
+        for seed in range(20_000, 20_150):
+            with self.subTest(seed):
+                history = random_search_history(seed)
+                self.assertEqual([], differences(seed % 7 + 1, (BLANK, MAP)[seed // 7 % 2], history, search))
+                statuses.add(search(history).status)
+        self.assertEqual(statuses, {0, 1, 2})
+
+    def test_the_parts_by_regcheck(self) -> None:
+        """A history that only regsearch takes is refused as regcheck refuses it, with what to do about it."""
+        for seed in range(20_000, 20_030):
+            with self.subTest(seed):
+                self.assertEqual([], differences(3, MAP, random_search_history(seed)))
+
+    def test_unknown(self) -> None:
+        history = history_of(cas(1, "x"), cas(2, "x", None, 2), call(3, "x", 7), end(3), end(1, ok=True),
+                             end(2, ok=True), call(4, "y", 1), end(4), call(4, "y"), end(4, value=1))
+
+        def bounded(data: bytes) -> Answer:
+            return run_search(data, ("--configurations", "1"), find_program(SEARCH) or "")
+
+        for parts in (1, 2):
+            with self.subTest(parts):
+                self.assertEqual(whole(history, bounded).status, 6)
+                self.assertEqual([], differences(parts, MAP, history, bounded))
 
 
 if __name__ == "__main__":

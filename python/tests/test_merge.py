@@ -12,7 +12,7 @@ import textwrap
 import unittest
 from typing import Any, Dict, List, NamedTuple, Optional, Set, Tuple
 
-from regkit.checker import run_checker
+from regkit.checker import SEARCH, find_program, run_checker, run_search
 from regkit.commands import merge as command
 from regkit.commands.merge import duration
 from regkit.merge import Unmergeable, merge
@@ -20,7 +20,7 @@ from regkit.merge.order import in_order
 from regkit.merge.recorded import Event
 from regkit.record import Call, Client, Read, Recorder, Write
 
-from .events import Line, crash, fail, gave, read, reply, text, write
+from .events import Line, cas, crash, fail, gave, read, reply, text, took, write
 from .split_support import Ran, run_command
 
 PYTHON = pathlib.Path(__file__).resolve().parents[1]
@@ -343,17 +343,69 @@ class Refusals(unittest.TestCase):
             ("no call", [WRITER, text(timed(1, reply(1)))], "b: line 1: reply without an open call"),
             ("after a crash", [text(timed(1, crash(1)), timed(2, read(1)))],
              "a: line 2: the process crashed at line 1"),
-            ("one value twice", [WRITER, WRITER],
-             'b: line 1 writes 5 to register "x", as line 1 of a does: .*values_after'),
+            ("one history twice", [WRITER, LATER, WRITER],
+             "c: it has the same events as a, at the same times: name each history once"),
+            ("a cas without its values", [text({**timed(1, cas(1, 5, 6)), "to": None})],
+             "a: line 1: from or to does not fit the event: `regkit check` says what to do"),
+            ("a cas whose reply doesn't say", [text(timed(1, cas(1, 5, 6)), timed(2, reply(1)))],
+             "a: line 2: a cas's reply has no ok, true or false"),
+            ("a reply of another op",
+             [text(timed(1, cas(1, 5, 6)), timed(2, {**took(1, True), "op": "read"}))],
+             "a: line 2: reply disagrees with its call"),
+            ("another op", [text(timed(1, {**read(1), "op": "add"}))],
+             "a: line 1: op is neither read, write nor cas"),
             ("merged before", [merge([("one", WRITER), ("other", LATER)], 200)],
              "a merged history can't be merged again")]
         for name, files, words in table:
             with self.subTest(name), self.assertRaisesRegex(Unmergeable, words):
                 merge(list(zip("abc", files)))
 
-    def test_one_value_on_two_registers_is_fine(self) -> None:
-        other = text(timed(0, write(1, 5, "y")))
-        self.assertEqual(merge([("a", WRITER), ("b", other)]).count(b"\n"), 3)
+    def test_readers_that_saw_the_same_at_the_same_times(self) -> None:
+        """Coarse clocks may give two histories of reads the same lines."""
+        self.assertEqual(merge([("a", LATER), ("b", LATER)]).count(b"\n"), 4)
+
+
+class Search(unittest.TestCase):
+    """Histories that only regsearch takes: each kind of event stays as it was written."""
+
+    one = text(timed(1, write(1, 5)), timed(3, reply(1)), timed(10, cas(1, 5, 6), client="a"),
+               timed(14, took(1, True), node="n"), timed(20, cas(1, None, 9)), timed(22, fail(1)),
+               timed(30, cas(1, 6, 7)), timed(31, crash(1)))
+    other = text(timed(2, write(1, 5)), timed(4, reply(1)), timed(11, cas(1, 4, 8)),
+                 timed(13, took(1, False)), timed(21, write(1, 5)), timed(23, fail(1)), timed(40, read(1)),
+                 timed(41, gave(1, 7)))
+
+    def test_lines(self) -> None:
+        self.assertEqual(merge([("a", self.one), ("b", self.other)]).decode().splitlines(), [
+            '{"process":1,"event":"call","op":"write","register":"x","value":5,"time":1}',
+            '{"process":2,"event":"call","op":"write","register":"x","value":5,"time":2}',
+            '{"process":1,"event":"reply","time":3}', '{"process":2,"event":"reply","time":4}',
+            '{"process":1,"event":"call","op":"cas","register":"x","from":5,"to":6,"client":"a","time":10}',
+            '{"process":2,"event":"call","op":"cas","register":"x","from":4,"to":8,"time":11}',
+            '{"process":2,"event":"reply","ok":false,"time":13}',
+            '{"process":1,"event":"reply","ok":true,"node":"n","time":14}',
+            '{"process":1,"event":"call","op":"cas","register":"x","from":null,"to":9,"time":20}',
+            '{"process":2,"event":"call","op":"write","register":"x","value":5,"time":21}',
+            '{"process":1,"event":"fail","time":22}', '{"process":2,"event":"fail","time":23}',
+            '{"process":1,"event":"call","op":"cas","register":"x","from":6,"to":7,"time":30}',
+            '{"process":1,"event":"crash","time":31}',
+            '{"process":2,"event":"call","op":"read","register":"x","time":40}',
+            '{"process":2,"event":"reply","value":7,"time":41}'])
+
+    @unittest.skipUnless(find_program(SEARCH), "regsearch isn't built")
+    def test_answers_of_a_cas_order_it(self) -> None:
+        """Two cas from null: both take place only if the clocks may be wrong by enough, and never both."""
+        first = text(timed(0, cas(1, None, 5)), timed(10, took(1, True)))
+        missed = text(timed(20, cas(1, None, 6)), timed(30, took(1, False)))
+        took_too = text(timed(20, cas(1, None, 6)), timed(30, took(1, True)))
+        null = text(timed(20, cas(1, 7, 6)), timed(21, took(1, False)), timed(22, read(1)),
+                    timed(23, gave(1, None)))
+        for files, error, status in [([first, missed], 0, 0), ([first, took_too], 0, 1),
+                                     ([first, took_too], 99, 1), ([first, null], 0, 1),
+                                     ([first, null], 99, 0)]:
+            with self.subTest(files=files, error=error):
+                history = merge([(f"file {number}", data) for number, data in enumerate(files)], error)
+                self.assertEqual(run_search(history, (), find_program(SEARCH) or "").status, status)
 
 
 class Command(unittest.TestCase):
@@ -386,6 +438,27 @@ class Command(unittest.TestCase):
         words = self.ran("--clock-error", "1us", a=one, b=one).words
         self.assertIn("contradict each other within the clock error at 1 call: there operations", words)
         self.assertIn("gave 1 operation another process, since a call of the same process was still", words)
+
+    def test_histories_for_regsearch(self) -> None:
+        """A value that two recorders wrote may be a mistake, and is named."""
+        advice = "so it is one for regsearch; regkit check chooses the program by itself\n"
+        again = text(timed(50, write(1, 5)), timed(60, reply(1)), timed(70, write(1, 5)))
+        table: List[Tuple[Dict[str, bytes], str]] = [
+            ({"a": WRITER, "b": LATER}, ""),
+            ({"a": WRITER, "b": text(timed(0, write(1, 5, "y")))}, ""),
+            ({"a": WRITER, "b": again},
+             'b: line 1 writes 5 to register "x", as line 1 of a does: if each recorder was meant to write '
+             'values of its own, let it, as in Recorder("history.jsonl", values_after=number * 1_000_000)\n'
+             f"regkit merge: the history has repeated values, {advice}"),
+            ({"a": again}, f"the history has repeated values, {advice}"),
+            ({"a": text(timed(1, cas(1, None, 5)))}, f"the history has cas, {advice}"),
+            ({"a": again, "b": text(timed(51, cas(1, None, 5)))}, "b: 1 event; its process is 2\n")]
+        for files, words in table:
+            with self.subTest(files):
+                ran = self.ran("--clock-error", "1us", **files)
+                self.assertEqual(ran.status, 0)
+                self.assertIn(f"regkit merge: {words}" if words else "", ran.words)
+                self.assertEqual("regsearch" in ran.words, words != "")
 
     def test_files_that_are_far_apart(self) -> None:
         later = text(timed(10**9, read(1)), timed(10**9 + 5, gave(1, 5)))

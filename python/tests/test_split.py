@@ -5,11 +5,11 @@ import os
 import pathlib
 import tempfile
 import unittest
-from typing import Dict, List, Optional, Tuple
+from typing import Any, Dict, List, Optional, Tuple
 from unittest import mock
 
 from regkit import cli, routing, splitting
-from regkit.checker import NoChecker, find_checker
+from regkit.checker import SEARCH, NoChecker, find_checker, find_program
 from regkit.commands import split as command
 from regkit.joining import line_map
 from regkit.parts import BLANK, MAP, LineMap, file_of, read_manifest
@@ -33,6 +33,11 @@ def call(process: int, register: str, value: Optional[int] = None) -> str:
     if value is not None:
         members.update(op="write", value=value)
     return json.dumps(members)
+
+
+def cas(process: int, register: str, asked: Optional[int] = None, to: int = 1) -> str:
+    return json.dumps({"process": process, "event": "call", "op": "cas", "register": register,
+                       "from": asked, "to": to})
 
 
 def end(process: int, event: str = "reply", **members: object) -> str:
@@ -100,6 +105,11 @@ class Routes(unittest.TestCase):
             ("other orders of members", ['{"value":null,"event":"reply","process":2,"op":"read"}'], [1]),
             ("the last of equal members counts", ['{"process":1,"process":3,"event":"reply"}'], [2]),
             ("spaces and other members", [' { "process" : 2 , "event":"reply", "x":{"process":3}} '], [1]),
+            ("a cas and its reply", [end(2), cas(2, "z"), end(2, ok=True)], [1, 2, 2]),
+            ("a cas in compact form", [end(2), cas(2, "z").replace(" ", ""), end(2, ok=False)], [1, 2, 2]),
+            ("other orders of its members",
+             [end(2), '{"to":1,"op":"cas","from":null,"register":"z","process":2,"event":"call"}',
+              '{"ok":true,"event":"reply","process":2}', cas(2, "x"), end(2, "fail")], [1, 2, 2, 0, 0]),
         ]
         for name, lines, expected in table:
             with self.subTest(name):
@@ -136,6 +146,16 @@ class Routes(unittest.TestCase):
                      call(1, "x").replace("}", " " * 65536 + "}")]:
             with self.subTest(line[:60]):
                 self.assertEqual(([], [0]), self.routed(line))
+
+    def test_any_cas_is_noticed(self) -> None:
+        for line, expected in [(cas(1, "x"), True), (cas(1, "x").replace(" ", ""), True),
+                               (call(1, "x"), False),
+                               ('{"op":"cas","register":"x","process":1,"event":"call"}', True),
+                               ('{"register":"x","op":"read","process":1,"event":"call"}', False)]:
+            with self.subTest(line):
+                router = Router(1)
+                router.route(line.encode())
+                self.assertEqual(router.has_cas, expected)
 
     def test_registers_go_to_the_part_with_the_fewest_events(self) -> None:
         router = Router(2)
@@ -279,6 +299,13 @@ class CommandLine(Folder):
         self.assertEqual((0, expected), (ran.status, ran.words))
         self.assertEqual(MAP, read_manifest(self.directory).lines)
 
+    def test_a_history_with_cas(self) -> None:
+        ran = run_command(command, self.write(history_of(cas(1, "x"))), self.directory, "--parts", "1")
+        self.assertEqual(0, ran.status)
+        words = "\nregkit split: the history has cas, so it is one for regsearch: check each part with it\n"
+        self.assertIn(words, ran.words)
+        self.assertTrue(read_manifest(self.directory).cas)
+
     def test_form_of_line_numbers(self) -> None:
         gibibyte = 1 << 30
         for asked, size, expected in [("auto", 0, BLANK), ("auto", gibibyte, BLANK),
@@ -293,6 +320,11 @@ class CommandLine(Folder):
         self.assertEqual(4, ran.status)
         self.assertIn("line 1 can't be accepted", ran.words)
         self.assertIn("REGCHECK", ran.words)
+
+
+def without_search() -> Any:
+    """As on a machine that has no regsearch."""
+    return mock.patch.object(command, "find_program", lambda name: None)
 
 
 @unittest.skipUnless(has_checker(), "regcheck is not built")
@@ -310,17 +342,41 @@ class Refusals(Folder):
              [call(1, "x", 5), end(1, value=6), call(2, "y"), call(2, "x")],
              "line 2: reply disagrees with its call"),
             ("a lower number on the same line",
-             [call(1, "x"), call(2, "y"), call(1, "y").replace("read", "cas")],
+             [call(1, "x"), call(2, "y"), call(1, "y").replace("read", "add")],
              "line 3: op is neither read nor write"),
             ("no JSON", [call(1, "x"), "", "{"], "line 3: not JSON"),
             ("a reply to nothing", [call(1, "x"), end(2)], "line 2: reply without an open call"),
         ]:
             path = self.write(history_of(*lines))
             for form in (BLANK, MAP):
-                with self.subTest(name, form=form), tempfile.TemporaryDirectory() as folder:
+                with self.subTest(name, form=form), tempfile.TemporaryDirectory() as folder, without_search():
                     directory = os.path.join(folder, "parts")
                     ran = run_command(command, path, directory, "--parts", "3", "--lines", form)
                     self.assertEqual((2, b"", expected + "\n"), ran)
+
+    @unittest.skipUnless(find_program(SEARCH), "regsearch is not built")
+    def test_by_regsearch_where_it_takes_what_regcheck_refuses(self) -> None:
+        twice = [call(1, "x", 5), end(1), call(1, "x", 5), end(1)]
+        for name, lines, expected, without in [
+            ("a value that is written again", [*twice, call(2, "y"), "{"], "line 6: not JSON", 3),
+            ("a cas", [cas(1, "x"), end(1, ok=True), call(2, "y"), call(2, "x")],
+             "line 4: the process has an open call at line 3", 1),
+            ("an earlier fault of a cas", [cas(1, "x"), end(1), end(7)],
+             "line 2: a cas's reply has no ok, true or false", 1),
+            ("a cas without its values",
+             [call(1, "x"), call(2, "y"), call(1, "y").replace("read", "cas")],
+             "line 3: from or to does not fit the event", 3),
+            ("an earlier fault that is one for both", [call(1, "x"), end(1), *twice, "{"],
+             "line 2: a read's reply has no value", 2),
+        ]:
+            path = self.write(history_of(*lines))
+            for form in (BLANK, MAP):
+                with self.subTest(name, form=form), tempfile.TemporaryDirectory() as folder:
+                    words = [path, os.path.join(folder, "parts"), "--parts", "3", "--lines", form]
+                    self.assertEqual((2, b"", expected + "\n"), run_command(command, *words))
+                    words[1] += "2"
+                    with without_search():
+                        self.assertIn(f"line {without}: ", run_command(command, *words).words)
 
 
 if __name__ == "__main__":

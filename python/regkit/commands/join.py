@@ -1,21 +1,22 @@
 """`regkit join`: the reports of the parts as the report of the whole history."""
 import argparse
 import sys
-from typing import List
+from typing import List, NamedTuple, Sequence
 
-from regkit.joining import Answered, Unanswered, command_again, outcomes, write_report
+from regkit.checker import CHECK, SEARCH
+from regkit.joining import (Answered, Outcome, RefusedPart, Unanswered, command_again, outcomes,
+                            takes_search, verdict_of, write_report)
 from regkit.limits import MAX_EVENTS
 from regkit.parts import Manifest, NotSplit, read_manifest
 from regkit.progress import Progress
-from regkit.refusals import Refusal, first_refusal
 from regkit.statuses import ExitStatus
 
 HELP = "join the reports of the parts of a split history into the report of the whole"
 EPILOG = """\
 DIR is a folder that regkit split made, in which every part was checked: part-NNN.report, part-NNN.err and
-part-NNN.status are beside part-NNN.jsonl. The report is, byte for byte, the one that one run of regcheck over
-the whole history would write. docs/scale.md says more: it is in the repository, and in share/doc/regcheck of
-a release.
+part-NNN.status are beside part-NNN.jsonl. The report is, byte for byte, the one that one run over the whole
+history would write: of regcheck, or of regsearch if that checked every part. docs/scale.md says more: it is
+in the repository, and in share/doc/regcheck of a release.
 
 examples:
   regkit join parts > history.report
@@ -24,17 +25,21 @@ examples:
 exit status:
   0  every part is atomic, so the whole history is
   1  some part isn't
-  2  the history is refused; standard error says why, as regcheck would
+  2  the history is refused; standard error says why, as the program would
   3  the command line is refused
-  4  a part has no answer: standard error names it, with the command that runs it again; or output failed
+  4  a part has no answer, or one of another program than the others: standard error names it, with the
+     command that runs it again; or output failed
+  6  some part is unknown, and no part is known not to be atomic
 """
+STATUSES = {"yes": ExitStatus.ATOMIC, "no": ExitStatus.NOT_ATOMIC, "unknown": ExitStatus.UNKNOWN}
 
 
 def add_arguments(parser: argparse.ArgumentParser) -> None:
     parser.add_argument("directory", metavar="DIR", help="the folder of the parts")
     parser.add_argument("--order", choices=["auto", "always", "never"], default="auto",
                         help="whether the summary has the merged order of all registers; auto, the default, "
-                             f"is yes up to {MAX_EVENTS} events, as many as one run takes")
+                             f"is yes up to {MAX_EVENTS} events, as many as one run takes; a report of "
+                             "regsearch has none")
 
 
 def run(arguments: argparse.Namespace) -> int:
@@ -45,31 +50,69 @@ def run(arguments: argparse.Namespace) -> int:
     with Progress() as progress:
         progress.step("reading the answers")
         found = list(outcomes(arguments.directory, manifest))
-    unanswered = [each for each in found if isinstance(each, Unanswered)]
-    if unanswered:
-        return name_them(arguments.directory, unanswered)
-    refusal = first_refusal(each for each in found if isinstance(each, Refusal))
-    if refusal is not None:
-        print(refusal, file=sys.stderr)
-        return ExitStatus.REFUSED
+    again = to_run_again(found)
+    if again:
+        return name_them(arguments.directory, again, program_to_run(found, manifest))
+    refused = min((each for each in found if isinstance(each, RefusedPart)),
+                  key=lambda each: each.refusal.rank, default=None)
+    if refused is not None:
+        return refuse(arguments.directory, refused)
     if manifest.stopped is not None:
-        return failed(f"regcheck accepts line {manifest.stopped}, and regkit split could not read it, so no "
-                      "later line was checked. This is a defect of regkit: please report the line")
+        return failed(f"the checker accepts line {manifest.stopped}, and regkit split could not read it, so "
+                      "no later line was checked. This is a defect of regkit: please report the line")
     return write([each for each in found if isinstance(each, Answered)], manifest, arguments.order)
 
 
+class Again(NamedTuple):
+    """A part that has to run again."""
+
+    part: int
+    why: str  # as a person would go on after its name
+
+
+def to_run_again(found: Sequence[Outcome]) -> List[Again]:
+    """The parts without an answer; if there are none, those of regcheck if regsearch checked others."""
+    unanswered = [Again(each.part, f"has no answer: {each.why}")
+                  for each in found if isinstance(each, Unanswered)]
+    if unanswered or SEARCH not in programs_of(found):
+        return unanswered
+    return [Again(each.part, "was checked by regcheck, and other parts by regsearch") for each in found
+            if not isinstance(each, Unanswered) and each.program == CHECK]
+
+
+def programs_of(found: Sequence[Outcome]) -> List[str]:
+    return [each.program for each in found if not isinstance(each, Unanswered) and each.program is not None]
+
+
+def program_to_run(found: Sequence[Outcome], manifest: Manifest) -> str:
+    """Which program is to check the parts that lack an answer: regsearch if any other part has one of it."""
+    return SEARCH if manifest.cas or SEARCH in programs_of(found) else CHECK
+
+
+def refuse(directory: str, refused: RefusedPart) -> int:
+    print(refused.refusal, file=sys.stderr)
+    if takes_search(directory, refused):
+        print("regsearch takes repeated values and cas: check each part with it in place of regcheck",
+              file=sys.stderr)
+    return ExitStatus.REFUSED
+
+
 def write(parts: List[Answered], manifest: Manifest, order: str) -> int:
+    by_search = parts[0].program == SEARCH
+    if by_search and order == "always":
+        print("regkit join: a report of regsearch has no merged order: leave out --order", file=sys.stderr)
+        return ExitStatus.COMMAND_LINE
     with_order = order == "always" or (order == "auto" and manifest.events <= MAX_EVENTS)
     with Progress() as progress:
         progress.step("joining", len(manifest.registers))
-        write_report(parts, manifest, with_order, sys.stdout.buffer, progress.reach)
-    return ExitStatus.ATOMIC if all(part.atomic for part in parts) else ExitStatus.NOT_ATOMIC
+        write_report(parts, manifest, with_order and not by_search, sys.stdout.buffer, progress.reach)
+    return STATUSES[verdict_of(parts)]
 
 
-def name_them(directory: str, unanswered: List[Unanswered]) -> int:
-    for each in unanswered:
-        print(f"part-{each.part:03} has no answer: {each.why}; run it again:", file=sys.stderr)
-        print(f"  {command_again(directory, each.part)}", file=sys.stderr)
+def name_them(directory: str, parts: Sequence[Again], program: str) -> int:
+    for each in parts:
+        print(f"part-{each.part:03} {each.why}; run it again:", file=sys.stderr)
+        print(f"  {command_again(directory, each.part, program)}", file=sys.stderr)
     return ExitStatus.FAILED
 
 

@@ -11,10 +11,10 @@ from regkit.convert.clock import UNITS
 from regkit.convert.summary import too_large
 from regkit.garbage import many_objects
 from regkit.inputs import STANDARD_INPUT, read_input, shown_name
-from regkit.merge import Merged, Recorded, Unmergeable, merged
+from regkit.merge import Merged, Recorded, Unmergeable, first_again, merged
 from regkit.progress import Progress
 from regkit.quoting import plain
-from regkit.sentences import counted
+from regkit.sentences import counted, for_regsearch
 from regkit.statuses import ExitStatus
 
 HELP = "merge the histories of several recorders of one run, by their times"
@@ -29,7 +29,8 @@ then it certainly did. Within a history the order stays, unless the orders of tw
 other within the clock error: some operations of one history then overlap. So the merged history has no
 precedence that the run hadn't. A large clock error can hide a fault, and never makes one up.
 
-Processes get numbers of their own, history by history. Registers of one name are one register.
+Processes get numbers of their own, history by history. Registers of one name are one register. Values may
+repeat, and cas stay; a message says so, since regsearch decides such a history, and regcheck doesn't.
 
 examples:
   regkit merge a.jsonl b.jsonl | regkit check
@@ -117,6 +118,19 @@ def told(files: Sequence[Recorded], found: Merged, clock_error: int) -> Iterator
                "process was still open")
     if not clock_error and len(files) > 1:
         yield "took the clocks for one: if they aren't, --clock-error says how much they differ"
+    yield from program_told(files)
+
+
+def program_told(files: Sequence[Recorded]) -> Iterator[str]:
+    """That the history is one for regsearch, if it is. Recorders may repeat each other by mistake."""
+    again = first_again(files)
+    if again is not None and len(files) > 1:
+        write, first = again
+        yield (f"{plain(write.in_words(first))}: if each recorder was meant to write values of its own, let "
+               "it, as in Recorder(\"history.jsonl\", values_after=number * 1_000_000)")
+    words = for_regsearch(any(file.has_cas for file in files), again is not None)
+    if words:
+        yield words
 
 
 def numbered(found: Merged, file: Recorded, number: int) -> str:

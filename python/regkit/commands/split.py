@@ -4,33 +4,38 @@ import io
 import os
 import stat
 import sys
-from typing import BinaryIO, Optional
+from functools import partial
+from typing import BinaryIO, Callable, List, NamedTuple, Optional
 
-from regkit.checker import NoChecker, run_checker
+from regkit.checker import (CHECK, SEARCH, Answer, NoChecker, find_program, is_for_search, run_checker,
+                            run_search)
 from regkit.inputs import opened
 from regkit.joining import line_map
 from regkit.parts import BLANK, MAP, MAX_PARTS, Manifest, file_of
 from regkit.progress import Progress
-from regkit.refusals import Refusal, first_refusal, read_refusal
+from regkit.refusals import Refusal, read_refusal
 from regkit.splitting import CannotSplit, Plan, split
 from regkit.statuses import ExitStatus
 
 MAP_FROM = 1 << 30  # bytes of a history; some twenty million lines
+NO_SEARCH = ("--steps", "1")  # a refusal comes before any search
 
 HELP = "split a history of any size into parts that can be checked apart"
 EPILOG = """\
 Each part has whole registers, and is a history again. A history is atomic exactly if each of its registers
-is, so the parts answer for the whole: run regcheck on each of them, then regkit join DIR. docs/scale.md says
-more. docs/ and engines/ are in the repository, and in share/doc/regcheck of a release.
+is, so the parts answer for the whole: run regcheck on each of them, then regkit join DIR. If values repeat,
+or if there is any cas, run regsearch on each of them instead. docs/scale.md says more. docs/ and engines/ are
+in the repository, and in share/doc/regcheck of a release.
 
 examples:
   regkit split history.jsonl parts --parts 8
   cat log.3 log.2 log.1 | regkit split - parts --parts 8
   engines/with_parallel parts && regkit join parts
+  REGCHECK=$(command -v regsearch) engines/with_parallel parts; regkit join parts
 
 exit status:
   0  the parts are written
-  2  the history is refused; standard error says why, as regcheck would
+  2  the history is refused; standard error says why, as regcheck or regsearch would
   3  the command line is refused
   4  input or output failed, or regcheck was not found to say why the history is refused
   5  a part or a register is larger than one run of regcheck takes: standard error says which; no part is left
@@ -64,6 +69,9 @@ def run(arguments: argparse.Namespace) -> int:
         return refuse(arguments.directory, manifest)
     print(f"{arguments.directory}: {manifest.events} events on {len(manifest.registers)} registers "
           f"in {manifest.parts} parts", file=sys.stderr)
+    if manifest.cas:
+        print("regkit split: the history has cas, so it is one for regsearch: check each part with it",
+              file=sys.stderr)
     return ExitStatus.DONE
 
 
@@ -95,23 +103,42 @@ def refuse(directory: str, manifest: Manifest) -> int:
     """Says why the history is refused, for the line at which split stopped or an earlier one.
 
     An earlier line may be refused for a reason that only the checker looks for, so it is asked about every
-    part."""
-    refusal, why = None, "regcheck accepts it, which is a defect of regkit: please report the line"
+    part. Where regcheck refuses what regsearch takes, regsearch is asked, if it is there."""
+    program, why = CHECK, ""
     try:
-        refusals = (refusal_of(directory, part, manifest) for part in range(manifest.parts))
-        refusal = first_refusal(each for each in refusals if each is not None)
+        found = first_refused(directory, manifest, run_checker)
+        searcher = find_program(SEARCH)
+        if found is not None and found.for_search and searcher is not None:
+            program = SEARCH
+            search = partial(run_search, options=NO_SEARCH, program=searcher)
+            found = first_refused(directory, manifest, search)
     except NoChecker as error:
-        why = str(error)
-    if refusal is None:
+        found, why = None, str(error)
+    if found is None:
+        why = why or f"{program} accepts it, which is a defect of regkit: please report the line"
         print(f"regkit split: line {manifest.stopped} can't be accepted, and no later line was read: {why}",
               file=sys.stderr)
         return ExitStatus.FAILED
-    print(refusal, file=sys.stderr)
+    print(found.refusal, file=sys.stderr)
     return ExitStatus.REFUSED
 
 
-def refusal_of(directory: str, part: int, manifest: Manifest) -> Optional[Refusal]:
-    answer = run_checker(file_of(directory, part, "jsonl").read_bytes())
-    if answer.status != ExitStatus.REFUSED:
-        return None
-    return read_refusal(answer.refusal, line_map(directory, part, manifest))
+class RefusedPart(NamedTuple):
+    """What a program says of a part."""
+
+    refusal: Refusal  # with the lines of the whole
+    for_search: bool  # whether regsearch takes the line
+
+
+def first_refused(directory: str, manifest: Manifest,
+                  check: Callable[[bytes], Answer]) -> Optional[RefusedPart]:
+    """The first refusal of a program. Raises NoChecker."""
+    found: List[RefusedPart] = []
+    for part in range(manifest.parts):
+        history = file_of(directory, part, "jsonl").read_bytes()
+        answer = check(history)
+        if answer.status == ExitStatus.REFUSED:
+            refusal = read_refusal(answer.refusal, line_map(directory, part, manifest))
+            found += [RefusedPart(refusal, is_for_search(history, answer))] if refusal is not None else []
+    found.sort(key=lambda each: each.refusal.rank)
+    return found[0] if found else None

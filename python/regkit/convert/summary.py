@@ -5,6 +5,7 @@ from regkit.convert.model import CAS, counted
 from regkit.convert.values import repeats
 from regkit.convert.whole import Converted
 from regkit.limits import MAX_BYTES, MAX_EVENTS
+from regkit.sentences import for_regsearch
 
 
 def told(converted: Converted, has_map: bool) -> Iterator[str]:
@@ -13,7 +14,10 @@ def told(converted: Converted, has_map: bool) -> Iterator[str]:
     for what, lines in sorted(converted.source.left_out.items()):
         yield f"left out {counted(lines, 'line')} {what}"
     yield from converted.source.notes
-    yield from _for_regsearch(converted)
+    words = for_regsearch(any(each.kind == CAS for each in converted.operations),
+                          repeats(converted.source.operations()))
+    if words:
+        yield words
     if not any((each.kind, each.ending) == ("read", "reply") for each in converted.operations):
         yield ("there is no completed read, so a yes would say nothing: regkit check will find too little "
                "evidence")
@@ -36,15 +40,6 @@ def _read(converted: Converted) -> str:
             f"{counted(len(converted.names), 'register')}: {counted(writes, 'write')}, "
             f"{counted(len(operations) - writes - cas, 'read')}{f', {cas:,} cas' if cas else ''}; "
             f"{failed:,} failed, {f'{missed:,} missed, ' if missed else ''}{unknown:,} of unknown outcome")
-
-
-def _for_regsearch(converted: Converted) -> Iterator[str]:
-    found = [words for words, is_so in (
-        ("cas", any(each.kind == CAS for each in converted.operations)),
-        ("repeated values", repeats(converted.source.operations()))) if is_so]
-    if found:
-        yield (f"the history has {' and '.join(found)}, so it is one for regsearch; regkit check chooses the "
-               "program by itself")
 
 
 def _renamed(converted: Converted) -> Iterator[str]:

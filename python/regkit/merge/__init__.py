@@ -1,5 +1,7 @@
 """Merges the histories of several recorders of one run, by the times of their events.
 
+Values may repeat, within a history and among several, and cas stay: such a history is one for `regsearch`.
+
 - `recorded.py`: the events of one history with their times, or the reason why it can't be merged.
 - `order.py`: which event comes next, so that no precedence is added.
 - `numbers.py`: the process numbers, so that no two histories share one.
@@ -8,9 +10,9 @@ from typing import Iterable, List, NamedTuple, Sequence, Tuple
 
 from regkit.merge.numbers import Numbers
 from regkit.merge.order import in_order
-from regkit.merge.recorded import Recorded, Unmergeable, check_values
+from regkit.merge.recorded import Recorded, Unmergeable, first_again, refuse_twice
 
-__all__ = ["Merged", "Recorded", "Unmergeable", "merge", "merged"]
+__all__ = ["Merged", "Recorded", "Unmergeable", "first_again", "merge", "merged"]
 
 
 class Merged(NamedTuple):
@@ -23,7 +25,7 @@ class Merged(NamedTuple):
 
 def merged(files: Sequence[Recorded], clock_error: int) -> Merged:
     """The history of several. Raises Unmergeable."""
-    check_values(files)
+    refuse_twice(files)
     numbers = Numbers(files)
     lines, given_up = [], 0
     for step in in_order([file.events for file in files], clock_error):

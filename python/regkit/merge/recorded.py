@@ -1,6 +1,6 @@
 """The events of one recorder's history with their times, or the reason why it can't be merged."""
 import json
-from typing import Any, Dict, List, NamedTuple, Sequence, Tuple
+from typing import Any, Dict, List, NamedTuple, Optional, Sequence, Tuple
 
 from regkit.lines import numbered_lines
 from regkit.quoting import quoted
@@ -26,21 +26,36 @@ class Event(NamedTuple):
     rest: str  # its line behind the process
 
 
+class Write(NamedTuple):
+    """Where a value is written."""
+
+    file: str
+    line: int
+    register: str
+    value: int
+
+    def in_words(self, first: "Write") -> str:
+        """Of the write of a value that was written already."""
+        return (f"{self.file}: line {self.line} writes {self.value} to register {quoted(self.register)}, as "
+                f"line {first.line} of {first.file} does")
+
+
 class Recorded:
-    """A history that `regcheck` accepts but for its size, whose times never go back."""
+    """A history that `regsearch` accepts but for its size, whose times never go back."""
 
     def __init__(self, name: str, data: bytes) -> None:
         self.name = name
         self.events: List[Event] = []
-        history = History(FOREVER)
+        self.writes: List[Write] = []
+        self.has_cas = False
+        history = History(FOREVER, search=True)
         try:
             for number, line in numbered_lines(data):
-                event = event_of(number, line)
+                event = event_of(number, line, search=True)
                 history.take(number, event)
                 self._add(number, event)
         except Refused as refused:
             raise Unmergeable(f"{name}: {refused.text}: `regkit check` says what to do about it") from None
-        self.written = history.written  # register -> value -> the line of its write's call
 
     def _add(self, number: int, event: Dict[str, Any]) -> None:
         """Adds the event of a line. Raises Unmergeable."""
@@ -51,6 +66,9 @@ class Recorded:
             raise Unmergeable(f"{self.name}: line {number} has the time {time}, and an earlier line "
                               f"{self.events[-1].time}: a recorder's clock must never go back, as "
                               "time.monotonic_ns doesn't; and a merged history can't be merged again")
+        if event["event"] == "call" and event["op"] == "write":
+            self.writes.append(Write(self.name, number, event["register"], event["value"]))
+        self.has_cas = self.has_cas or (event["event"] == "call" and event["op"] == "cas")
         self.events.append(Event(time, process, event["event"], _ENCODER.encode(event)[1:]))
 
     @property
@@ -58,15 +76,26 @@ class Recorded:
         return sorted({event.process for event in self.events})
 
 
-def check_values(files: Sequence[Recorded]) -> None:
-    """Raises Unmergeable if two histories write one value to a register: a read couldn't tell them apart."""
-    writers: Dict[Tuple[str, int], Tuple[str, int]] = {}
-    for file in files:
-        for register, values in file.written.items():
-            for value, line in values.items():
-                name, first = writers.setdefault((register, value), (file.name, line))
-                if name != file.name or first != line:
-                    raise Unmergeable(
-                        f"{file.name}: line {line} writes {value} to register {quoted(register)}, as line "
-                        f"{first} of {name} does: let each recorder write values of its own, as in "
-                        "Recorder(\"history.jsonl\", values_after=number * 1_000_000)")
+def refuse_twice(files: Sequence[Recorded]) -> None:
+    """Raises Unmergeable if two histories are one: what it writes would count twice."""
+    for place, file in enumerate(files):
+        for other in files[:place]:
+            if (file.writes or file.has_cas) and file.events == other.events:
+                raise Unmergeable(f"{file.name}: it has the same events as {other.name}, at the same times: "
+                                  "name each history once; if they are two, let each recorder name its "
+                                  "clients")
+
+
+def first_again(files: Sequence[Recorded]) -> Optional[Tuple[Write, Write]]:
+    """The first write of a value that was written to its register already, and the earlier write; of writes
+    in two files, if there are any."""
+    writers: Dict[Tuple[str, int], Tuple[int, Write]] = {}
+    within: Optional[Tuple[Write, Write]] = None
+    for place, file in enumerate(files):
+        for write in file.writes:
+            other, first = writers.setdefault((write.register, write.value), (place, write))
+            if other != place:
+                return write, first
+            if first is not write:
+                within = within or (write, first)
+    return within

@@ -53,16 +53,16 @@ def verify(history: bytes, report: bytes, joined: bool = False) -> Verified:
     with _no_search_for_cycles():
         rows = read_rows(report)
         if any("cas" in row for row in rows[:-1]):
-            return _verify_search(history, rows)
+            return _verify_search(history, rows, joined)
         read = _accepted(history, limits=not joined)
         early = check_report(read, rows, joined)
     faulty = sum(row["atomic"] == "no" for row in rows[:-1])
     return Verified(faulty == 0, rows[-1]["operations"], len(read.registers), faulty, early=early)
 
 
-def _verify_search(history: bytes, rows: List[Row]) -> Verified:
+def _verify_search(history: bytes, rows: List[Row], joined: bool) -> Verified:
     """The same of a report of regsearch."""
-    read = _accepted(history, limits=True, search=True)
+    read = _accepted(history, limits=not joined, search=True)
     nos = check_search_report(read, rows)
     unknown = sum(row["atomic"] == "unknown" for row in rows[:-1])
     faulty = sum(row["atomic"] == "no" for row in rows[:-1])
