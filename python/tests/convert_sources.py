@@ -185,6 +185,20 @@ def jepsen_edn(calls: List[Call], chance: random.Random) -> str:
     return "\n".join(lines)
 
 
+def jepsen_etcd(calls: List[Call], chance: random.Random) -> str:
+    """Jepsen's test of etcd, with a version beside each value, which only an answer knows."""
+    errors = {"missed": ":did-not-succeed", "fail": ":not-leader", "unknown": ":timeout"}
+    lines: List[str] = []
+    for kind, call in _steps(calls, chance):
+        value, version = _known(kind, call), None
+        if kind == "ok" and value is not None:
+            version = chance.choice([None, 1, 2, 7])
+        error = f", :error {errors[call.outcome]}" if kind in ("fail", "info") else ""
+        lines.append(f'{{:process {call.client}, :type :{kind}, :f :{call.op}, :value ["{call.key}" '
+                     f"{_edn([version, value])}], :index {len(lines)}{error}}}")
+    return "\n".join(lines)
+
+
 def jepsen_json(calls: List[Call], chance: random.Random) -> str:
     rows: List[Dict[str, Any]] = []
     for kind, call in _steps(calls, chance):
@@ -387,6 +401,7 @@ def jsonl(calls: List[Call], chance: random.Random) -> str:
 FORMS: Dict[str, Form] = {
     "jepsen's EDN": Form("jepsen", jepsen_edn, (), False),
     "jepsen's JSON": Form("jepsen", jepsen_json, (), False),
+    "jepsen's etcd": Form("jepsen", jepsen_etcd, ("--drop-versions", "--outcomes", "did-not-succeed=missed")),
     "jepsen's history.txt": Form("jepsen", jepsen_history_txt, (), False),
     "jepsen's console": Form("jepsen", jepsen_console, (), False),
     "porcupine's log": Form("porcupine", porcupine_log, (), False),

@@ -31,6 +31,9 @@ _end("jepsen", _LOG % ("fail", "[nil 1]"), False, "--failed-cas", "missed")
 _end("jepsen", _LOG % ("fail", "[nil 1], :error :timeout"), True, "--failed-cas", "missed")
 _end("jepsen", _LOG % ("fail", '[nil 1], :error [:not-leader "n2"]'), True, "--failed-cas", "missed")
 _end("jepsen", _LOG % ("fail", "[nil 1], :exception {:via []}"), True, "--failed-cas", "missed")
+_end("jepsen", _LOG % ("fail", "[nil 1], :error :old"), False, "--outcomes", "old=missed")
+_end("jepsen", _LOG % ("fail", "[nil 1], :error :late"), True, "--outcomes", "old=missed")
+_end("jepsen", _LOG % ("info", "[nil 1], :error :late"), True, "--outcomes", "late=missed")
 _end("jepsen", _LOG % ("fail", '[nil 1], :error [:precondition-failed "1"]'), False, "--failed-cas", "missed")
 _end("jepsen", _LOG % ("fail", '[nil 1], :error :precondition-failed'), True)
 _end("jepsen", _LOG % ("fail", '[nil 1], :error [:key-does-not-exist "x"]'), True, "--failed-cas", "missed")
@@ -217,6 +220,7 @@ SAMPLE_RUNS: List[Tuple[str, str, Tuple[str, ...]]] = [
     ("jepsen_cas.edn", "jepsen", MISSED), ("knossos_cas_register.edn", "jepsen", ()),
     ("maelstrom_cas.edn", "jepsen", MISSED), ("porcupine_etcd.log", "porcupine", MISSED),
     ("porcupine_model.jsonl", "porcupine", ()), ("porcupine_puts.jsonl", "porcupine", PUTS),
+    ("jepsen_etcd.edn", "jepsen", ("--drop-versions", "--outcomes", "did-not-succeed=missed")),
     ("cas.csv", "csv", ()), ("cas_events.jsonl", "jsonl", ()),
 ]
 
@@ -284,8 +288,8 @@ class Words(unittest.TestCase):
                       "0 of unknown outcome\n", told)
         self.assertIn("the history has cas and repeated values, so it is one for regsearch; regkit "
                       "check", told)
-        self.assertIn("took 1 cas that failed with an error as failed, and not as missed: the error", told)
-
+        self.assertIn("took 1 cas with an error such as late as failed, and not as missed: --outcomes "
+                      "ERROR=missed is for an error by which the store found another value\n", told)
 
     def test_versions_are_told_of(self) -> None:
         source = (SAMPLES / "porcupine_puts.jsonl").read_text(encoding="utf-8")
@@ -293,8 +297,92 @@ class Words(unittest.TestCase):
                       "next: the values aren't checked", run(source, "porcupine", *PUTS).told)
         log = run('{:process 0, :type :invoke, :f :put, :key "x", :value "1"}', "porcupine", *PUTS)
         self.assertEqual((log.status, log.history), (3, ""))
-        self.assertIn("--versions is for Go's values as JSON, not for logs", log.told)
-        self.assertIn("--versions is for porcupine, not for csv", run(CAS_HEADER, "csv", *PUTS).told)
+        self.assertIn("--versions is for Go's values as JSON (--from porcupine): here, record a put by "
+                      "version as a cas from its version to the next one, as in :f :cas, :value "
+                      '["3" "4"]\n', log.told)
+        self.assertIn("isn't understood, and it may tell the outcome (here it is 0): say --versions Version "
+                      "if a put takes place only if its key has this version, --ok-when Version=WORD,.. with",
+                      run(source, "porcupine").told)
+        for form, example in [("jepsen", ":f :cas, :value [3 4]"), ("csv", "op cas, from 3, to 4"),
+                              ("operations", '"op":"cas","from":3,"to":4'),
+                              ("jsonl", '"op":"cas","from":3,"to":4')]:
+            ran = run("", form, "--versions", "Version")
+            self.assertEqual((ran.status, ran.history), (3, ""))
+            self.assertIn(f"a cas from its version to the next one, as in {example}\n", ran.told)
+
+
+class ValuesWithVersions(unittest.TestCase):
+    """[version value], as Jepsen's test of etcd records them."""
+
+    def test_they_are_told_of(self) -> None:
+        ran = run(jepsen("0 invoke write [nil 3]", "0 ok write [1 3]"), "jepsen", "--drop-versions")
+        self.assertEqual(short(ran.history), ["0 w x 3", "0 ."])
+        self.assertIn("each value is [version value], and the versions are left out: they aren't checked",
+                      ran.told)
+
+    def test_with_keys_or_without(self) -> None:
+        calls = ["0 invoke read %s", "0 ok read %s", "0 invoke write %s", "0 ok write %s", "0 invoke cas %s",
+                 "0 ok cas %s"]
+        values = ["[nil nil]", "[nil nil]", "[nil 3]", "[1 3]", "[nil [3 4]]", "[2 [3 4]]"]
+        expected = ["0 r {}", "0 = None", "0 w {} 3", "0 .", "0 c {} 3 4", "0 True"]
+        for form, name in [("{}", "x"), ("[7 {}]", "7")]:
+            lines = [line % form.format(value) for line, value in zip(calls, values)]
+            for keys in ("auto", "none" if name == "x" else "independent"):
+                with self.subTest(form, keys=keys):
+                    ran = run(jepsen(*lines), "jepsen", "--drop-versions", "--keys", keys)
+                    self.assertEqual(short(ran.history), [line.format(name) for line in expected], ran.told)
+
+    def test_what_has_none_is_refused(self) -> None:
+        """But for a read that is called with nil, or found nothing at all."""
+        read = jepsen("0 invoke read nil", "0 ok read nil", "0 invoke read [nil nil]", "0 ok read [nil nil]")
+        self.assertEqual(short(run(read, "jepsen", "--drop-versions", "--keys", "none").history),
+                         ["0 r x", "0 = None"] * 2)
+        for lines, line, words in [
+                (["0 invoke write 3"], 1, "3 of a write isn't [version value]"),
+                (["0 invoke write [1 2 3]"], 1, "[1 2 3] of a write isn't [version value]"),
+                (["0 invoke write [nil 3]", "0 ok write nil"], 2, "nil of a write isn't [version value]"),
+                (["0 invoke read nil", "0 ok read 3"], 2, "3 of a read isn't [version value]"),
+                (["0 invoke cas [1 2]"], 1, "[1 2] of a cas isn't [version [from to]]"),
+                (["0 invoke cas [nil [1 2]]", "0 ok cas [3 4]"], 2,
+                 "[3 4] of a cas isn't [version [from to]]")]:
+            with self.subTest(lines):
+                ran = run(jepsen(*lines), "jepsen", "--drop-versions", "--keys", "none")
+                self.assertEqual((ran.status, ran.history), (2, ""))
+                self.assertIn(f"line {line}: the value {words}, as --drop-versions says\n", ran.told)
+
+    def test_the_option_is_named_where_values_may_have_versions(self) -> None:
+        read = ("1 invoke read [7 nil]", "1 ok read [7 nil]")  # so there are keys
+        for lines, words in [
+                (["0 invoke write [7 [nil 3]]", "0 ok write [7 [2 3]]"],
+                 "write has the value [2 3], and its call, at line 3, [nil 3]: say --drop-versions if each"),
+                (["0 invoke write [7 [nil 3]]", "0 ok write [7 [nil 3]]", "0 invoke read [7 nil]",
+                  "0 ok read [7 [2 3]]"],
+                 "is written there; say --drop-versions if each value is [version value], let the"),
+                (["0 invoke cas [7 [nil [3 4]]]", "0 fail cas [7 [nil [3 4]]]"],
+                 "the value [nil [3 4]] of a cas may be [version [from to]]: say --drop-versions if it is")]:
+            with self.subTest(lines):
+                ran = run(jepsen(*read, *lines), "jepsen")
+                self.assertEqual((ran.status, ran.history), (2, ""))
+                self.assertIn(words, ran.told)
+
+    def test_a_cas_that_asks_for_nil(self) -> None:
+        """[nil [3 4]] is a cas from nil to the vector [3 4], if a person says so or another cas shows it."""
+        lines = ["0 invoke cas [nil [3 4]]", "0 ok cas [nil [3 4]]"]
+        exact = run(jepsen(*lines), "jepsen", "--values", "exact", "--keys", "none")
+        self.assertEqual(short(exact.history), ["0 c x None 1", "0 True"])
+        lines += ["0 invoke cas [[3 4] [5 6]]", "0 fail cas [[3 4] [5 6]]"]
+        self.assertEqual(short(run(jepsen(*lines), "jepsen", "--keys", "none").history),
+                         ["0 c x None 1", "0 True", "0 c x 1 2", "0 fail"])
+
+    def test_keys_that_are_skipped_need_not_be_understood(self) -> None:
+        lines = ["0 invoke cas [7 [nil [3 4]]]", "0 fail cas [7 [nil [3 4]]]", "0 invoke write [8 3]"]
+        ran = run(jepsen(*lines), "jepsen", "--cas", "skip-key", "--keys", "independent")
+        self.assertEqual(short(ran.history), ["0 w 8 3"], ran.told)
+
+    def test_for_jepsen_alone(self) -> None:
+        ran = run(CAS_HEADER, "csv", "--drop-versions")
+        self.assertEqual(ran.status, 3)
+        self.assertIn("--drop-versions is for jepsen, not for csv", ran.told)
 
 
 class RoundTrips(unittest.TestCase):

@@ -1,5 +1,9 @@
-"""Random histories in the form of each tool: no right one is called faulty, and no fault is lost."""
+"""Random histories in the form of each tool: no right one is called faulty, and no fault is lost.
+
+    REGKIT_HISTORIES=2000 python3 -m unittest tests.test_convert_random    more of them, in some minutes
+"""
 import itertools
+import os
 import random
 import unittest
 from typing import Iterable, List, Tuple
@@ -11,7 +15,7 @@ from tests.convert_support import history_of
 from tests.search_sources import (changed_search_history, find_regsearch, right_search_history, verdicts,
                                   without_misses)
 
-MANY = 2000  # histories of each kind
+MANY = int(os.environ.get("REGKIT_HISTORIES", "400"))  # histories of each kind
 
 
 class Conversions(unittest.TestCase):

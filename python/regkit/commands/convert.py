@@ -25,7 +25,14 @@ examples:
   regkit convert --from csv log.csv --columns process=client,register=key -o history.jsonl --map history.map
   regkit convert --from csv merged.csv --clock-error 5ms --clock-unit us | regkit check
   regkit convert --from csv log.tsv --ops fetch=read,store=write --outcomes done=ok,timeout=unknown
-  regkit convert --from porcupine log.jsonl --ok-when Err=OK --outcomes ErrVersion=fail --ignore-member Version
+
+With compare-and-swap (cas) and values that repeat:
+  regkit convert --from jepsen history.edn | regkit check                            # Jepsen, Knossos
+  regkit convert --from jepsen history.edn --failed-cas missed | regkit check        # Maelstrom's lin-kv
+  regkit convert --from porcupine etcd_000.log --failed-cas missed | regkit check    # Porcupine's log of etcd
+  regkit convert --from porcupine kv.jsonl --versions Version --ok-when Err=OK \\
+    --outcomes ErrVersion=missed --null ,ErrNoKey | regkit check                     # MIT 6.5840
+  regkit convert --from csv log.csv | regkit check                                   # columns from, to and ok
 
 A conversion never adds a precedence that the source doesn't have. It drops one only at a tie of time stamps
 or by --clock-error, which can hide a fault and never makes one up. What it doesn't understand it refuses by

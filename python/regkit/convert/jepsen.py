@@ -16,6 +16,7 @@ from collections import Counter
 from typing import Any, Dict, Iterable, Iterator, List, Optional, Tuple
 
 from regkit import edn
+from regkit.convert import pairs
 from regkit.convert.independent import are_independent, nothing_for, pair_of, part
 from regkit.convert.jepsen_lines import NO_OPERATION, line_events
 from regkit.convert.json_values import is_json, json_values
@@ -31,6 +32,7 @@ _NO_KEY = "key-does-not-exist"  # Maelstrom's definite error of a read that foun
 _OTHER_VALUE = "precondition-failed"  # and that of a cas that missed
 _TYPES = {":ok": "reply", ":fail": "fail", ":info": "crash"}
 _ERRORS = (":error", ":exception")
+_LONGEST = 40  # characters of an error that is shown
 
 Event = Dict[Any, Any]
 Events = Iterable[Tuple[int, Event]]
@@ -95,7 +97,7 @@ class _Log:
         self.known = Known(choices, "jepsen")
         self.outcomes = Outcomes(choices)
         self.left_out: Dict[str, int] = Counter()
-        self.refused_cas = 0  # how many failed for another reason than the value
+        self.refused_cas: List[str] = []  # the error of each that may have failed for another reason
         self.index = -1  # of the last event that had one
 
     def source(self, events: Events) -> Source:
@@ -109,15 +111,28 @@ class _Log:
         source.left_out.update(self.left_out)
         source.notes.extend(self.outcomes.notes())
         if self.refused_cas:
-            source.notes.append(f"took {self.refused_cas:,} cas that failed with an error as failed, and "
-                                "not as missed: the error may have another reason than the value")
+            word = min(self.refused_cas, key=len)[:_LONGEST]
+            source.notes.append(f"took {len(self.refused_cas):,} cas with an error such as {word} as failed, "
+                                "and not as missed: --outcomes ERROR=missed is for an error by which the "
+                                "store found another value")
         operations = list(source.operations())
         refuse_appends(operations)
-        independent = are_independent(operations, self.choices)
+        look_for_keys = pairs.have_keys if self.choices.drop_versions else are_independent
+        independent = look_for_keys(operations, self.choices)
         for operation in operations:
             _place(operation, independent, self.choices)
+        self._look_at_versions(source, operations)
         settle(source, self.choices)
         return source
+
+    def _look_at_versions(self, source: Source, operations: List[Operation]) -> None:
+        """Takes versions out of the values, if there are any."""
+        if not self.choices.drop_versions:
+            pairs.refuse_versions(operations, self.choices)
+            return
+        for operation in operations:
+            pairs.drop_versions(operation)
+        source.notes.append(pairs.NOTE)
 
     def _leave_out(self, line: int, client: Any, event: Event) -> None:
         """Counts a line that is no client's. A client's would be missed, so it isn't left out."""
@@ -210,11 +225,14 @@ class _Log:
         But an error may say that it failed for another reason, and then it is no more than a failure.
         """
         ending, error = self.choices.failure_of(called.kind), _error(event)
-        if ending != "missed" or error is None or folded(word_of(error)) == _OTHER_VALUE:
+        word = folded(word_of(error))
+        if called.kind == CAS and self.choices.outcomes.get(word) == "missed":
+            return "missed"
+        if ending != "missed" or error is None or word == _OTHER_VALUE:
             return ending
-        if folded(word_of(error)) == _NO_KEY and not self._asks_for_null(called):
+        if word == _NO_KEY and not self._asks_for_null(called):
             return ending
-        self.refused_cas += 1
+        self.refused_cas.append(word)
         return "fail"
 
     def _asks_for_null(self, called: Operation) -> bool:

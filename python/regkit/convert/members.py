@@ -55,6 +55,7 @@ class Known:
     def __init__(self, choices: Choices, place: str, own: Iterable[str] = (), what: str = "member") -> None:
         self.what = what
         self.register = choices.columns.get("register") if place in ("csv", "operations") else None
+        self.is_input = place == "input"
         self.names = (UNDERSTOOD[place] | HARMLESS.get(place, frozenset()) | choices.ignored
                       | choices.ok_when.keys() | {folded(name) for name in own})
         self.seen: Set[Tuple[Any, ...]] = set()  # the members of lines that were let through
@@ -80,17 +81,19 @@ class Known:
         first, *others = (shlex.quote(spelled(name).lstrip(":")) for name in strange)
         more = f"; likewise {', '.join(others)}" if others else ""
         return (f"the {self.what} {first} isn't understood, and it may tell the outcome (here it is "
-                f"{edn.write(members[strange[0]])[:_LONGEST]}): say {self._as_column(first, members)}"
+                f"{edn.write(members[strange[0]])[:_LONGEST]}): say {self._own_options(first, members)}"
                 f"--ok-when {first}=WORD,.. with the words in it by which the operation took place, or "
                 f"--ignore-member {first} if it means nothing{more}")
 
-    def _as_column(self, name: str, members: Mapping[Any, Any]) -> str:
-        """What --columns can make of it. To ignore a key would make one register of several."""
+    def _own_options(self, name: str, members: Mapping[Any, Any]) -> str:
+        """What else it may be: a column, or a version. To ignore a key would make one register of several."""
         if name == "''":
             return ""
         no_register = self.register is not None and self.register not in members
         return ((f"--columns register={name} if it is the key, " if no_register else "")
-                + (f"--columns outcome={name} if it is the outcome, " if self.what == "column" else ""))
+                + (f"--columns outcome={name} if it is the outcome, " if self.what == "column" else "")
+                + (f"--versions {name} if a put takes place only if its key has this version, "
+                   if self.is_input and folded(name) == "version" else ""))
 
 
 def word_of(value: Any) -> str:

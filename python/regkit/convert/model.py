@@ -72,6 +72,7 @@ class Choices(NamedTuple):
     cas: str = "keep"
     failed_cas: str = "fail"  # or missed
     versions: Optional[str] = None  # the member by which a put is a cas
+    drop_versions: bool = False  # whether each value is [version value]
     columns: Dict[str, str] = {}
     delimiter: Optional[str] = None
     ops: Dict[str, str] = {}  # the source's word for an operation -> read, write, cas or other

@@ -40,7 +40,7 @@ def from_porcupine(lines: Iterable[str], choices: Choices) -> Source:
     """Tells the forms apart by what they begin with."""
     found, everything = is_json(lines)
     if choices.versions is not None and not found:
-        raise WrongWords("--versions is for Go's values as JSON, not for logs")
+        raise WrongWords(versions.not_of("log"))
     return _Values(choices).source(everything) if found else jepsen.from_edn_or_log(everything, choices)
 
 

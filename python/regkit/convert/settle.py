@@ -130,6 +130,12 @@ def _halves(value: Any) -> Optional[Tuple[Any, Any]]:
     return (value[0], value[1]) if type(value) is tuple and len(value) == 2 else None
 
 
+def _differ_in_version(called: Any, answered: Any) -> bool:
+    """Whether both are pairs of which only the first halves differ."""
+    one, other = _halves(called), _halves(answered)
+    return one is not None and other is not None and edn.write(one[1]) == edn.write(other[1])
+
+
 def _settle_value(operation: Operation, read_value: Callable[[Any], Value], form: str) -> None:
     """A write's value is that of its call, with which its reply agrees; a read's is that of its reply."""
     for value in (operation.value, operation.answer):
@@ -138,10 +144,12 @@ def _settle_value(operation: Operation, read_value: Callable[[Any], Value], form
     if operation.kind == "read":
         operation.value = answer
         return
-    operation.value = read_value(operation.value)
+    called, operation.value = operation.value, read_value(operation.value)
     if answer is not None and answer != operation.value:
         name = WRITE_ANSWERS[form]
+        versioned = form == "jepsen" and _differ_in_version(called, operation.answer)
         raise Refused(f"the reply of a write has the value {shown(answer)}, and its call, at line "
                       f"{operation.line}, {shown(operation.value)}: say "
+                      f"{'--drop-versions if each value is [version value], ' if versioned else ''}"
                       f"--ok-when {name}=WORD,.. with the words by which the write took place, or "
                       f"--ignore-member {name} if what a write answers means nothing", operation.end_line)

@@ -27,7 +27,7 @@ def look_at_reads(source: Source, written: Written, choices: Choices) -> Iterato
     Raises Refused for the first one that the conversion may have misread. A value that is written only after
     it was found may be misread as well as one that is never written.
     """
-    spellings = _Spellings(written)
+    spellings = _Spellings(written, choices.form)
     nothing: Dict[Value, Operation] = {}
     begun: Set[Tuple[str, Value]] = set()  # what was written so far, by key
     unwritten = failed = 0
@@ -98,8 +98,9 @@ def _spells_null(value: Any, choices: Choices) -> Optional[str]:
 class _Spellings:
     """How keys and the values written to them are spelled without what tells their kinds."""
 
-    def __init__(self, written: Written) -> None:
+    def __init__(self, written: Written, form: str) -> None:
         self._written = written
+        self._form = form
         self._values: Dict[str, Set[str]] = {}  # by key
         self._parts: Dict[str, Set[str]] = {}  # by key, of collections too
         self._keys: Dict[str, List[str]] = {}  # by spelling
@@ -133,8 +134,9 @@ class _Spellings:
             return (f"{alike}; say --values alike if what is spelled alike is one value and one key, or "
                     "--values exact if it isn't")
         if type(value) in _COLLECTIONS and not self.has(key, found) and _parts(value) & self._parts_of(key):
-            return ("a value that has a part of it in common is written there; let the recorder keep the "
-                    "value alone, without a version, or say --values exact if they are several values")
+            drop = "say --drop-versions if each value is [version value], " if self._form == "jepsen" else ""
+            return (f"a value that has a part of it in common is written there; {drop}let the recorder keep "
+                    "the value alone, without a version, or say --values exact if they are several values")
         return None
 
     def _alike(self, key: str, word: str) -> Optional[str]:

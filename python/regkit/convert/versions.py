@@ -9,8 +9,18 @@ from typing import Any, Mapping, Optional, Tuple
 from regkit.convert.model import GREATEST, Refused
 from regkit.convert.values import spelled
 
+# A put by version 3, as a form has it that tells of cas only.
+_AS_CAS = {"jepsen": ":f :cas, :value [3 4]", "log": ':f :cas, :value ["3" "4"]',
+           "csv": "op cas, from 3, to 4",
+           "operations": '"op":"cas","from":3,"to":4', "jsonl": '"op":"cas","from":3,"to":4'}
 NOTE = ("each register has the versions of its key, and a put is a cas from its version to the next: the "
         "values aren't checked")
+
+
+def not_of(form: str) -> str:
+    """What to do about a form whose puts give no version of their own."""
+    return ("--versions is for Go's values as JSON (--from porcupine): here, record a put by version as a "
+            f"cas from its version to the next one, as in {_AS_CAS[form]}")
 
 
 def as_cas(given: Mapping[str, Any], member: str, line: int) -> Tuple[Optional[int], int]:

@@ -3,7 +3,7 @@ import argparse
 import re
 from typing import Collection, Dict, FrozenSet, List, Optional
 
-from regkit.convert import tables, write_back
+from regkit.convert import tables, versions, write_back
 from regkit.convert.model import CAS, ENDINGS, OTHER, READ_AND_WRITE, Choices, WrongWords, folded
 from regkit.convert.whole import READERS
 
@@ -38,6 +38,8 @@ def add_arguments(parser: argparse.ArgumentParser) -> None:
         "looked and found another value (missed)")
     add("--versions", metavar="MEMBER", help="porcupine, as JSON: a put takes place only if its key has the "
         "version in this member, and then the key has the next one; only versions are checked")
+    add("--drop-versions", action="store_true", help="jepsen: each value is [version value], as in Jepsen's "
+        "test of etcd; only the values are checked")
     add("--keys", choices=["auto", "independent", "none"], default="auto",
         help="jepsen: whether a value is [key value] (default auto: if all calls' values are pairs)")
     add("--register", metavar="NAME", default="x", help="the register of a source without keys (default x)")
@@ -70,18 +72,21 @@ def choices_of(arguments: argparse.Namespace) -> Choices:
     form = arguments.form
     for option, value, forms in (("--columns", arguments.columns, ("csv", "operations")),
                                  ("--delimiter", arguments.delimiter, ("csv",)),
-                                 ("--versions", arguments.versions, ("porcupine",)),
+                                 ("--drop-versions", arguments.drop_versions or None, ("jepsen",)),
                                  ("--clock-error", arguments.clock_error, TIMED),
                                  ("--clock-unit", arguments.clock_unit, TIMED)):
         if value is not None and form not in forms:
             raise WrongWords(f"{option} is for {', '.join(forms)}, not for {form}")
+    if arguments.versions is not None and form != "porcupine":
+        raise WrongWords(versions.not_of(form))
     if arguments.map and arguments.to != "history":
         raise WrongWords("--map describes a history for regcheck: leave out --to, or --map")
     return Choices(
         form=form, register=arguments.register, keys=arguments.keys, nulls=_nulls(form, arguments.null),
         initial=arguments.initial, values=arguments.values,
         cas=arguments.cas, failed_cas=arguments.failed_cas,
-        versions=arguments.versions and folded(arguments.versions), columns=tables.columns(arguments.columns),
+        versions=arguments.versions and folded(arguments.versions), drop_versions=arguments.drop_versions,
+        columns=tables.columns(arguments.columns),
         delimiter=_delimiter(arguments.delimiter), ops=_meanings("--ops", arguments.ops, OPS),
         outcomes=_meanings("--outcomes", arguments.outcomes, ENDINGS), ok_when=_ok_when(arguments.ok_when),
         ignored=frozenset(map(folded, arguments.ignore_member)), clock_error=arguments.clock_error,
