@@ -7,10 +7,12 @@ import textwrap
 import unittest
 from typing import List, Optional
 
-from regkit.checker import run_checker
+from regkit.checker import SEARCH, find_program, run_checker
 from regkit.commands import convert
+from regkit.convert.words import choices_of
 from regkit.record import Recorder
 from tests.convert_support import run
+from tests.events import run as command
 
 RECIPES = pathlib.Path(__file__).parents[2] / "docs" / "recipes.md"
 
@@ -29,14 +31,21 @@ def block(name: str) -> str:
     return found[1]
 
 
+def examples() -> List[List[str]]:
+    """The words of each example in the command's help."""
+    lines = re.findall(r"^  regkit convert (.*?)(?: \| .*)?$", convert.EPILOG.replace("\\\n", ""), re.M)
+    return [shlex.split(line) for line in lines]
+
+
 class Recipes(unittest.TestCase):
     def test_commands_are_taken(self) -> None:
         parser = argparse.ArgumentParser()
         convert.add_arguments(parser)
-        self.assertGreater(len(commands()), 5)
-        for words in commands():
-            with self.subTest(words):
-                parser.parse_args(words)
+        for found in (commands(), examples()):
+            self.assertGreater(len(found), 5)
+            for words in found:
+                with self.subTest(words):
+                    choices_of(parser.parse_args(words))
 
     def test_machines(self) -> None:
         """By the time stamps a read is stale; with clocks that may be wrong by 3 ms it may not be."""
@@ -48,6 +57,19 @@ class Recipes(unittest.TestCase):
             ran = run(machines, words[words.index("--from") + 1], *words[2:])
             statuses.append(run_checker(ran.history.encode()).status)
         self.assertEqual(statuses, [1, 0])
+
+
+    @unittest.skipUnless(find_program(SEARCH), "regsearch isn't built")
+    def test_lock(self) -> None:
+        """Two cas of which one is told that it missed. Both can't take place."""
+        lock = block("lock.csv")
+        words, = [words for words in commands() if "lock.csv" in words]
+        words.remove("lock.csv")
+        for source, status in [(lock, 0), (lock.replace("2,false", "2,true"), 1)]:
+            ran = run(source, words[words.index("--from") + 1], *words[2:])
+            checked = command("check", given=ran.history.encode())
+            self.assertEqual(checked.status, status)
+            self.assertEqual(checked.out in RECIPES.read_text(encoding="utf-8"), status == 0)
 
 
 class Cache(unittest.TestCase):
