@@ -1,48 +1,32 @@
 -- Why a no names a reply: nothing explains the moments up to it, so what is known at it has no legal order.
-use Rattle.std.proofs.Common.{◌≡◌, ℕ, suc, ◌+◌, ◌<◌, ◌≤◌, List, [], ◌∷◌, ◌++◌, length, take, get_or, slice_get, IfSome, Vec, Global, ◌-◌, Option, Some, None, inl, inr, refl, sym, ap, subst, ◌∙◌, arith, add-one, append_assoc, append-nil}
+use Rattle.std.proofs.Common.{◌≡◌, ℕ, suc, ◌<◌, ◌≤◌, List, [], ◌∷◌, take, slice_get, Result, Ok, Err, IfOk, IfSome, Vec, Global, ◌-◌, Option, Some, None, inl, inr, refl, sym, ap, subst, ◌∙◌, arith}
 use Rattle.std.proofs.lemmas.Bool.{false≢true, cases_order, le-leb}
-use Rattle.std.proofs.Math.Seq.{take-suc}
-use Rattle.std.proofs.lemmas.Option.{slice_get-get_or}
 use Rattle.history_text.specs.declared.event.Val.{Val}
 use Rattle.history_text.specs.declared.event.Val.TheVariants.{Null}
 use Rattle.history_model.specs.Lists.{In}
-use Rattle.history_model.proofs.Lists.{slice_get-In, In-right}
+use Rattle.history_model.proofs.Lists.{slice_get-In}
 use Rattle.cas_model.specs.declared.operation.Operation.{Operation}
 use Rattle.cas_model.specs.Cut.{known_at, cut_at}
 use Rattle.cas_model.specs.Legal.{IsAtomic}
 use Rattle.cas_model.specs.Operations.{initial_write}
 use Rattle.cas_model.proofs.Cut.{by-there, cut-atomic}
-use Rattle.cas_search.specs.declared.moment.Moment.{Moment}
-use Rattle.cas_search.specs.declared.moment.Moment.TheVariants.{Reply}
-use Rattle.cas_search.specs.declared.config.Config.{Config}
-use Rattle.cas_search.specs.Configs.{IsLive, IsAnyLive, IsStep}
+use Rattle.configurations.specs.declared.moment.Moment.{Moment}
+use Rattle.configurations.specs.declared.moment.Moment.TheVariants.{Reply}
+use Rattle.configurations.specs.declared.op.Op.{Op}
+use Rattle.configurations.specs.Runs.{AliveFree, AreInOrder}
+use Rattle.cas_search.specs.Runs.{Alive}
+use Rattle.cas_search.specs.ByNumbers.{AreByNumbers}
 use Rattle.cas_search.specs.Taking.{option_suits, option_left_by, left_at}
 use Rattle.cas_search.specs.Timeline.{AreCalls, IsTimeline, time_by}
 use Rattle.cas_search.specs.Checked.{IsCheckedOrder}
-use Rattle.cas_search.specs.Verdicts.{RepliesAt, IsRefuted, IsBefore}
-use Rattle.cas_search.proofs.Numbered.{MeetsAt, IsNumbered}
+use Rattle.cas_search.specs.declared.forward.Found.{Found}
+use Rattle.cas_search.specs.Verdicts.{RepliesAt, IsRefuted, IsBefore, IsFound}
+use Rattle.cas_search.proofs.LegalOrder.{MeetsAt, IsNumbered}
 use Rattle.cas_search.proofs.Explained.{legal_explained}
 use Rattle.cas_search.proofs.Linked.{numbered, place-of, reply-of, reply-time}
+use Rattle.cas_search.proofs.ByNumbers.{explained}
+use Rattle.cas_search.proofs.InOrder.{timeline-in-order}
 use Rattle.cas_search.proofs.Known.{one-known, from-known, known-calls, known-timeline}
-
--- ---- the search
-
--- of the first configuration whatever is to come is explained, if it can be
-pub first-live : (ops : List Operation) (es : List Moment) (c : Config) (before cs : List Config) → cs ≡ before ++ (c ∷ []) → c.value ≡ Null → c.waiting.items ≡ [] → IsLive ops Null [] es → IsAnyLive ops cs es
-first-live ops es c before cs e v w l = (
-  c,
-  subst (λ x. In c x) (sym e) (In-right c before (c ∷ []) (inl refl)),
-  subst (λ x. IsLive ops x c.waiting.items es) (sym v) (subst (λ x. IsLive ops Null x es) (sym w) l),
-)
-
-pub more-events : (ops : List Operation) (events : List Moment) (i : ℕ) (d : Moment) (before after : List Config) → i < length events → IsStep ops before (get_or events i d) after
-    → ((es : List Moment) → IsLive ops Null [] (take i events ++ es) → IsAnyLive ops before es) → (es : List Moment) → IsLive ops Null [] (take (i + 1) events ++ es) → IsAnyLive ops after es
-more-events ops events i d before after lt s f es l =
-    let e = get_or events i d in
-    let split : take (i + 1) events ++ es ≡ take i events ++ (e ∷ es) = ap (λ n. take n events ++ es) (add-one i) ∙ (ap (λ xs. xs ++ es) (take-suc events i d lt) ∙ append_assoc (take i events) (e ∷ []) es) in
-    s es (f (e ∷ es) (subst (IsLive ops Null []) split l))
-
--- ---- what it refutes
 
 -- by the known operations, and so by all
 meets-all : (t : ℕ) (ops : List Operation) → ((j k : ℕ) (a b : Operation) → j < k → slice_get ops j ≡ Some a → slice_get ops k ≡ Some b → a.call < b.call) → (v : Val) (ks : List ℕ) → MeetsAt (cut_at t ops) v ks → MeetsAt ops v ks
@@ -60,12 +44,12 @@ meets-all t ops up v (k ∷ ks) m = go (slice_get (cut_at t ops) k) refl (λ lef
 
 module _ (r : ℕ) (ops : List Operation) (events : List Moment) (line : IsTimeline r ops events) where
   -- an order of what is known explains the moments up to then
-  live-known : (i t : ℕ) (last : Moment) → slice_get events i ≡ Some last → time_by ops last ≡ Some t → IsAtomic (initial_write r ∷ cut_at t ops) → IsLive ops Null [] (take (suc i) events)
-  live-known i t last at is a =
+  known-explained : (i t : ℕ) (last : Moment) → slice_get events i ≡ Some last → time_by ops last ≡ Some t → IsAtomic (initial_write r ∷ cut_at t ops) → Alive ops Null [] (take (suc i) events)
+  known-explained i t last at is a =
       let n = numbered r (cut_at t ops) (take (suc i) events) (known-timeline r ops events line i t last at is) a in
       let m = n.1 in
       let all : IsNumbered ops (take (suc i) events) n.0 = record { calls = m.calls; replies = m.replies; once = m.once; only = m.only; all = m.all; keeps = m.keeps; meets = meets-all t ops line.calls.ascending Null n.0 m.meets } in
-      record { run = legal_explained ops (take (suc i) events) n.0 all; ahead = λ j i _. i; once = m.calls }
+      legal_explained ops (take (suc i) events) n.0 all
 
   -- the initial write is known from the first call on
   initial-known : (t : ℕ) → 1 ≤ t → cut_at t (initial_write r ∷ ops) ≡ initial_write r ∷ cut_at t ops
@@ -93,7 +77,7 @@ module _ (r : ℕ) (ops : List Operation) (events : List Moment) (line : IsTimel
         ]
       ]
 
-  pub refuted-at : (i k : ℕ) → slice_get events i ≡ Some (Reply k) → (IsLive ops Null [] (take (suc i) events) → ⊥) → IsRefuted r ops k
+  pub refuted-at : (i k : ℕ) → slice_get events i ≡ Some (Reply k) → (Alive ops Null [] (take (suc i) events) → ⊥) → IsRefuted r ops k
   refuted-at i k at none =
       let x = reply-of r ops events line k (slice_get-In events i (Reply k) at) in
       let t = x.1 in
@@ -101,7 +85,7 @@ module _ (r : ℕ) (ops : List Operation) (events : List Moment) (line : IsTimel
       let lt = line.life a t (slice_get-In ops k a x.2) x.3 in
       let is = reply-time r ops events line k a t x.2 x.3 in
       let known = initial-known t (omega arith) in
-      let beginning : IsAtomic (cut_at t (initial_write r ∷ ops)) → ⊥ = λ atomic. none (live-known i t (Reply k) at is (subst IsAtomic known atomic)) in
+      let beginning : IsAtomic (cut_at t (initial_write r ∷ ops)) → ⊥ = λ atomic. none (known-explained i t (Reply k) at is (subst IsAtomic known atomic)) in
       record {
         time = t;
         replies = (a, x.2, x.3);
@@ -109,12 +93,21 @@ module _ (r : ℕ) (ops : List Operation) (events : List Moment) (line : IsTimel
         whole = λ atomic. beginning (cut-atomic t (initial_write r ∷ ops) life one-call atomic);
       }
 
--- no configuration is left after a reply
-pub refuted : (r : ℕ) (ops : List Operation) (events : List Moment) → IsTimeline r ops events → (i k : ℕ) (d : Moment) (cs : List Config) → i < length events → get_or events i d ≡ Reply k → cs ≡ [] → ((es : List Moment) → IsLive ops Null [] (take (i + 1) events ++ es) → IsAnyLive ops cs es) → IsRefuted r ops k
-refuted r ops events line i k d cs lt is none f = refuted-at r ops events line i k (slice_get-get_or events i d lt ∙ ap Some is) (λ l.
-    let same : take (suc i) events ≡ take (i + 1) events ++ [] = ap (λ n. take n events) (sym (add-one i)) ∙ sym (append-nil (take (i + 1) events)) in
-    let a = f [] (subst (IsLive ops Null []) same l) in
-    subst (λ x. In a.0 x) none a.1)
+-- what can't be explained by numbers can't be explained
+unexplained : (r : ℕ) (ops : List Operation) (events : List Moment) (numbered : List Op) → AreByNumbers ops numbered → (i : ℕ)
+    → (AreInOrder numbered [] events → AliveFree numbered 0 [] [] (take (suc i) events) → ⊥)
+    → IsTimeline r ops events → Alive ops Null [] (take (suc i) events) → ⊥
+unexplained r ops events numbered by i none line a =
+    let ordered = timeline-in-order r by.number ops numbered events by.each line in
+    none ordered (explained by.number by.numbering ops numbered by.each (take (suc i) events) Null 0 [] by.numbering.null a)
+
+-- and so the reply that a search names is right
+pub found-hopeless : {E : Type 0} (ops : List Operation) (events : List Moment) (numbered : List Op) (i : ℕ) (result : Result Found E)
+    → AreByNumbers ops numbered → (AreInOrder numbered [] events → AliveFree numbered 0 [] [] (take (suc i) events) → ⊥)
+    → IfOk result (λ found. (r : ℕ) → IsTimeline r ops events → (Alive ops Null [] (take (suc i) events) → ⊥) → IsFound r ops found)
+    → IfOk result (λ found. (r : ℕ) → IsTimeline r ops events → IsFound r ops found)
+found-hopeless ops events numbered i (Ok found) by none h = λ r line. h r line (unexplained r ops events numbered by i none line)
+found-hopeless ops events numbered i (Err e) by none h = h
 
 -- ---- the order before it
 

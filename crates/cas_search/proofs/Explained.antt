@@ -3,13 +3,14 @@ use Rattle.std.proofs.Common.{ℕ, List, [], ◌∷◌, ◌⊎◌, inl, inr, ref
 use Rattle.history_text.specs.declared.event.Val.{Val}
 use Rattle.history_text.specs.declared.event.Val.TheVariants.{Null}
 use Rattle.cas_model.specs.declared.operation.Operation.{Operation}
-use Rattle.cas_search.specs.declared.moment.Moment.{Moment}
-use Rattle.cas_search.specs.declared.moment.Moment.TheVariants.{Call, Reply}
+use Rattle.configurations.specs.declared.moment.Moment.{Moment}
+use Rattle.configurations.specs.declared.moment.Moment.TheVariants.{Call, Reply}
 use Rattle.history_model.specs.Lists.{In, Before}
 use Rattle.cas_search.specs.Taking.{left_at}
-use Rattle.cas_search.specs.Runs.{Alive, over, called, replied, takes, without}
+use Rattle.configurations.specs.Runs.{without}
+use Rattle.cas_search.specs.Runs.{Alive, over, called, replied, takes}
 use Rattle.cas_search.proofs.Lists.{without-In, In-without, In-or}
-use Rattle.cas_search.proofs.Numbered.{MeetsAt, IsNumbered}
+use Rattle.cas_search.proofs.LegalOrder.{MeetsAt, IsNumbered}
 
 -- Of a legal order the operations `todo` have not taken effect, and those of them that were called are in p.
 record Stands (ops : List Operation) (es : List Moment) (todo : List ℕ) (s : Val) (p : List ℕ) : Type 0 where

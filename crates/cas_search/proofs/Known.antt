@@ -8,8 +8,8 @@ use Rattle.cas_model.specs.declared.operation.Operation.{Operation}
 use Rattle.cas_model.specs.Cut.{known_at, is_called_by, cut_at}
 use Rattle.cas_model.proofs.Cut.{by-back, by-there}
 use Rattle.cas_model.proofs.Filters.{filter-pass, filter-fail, filter-none}
-use Rattle.cas_search.specs.declared.moment.Moment.{Moment}
-use Rattle.cas_search.specs.declared.moment.Moment.TheVariants.{Call, Reply}
+use Rattle.configurations.specs.declared.moment.Moment.{Moment}
+use Rattle.configurations.specs.declared.moment.Moment.TheVariants.{Call, Reply}
 use Rattle.cas_search.specs.Timeline.{AreCalls, IsTimeline, time_by}
 use Rattle.cas_search.proofs.Linked.{place-of}
 

@@ -1,11 +1,9 @@
 pub mod Lists
-pub mod Numbered
-pub mod Better
-pub mod Delay
+pub mod LegalOrder
 pub mod Explained
-pub mod Settling
-pub mod Takes
-pub mod Stepping
+pub mod Numbers
+pub mod ByNumbers
+pub mod InOrder
 pub mod Linked
 pub mod Known
 pub mod Beginnings

@@ -10,11 +10,11 @@ use Rattle.cas_model.specs.InTurn.{Meets}
 use Rattle.cas_model.specs.Legal.{IsLegal, IsMet, IsAtomic}
 use Rattle.cas_model.specs.Operations.{IsAsking, Precedes, initial_write}
 use Rattle.cas_model.proofs.InTurn.{in-turn}
-use Rattle.cas_search.specs.declared.moment.Moment.{Moment}
-use Rattle.cas_search.specs.declared.moment.Moment.TheVariants.{Call, Reply}
+use Rattle.configurations.specs.declared.moment.Moment.{Moment}
+use Rattle.configurations.specs.declared.moment.Moment.TheVariants.{Call, Reply}
 use Rattle.cas_search.specs.Taking.{option_suits, option_left_by, left_at}
 use Rattle.cas_search.specs.Timeline.{AreCalls, IsTimeline, time_by}
-use Rattle.cas_search.proofs.Numbered.{MeetsAt, IsNumbered}
+use Rattle.cas_search.proofs.LegalOrder.{MeetsAt, IsNumbered}
 
 -- ---- numbers and what they stand for
 

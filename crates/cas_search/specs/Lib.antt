@@ -1,6 +1,6 @@
 pub mod Taking
 pub mod Runs
-pub mod Configs
+pub mod ByNumbers
 pub mod Timeline
 pub mod Timed
 pub mod Checked

@@ -1,15 +1,12 @@
--- What a configuration can still do.
-use Rattle.std.specs.Prelude.{ℕ, ◌==◌, ◌≡◌, not, true, List, [], ◌∷◌}
-use Rattle.std.specs.List.{filter}
+-- What can still be explained.
+use Rattle.std.specs.Prelude.{ℕ, ◌≡◌, true, List, [], ◌∷◌}
 use Rattle.history_text.specs.declared.event.Val.{Val}
 use Rattle.history_model.specs.Lists.{In}
 use Rattle.cas_model.specs.declared.operation.Operation.{Operation}
-use Rattle.cas_search.specs.declared.moment.Moment.{Moment}
-use Rattle.cas_search.specs.declared.moment.Moment.TheVariants.{Call, Reply}
+use Rattle.configurations.specs.declared.moment.Moment.{Moment}
+use Rattle.configurations.specs.declared.moment.Moment.TheVariants.{Call, Reply}
+use Rattle.configurations.specs.Runs.{without}
 use Rattle.cas_search.specs.Taking.{suits_at, left_at}
-
-abbrev pub without : ℕ → List ℕ → List ℕ
-without k ks = filter (λ j. not (j == k)) ks
 
 -- From the value v, with these calls open that have not taken effect, the events to come can be explained: calls take effect one by one, each at a value that suits it, and only just before a reply; at its reply a call has taken effect (Lowe, Testing for linearizability, 2017).
 pub data Alive (ops : List Operation) : Val → List ℕ → List Moment → Type 0 where

@@ -1,7 +1,7 @@
 -- What it means for the call of a number to take effect: calls go by the places of their operations.
-use Rattle.std.specs.Prelude.{ℕ, ◌&&◌, not, Bool, false, List, slice_get, Option, Some, None}
+use Rattle.std.specs.Prelude.{ℕ, Bool, false, List, slice_get, Option, Some, None}
 use Rattle.history_text.specs.declared.event.Val.{Val}
-use Rattle.cas_model.specs.Acts.{suits, changes, left_by}
+use Rattle.cas_model.specs.Acts.{suits, left_by}
 use Rattle.cas_model.specs.declared.operation.Operation.{Operation}
 
 abbrev pub option_suits : Option Operation → Val → Bool
@@ -19,11 +19,3 @@ option_left_by (Some o) v = left_by o.act v
 -- the value after it
 abbrev pub left_at : List Operation → ℕ → Val → Val
 left_at ops k v = option_left_by (slice_get ops k) v
-
-abbrev pub option_is_content : Option Operation → Val → Bool
-option_is_content None v = false
-option_is_content (Some o) v = not (changes o.act) && suits o.act v
-
--- whether it looks at the value alone, and this one suits it
-abbrev pub content_at : List Operation → ℕ → Val → Bool
-content_at ops k v = option_is_content (slice_get ops k) v

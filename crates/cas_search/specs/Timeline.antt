@@ -3,8 +3,8 @@ use Rattle.std.specs.Prelude.{◌≡◌, ℕ, ◌<◌, ◌≤◌, List, filter_m
 use Rattle.history_model.specs.Lists.{In, Before}
 use Rattle.cas_model.specs.declared.operation.Operation.{Operation}
 use Rattle.cas_model.specs.Operations.{AreTimed}
-use Rattle.cas_search.specs.declared.moment.Moment.{Moment}
-use Rattle.cas_search.specs.declared.moment.Moment.TheVariants.{Call, Reply}
+use Rattle.configurations.specs.declared.moment.Moment.{Moment}
+use Rattle.configurations.specs.declared.moment.Moment.TheVariants.{Call, Reply}
 
 -- The operations of register r that processes called, by call: the initial write, which comes before them all, isn't among them.
 pub record AreCalls (r : ℕ) (ops : List Operation) : Type 0 where

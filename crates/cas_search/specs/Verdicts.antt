@@ -5,7 +5,7 @@ use Rattle.cas_model.specs.Cut.{cut_at}
 use Rattle.cas_model.specs.Legal.{IsAtomic}
 use Rattle.cas_model.specs.Operations.{initial_write}
 use Rattle.cas_search.specs.declared.forward.Found.{Found}
-use Rattle.cas_search.specs.declared.forward.Found.TheVariants.{Hopeless, Order}
+use Rattle.cas_search.specs.declared.forward.Found.TheVariants.{Hopeless, Order, Stopped}
 use Rattle.cas_search.specs.declared.verdict.Verdict.{Verdict}
 use Rattle.cas_search.specs.declared.verdict.Verdict.TheVariants.{Yes, No, Unknown}
 use Rattle.cas_search.specs.Checked.{IsCheckedOrder}
@@ -28,10 +28,11 @@ pub record IsBefore (r : ℕ) (ops : List Operation) (k : ℕ) (order : List ℕ
   pub points : List ℕ
   pub legal : IsCheckedOrder r (cut_at (time - 1) ops) order points
 
--- an order that was found promises nothing until it is checked
+-- an order that was found promises nothing until it is checked, nor does a bound that was met
 abbrev pub IsFound : ℕ → List Operation → Found → Type 0
 IsFound r ops (Hopeless reply before) = IsRefuted r ops reply
 IsFound r ops (Order order) = Unit {0}
+IsFound r ops (Stopped bound) = Unit {0}
 
 -- a yes has a legal order and its points, a no is right, as is the order before it, and whoever gave up says nothing
 abbrev pub IsVerdict : ℕ → List Operation → Verdict → Type 0

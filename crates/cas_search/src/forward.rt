@@ -1,50 +1,62 @@
-//! A set of configurations goes forward over all events.
-ghost use Rattle.std.specs.Prelude.{IfOk, ℕ};
+//! The search goes forward over all events, and what it finds is said of the operations.
+ghost use Rattle.std.specs.Prelude.{[], suc, take, IfOk, ℕ};
+ghost use Rattle.history_text.specs.declared.event.Val.TheVariants.{Null};
+ghost use Rattle.cas_search.specs.Runs.{Alive};
 ghost use Rattle.cas_search.specs.Timeline.{IsTimeline};
 ghost use Rattle.cas_search.specs.Verdicts.{IsFound};
 
-use crate::config::Config;
-use crate::moment::Moment;
-use crate::step::{is_none, stepped};
-use crate::work::{Stop, Work};
+use crate::numbered::by_numbers;
+use crate::order::order_of;
 use cas_model::Operation;
-use history_text::Val;
+use configurations::{Bound, Bounds, Found as Reached, Moment, Taken, go_forward};
+use std::alloc::{AllocError, Global};
 
 /// What a search found.
 #[derive(Drop)]
 pub(crate) enum Found {
-    /// No configuration was left after the reply of the operation at this place. Before it the calls of `before` had taken
-    /// effect in one that was left; that order is to be checked.
+    /// No configuration was left after the reply of the operation at this place. `before` is an order of
+    /// what was known just before it, made from the changes in a configuration that was left; it is to be
+    /// checked.
     Hopeless { reply: u32, before: Vec<u32> },
-    /// The calls that took effect in a configuration that is left. The order is to be checked.
+    /// An order, made from the changes in a configuration that is left. It is to be checked.
     Order(Vec<u32>),
+    /// The search met a bound.
+    Stopped(Bound),
 }
 
 /// Goes forward over all events.
-pub(crate) fn forward(work: &mut Work, ops: &[Operation], events: &[Moment]) -> Result<Found, Stop>
+pub(crate) fn forward(
+    alloc: Global,
+    ops: &[Operation],
+    events: &[Moment],
+    bounds: Bounds,
+) -> Result<Found, AllocError>
     ensures { IfOk result (λ found. (r : ℕ) → IsTimeline r ops.now events.now → IsFound r ops.now found) }
 {
-    let mut configs = Vec::new(work.alloc());
-    configs.push(Config {
-        value: Val::Null,
-        waiting: Vec::new(work.alloc()),
-        last: None,
-    })?;
-    for event in events {
-        let last = first_last(&configs);
-        configs = stepped(work, ops, configs, *event)?;
-        if let Moment::Reply(reply) = *event {
-            if is_none(&configs) {
-                let before = work.order_to(last)?;
-                return Ok(Found::Hopeless { reply, before });
-            }
-        }
+    let numbered = by_numbers(alloc, ops)?;
+    match go_forward(alloc, &numbered.ops, events, numbered.values, bounds)? {
+        Reached::Hopeless { place, before } => hopeless(alloc, ops, events, place, &before),
+        Reached::Left(changes) => Ok(Found::Order(order_of(alloc, ops, events, &changes)?)),
+        Reached::Stopped(bound) => Ok(Found::Stopped(bound)),
     }
-    let last = first_last(&configs);
-    Ok(Found::Order(work.order_to(last)?))
 }
 
-/// The place of the last call that took effect in the first configuration.
-fn first_last(configs: &[Config]) -> Option<usize> {
-    configs.first().and_then(|config| config.last)
+/// No configuration was left after the event at a place. That is a reply, since a call leaves them all.
+fn hopeless(
+    alloc: Global,
+    ops: &[Operation],
+    events: &[Moment],
+    place: usize,
+    before: &[Taken],
+) -> Result<Found, AllocError>
+    ensures { IfOk result (λ found. (r : ℕ) → IsTimeline r ops.now events.now
+        → (Alive ops.now Null [] (take (suc place) events.now) → ⊥) → IsFound r ops.now found) }
+{
+    match events.get(place) {
+        Some(Moment::Reply(reply)) => Ok(Found::Hopeless {
+            reply: *reply,
+            before: order_of(alloc, ops, &events[..place], before)?,
+        }),
+        _ => Ok(Found::Stopped(Bound::Steps)),
+    }
 }

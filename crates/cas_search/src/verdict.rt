@@ -3,13 +3,11 @@ ghost use Rattle.std.specs.Prelude.{IfOk, IfSome, ℕ};
 ghost use Rattle.cas_search.specs.Timeline.{AreCalls, IsTimeline};
 ghost use Rattle.cas_search.specs.Verdicts.{IsBefore, IsRefuted, IsVerdict, RepliesAt};
 
-use crate::bounds::{Bound, Bounds};
 use crate::check::check_order;
 use crate::cut::cut;
 use crate::forward::{Found, forward};
-use crate::moment::Moment;
-use crate::work::{Stop, Work};
 use cas_model::Operation;
+use configurations::{Bound, Bounds, Moment};
 use std::alloc::{AllocError, Global};
 
 /// Whether a register is atomic.
@@ -40,12 +38,10 @@ pub fn decide(
 ) -> Result<Verdict, AllocError>
     ensures { IfOk result (λ verdict. (r : ℕ) → IsTimeline r ops.now events.now → IsVerdict r ops.now verdict) }
 {
-    let mut work = Work::new(alloc, bounds);
-    match forward(&mut work, ops, events) {
-        Ok(Found::Hopeless { reply, before }) => refuted(alloc, ops, reply, before),
-        Ok(Found::Order(order)) => checked(alloc, ops, order),
-        Err(Stop::Bound(bound)) => Ok(Verdict::Unknown(bound)),
-        Err(Stop::Memory) => Err(AllocError),
+    match forward(alloc, ops, events, bounds)? {
+        Found::Hopeless { reply, before } => refuted(alloc, ops, reply, before),
+        Found::Order(order) => checked(alloc, ops, order),
+        Found::Stopped(bound) => Ok(Verdict::Unknown(bound)),
     }
 }
 

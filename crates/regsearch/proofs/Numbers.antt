@@ -18,7 +18,7 @@ use Rattle.clap.specs.declared.parser.matches.ArgMatches.{ArgMatches}
 use Rattle.clap.specs.declared.parser.matches.Found.{Found}
 use Rattle.clap.proofs.SimpleLemmas.{ready_simple, simple_groups}
 use Rattle.clap.proofs.WalkLemmas.{one_text-rows}
-use Rattle.cas_search.specs.declared.bounds.TheConstants.{MAX_CONFIGURATIONS, MAX_STEPS}
+use Rattle.configurations.specs.declared.bounds.TheConstants.{MAX_CONFIGURATIONS, MAX_STEPS}
 use Rattle.search_report.specs.declared.settings.TheConstants.{MAX_WORKERS}
 use Rattle.regsearch.specs.Numbers.{HasNumber}
 use Rattle.regsearch.specs.Words.{command_line, configurations_named, number_in, number_rule, steps_named, workers_named}

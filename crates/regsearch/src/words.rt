@@ -2,7 +2,7 @@
 ghost use Rattle.std.specs.Prelude.{◌≡◌, ◌≤◌, ◌<◌, ◌^◌, codes, false, map, option_map, string_bytes, IfOk, IfErr, Some};
 ghost use Rattle.clap.specs.Words.{app_of, first_value, found_of, rule_of};
 ghost use Rattle.clap.specs.Values.{kind_of};
-ghost use Rattle.cas_search.specs.declared.bounds.TheConstants.{MAX_CONFIGURATIONS, MAX_STEPS};
+ghost use Rattle.configurations.specs.declared.bounds.TheConstants.{MAX_CONFIGURATIONS, MAX_STEPS};
 ghost use Rattle.search_report.specs.declared.settings.TheConstants.{MAX_WORKERS};
 ghost use Rattle.regsearch.specs.Numbers.{HasNumber};
 ghost use Rattle.regsearch.specs.Words.{command_line, configurations_named, file_named, file_of, file_rule, number_rule, steps_named, workers_named, IsFaultless, IsTaken};

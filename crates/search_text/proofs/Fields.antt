@@ -5,8 +5,8 @@ use Rattle.serde.specs.Event.{Log, Logs, map_begins, map_ends}
 use Rattle.serde_json.specs.Data.{Data, string}
 use Rattle.serde_json.specs.Events.{SendsValue, SendsMembers, members_len, items_len}
 use Rattle.serde_json.specs.Written.{has_float, members_have_float}
-use Rattle.cas_search.specs.declared.bounds.Bound.{Bound}
-use Rattle.cas_search.specs.declared.bounds.Bound.TheVariants.{Configurations, Steps}
+use Rattle.configurations.specs.declared.bounds.Bound.{Bound}
+use Rattle.configurations.specs.declared.bounds.Bound.TheVariants.{Configurations, Steps}
 use Rattle.search_text.specs.Text.{Field, fields_of, members_of, items_of, number_json, numbers_json, bound_json, answer_json, object_json, always, shown, fault_parts, gave_up_parts, last_fields, register_parts, register_json, summary_parts, summary_json}
 use Rattle.search_text.specs.Sends.{SendsFields, SendsParts}
 use Rattle.search_text.specs.declared.report.Answer.{Answer}

@@ -3,8 +3,8 @@ use Rattle.std.specs.Prelude.{ℕ, codes, List, [], ◌∷◌, ◌++◌, length,
 use Rattle.std.specs.List.{concat}
 use Rattle.serde_json.specs.Data.{Data, string, number, unsigned, array, object, Items, no_items, item, Members, no_members, member}
 use Rattle.serde_json.specs.Written.{compact_text}
-use Rattle.cas_search.specs.declared.bounds.Bound.{Bound}
-use Rattle.cas_search.specs.declared.bounds.Bound.TheVariants.{Configurations, Steps}
+use Rattle.configurations.specs.declared.bounds.Bound.{Bound}
+use Rattle.configurations.specs.declared.bounds.Bound.TheVariants.{Configurations, Steps}
 use Rattle.search_text.specs.declared.report.Answer.{Answer}
 use Rattle.search_text.specs.declared.report.Answer.TheVariants as answer
 use Rattle.search_text.specs.declared.report.Atomicity.{Atomicity}

@@ -1,7 +1,0 @@
-use Rattle.std.proofs.Common.{ℕ, take, ◌⊎◌}
-use Rattle.history_model.specs.Lists.{In}
-use Rattle.cas_search.specs.Configs.{IsIdle}
-use Rattle.cas_search.proofs.cover.is_within_but_looks.Given as goal
-
-abbrev pub invariant-loop-number : goal.invariant-loop-number
-invariant-loop-number l = (j : ℕ) → In j (take l.number-index l.numbers) → In j l.others ⊎ IsIdle l.ops j

@@ -1,0 +1,10 @@
+pub mod Lists
+pub mod Unseen
+pub mod Leading
+pub mod Members
+pub mod Tables
+pub mod Standing
+pub mod Replying
+pub mod Calling
+pub mod Going
+pub mod Easing

@@ -1,0 +1,31 @@
+use Rattle.std.proofs.Common.{◌∙◌, refl}
+use Rattle.configurations.proofs.Going.{first_covers, first_held, more_covers, none_left}
+use Rattle.configurations.proofs.run.search.Goals as goal
+
+pub loop-place-init : goal.loop-place-init
+loop-place-init g c = record {
+  table = c.requires.table;
+  held = first_held c.args.now.now c.requires.first;
+  start = c.requires.first.done;
+  ops = refl;
+  covers = λ _. first_covers c.args.table.now.ops.items c.args.events.now c.args.table.now c.args.now.now refl c.requires.none c.requires.first;
+}
+
+pub loop-place-preserved : goal.loop-place-preserved
+loop-place-preserved g c =
+    let after = c.in_ok-over.ensures in
+    record {
+      table = after.table;
+      held = after.held;
+      start = after.start;
+      ops = after.ops ∙ c.loop-place.invariant.ops;
+      covers = λ whole.
+          let all = c.are_both-whole.ensures whole in
+          more_covers c.args.table.now.ops.items c.args.events.now c.loop-place.place _ c.loop-place.table c.over.new.table c.loop-place.now c.over.new.now c.loop-place-test.true (after.step all.1) (c.loop-place.invariant.covers all.0);
+    }
+
+pub returns-then-is_none : goal.returns-then-is_none
+returns-then-is_none g c = λ in_order alive.
+    let all = c.are_both-whole.ensures c.if-not-whole.false in
+    none_left c.args.table.now.ops.items c.args.events.now c.loop-place.place c.over.new.table c.over.new.now (c.is_none.ensures c.if-is_none.true)
+    (more_covers c.args.table.now.ops.items c.args.events.now c.loop-place.place _ c.loop-place.table c.over.new.table c.loop-place.now c.over.new.now c.loop-place-test.true (c.in_ok-over.ensures.step all.1) (c.loop-place.invariant.covers all.0)) in_order alive

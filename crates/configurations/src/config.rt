@@ -1,0 +1,163 @@
+//! Configurations: a value, and the calls that are open and have not taken effect.
+ghost use Rattle.std.specs.Prelude.{◌≡◌, ◌≤◌, ◌++◌, ◌∷◌, [], IsTrue, IfOk, List, Bool, vec_len, ℕ};
+ghost use Rattle.configurations.specs.Configs.{AreHeld, IsAble, IsAnyAble, IsHeld, IsKept};
+ghost use Rattle.configurations.specs.Tables.{IsTable};
+ghost use Rattle.slot_sets.specs.Sets.{has};
+ghost use Rattle.configurations.specs.declared.moment.Moment.{Moment as AMoment};
+
+use crate::bounds::Bound;
+use crate::table::Table;
+use crate::work::{Stop, Work};
+use slot_sets::Slots;
+use std::alloc::{AllocError, Global};
+
+/// No place.
+const NONE: u32 = 0xffff_ffff;
+
+/// The value of the register, the slots of the calls that must take effect before their reply, those of the calls that may, the
+/// place of the last move, and how many changes took effect that never reply.
+#[derive(Clone, Copy)]
+pub(crate) struct Config<const W: usize> {
+    pub value: u32,
+    pub owed: Slots<W>,
+    pub free: Slots<W>,
+    pub last: u32,
+    pub unanswered: u32,
+}
+
+/// Configurations, found by their value: `head` has the place of the last one of each value, `next` that of the one before it.
+#[derive(Drop)]
+pub(crate) struct Configs<const W: usize> {
+    pub list: Vec<Config<W>>,
+    /// How many, the first ones, are done with: they stand for no other.
+    pub done: usize,
+    next: Vec<u32>,
+    head: Vec<u32>,
+}
+
+impl<const W: usize> Configs<W> {
+    /// None.
+    pub(crate) fn new(alloc: Global, values: usize) -> Result<Self, AllocError>
+        ensures { IfOk result (λ s. (s.list.items ≡ []) × (s.done ≡ 0)) }
+    {
+        Ok(Configs {
+            list: Vec::new(alloc),
+            done: 0,
+            next: Vec::new(alloc),
+            head: vec![in alloc; NONE; values]?,
+        })
+    }
+
+    /// Takes all out.
+    pub(crate) fn clear(&mut self)
+        ensures { (self.new.list.items ≡ []) × (self.new.done ≡ 0) }
+    {
+        for config in &self.list {
+            if let Some(head) = self.head.get_mut(config.value as usize) {
+                *head = NONE;
+            }
+        }
+        self.next.clear();
+        self.list.clear();
+        self.done = 0;
+    }
+
+    /// Puts a configuration behind the others.
+    #[inline(always)]
+    pub(crate) fn push(&mut self, config: &Config<W>) -> Result<(), AllocError>
+        ensures { IfOk result (λ _. (self.new.list.items ≡ self.old.list.items ++ (config.now ∷ [])) × (self.new.done ≡ self.old.done)) }
+    {
+        let place = self.list.len();
+        let mut before = NONE;
+        if let Some(head) = self.head.get_mut(config.value as usize) {
+            before = *head;
+            *head = if place < NONE as usize {
+                place as u32
+            } else {
+                NONE
+            };
+        }
+        self.next.push(before)?;
+        self.list.push(*config)?;
+        Ok(())
+    }
+}
+
+/// Whether the first can explain whatever the second can: they have the same value, and the first owes no more, and has each
+/// call that isn't a look.
+#[inline(always)]
+fn stands_for<const W: usize>(table: &Table<W>, first: &Config<W>, second: &Config<W>) -> bool
+    requires table { IsTable table.now }
+    requires held { IsHeld (has table.now.used) second.now }
+    ensures { IsTrue result → (es : List AMoment) → IsAble table.now second.now es → IsAble table.now first.now es }
+{
+    if first.value == second.value {
+        if first.owed.is_within(&second.owed) && second.free.is_within(&first.free) {
+            return second
+                .owed
+                .is_within(&first.owed.union(&first.free).union(&table.looks));
+        }
+    }
+    false
+}
+
+/// Whether one of them that isn't done with can explain whatever this one can.
+fn is_stood_for<const W: usize>(
+    table: &Table<W>,
+    set: &Configs<W>,
+    config: &Config<W>,
+    work: &mut Work,
+) -> Result<bool, Stop>
+    requires table { IsTable table.now }
+    requires held { IsHeld (has table.now.used) config.now }
+    ensures { IfOk result (λ found. IsTrue found → (es : List AMoment) → IsAble table.now config.now es → IsAnyAble table.now set.now es) }
+{
+    let Some(head) = set.head.get(config.value as usize) else {
+        return Ok(false);
+    };
+    let mut place = *head as usize;
+    while set.done <= place && place < set.list.len() && place < set.next.len() {
+        work.spend(W as u64)?;
+        if stands_for(table, &set.list[place], config) {
+            return Ok(true);
+        }
+        let before = set.next[place] as usize;
+        if before >= place {
+            return Ok(false);
+        }
+        place = before;
+    }
+    Ok(false)
+}
+
+/// Puts a configuration in, unless one that isn't done with can explain whatever it can. If the call of a number took effect to
+/// make it, that is remembered.
+#[inline(always)]
+pub(crate) fn admit<const W: usize>(
+    table: &Table<W>,
+    set: &mut Configs<W>,
+    config: &Config<W>,
+    taken: Option<u32>,
+    work: &mut Work,
+) -> Result<(), Stop>
+    requires table { IsTable table.now }
+    requires held { IsHeld (has table.now.used) config.now }
+    requires done { set.old.done ≤ vec_len set.old.list }
+    ensures done { IfOk result (λ _. (set.new.done ≡ set.old.done) × (set.new.done ≤ vec_len set.new.list)) }
+    ensures all { IfOk result (λ _. (w : ℕ → Bool) → IsHeld w config.now → AreHeld w set.old → AreHeld w set.new) }
+    ensures kept { IfOk result (λ _. IsKept table.now set.old set.new) }
+    ensures there { IfOk result (λ _. (es : List AMoment) → IsAble table.now config.now es → IsAnyAble table.now set.new es) }
+{
+    if is_stood_for(table, set, config, work)? {
+        return Ok(());
+    }
+    if work.is_full(set.list.len()) {
+        return Err(Stop::Bound(Bound::Configurations));
+    }
+    let last = match taken {
+        Some(number) => work.moved(number, config.last)?,
+        None => config.last,
+    };
+    set.push(&Config { last, ..*config })?;
+    Ok(())
+}

@@ -1,0 +1,276 @@
+//! The step over a reply: where the call has not taken effect, others do before it.
+ghost use Rattle.std.specs.Prelude.{◌≡◌, ◌≢◌, ◌∷◌, ◌&&◌, not, true, false, IsTrue, IfOk, List, ℕ};
+ghost use Rattle.configurations.specs.Configs.{AreApart, AreKept, GoesOver, IsAble, IsAnyAble, IsHeld, IsLed, IsTried, free_of, owed_by};
+ghost use Rattle.slot_sets.specs.Sets.{has};
+ghost use Rattle.configurations.specs.Ops.{left_at};
+ghost use Rattle.configurations.specs.Runs.{AliveFree};
+ghost use Rattle.configurations.specs.Tables.{IsTable, IsToCome, call_at};
+ghost use Rattle.configurations.specs.Use.{IsAsked, IsOfUse, free_after, open_after};
+ghost use Rattle.configurations.specs.declared.moment.Moment.{Moment as AMoment};
+ghost use Rattle.configurations.specs.declared.moment.Moment.TheVariants.{Reply as AReply};
+
+use crate::bounds::Bound;
+use crate::config::{Config, Configs, admit};
+use crate::table::Table;
+use crate::work::{Stop, Work};
+use slot_sets::Slots;
+
+/// The configurations that are gone over at a reply, and those after it.
+#[derive(Drop)]
+pub(crate) struct Lists<const W: usize> {
+    pub work: Configs<W>,
+    pub next: Configs<W>,
+    pub spent: Work,
+}
+
+/// Whether an open call that is no write may take effect at this value.
+#[inline(always)]
+fn is_asked<const W: usize>(table: &Table<W>, config: &Config<W>, value: u32) -> bool
+    requires table { IsTable table.now }
+    requires held { IsHeld (has table.now.used) config.now }
+    ensures { result ≡ false → IsAsked table.now.ops.items (owed_by table.now config.now) (free_of table.now config.now) value → ⊥ }
+{
+    config
+        .owed
+        .union(&config.free)
+        .meets(&table.fitting(value).minus(&table.writes))
+}
+
+/// Whether the call of a slot must take effect, and isn't a write.
+#[inline(always)]
+fn must_change<const W: usize>(table: &Table<W>, config: &Config<W>, slot: u32) -> bool
+    ensures { result ≡ (has config.now.owed slot && not (has table.now.writes slot)) }
+{
+    config.owed.has(slot) && !table.writes.has(slot)
+}
+
+/// Whether it is of use before the reply that the call of a slot takes effect.
+#[inline(always)]
+fn is_of_use<const W: usize>(table: &Table<W>, config: &Config<W>, slot: u32, reply: u32) -> bool
+    requires table { IsTable table.now }
+    requires held { IsHeld (has table.now.used) config.now }
+    requires slot { has table.now.used slot ≡ true }
+    requires reply { has table.now.used reply ≡ true }
+    ensures { result ≡ false → IsOfUse table.now.ops.items (owed_by table.now config.now) (free_of table.now config.now) (call_at table.now reply) (call_at table.now slot) config.now.value → ⊥ }
+{
+    if slot == reply {
+        return true;
+    }
+    if must_change(table, config, slot) {
+        return true;
+    }
+    is_asked(table, config, table.left(slot, config.value))
+}
+
+/// Whether the call of another slot goes first: it changes alike and replies sooner, and must take effect or needn't as this one.
+#[inline(always)]
+fn is_led<const W: usize>(table: &Table<W>, config: &Config<W>, slot: u32) -> bool
+    requires table { IsTable table.now }
+    requires held { IsHeld (has table.now.used) config.now }
+    requires slot { has table.now.used slot ≡ true }
+    ensures { IsTrue result → IsLed table.now config.now slot }
+{
+    let open = if config.owed.has(slot) {
+        config.owed.minus(&config.free)
+    } else {
+        config.owed.either(&config.free)
+    };
+    let rivals = table.alike(slot).common(&open);
+    let mut at = 0;
+    while let Some(rival) = rivals.first_from(at) {
+        if table.goes_before(rival, slot) {
+            return true;
+        }
+        at = rival + 1;
+    }
+    false
+}
+
+/// The slots of the writes that are free once the call of a slot has taken effect before the reply: of all others after a write,
+/// and else of those that write the value that it leaves.
+#[inline(always)]
+fn freeing<const W: usize>(table: &Table<W>, value: u32, slot: u32, reply: u32) -> Slots<W>
+    requires table { IsTable table.now }
+    ensures { has table.now.writes slot ≡ true → (q : ℕ) → q ≢ reply → has table.now.writes q ≡ true → has result q ≡ true }
+{
+    let mut freed = table.writes;
+    if !table.writes.has(slot) {
+        freed = freed.common(&table.asked(value));
+    }
+    freed.remove(reply);
+    freed
+}
+
+/// What comes of a configuration when the call of a slot takes effect; the looks that the value then suits do, too.
+#[inline(always)]
+fn offspring<const W: usize>(
+    table: &Table<W>,
+    config: &Config<W>,
+    slot: u32,
+    reply: u32,
+) -> Config<W>
+    requires table { IsTable table.now }
+    requires held { IsHeld (has table.now.used) config.now }
+    requires slot { has table.now.used slot ≡ true }
+    requires reply { has table.now.used reply ≡ true }
+    ensures held { IsHeld (has table.now.used) result }
+    ensures able { (es : List AMoment) → AliveFree table.now.ops.items (left_at table.now.ops.items (call_at table.now slot) config.now.value) (open_after table.now.ops.items (call_at table.now reply) (call_at table.now slot) (owed_by table.now config.now)) (free_after table.now.ops.items (call_at table.now reply) (call_at table.now slot) (owed_by table.now config.now) (free_of table.now config.now)) es → IsAble table.now result es }
+{
+    let value = table.left(slot, config.value);
+    let content = table.fitting(value).common(&table.looks);
+    let freed = freeing(table, value, slot, reply);
+    let mut owed = config.owed;
+    owed.remove(slot);
+    let mut free = config.free;
+    free.remove(slot);
+    Config {
+        value,
+        owed: owed.minus(&freed.union(&content)),
+        free: free.union(&owed.common(&freed)),
+        last: config.last,
+        unanswered: table.count_unanswered(slot, config.unanswered),
+    }
+}
+
+/// A configuration goes on: if the call that replies must still take effect, in `work`, else in `next`. If that call is free, it
+/// is dropped, or must take effect now.
+#[inline(always)]
+fn put_down<const W: usize>(
+    table: &Table<W>,
+    lists: &mut Lists<W>,
+    config: &Config<W>,
+    taken: Option<u32>,
+    reply: u32,
+) -> Result<(), Stop>
+    requires table { IsTable table.now }
+    requires held { IsHeld (has table.now.used) config.now }
+    requires reply { has table.now.used reply ≡ true }
+    requires apart { AreApart table.now reply lists.old.work lists.old.next }
+    ensures apart { IfOk result (λ _. AreApart table.now reply lists.new.work lists.new.next) }
+    ensures kept { IfOk result (λ _. AreKept table.now lists.old.work lists.old.next lists.new.work lists.new.next) }
+    ensures goes { IfOk result (λ _. GoesOver table.now (call_at table.now reply) lists.new.work lists.new.next config.now.value (owed_by table.now config.now) (free_of table.now config.now)) }
+{
+    if config.owed.has(reply) {
+        admit(table, &mut lists.work, config, taken, &mut lists.spent)?;
+        Ok(())
+    } else {
+        let mut dropped = *config;
+        dropped.free.remove(reply);
+        admit(table, &mut lists.next, &dropped, taken, &mut lists.spent)?;
+        if config.free.has(reply) {
+            dropped.owed.insert(reply);
+            admit(table, &mut lists.work, &dropped, taken, &mut lists.spent)?;
+        }
+        Ok(())
+    }
+}
+
+/// Lets one call take effect, if that is of use and no other goes first.
+#[inline(always)]
+fn try_slot<const W: usize>(
+    table: &Table<W>,
+    lists: &mut Lists<W>,
+    config: &Config<W>,
+    slot: u32,
+    reply: u32,
+) -> Result<(), Stop>
+    requires table { IsTable table.now }
+    requires held { IsHeld (has table.now.used) config.now }
+    requires slot { has table.now.used slot ≡ true }
+    requires reply { has table.now.used reply ≡ true }
+    requires apart { AreApart table.now reply lists.old.work lists.old.next }
+    ensures apart { IfOk result (λ _. AreApart table.now reply lists.new.work lists.new.next) }
+    ensures kept { IfOk result (λ _. AreKept table.now lists.old.work lists.old.next lists.new.work lists.new.next) }
+    ensures goes { IfOk result (λ _. IsTried table.now config.now slot reply lists.new.work lists.new.next) }
+{
+    if is_of_use(table, config, slot, reply) {
+        if is_led(table, config, slot) {
+            return Ok(());
+        }
+        let child = offspring(table, config, slot, reply);
+        put_down(table, lists, &child, Some(table.call(slot)), reply)
+    } else {
+        Ok(())
+    }
+}
+
+/// Lets each call of use take effect.
+#[inline(always)]
+fn try_all<const W: usize>(
+    table: &Table<W>,
+    lists: &mut Lists<W>,
+    config: &Config<W>,
+    reply: u32,
+) -> Result<(), Stop>
+    requires table { IsTable table.now }
+    requires held { IsHeld (has table.now.used) config.now }
+    requires reply { (has table.now.used reply ≡ true) × (has config.now.owed reply ≡ true) }
+    requires apart { AreApart table.now reply lists.old.work lists.old.next }
+    ensures apart { IfOk result (λ _. AreApart table.now reply lists.new.work lists.new.next) }
+    ensures kept { IfOk result (λ _. AreKept table.now lists.old.work lists.old.next lists.new.work lists.new.next) }
+    ensures goes { IfOk result (λ _. GoesOver table.now (call_at table.now reply) lists.new.work lists.new.next config.now.value (owed_by table.now config.now) (free_of table.now config.now)) }
+{
+    let fitting = config
+        .owed
+        .union(&config.free)
+        .common(&table.fitting(config.value));
+    let mut at = 0;
+    while let Some(slot) = fitting.first_from(at) {
+        lists.spent.spend(W as u64)?;
+        try_slot(table, lists, config, slot, reply)?;
+        at = slot + 1;
+    }
+    Ok(())
+}
+
+/// One configuration over the reply.
+#[inline(always)]
+fn pass<const W: usize>(
+    table: &Table<W>,
+    lists: &mut Lists<W>,
+    config: &Config<W>,
+    reply: u32,
+) -> Result<(), Stop>
+    requires table { IsTable table.now }
+    requires held { IsHeld (has table.now.used) config.now }
+    requires reply { has table.now.used reply ≡ true }
+    requires apart { AreApart table.now reply lists.old.work lists.old.next }
+    ensures apart { IfOk result (λ _. AreApart table.now reply lists.new.work lists.new.next) }
+    ensures kept { IfOk result (λ _. AreKept table.now lists.old.work lists.old.next lists.new.work lists.new.next) }
+    ensures goes { IfOk result (λ _. GoesOver table.now (call_at table.now reply) lists.new.work lists.new.next config.now.value (owed_by table.now config.now) (free_of table.now config.now)) }
+{
+    if config.owed.has(reply) {
+        try_all(table, lists, config, reply)
+    } else {
+        put_down(table, lists, config, None, reply)
+    }
+}
+
+/// The step over the reply of the call at a slot; true if all of `work` were gone over. Each is gone over once, and what comes of
+/// it stands behind the others, so those in which fewer calls take effect come first. A list holds no more than its bound, so one
+/// round more finds none left.
+pub(crate) fn pass_all<const W: usize>(
+    table: &Table<W>,
+    lists: &mut Lists<W>,
+    reply: u32,
+) -> Result<bool, Stop>
+    requires table { IsTable table.now }
+    requires reply { has table.now.used reply ≡ true }
+    requires apart { AreApart table.now reply lists.old.work lists.old.next }
+    ensures apart { IfOk result (λ _. AreApart table.now reply lists.new.work lists.new.next) }
+    ensures goes { IfOk result (λ all. IsTrue all → (es : List AMoment) → IsToCome table.now (AReply (call_at table.now reply) ∷ es) → IsAnyAble table.now lists.old.work (AReply (call_at table.now reply) ∷ es) → IsAnyAble table.now lists.new.next es) }
+{
+    for _ in 0..lists.spent.most().saturating_add(1) {
+        let at = lists.work.done;
+        if at >= lists.work.list.len() {
+            return Ok(true);
+        }
+        if lists.spent.is_enough(at, lists.next.list.len()) {
+            return Ok(false);
+        }
+        let config = lists.work.list[at];
+        lists.work.done = at + 1;
+        pass(table, lists, &config, reply)?;
+    }
+    Err(Stop::Bound(Bound::Configurations))
+}

@@ -1,0 +1,260 @@
+//! One run over all events.
+ghost use Rattle.std.specs.Prelude.{◌≡◌, ◌<◌, ◌*◌, ◌^◌, ◌∷◌, [], true, false, IsTrue, IfOk, List, ℕ};
+ghost use Rattle.configurations.specs.Configs.{AreHeld, IsAnyAble, IsFirst, IsOver};
+ghost use Rattle.configurations.specs.Found.{IsFound};
+ghost use Rattle.configurations.specs.Runs.{AreInOrder};
+ghost use Rattle.configurations.specs.Tables.{IsTable};
+ghost use Rattle.configurations.specs.declared.moment.Moment.{Moment as AMoment};
+ghost use Rattle.configurations.specs.declared.moment.Moment.TheVariants.{Reply as AReply};
+ghost use Rattle.slot_sets.specs.Sets.{has};
+
+use crate::bounds::Bound;
+use crate::call::over_call;
+use crate::config::{Config, Configs, admit};
+use crate::found::Found;
+use crate::moment::Moment;
+use crate::op::Op;
+use crate::reply::{Lists, pass_all};
+use crate::table::Table;
+use crate::work::{Limits, NO_MOVE, Stop, Work};
+use slot_sets::Slots;
+use std::alloc::{AllocError, Global};
+use std::mem;
+
+/// Goes forward over the events with sets of `W` words, within limits of which the steps that are left remain.
+pub(crate) fn run<const W: usize>(
+    alloc: Global,
+    ops: &[Op],
+    events: &[Moment],
+    limits: &mut Limits,
+) -> Result<Found, AllocError>
+    requires room { 64 * W < 2 ^ 32 }
+    ensures { IfOk result (λ found. AreInOrder ops.now [] events.now → IsFound ops.now events.now found) }
+{
+    let mut table = Table::<W>::new(alloc, ops, limits.values)?;
+    let mut now = first(alloc, limits.values)?;
+    let mut lists = Lists {
+        work: Configs::new(alloc, limits.values)?,
+        next: Configs::new(alloc, limits.values)?,
+        spent: Work::new(alloc, *limits),
+    };
+    let found = search(&mut table, &mut now, events, &mut lists);
+    limits.steps = lists.spent.steps_left();
+    match found {
+        Ok(found) => Ok(found),
+        Err(Stop::Bound(bound)) => Ok(Found::Stopped(bound)),
+        Err(Stop::Memory) => Err(AllocError),
+    }
+}
+
+/// Goes forward from the first configuration, with a table of no open calls. If some configurations were let go, it can't be
+/// known that none is left.
+fn search<const W: usize>(
+    table: &mut Table<W>,
+    now: &mut Configs<W>,
+    events: &[Moment],
+    lists: &mut Lists<W>,
+) -> Result<Found, Stop>
+    requires table { IsTable table.old }
+    requires none { (q : ℕ) → has table.old.used q ≡ false }
+    requires first { IsFirst now.old }
+    ensures { IfOk result (λ found. AreInOrder table.old.ops.items [] events.now → IsFound table.old.ops.items events.now found) }
+{
+    let mut whole = true;
+    for (place, event) in events.iter().enumerate() {
+        let last = last_move(now);
+        lists.spent.go_to(place)?;
+        whole = are_both(whole, over(table, now, lists, *event)?);
+        if is_none(now) {
+            if !whole {
+                return Err(Stop::Bound(Bound::Configurations));
+            }
+            let before = lists.spent.changes_to(last)?;
+            return Ok(Found::Hopeless { place, before });
+        }
+    }
+    let last = last_move(now);
+    Ok(Found::Left(lists.spent.changes_to(last)?))
+}
+
+/// Whether both are true.
+fn are_both(first: bool, second: bool) -> bool
+    ensures { IsTrue result → IsTrue first × IsTrue second }
+{
+    first && second
+}
+
+/// The value 0, and no open calls.
+fn first<const W: usize>(alloc: Global, values: usize) -> Result<Configs<W>, AllocError>
+    requires room { 64 * W < 2 ^ 32 }
+    ensures { IfOk result (λ now. IsFirst now) }
+{
+    let mut now = Configs::new(alloc, values)?;
+    now.push(&Config {
+        value: 0,
+        owed: Slots::none(),
+        free: Slots::none(),
+        last: NO_MOVE,
+        unanswered: 0,
+    })?;
+    Ok(now)
+}
+
+/// Whether there are none.
+fn is_none<const W: usize>(now: &Configs<W>) -> bool
+    ensures { IsTrue result → now.now.list.items ≡ [] }
+{
+    now.list.is_empty()
+}
+
+/// The place of the last move of the first configuration.
+fn last_move<const W: usize>(now: &Configs<W>) -> u32 {
+    match now.list.first() {
+        Some(config) => config.last,
+        None => NO_MOVE,
+    }
+}
+
+/// The step over an event; true if no configuration was let go.
+fn over<const W: usize>(
+    table: &mut Table<W>,
+    now: &mut Configs<W>,
+    lists: &mut Lists<W>,
+    event: Moment,
+) -> Result<bool, Stop>
+    requires table { IsTable table.old }
+    requires held { AreHeld (has table.old.used) now.old }
+    requires start { now.old.done ≡ 0 }
+    ensures { IfOk result (λ whole. IsOver whole table.old now.old event table.new now.new) }
+{
+    match event {
+        Moment::Call(number) => {
+            over_call(table, now, number)?;
+            Ok(true)
+        }
+        Moment::Reply(number) => over_reply(table, now, lists, number),
+    }
+}
+
+/// The step over a reply; true if no configuration was let go. A call without a slot took effect at once in each configuration.
+fn over_reply<const W: usize>(
+    table: &mut Table<W>,
+    now: &mut Configs<W>,
+    lists: &mut Lists<W>,
+    number: u32,
+) -> Result<bool, Stop>
+    requires table { IsTable table.old }
+    requires held { AreHeld (has table.old.used) now.old }
+    requires start { now.old.done ≡ 0 }
+    ensures { IfOk result (λ whole. IsOver whole table.old now.old (AReply number) table.new now.new) }
+{
+    let Some(slot) = table.slot_of(number) else {
+        return Ok(true);
+    };
+    lists.next.clear();
+    lists.work.clear();
+    let whole = begin(table, now, lists)?;
+    let whole = are_both(whole, pass_all(table, lists, slot)?);
+    mem::swap(now, &mut lists.next);
+    table.release(slot);
+    Ok(whole)
+}
+
+/// Puts those in `work` that go on; true if that are all.
+fn begin<const W: usize>(
+    table: &Table<W>,
+    now: &Configs<W>,
+    lists: &mut Lists<W>,
+) -> Result<bool, Stop>
+    requires table { IsTable table.now }
+    requires held { AreHeld (has table.now.used) now.now }
+    requires empty { (lists.old.work.list.items ≡ []) × (lists.old.work.done ≡ 0) }
+    ensures next { lists.new.next ≡ lists.old.next }
+    ensures held { IfOk result (λ _. AreHeld (has table.now.used) lists.new.work × (lists.new.work.done ≡ 0)) }
+    ensures able { IfOk result (λ whole. IsTrue whole → (es : List AMoment) → now.now.done ≡ 0 → IsAnyAble table.now now.now es → IsAnyAble table.now lists.new.work es) }
+{
+    if now.list.len() <= lists.spent.beam() {
+        thin(table, now, lists)?;
+        Ok(true)
+    } else {
+        narrow(table, now, lists)?;
+        Ok(false)
+    }
+}
+
+/// Puts those in `work` in which the fewest changes took effect that never reply, as many as the beam holds.
+fn narrow<const W: usize>(
+    table: &Table<W>,
+    now: &Configs<W>,
+    lists: &mut Lists<W>,
+) -> Result<(), Stop>
+    requires table { IsTable table.now }
+    requires held { AreHeld (has table.now.used) now.now }
+    requires empty { (lists.old.work.list.items ≡ []) × (lists.old.work.done ≡ 0) }
+    ensures next { lists.new.next ≡ lists.old.next }
+    ensures held { IfOk result (λ _. AreHeld (has table.now.used) lists.new.work × (lists.new.work.done ≡ 0)) }
+{
+    let best = best_of(lists.spent.alloc(), &now.list, lists.spent.beam())?;
+    for at in &best {
+        admit_at(table, now, lists, *at)?;
+    }
+    Ok(())
+}
+
+/// Puts the one at a place in `work`.
+fn admit_at<const W: usize>(
+    table: &Table<W>,
+    now: &Configs<W>,
+    lists: &mut Lists<W>,
+    at: usize,
+) -> Result<(), Stop>
+    requires table { IsTable table.now }
+    requires held { AreHeld (has table.now.used) now.now }
+    requires work { AreHeld (has table.now.used) lists.old.work × (lists.old.work.done ≡ 0) }
+    ensures next { lists.new.next ≡ lists.old.next }
+    ensures work { IfOk result (λ _. AreHeld (has table.now.used) lists.new.work × (lists.new.work.done ≡ 0)) }
+{
+    if at < now.list.len() {
+        let config = now.list[at];
+        admit(table, &mut lists.work, &config, None, &mut lists.spent)?;
+        Ok(())
+    } else {
+        Ok(())
+    }
+}
+
+/// The places of those in which the fewest changes took effect that never reply: of some of them.
+fn best_of<const W: usize>(
+    alloc: Global,
+    configs: &[Config<W>],
+    count: usize,
+) -> Result<Vec<usize>, AllocError> {
+    let mut ranked = Vec::new(alloc);
+    for (at, config) in configs.iter().enumerate() {
+        ranked.push((config.unanswered, at))?;
+    }
+    ranked.sort_unstable();
+    ranked.truncate(count);
+    ranked.iter().map(|one| one.1).collect(alloc)
+}
+
+/// Puts those in `work` that no later one stands for.
+fn thin<const W: usize>(
+    table: &Table<W>,
+    now: &Configs<W>,
+    lists: &mut Lists<W>,
+) -> Result<(), Stop>
+    requires table { IsTable table.now }
+    requires held { AreHeld (has table.now.used) now.now }
+    requires empty { (lists.old.work.list.items ≡ []) × (lists.old.work.done ≡ 0) }
+    ensures next { lists.new.next ≡ lists.old.next }
+    ensures held { IfOk result (λ _. AreHeld (has table.now.used) lists.new.work × (lists.new.work.done ≡ 0)) }
+    ensures able { IfOk result (λ _. (es : List AMoment) → now.now.done ≡ 0 → IsAnyAble table.now now.now es → IsAnyAble table.now lists.new.work es) }
+{
+    let len = now.list.len();
+    for i in 0..len {
+        let config = now.list[len - 1 - i];
+        admit(table, &mut lists.work, &config, None, &mut lists.spent)?;
+    }
+    Ok(())
+}

@@ -1,0 +1,157 @@
+//! What a search spends, and which calls it let take effect.
+use crate::bounds::Bound;
+use crate::found::Taken;
+use std::alloc::{AllocError, AllocFailed, Global};
+use thiserror::Error;
+
+/// How many steps it spends to remember that a call took effect. By default some 40 million are remembered, in half a gigabyte.
+const STEPS_OF_A_MOVE: u64 = 256;
+
+/// The place of no move.
+pub(crate) const NO_MOVE: u32 = 0xffff_ffff;
+
+/// How far a run may go, and how wide.
+#[derive(Clone, Copy)]
+pub(crate) struct Limits {
+    /// A number above all values.
+    pub values: usize,
+    pub steps: u64,
+    /// How many configurations a list may hold.
+    pub configurations: usize,
+    /// How many go on from one reply to the next.
+    pub beam: usize,
+}
+
+/// Why a search stopped before its end.
+#[derive(Clone, Copy, Debug, PartialEq, Eq, Error)]
+pub(crate) enum Stop {
+    /// Memory was refused.
+    #[error("out of memory")]
+    Memory,
+    /// A bound was met.
+    #[error("too much work")]
+    Bound(Bound),
+}
+
+impl From<AllocError> for Stop {
+    fn from(_error: AllocError) -> Stop {
+        Stop::Memory
+    }
+}
+
+impl<T: Drop> From<AllocFailed<T>> for Stop {
+    fn from(_error: AllocFailed<T>) -> Stop {
+        Stop::Memory
+    }
+}
+
+/// A change that took effect, and the place of the move before it.
+#[derive(Clone, Copy)]
+struct Move {
+    taken: Taken,
+    before: u32,
+}
+
+/// What is left to spend, and the changes that took effect in any configuration. Nothing is said of them here: the order that
+/// they make is checked.
+#[derive(Drop)]
+pub(crate) struct Work {
+    alloc: Global,
+    steps: u64,
+    configurations: usize,
+    beam: usize,
+    moves: Vec<Move>,
+    /// The place of the event that is gone over.
+    place: u32,
+}
+
+impl Work {
+    pub(crate) fn new(alloc: Global, limits: Limits) -> Self {
+        Work {
+            alloc,
+            steps: limits.steps,
+            configurations: limits.configurations,
+            beam: limits.beam,
+            moves: Vec::new(alloc),
+            place: 0,
+        }
+    }
+
+    /// Whether a list of so many configurations may hold no more.
+    pub(crate) fn is_full(&self, held: usize) -> bool {
+        held >= self.configurations
+    }
+
+    /// The event at this place is gone over next.
+    pub(crate) fn go_to(&mut self, place: usize) -> Result<(), Stop> {
+        if place > u32::MAX as usize {
+            return Err(Stop::Bound(Bound::Steps));
+        }
+        self.place = place as u32;
+        Ok(())
+    }
+
+    pub(crate) fn alloc(&self) -> Global {
+        self.alloc
+    }
+
+    /// How many configurations go on from one reply to the next.
+    pub(crate) fn beam(&self) -> usize {
+        self.beam
+    }
+
+    /// The steps that are left.
+    pub(crate) fn steps_left(&self) -> u64 {
+        self.steps
+    }
+
+    /// Whether it is enough for the beam that so many were gone over at a reply, and so many are left after it.
+    pub(crate) fn is_enough(&self, over: usize, left: usize) -> bool {
+        over >= self.beam.saturating_mul(16) || left >= self.beam.saturating_mul(4)
+    }
+
+    /// The most configurations that a list may hold.
+    pub(crate) fn most(&self) -> usize {
+        self.configurations
+    }
+
+    /// Spends some steps.
+    #[inline(always)]
+    pub(crate) fn spend(&mut self, count: u64) -> Result<(), Stop> {
+        if self.steps < count {
+            return Err(Stop::Bound(Bound::Steps));
+        }
+        self.steps -= count;
+        Ok(())
+    }
+
+    /// A call takes effect after others, the last of which has the place `before` among the moves; gives its own place.
+    pub(crate) fn moved(&mut self, number: u32, before: u32) -> Result<u32, Stop> {
+        self.spend(STEPS_OF_A_MOVE)?;
+        let place = self.moves.len();
+        if place >= NO_MOVE as usize {
+            return Err(Stop::Bound(Bound::Steps));
+        }
+        let taken = Taken {
+            number,
+            place: self.place,
+        };
+        self.moves.push(Move { taken, before })?;
+        Ok(place as u32)
+    }
+
+    /// The changes up to one of them, in the order in which they took effect.
+    pub(crate) fn changes_to(&self, last: u32) -> Result<Vec<Taken>, AllocError> {
+        let mut changes = Vec::new(self.alloc);
+        let mut at = last;
+        for _ in 0..self.moves.len() {
+            let Some(one) = self.moves.get(at as usize) else {
+                break
+            };
+            changes.push(one.taken)?;
+            at = one.before;
+        }
+        changes.reverse();
+        Ok(changes)
+    }
+}

@@ -1,0 +1,3 @@
+pub mod OneSlot
+pub mod WordByWord
+pub mod FirstSlot
