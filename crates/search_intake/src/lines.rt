@@ -15,7 +15,7 @@ use std::alloc::Global;
 ///
 /// # Errors
 /// `Refused` if the history isn't well formed, and `Memory`.
-pub(crate) fn history_in(alloc: Global, bytes: &[u8]) -> Result<History, BuildError>
+pub fn history_in(alloc: Global, bytes: &[u8]) -> Result<History, BuildError>
     requires { length bytes.now ≤ MAX_INPUT }
     ensures ok { IfOk result (IsHistoryOfInput bytes.now) }
     ensures err { IfErr result (IsNoHistory (history_lines bytes.now)) }

@@ -1,14 +1,18 @@
--- A report of an input's history is the answer to the input, and tells whether the history is atomic.
-use Rattle.std.proofs.Common.{◌≡◌, ℕ, List, length, Result, Ok, Err, subst, sym}
+-- A report of an input's history is the answer to the input, and a refusal of its lines is its refusal.
+use Rattle.std.proofs.Common.{◌≡◌, ◌≤◌, ℕ, List, length, Result, Ok, Err, inl, inr, refl, subst, sym}
 use Rattle.std.specs.Prelude.{MatchBool}
 use Rattle.history_text.specs.declared.limits.TheConstants.{MAX_INPUT}
 use Rattle.cas_history.specs.Refusals.{events_of}
 use Rattle.cas_history.specs.declared.history.History.{History}
+use Rattle.cas_history.specs.declared.refusal.BuildError.{BuildError}
+use Rattle.cas_history.specs.declared.refusal.BuildError.TheVariants.{Refused, Memory}
 use Rattle.search_intake.specs.Input.{IsHistoryOfInput, history_lines}
+use Rattle.search_intake.specs.Refusals.{of_build}
+use Rattle.search_intake.specs.Taken.{IsNoHistory}
 use Rattle.search_intake.specs.declared.refusal.Refusal.{Refusal}
-use Rattle.search_intake.specs.declared.refusal.Refusal.TheVariants.{TooLong}
+use Rattle.search_intake.specs.declared.refusal.Refusal.TheVariants.{At, TooLong}
 use Rattle.search_text.specs.declared.report.Report.{Report}
-use Rattle.search_report.specs.Answer.{IsAnswer, IsAnswerToLines}
+use Rattle.search_report.specs.Answer.{IsAnswer, IsAnswerToLines, IsRefused}
 use Rattle.search_report.specs.Meaning.{IsReport}
 use Rattle.std.proofs.lemmas.Bool.{le-ltb}
 
@@ -16,3 +20,8 @@ pub answer-to : (input : List ℕ) (history : History) (report : Report) → IsH
 answer-to input history report read is =
     subst (λ b. MatchBool b (◌≡◌ {A = Result Report Refusal} (Ok report) (Err TooLong)) (IsAnswerToLines (history_lines input) (Ok report)))
     (sym (le-ltb MAX_INPUT (length input) read.within)) (read.well_formed, is)
+
+pub refused-within : (input : List ℕ) → length input ≤ MAX_INPUT → (e : BuildError) → IsNoHistory (history_lines input) e → IsRefused input (of_build e)
+refused-within input within (Refused r) is =
+    inr (subst (λ b. MatchBool b (◌≡◌ {A = Result Report Refusal} (Err (At r)) (Err TooLong)) (IsAnswerToLines (history_lines input) (Err (At r)))) (sym (le-ltb MAX_INPUT (length input) within)) is)
+refused-within input within Memory is = inl refl

@@ -2,5 +2,6 @@ pub mod Pushing
 pub mod Placing
 pub mod Told
 pub mod Findings
+pub mod OneMore
 pub mod Decided
 pub mod Answering

@@ -1,5 +1,5 @@
 -- The answer to an input.
-use Rattle.std.specs.Prelude.{◌≡◌, ℕ, List, length, nat_lt, MatchBool, Result, Ok, Err}
+use Rattle.std.specs.Prelude.{◌≡◌, ◌⊎◌, ℕ, List, length, nat_lt, MatchBool, Result, Ok, Err}
 use Rattle.history_text.specs.declared.limits.TheConstants.{MAX_INPUT}
 use Rattle.cas_history.specs.Refusals.{Line, IsRefusal, IsWellFormed, events_of}
 use Rattle.search_intake.specs.Input.{history_lines}
@@ -26,3 +26,7 @@ IsAnswer input result = MatchBool (nat_lt MAX_INPUT (length input)) (result ≡ 
 -- an answer as bytes, those of a report, and what it says of the whole history
 abbrev pub IsAnswerText : List ℕ → List ℕ → Answer → Type 0
 IsAnswerText input bytes told = (report : Report) × IsAnswer input (Ok report) × (bytes ≡ report_text report) × (told ≡ report.atomic)
+
+-- why there is no answer: the refusal is the answer, or memory ran out
+abbrev pub IsRefused : List ℕ → Refusal → Type 0
+IsRefused input refusal = (refusal ≡ NoRoom) ⊎ IsAnswer input (Err refusal)

@@ -27,9 +27,13 @@ pub record IsFinding (lines : List ℕ) (ops : List Operation) (finding : Findin
   pub writes : finding.writes ≡ count_by is_write ops
   pub atomicity : (r : ℕ) → AreTimedCalls r ops → IsAtomicity lines r ops finding.atomicity
 
--- of each register, in order
+-- of each of the registers with these calls, in order
+abbrev pub AreFindingsOf : List ℕ → List (Vec Operation Global) → List Finding → Type 0
+AreFindingsOf lines registers findings = AllZip (λ (ops : Vec Operation Global) finding. IsFinding lines ops.items finding) registers findings
+
+-- of each register of a history, in order
 abbrev pub AreFindings : History → List Finding → Type 0
-AreFindings h findings = AllZip (λ (ops : Vec Operation Global) finding. IsFinding h.lines.items ops.items finding) h.registers.items findings
+AreFindings h findings = AreFindingsOf h.lines.items h.registers.items findings
 
 -- the line of the register with these calls, which has this name
 pub record IsLine (lines name : List ℕ) (ops : List Operation) (report : RegisterReport) : Type 0 where

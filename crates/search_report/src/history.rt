@@ -4,10 +4,13 @@ ghost use Rattle.std.specs.List.{list_any};
 ghost use Rattle.cas_text.specs.declared.event.CasEvent.{CasEvent as AnEvent};
 ghost use Rattle.cas_history.specs.History.{IsHistoryOf};
 ghost use Rattle.search_report.specs.Meaning.{IsReport, answer_of, is_no as is_no_of, is_unknown as is_unknown_of};
+ghost use Rattle.search_report.specs.Registers.{AreFindings};
 
-use crate::registers::lines_of_registers;
+use crate::register::Finding;
+use crate::registers::{findings, findings_alone, lines_of_registers};
 use crate::settings::Settings;
 use cas_history::History;
+use cas_search::Bounds;
 use search_text::{Answer, Atomicity, RegisterReport, Report};
 use std::alloc::{AllocError, Global};
 use std::thread::Threads;
@@ -51,7 +54,22 @@ fn answer(reports: &[RegisterReport]) -> Answer
     }
 }
 
-/// The report of a history.
+/// The report of a history, from what is found of its registers.
+fn report_of(alloc: Global, history: &History, findings: Vec<Finding>) -> Result<Report, AllocError>
+    requires names { length history.now.registers.items ≡ length history.now.names.items }
+    requires findings { AreFindings history.now findings.items }
+    ensures { IfOk result (λ report. (events : List AnEvent) → IsHistoryOf events history.now → IsReport events report) }
+{
+    let registers = lines_of_registers(alloc, history, findings)?;
+    let atomic = answer(&registers);
+    Ok(Report {
+        registers,
+        operations: history.operations,
+        atomic,
+    })
+}
+
+/// The report of a history, by workers that share its registers.
 pub(crate) fn report(
     rt: &(impl Threads + Sync),
     alloc: Global,
@@ -61,11 +79,17 @@ pub(crate) fn report(
     requires { length history.now.registers.items ≡ length history.now.names.items }
     ensures { IfOk result (λ report. (events : List AnEvent) → IsHistoryOf events history.now → IsReport events report) }
 {
-    let registers = lines_of_registers(rt, alloc, history, settings)?;
-    let atomic = answer(&registers);
-    Ok(Report {
-        registers,
-        operations: history.operations,
-        atomic,
-    })
+    report_of(alloc, history, findings(rt, alloc, history, settings)?)
+}
+
+/// The report of a history, by this thread.
+pub(crate) fn report_alone(
+    alloc: Global,
+    history: &History,
+    bounds: Bounds,
+) -> Result<Report, AllocError>
+    requires { length history.now.registers.items ≡ length history.now.names.items }
+    ensures { IfOk result (λ report. (events : List AnEvent) → IsHistoryOf events history.now → IsReport events report) }
+{
+    report_of(alloc, history, findings_alone(alloc, history, bounds)?)
 }

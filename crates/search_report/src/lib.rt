@@ -8,10 +8,14 @@
 //! called atomic only if each register is, and not atomic only if one isn't. A value that nobody wrote is found whatever the
 //! bounds are.
 //!
+//! [`check_alone`] gives the report's values for bytes at hand, by the calling thread alone, and [`text`] their bytes.
+//!
 //! Read it in this order: `settings`; `lines`, `counts` and `register`, the line of one register; `registers`, those of all,
-//! shared among workers; `history`, the report; `pushed` and `whole`, from source to sink; `wording`, why there is no report.
+//! shared among workers or by one thread; `history`, the report; `pushed` and `whole`, from source to sink; `alone`, from bytes
+//! to the report; `wording`, why there is no report.
 #![tactic(auto)]
 
+mod alone;
 mod counts;
 mod history;
 mod lines;
@@ -22,9 +26,10 @@ mod settings;
 mod whole;
 mod wording;
 
+pub use alone::check_alone;
 pub use byte_ends::{FromReader, FromWriter, IoFail, MemSink, MemSource, Sink, Source};
 pub use search_intake::Refusal;
-pub use search_text::{Answer, Atomicity, Fault, RegisterReport, Report};
+pub use search_text::{Answer, Atomicity, Fault, RegisterReport, Report, text};
 pub use settings::{MAX_WORKERS, Settings};
 pub use whole::run;
 pub use wording::message;

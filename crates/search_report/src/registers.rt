@@ -1,12 +1,13 @@
-//! The lines of all registers, which workers share.
+//! What is found of all registers, by workers that share them or by one thread, and their lines.
 ghost use Rattle.std.specs.Prelude.{◌≡◌, ◌<◌, ℕ, List, length, IfOk};
 ghost use Rattle.cas_model.specs.declared.operation.Operation.{Operation as AnOperation};
-ghost use Rattle.search_report.specs.Registers.{AreFindings, AreFirstLines, IsFinding, IsLine};
+ghost use Rattle.search_report.specs.Registers.{AreFindings, AreFindingsOf, AreFirstLines, IsFinding, IsLine};
 
 use crate::register::{Finding, found};
 use crate::settings::Settings;
 use cas_history::History;
 use cas_model::Operation;
+use cas_search::Bounds;
 use history_text::Name;
 use rayon::prelude::*;
 use search_text::RegisterReport;
@@ -20,8 +21,8 @@ fn share(count: usize, workers: u32) -> usize
     (count / (workers as usize).max(1)).max(1)
 }
 
-/// What is found of each register, in order.
-fn findings(
+/// What is found of each register, in order, by workers that share the registers.
+pub(crate) fn findings(
     rt: &(impl Threads + Sync),
     alloc: Global,
     history: &History,
@@ -43,6 +44,33 @@ fn findings(
         .collect::<Result<Vec<Finding>, AllocError>>(rt, alloc)?
 }
 
+/// What is found of each register with these operations, in order, by this thread.
+fn found_of_each(
+    alloc: Global,
+    lines: &[u32],
+    registers: &[Vec<Operation>],
+    bounds: Bounds,
+) -> Result<Vec<Finding>, AllocError>
+    ensures { IfOk result (λ found. AreFindingsOf lines.now registers.now found.items) }
+{
+    let mut findings = Vec::new(alloc);
+    for ops in registers {
+        findings.push(found(alloc, lines, ops, bounds)?)?;
+    }
+    Ok(findings)
+}
+
+/// What is found of each register, in order, by this thread.
+pub(crate) fn findings_alone(
+    alloc: Global,
+    history: &History,
+    bounds: Bounds,
+) -> Result<Vec<Finding>, AllocError>
+    ensures { IfOk result (λ found. AreFindings history.now found.items) }
+{
+    found_of_each(alloc, &history.lines, &history.registers, bounds)
+}
+
 /// A register's line, of its name and what is found of it.
 fn named(alloc: Global, name: &Name, finding: Finding) -> Result<RegisterReport, AllocError>
     ensures { IfOk result (λ report. (lines : List ℕ) (ops : List AnOperation) → IsFinding lines ops finding → IsLine lines name.now ops report) }
@@ -57,18 +85,18 @@ fn named(alloc: Global, name: &Name, finding: Finding) -> Result<RegisterReport,
     })
 }
 
-/// The line of each register, in order.
+/// The line of each register, in order, from what is found of them.
 pub(crate) fn lines_of_registers(
-    rt: &(impl Threads + Sync),
     alloc: Global,
     history: &History,
-    settings: Settings,
+    findings: Vec<Finding>,
 ) -> Result<Vec<RegisterReport>, AllocError>
-    requires { length history.now.registers.items ≡ length history.now.names.items }
+    requires names { length history.now.registers.items ≡ length history.now.names.items }
+    requires findings { AreFindings history.now findings.items }
     ensures { IfOk result (λ reports. AreFirstLines history.now (length history.now.names.items) reports.items) }
 {
     let mut reports = Vec::new(alloc);
-    for finding in findings(rt, alloc, history, settings)? {
+    for finding in findings {
         let name = &history.names[reports.len()];
         reports.push(named(alloc, name, finding)?)?;
     }

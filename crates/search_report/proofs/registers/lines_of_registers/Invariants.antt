@@ -7,8 +7,8 @@ use Rattle.search_report.specs.Registers.{AreFirstLines, IsFinding}
 use Rattle.search_report.proofs.registers.lines_of_registers.Given as goal
 
 abbrev pub invariant-loop-finding : goal.invariant-loop-finding
-invariant-loop-finding g l =
-    (goal.iterator-loop-finding g).can_next l.finding-iterator
-    × (goal.iterator-loop-finding g).is_finite l.finding-iterator
+invariant-loop-finding l =
+    goal.iterator-loop-finding.can_next l.finding-iterator
+    × goal.iterator-loop-finding.is_finite l.finding-iterator
     × AreFirstLines l.history (length l.reports.items) l.reports.items
     × AllZip (λ (ops : Vec Operation Global) finding. IsFinding l.history.lines.items ops.items finding) (drop (length l.reports.items) l.history.registers.items) (into_iter_items l.finding-iterator)

@@ -1,10 +1,10 @@
 use Rattle.std.proofs.Common.{◌∙◌, ap, subst, sym}
 use Rattle.search_report.specs.Meaning.{answer_of, IsWholeAnswer}
 use Rattle.search_report.proofs.Decided.{answer-is, count-is, line-is}
-use Rattle.search_report.proofs.history.report.Goals as goal
+use Rattle.search_report.proofs.history.report_of.Goals as goal
 
 pub returns : goal.returns
-returns g c = λ events is.
+returns c = λ events is.
     let h = c.args.history.now in
     let reports = c.in_ok-registers.registers.items in
     let lines = c.in_ok-registers.ensures in
