@@ -4,8 +4,8 @@
 # make edits: try the wrong bodies that `make test` leaves out, in half an hour: after a change of a contract or of a body that they edit.
 # make costs: write the tables of what the programs spend, after a change that is meant to cost more or less.
 # make fuzz: compare the program with the reference on spoiled histories for SECONDS=...
-# make library: bin/libregcheck.a, bin/libregcheck.so and bin/regcheck.pc, to call the checker from C and other languages.
-# make embed-test: compare the library with the program from C, Python, Go and Rust, on COUNT=... histories; under valgrind too;
+# make library: bin/libregcheck.a, bin/libregcheck.so and bin/regcheck.pc, to call the checkers from C and other languages.
+# make embed-test: compare the library with the programs from C, Python, Go and Rust, on COUNT=... histories; under valgrind too;
 #   and run the tests of the packages for other languages.
 # make bench-library: time small calls, and 2^20 events against the program with one worker.
 # make picture-test: look at pages of `regkit draw` in a headless browser, and keep the screenshots in SHOTS=...
@@ -55,12 +55,15 @@ bin/history_generator: $(SOURCES) crates.txt
 
 library: bin/libregcheck.a bin/libregcheck.so bin/regcheck.pc
 
-# The archive of a static library leaves out the C part of the toolchain's allocator; here it is put in, and its names are
-# hidden, so that nothing but the one call can clash with a name of the program that links it.
+# The archive of a static library leaves out the C part of the toolchain's allocator; here it is put in, once for both, and its
+# names are hidden, so that nothing but the two calls can clash with a name of the program that links it.
 bin/libregcheck.a: $(SOURCES) crates.txt
-	cd crates/regcheck_c && $(CURDIR)/packaging/prove $(CURDIR)/bin/regcheck_c.log rt lib
-	ld -r -u regcheck_report -o bin/regcheck.o crates/regcheck_c/out/libregcheck_c.a "$$(dirname "$$(rt doc)")/c/liblibc_c.a"
-	objcopy --keep-global-symbol=regcheck_report bin/regcheck.o
+	for crate in regcheck_c regsearch_c; do \
+	    (cd crates/$$crate && $(CURDIR)/packaging/prove $(CURDIR)/bin/$$crate.log rt lib) || exit 1; \
+	done
+	ld -r -u regcheck_report -u regsearch_report -o bin/regcheck.o crates/regcheck_c/out/libregcheck_c.a \
+	    crates/regsearch_c/out/libregsearch_c.a "$$(dirname "$$(rt doc)")/c/liblibc_c.a"
+	objcopy --keep-global-symbol=regcheck_report --keep-global-symbol=regsearch_report bin/regcheck.o
 	rm -f $@
 	ar rcsD $@ bin/regcheck.o
 

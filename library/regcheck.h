@@ -1,7 +1,8 @@
-/* regcheck: a proved checker of recorded runs of read/write registers, as one call.
+/* regcheck: proved checkers of recorded runs of registers, as two calls: regcheck_report for reads and writes, and
+   regsearch_report for histories with compare-and-swap and repeated values too.
 
-   A history and its report are the bytes that the program `regcheck` reads and writes; docs/format.md of the project has
-   their format, and docs/embedding.md says more of this call. */
+   A history and its report are the bytes that the programs `regcheck` and `regsearch` read and write; docs/format.md of the
+   project has their format, and docs/embedding.md says more of these calls. */
 #ifndef REGCHECK_H
 #define REGCHECK_H
 
@@ -12,18 +13,19 @@
 extern "C" {
 #endif
 
-/* How a call ended. The numbers are those of the program's exit statuses, as far as it has them. */
+/* How a call ended. The numbers are those of the programs' exit statuses, as far as they have them. */
 enum regcheck_status {
     REGCHECK_ATOMIC = 0,     /* the history is atomic (linearizable), and `out` has its report */
     REGCHECK_NOT_ATOMIC = 1, /* it isn't, and `out` has its report */
     REGCHECK_REFUSED = 2,    /* the input is refused */
     REGCHECK_NO_MEMORY = 4,  /* memory ran out */
-    REGCHECK_TOO_SMALL = 5   /* the report is longer than `out`: call again with room for `length` bytes */
+    REGCHECK_TOO_SMALL = 5,  /* the report is longer than `out`: call again with room for `length` bytes */
+    REGCHECK_UNKNOWN = 6     /* of regsearch_report alone: not decided within the bounds, and `out` has the report */
 };
 
 typedef struct regcheck_answer {
     uint32_t status; /* an enum regcheck_status */
-    uint32_t number; /* the number of the refusal, 1 to 15 or 19, or 17 if memory ran out; 0 if there is a report */
+    uint32_t number; /* the number of the refusal, 1 to 15 or 19 to 21, or 17 if memory ran out; 0 if there is a report */
     uint32_t line;   /* the refused line, from 1; 0 if no line is refused */
     uint32_t other;  /* the line of the open call (refusal 9), of the earlier write (13) or of the crash (19); else 0 */
     uint64_t length; /* the bytes of the report, whether there is room for them or not; 0 if there is none */
@@ -38,6 +40,13 @@ typedef struct regcheck_answer {
    It takes memory from malloc and gives all of it back. Don't call it from a signal handler, or from the child of a fork
    in a process with several threads. */
 void regcheck_report(const uint8_t *input, size_t input_length, uint8_t *out, size_t out_length, regcheck_answer *answer);
+
+/* Checks the history as the program `regsearch` does, within these bounds: the steps that the search of a register may take,
+   1 to 1,000,000,000,000, and the configurations that it may hold in one list, 1 to 1,048,576. 0 stands for the program's
+   default, 10,000,000,000 and 65,536, and more than the most for the most. Bounds count work and never time: a call may take
+   minutes, and can't be broken off. All else is as of regcheck_report. */
+void regsearch_report(const uint8_t *input, size_t input_length, uint64_t steps, size_t configurations,
+                      uint8_t *out, size_t out_length, regcheck_answer *answer);
 
 #ifdef __cplusplus
 }
