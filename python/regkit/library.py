@@ -1,4 +1,4 @@
-"""The checker as a library in this process: a small history is checked before a program would have started.
+"""The checkers as a library in this process: a small history is checked before a program would have started.
 
 `REGCHECK_LIBRARY` names the library's file; set to nothing, it says to use the program alone."""
 import ctypes
@@ -7,11 +7,11 @@ import os
 import pathlib
 import sys
 from functools import lru_cache
-from typing import Any, Iterator, NamedTuple, Optional
+from typing import Any, Callable, Iterator, NamedTuple, Optional, Tuple
 
 from regkit.refusals import reason_of
 
-ATOMIC, NOT_ATOMIC, TOO_SMALL = 0, 1, 5
+ATOMIC, NOT_ATOMIC, TOO_SMALL, UNKNOWN = 0, 1, 5, 6
 FILE = "libregcheck.so.1"  # the number is that of the interface
 
 
@@ -25,7 +25,7 @@ class NoLibrary(Exception):
 class Told(NamedTuple):
     """What the library says of a history."""
 
-    status: int  # 0 atomic, 1 not atomic, 2 refused, 4 memory ran out, as the program's exit status
+    status: int  # 0 atomic, 1 not atomic, 2 refused, 4 memory ran out, 6 unknown, as the program's exit status
     report: bytes
     refusal: str  # in the words of the program
     number: int = 0  # of the refusal
@@ -40,31 +40,62 @@ class _Answer(ctypes.Structure):
                 ("other", ctypes.c_uint32), ("length", ctypes.c_uint64)]
 
 
+_INPUT = (ctypes.c_char_p, ctypes.c_size_t)
+_BOUNDS = (ctypes.c_uint64, ctypes.c_size_t)
+_OUTPUT = (ctypes.c_char_p, ctypes.c_size_t, ctypes.POINTER(_Answer))
+MOST_STEPS, MOST_CONFIGURATIONS = 1_000_000_000_000, 1_048_576
+
+
 class Library:
-    """The one call of regcheck.h. Threads may use it at once; Python's lock is free meanwhile."""
+    """The calls of regcheck.h. Threads may use it at once; Python's lock is free meanwhile."""
 
     def __init__(self, path: str) -> None:
+        self._path = path
         try:
-            self._report: Any = ctypes.CDLL(path).regcheck_report
-        except (OSError, AttributeError) as error:
+            self._library = ctypes.CDLL(path)
+        except OSError as error:
             raise NoLibrary(path, str(error)) from error
-        self._report.argtypes = [ctypes.c_char_p, ctypes.c_size_t, ctypes.c_char_p, ctypes.c_size_t,
-                                 ctypes.POINTER(_Answer)]
-        self._report.restype = None
+        self._check = self._function("regcheck_report", (*_INPUT, *_OUTPUT))
+
+    def _function(self, name: str, types: Tuple[Any, ...]) -> Callable[..., None]:
+        try:
+            function: Any = getattr(self._library, name)
+        except AttributeError as error:
+            raise NoLibrary(self._path, str(error)) from error
+        function.argtypes, function.restype = types, None
+        return function  # type: ignore[no-any-return]
 
     def check(self, history: bytes) -> Told:
-        """What the program would say of the history, byte for byte."""
+        """What `regcheck` would say of the history, byte for byte."""
+        answer, report = self._answered(self._check, history)
+        return self._told(answer, report, False)
+
+    def search(self, history: bytes, steps: int = 0, configurations: int = 0) -> Told:
+        """What `regsearch` would say of the history within these bounds, byte for byte. A bound of 0 is its default.
+
+        Raises NoLibrary if the library is of a version that has no search, and ValueError if a bound is out of range."""
+        if not (0 <= steps <= MOST_STEPS and 0 <= configurations <= MOST_CONFIGURATIONS):
+            raise ValueError(f"steps may be up to {MOST_STEPS}, and configurations up to {MOST_CONFIGURATIONS}")
+        function = self._function("regsearch_report", (*_INPUT, *_BOUNDS, *_OUTPUT))
+        answer, report = self._answered(function, history, steps, configurations)
+        return self._told(answer, report, True)
+
+    @staticmethod
+    def _answered(function: Callable[..., None], history: bytes, *bounds: int) -> Tuple[_Answer, bytes]:
         room = len(history) + 1024  # enough unless registers have one operation or two
         while True:
             out, answer = ctypes.create_string_buffer(room), _Answer()
-            self._report(history, len(history), out, room, ctypes.byref(answer))
+            function(history, len(history), *bounds, out, room, ctypes.byref(answer))
             if answer.status != TOO_SMALL:
-                break
+                return answer, out.raw[:answer.length]
             room = answer.length
-        if answer.status in (ATOMIC, NOT_ATOMIC):
-            return Told(answer.status, out.raw[:answer.length], "")
+
+    @staticmethod
+    def _told(answer: _Answer, report: bytes, by_search: bool) -> Told:
+        if answer.status in (ATOMIC, NOT_ATOMIC, UNKNOWN):
+            return Told(answer.status, report, "")
         place = answer.number, answer.line, answer.other
-        return Told(answer.status, b"", reason_of(*place), *place)
+        return Told(answer.status, b"", reason_of(*place, by_search), *place)
 
 
 def _places() -> Iterator[str]:

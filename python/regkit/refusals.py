@@ -48,9 +48,9 @@ class Refusal(NamedTuple):
         return f"line {self.line}: {self.text}" + ("" if self.other is None else f" at line {self.other}")
 
 
-def reason_of(number: int, line: int, other: int) -> str:
-    """What the program says of a refusal. A line or other line of 0 is none."""
-    text = TEXTS.get(number) or OTHER_TEXTS[number]
+def reason_of(number: int, line: int, other: int, by_search: bool = False) -> str:
+    """What the program says of a refusal: `regcheck`, or by a search `regsearch`. A line or other line of 0 is none."""
+    text = {**TEXTS, **(SEARCH_TEXTS if by_search else {}), **OTHER_TEXTS}[number]
     return (f"line {line}: " if line else "") + text + (f" at line {other}" if other else "")
 
 

@@ -9,12 +9,15 @@ from unittest import mock
 from regkit import checker
 from regkit.checker import LIBRARY_BYTES, NoChecker, find_checker, judge, run_checker
 from regkit.library import Library, NoLibrary, find_library
-from regkit.refusals import TEXTS, reason_of, read_refusal
+from regkit.refusals import SEARCH_TEXTS, TEXTS, reason_of, read_refusal
 
 from .events import crash, gave, read, reply, text, write
+from .search_sources import find_regsearch
 
 ROOT = pathlib.Path(__file__).resolve().parents[2]
 EXAMPLES = sorted((ROOT / "examples").glob("*.jsonl"))
+SEARCH_EXAMPLES = [*EXAMPLES, *sorted((ROOT / "examples" / "search").glob("*.jsonl"))]
+REGSEARCH = find_regsearch()
 FINE = text(write(1, 5), reply(1), read(2), gave(2, 5))
 BUILT = os.environ.get("REGCHECK_LIBRARY") or str(ROOT / "bin" / "libregcheck.so.1")
 
@@ -25,6 +28,13 @@ REFUSED: Dict[int, bytes] = {
     8: b'{"process":1,"event":"call","op":"read","register":"x","value":1}', 9: text(read(1), read(1)),
     10: text(reply(1)), 11: text(write(1, 5), gave(1, 6)), 12: text(read(1), reply(1)),
     13: text(write(1, 5), reply(1), write(2, 5)), 19: text(crash(1), read(1)),
+}
+
+
+# Those that only the search gives, or in other words.
+SEARCH_REFUSED: Dict[int, bytes] = {
+    6: REFUSED[6], 20: b'{"process":1,"event":"call","op":"cas","register":"x","from":1}',
+    21: text({"process": 1, "event": "call", "op": "cas", "register": "x", "from": 1, "to": 2}, reply(1)),
 }
 
 
@@ -43,6 +53,16 @@ class Reasons(unittest.TestCase):
             self.assertEqual(refusal.number, number)
             self.assertEqual(reason_of(number, refusal.line, refusal.other or 0), words)
         self.assertEqual(set(TEXTS), set(REFUSED))
+
+    @unittest.skipUnless(REGSEARCH, "no regsearch")
+    def test_words_are_those_of_the_search(self) -> None:
+        for number, history in SEARCH_REFUSED.items():
+            words = run_checker(history, program=REGSEARCH).refusal
+            refusal = read_refusal(words, int)
+            assert refusal is not None, words
+            self.assertEqual(refusal.number, number)
+            self.assertEqual(reason_of(number, refusal.line, refusal.other or 0, by_search=True), words)
+        self.assertEqual(set(SEARCH_TEXTS), set(SEARCH_REFUSED))
 
     def test_words_about_no_line(self) -> None:
         self.assertEqual(reason_of(15, 0, 0), run_checker(b"\n" * 67_108_865).refusal)
@@ -105,6 +125,28 @@ class Answers(unittest.TestCase):
         with environment(REGCHECK_LIBRARY=BUILT), mock.patch.object(checker, "run_checker") as program:
             self.assertEqual(judge(history), want)
             program.assert_not_called()
+
+    def searched(self, history: bytes, **bounds: int) -> int:
+        """Compares what the search says with the program, and gives the status."""
+        options = [word for name, bound in bounds.items() for word in (f"--{name}", str(bound))]
+        told = Library(BUILT).search(history, **bounds)
+        want = run_checker(history, options, program=REGSEARCH)
+        self.assertEqual((told.status, told.report, told.refusal), (want.status, want.report, want.refusal), history)
+        return told.status
+
+    @unittest.skipUnless(REGSEARCH, "no regsearch")
+    def test_search(self) -> None:
+        examples = [path.read_bytes() for path in SEARCH_EXAMPLES]
+        statuses = {self.searched(history) for history in [*examples, *REFUSED.values(), *SEARCH_REFUSED.values()]}
+        self.assertEqual(statuses, {0, 1, 2})
+
+    @unittest.skipUnless(REGSEARCH, "no regsearch")
+    def test_search_within_bounds(self) -> None:
+        history = (ROOT / "examples/search/lock.jsonl").read_bytes()
+        self.assertEqual(self.searched(history, steps=1), 6)
+        self.assertEqual(self.searched(history, steps=1_000_000_000_000, configurations=1_048_576), 0)
+        for bounds in ({"steps": -1}, {"steps": 1_000_000_000_001}, {"configurations": 1_048_577}):
+            self.assertRaises(ValueError, Library(BUILT).search, history, **bounds)
 
     def test_a_report_longer_than_its_history(self) -> None:
         history = text(*(read(process, str(process)) for process in range(1000)))

@@ -6,7 +6,7 @@
 #include <stdio.h>
 #include <stdlib.h>
 #include <string.h>
-#include "regcheck.h"
+#include "ask.h"
 
 enum { ROOM = 65536, MOST_REQUESTS = 10000 };
 
@@ -67,7 +67,7 @@ static int is_right(const uint8_t *bytes, size_t length, const regcheck_answer *
     memset(before, '?', ROOM);
     long held_before = held;
     requests = 0;
-    regcheck_report(bytes, length, out, ROOM, &have);
+    ask(bytes, length, out, ROOM, &have);
     *refused = first <= requests;
     if (held != held_before)
         return 0;
@@ -85,7 +85,7 @@ static long wrong(const uint8_t *bytes, size_t length, int all_after)
     int refused = 1;
     memset(report, '?', ROOM);
     first = last = 0;
-    regcheck_report(bytes, length, report, ROOM, &answer);
+    ask(bytes, length, report, ROOM, &answer);
     for (long number = 1; refused && number < MOST_REQUESTS; number++) {
         first = number;
         last = all_after ? MOST_REQUESTS : number;

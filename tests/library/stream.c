@@ -5,7 +5,7 @@
 #include <stdio.h>
 #include <stdlib.h>
 #include <string.h>
-#include "regcheck.h"
+#include "ask.h"
 
 static void *room_for(size_t length)
 {
@@ -29,15 +29,15 @@ static void answer(const uint8_t *history, size_t length)
 {
     regcheck_answer first, second;
     uint8_t nothing;
-    regcheck_report(history, length, &nothing, 0, &first);
+    ask(history, length, &nothing, 0, &first);
     if (first.status != REGCHECK_TOO_SMALL) {
         put(&first, sizeof first);
         return;
     }
     uint8_t *report = room_for(first.length);
-    regcheck_report(history, length, report, first.length, &second);
+    ask(history, length, report, first.length, &second);
     put(&second, sizeof second);
-    if (second.status <= REGCHECK_NOT_ATOMIC)
+    if (second.status <= REGCHECK_NOT_ATOMIC || second.status == REGCHECK_UNKNOWN)
         put(report, second.length);
     free(report);
 }

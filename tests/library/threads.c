@@ -7,7 +7,7 @@
 #include <stdio.h>
 #include <stdlib.h>
 #include <string.h>
-#include "regcheck.h"
+#include "ask.h"
 
 #ifndef ROUNDS
 #define ROUNDS 50 /* valgrind is slow */
@@ -53,7 +53,7 @@ static void read_history(struct history *history, const char *path)
     if (fread(history->bytes, 1, history->length, file) != history->length)
         fail(path);
     fclose(file);
-    regcheck_report(history->bytes, history->length, history->report, history->room, &history->answer);
+    ask(history->bytes, history->length, history->report, history->room, &history->answer);
 }
 
 /* Whether the answer is the one that was given alone. */
@@ -61,7 +61,7 @@ static int is_same(const struct history *history)
 {
     regcheck_answer answer;
     uint8_t *report = room_for(history->room);
-    regcheck_report(history->bytes, history->length, report, history->room, &answer);
+    ask(history->bytes, history->length, report, history->room, &answer);
     int same = !memcmp(&answer, &history->answer, sizeof answer) && !memcmp(report, history->report, history->room);
     free(report);
     return same;

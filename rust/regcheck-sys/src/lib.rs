@@ -1,4 +1,4 @@
-//! The one function of `regcheck.h`, as it is. The crate `regcheck` calls it safely.
+//! The functions of `regcheck.h`, as they are. The crate `regcheck` calls the first safely.
 //!
 //! It links `libregcheck.a` from the folder `REGCHECK_LIB_DIR`; else from `lib` or `bin` two folders above the crate, where
 //! a release and the repository have it; else the installed library.
@@ -19,6 +19,8 @@ pub const NOT_ATOMIC: u32 = 1;
 pub const REFUSED: u32 = 2;
 pub const NO_MEMORY: u32 = 4;
 pub const TOO_SMALL: u32 = 5;
+/// Of `regsearch_report` alone.
+pub const UNKNOWN: u32 = 6;
 
 extern "C" {
     /// Puts the report of the input into `out`, and what came of it into `answer`.
@@ -29,6 +31,21 @@ extern "C" {
     pub fn regcheck_report(
         input: *const u8,
         input_length: usize,
+        out: *mut u8,
+        out_length: usize,
+        answer: *mut Answer,
+    );
+
+    /// The same for histories with compare-and-swap and repeated values too, by a search within these bounds. A bound of 0 is
+    /// the program's default.
+    ///
+    /// # Safety
+    /// As of [`regcheck_report`].
+    pub fn regsearch_report(
+        input: *const u8,
+        input_length: usize,
+        steps: u64,
+        configurations: usize,
         out: *mut u8,
         out_length: usize,
         answer: *mut Answer,

@@ -1,0 +1,18 @@
+/* What the tests ask the library: regcheck_report, or with SEARCH defined regsearch_report, within STEPS and CONFIGURATIONS. */
+#include "regcheck.h"
+
+#ifndef STEPS
+#define STEPS 0 /* the program's default */
+#endif
+#ifndef CONFIGURATIONS
+#define CONFIGURATIONS 0
+#endif
+
+static void ask(const uint8_t *input, size_t input_length, uint8_t *out, size_t out_length, regcheck_answer *answer)
+{
+#ifdef SEARCH
+    regsearch_report(input, input_length, STEPS, CONFIGURATIONS, out, out_length, answer);
+#else
+    regcheck_report(input, input_length, out, out_length, answer);
+#endif
+}
