@@ -1,0 +1,288 @@
+#!/usr/bin/env python3
+"""Histories of one register with repeated values, cas and crashed calls, as docs/format.md describes them.
+
+    bench/register_histories.py                                        10,000 events of 10 processes
+    bench/register_histories.py --events 100000 --cas 1/3 --crashed 100 --kind stale --seed 7
+
+A store is simulated whose clients call at random. A call takes effect at a random moment before its reply.
+The calls are reads and writes, as many of each, or with `--cas 1/3` reads, writes and cas. They write five
+values.
+
+Crashed calls are writes and cas, spread evenly over the history. Nobody answers them, and their clients go
+on under new numbers. A third of them takes effect at once, a third some time later, and a third never.
+
+| Kind | What is wrong with it |
+|---|---|
+| `right` | nothing |
+| `stale` | in the second half, one client's reads come from a copy that stays behind |
+| `lost` | in the second half, one cas of four looks at a value of some time ago (only with `--cas 1/3`) |
+| `unwritten` | in the second half, one read gives a value that nobody writes |
+| `early` | in the second half, one read gives a value that is first written at the end |
+
+A history with stale reads or lost cas may be atomic in spite of them, above all with crashed calls, which
+may explain them. The same words give the same bytes, in each version of Python."""
+import argparse
+import collections
+import random
+import sys
+from typing import Deque, Dict, Iterator, List, NamedTuple, Optional, Type
+
+Value = Optional[int]
+
+VALUES = 5
+NOBODYS = VALUES  # a value that none of their calls writes
+EVENTS_OF_EARLY = 2  # the write of that value at the end, for the kind early
+REGISTER = "x"
+CAS_SHARES = {"0": ["read", "write"], "1/3": ["read", "write", "cas"]}
+# Turns of clients, on average, until one of the crashed calls that are to take effect later does.
+TURNS_UNTIL_LATE = 40
+# How far behind a wrong answer is, in operations of each client.
+STALE_BY = 8
+LOST_BY = 3
+LOST_CAS = 4  # one cas of these looks at an old value
+
+
+class Cell(NamedTuple):
+    """What a history is to be like."""
+
+    events: int
+    processes: int
+    cas: str  # the share of calls that are cas, a key of CAS_SHARES
+    crashed: int
+    kind: str  # a key of STORES
+
+
+class Chance:
+    """Random numbers by a seed. `random.random` alone is the same in each version of Python."""
+
+    def __init__(self, seed: str) -> None:
+        self._random = random.Random(seed).random
+
+    def below(self, bound: int) -> int:
+        return int(self._random() * bound)
+
+    def one_in(self, count: int) -> bool:
+        return self.below(count) == 0
+
+
+class Call:
+    """A call, and what it found when it took effect."""
+
+    def __init__(self, client: int, op: str, expected: int, new: int, crashes: bool) -> None:
+        self.client, self.op = client, op
+        self.expected, self.new = expected, new  # what a cas compares with; what a write or a cas writes
+        self.crashes = crashes
+        self.is_done = False
+        self.found: Value = None
+
+    def takes_place(self) -> bool:
+        return self.op == "cas" and self.found == self.expected
+
+
+class Store:
+    """A register that makes no mistake."""
+
+    def __init__(self, cell: Cell, chance: Chance) -> None:
+        self.cell, self.chance = cell, chance
+        self.value: Value = None
+        self.is_second_half = False
+
+    def seen_by(self, _call: Call) -> Value:
+        return self.value
+
+    def take_effect(self, call: Call) -> None:
+        call.is_done = True
+        call.found = self.seen_by(call)
+        if call.op == "write" or call.takes_place():
+            self.value = call.new
+
+
+class RememberingStore(Store):
+    """A register that also knows the values after the last operations of each client."""
+
+    operations = 0
+
+    def __init__(self, cell: Cell, chance: Chance) -> None:
+        super().__init__(cell, chance)
+        self.past: Deque[Value] = collections.deque([None], self.operations * cell.processes + 1)
+
+    def take_effect(self, call: Call) -> None:
+        super().take_effect(call)
+        self.past.append(self.value)
+
+
+class StaleStore(RememberingStore):
+    operations = STALE_BY
+
+    def seen_by(self, call: Call) -> Value:
+        is_stale = self.is_second_half and call.op == "read" and call.client == 0
+        return self.past[0] if is_stale else self.value
+
+
+class LostStore(RememberingStore):
+    operations = LOST_BY
+
+    def seen_by(self, call: Call) -> Value:
+        is_stale = self.is_second_half and call.op == "cas" and self.chance.one_in(LOST_CAS)
+        return self.past[0] if is_stale else self.value
+
+
+class InventingStore(Store):
+    """A register that once gives a value which nobody has written."""
+
+    has_invented = False
+
+    def seen_by(self, call: Call) -> Value:
+        if self.has_invented or not self.is_second_half or call.op != "read":
+            return self.value
+        self.has_invented = True
+        return NOBODYS
+
+
+STORES: Dict[str, Type[Store]] = {
+    "right": Store,
+    "stale": StaleStore,
+    "lost": LostStore,
+    "unwritten": InventingStore,
+    "early": InventingStore,
+}
+
+
+class Client:
+    def __init__(self, process: int) -> None:
+        self.process = process
+        self.call: Optional[Call] = None
+
+    def called(self, call: Call) -> str:
+        self.call = call
+        start = f'{{"process":{self.process},"event":"call","op":"{call.op}","register":"{REGISTER}"'
+        if call.op == "read":
+            return start + "}\n"
+        if call.op == "write":
+            return f'{start},"value":{call.new}}}\n'
+        return f'{start},"from":{call.expected},"to":{call.new}}}\n'
+
+    def answered(self, call: Call) -> str:
+        self.call = None
+        start = f'{{"process":{self.process},"event":"reply"'
+        if call.op == "read":
+            return f'{start},"value":{"null" if call.found is None else call.found}}}\n'
+        if call.op == "write":
+            return start + "}\n"
+        return f'{start},"ok":{"true" if call.takes_place() else "false"}}}\n'
+
+    def left(self, next_process: int) -> None:
+        """Goes on under a new number."""
+        self.call = None
+        self.process = next_process
+
+
+class Run:
+    """Clients that call a store until there are as many events as were asked for."""
+
+    def __init__(self, cell: Cell, seed: int) -> None:
+        self.cell = cell
+        self.chance = Chance(f"{seed} {' '.join(map(str, cell))}")
+        self.store = STORES[cell.kind](cell, self.chance)
+        self.clients = [Client(number) for number in range(cell.processes)]
+        self.processes = cell.processes
+        # Each call is an event, and each that doesn't crash has a reply.
+        events = cell.events - (EVENTS_OF_EARLY if cell.kind == "early" else 0)
+        self.calls = (events + cell.crashed) // 2
+        self.called = 0
+        self.open = 0
+        self.late: List[Call] = []  # crashed calls that take effect some time later
+
+    def lines(self) -> Iterator[str]:
+        while self.called < self.calls or self.open:
+            if self.late and self.chance.one_in(TURNS_UNTIL_LATE):
+                self.store.take_effect(self.late.pop(self.chance.below(len(self.late))))
+            yield from self.turn(self.chance.below(len(self.clients)))
+        if self.cell.kind == "early":
+            last = Call(0, "write", 0, NOBODYS, False)
+            yield self.clients[0].called(last)
+            yield self.clients[0].answered(last)
+
+    def turn(self, number: int) -> Iterator[str]:
+        client = self.clients[number]
+        call = client.call
+        if call is None:
+            if self.called < self.calls:
+                self.open += 1
+                yield client.called(self.next_call(number))
+        elif call.crashes:
+            self.open -= 1
+            self.crash(call)
+            client.left(self.processes)
+            self.processes += 1
+        elif self.is_answered(call):
+            self.open -= 1
+            yield client.answered(call)
+
+    def next_call(self, client: int) -> Call:
+        crashed = self.cell.crashed
+        crashes = (self.called + 1) * crashed // self.calls > self.called * crashed // self.calls
+        self.called += 1
+        self.store.is_second_half = 2 * self.called > self.calls
+        ops = CAS_SHARES[self.cell.cas]
+        changes = [op for op in ops if op != "read"]
+        offered = changes if crashes else ops
+        op = offered[self.chance.below(len(offered))]
+        return Call(client, op, self.chance.below(VALUES), self.chance.below(VALUES), crashes)
+
+    def crash(self, call: Call) -> None:
+        effect = self.chance.below(3)
+        if effect == 0:
+            self.store.take_effect(call)
+        elif effect == 1:
+            self.late.append(call)
+
+    def is_answered(self, call: Call) -> bool:
+        """Whether the client gets its answer in this turn. Half of the calls take effect a turn earlier."""
+        if call.is_done:
+            return True
+        self.store.take_effect(call)
+        return self.chance.one_in(2)
+
+
+def complaint(cell: Cell) -> Optional[str]:
+    """Why there is no such history."""
+    least = EVENTS_OF_EARLY if cell.kind == "early" else 0
+    if cell.kind == "lost" and cell.cas == "0":
+        return "a history of the kind lost needs --cas 1/3"
+    if cell.processes < 1 or cell.crashed < 0 or cell.events < least + cell.crashed:
+        size = f"{cell.events} events, {cell.processes} processes and {cell.crashed} crashed calls"
+        return f"no history of the kind {cell.kind} has {size}"
+    if (cell.events + cell.crashed) % 2:
+        return "the events and the crashed calls have to be an even number together"
+    return None
+
+
+def history(cell: Cell, seed: int) -> Iterator[str]:
+    """The lines of a history; ValueError if there is no such history."""
+    why = complaint(cell)
+    if why:
+        raise ValueError(why)
+    return Run(cell, seed).lines()
+
+
+def main() -> int:
+    form = argparse.RawDescriptionHelpFormatter
+    words = argparse.ArgumentParser(description=__doc__, formatter_class=form)
+    words.add_argument("--events", type=int, default=10000, help="how many lines; default 10000")
+    words.add_argument("--processes", type=int, default=10, help="clients at one time; default 10")
+    words.add_argument("--cas", choices=list(CAS_SHARES), default="0", help="the share of cas; default 0")
+    words.add_argument("--crashed", type=int, default=0, help="calls that nobody answers; default 0")
+    words.add_argument("--kind", choices=list(STORES), default="right", help="see above; default right")
+    words.add_argument("--seed", type=int, default=1, help="default 1")
+    asked = words.parse_args()
+    cell = Cell(asked.events, asked.processes, asked.cas, asked.crashed, asked.kind)
+    try:
+        sys.stdout.writelines(history(cell, asked.seed))
+    except ValueError as error:
+        words.error(str(error))
+    return 0
+
+
+if __name__ == "__main__":
+    sys.exit(main())
