@@ -11,6 +11,7 @@
 # make picture-test: look at pages of `regkit draw` in a headless browser, and keep the screenshots in SHOTS=...
 # make bench: time it on generated histories, in three to fifteen minutes.
 # make bench-compare: time it and an older build, OLD=..., in turn.
+# make bench-search: compare regsearch with a depth-first search on generated histories, in some twenty minutes or more; needs cargo.
 # make install: all of the next two below PREFIX, within DESTDIR.
 # make install-programs: the programs, man pages, documents, examples, completions, and the packages for other languages.
 # make install-library: the library.
@@ -37,7 +38,7 @@ PROGRAMS := regcheck regsearch
 BUILT := bin
 DOCUMENTS = $(DESTDIR)$(PREFIX)/share/doc/regcheck
 
-.PHONY: all run try test edits costs fuzz picture-test bench bench-compare library embed-test bench-library install install-programs install-library dist dist-library wheel stores clean
+.PHONY: all run try test edits costs fuzz picture-test bench bench-compare bench-search library embed-test bench-library install install-programs install-library dist dist-library wheel stores clean
 
 all: $(PROGRAMS:%=bin/%)
 
@@ -114,6 +115,9 @@ bench: bin/regcheck bin/history_generator
 
 bench-compare: bin/regcheck bin/history_generator
 	bench/compare $(OLD)
+
+bench-search: bin/regsearch
+	bench/search
 
 bin/regkit: $(PYTHON) python/make_archive
 	mkdir -p bin
