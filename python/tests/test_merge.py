@@ -199,8 +199,8 @@ class Run:
         self.turn += 1
         found = self.open.pop(client, None)
         if found is None:
-            op = self.chance.choice([client.write, client.read])
-            call = op(self.chance.choice("xy"))
+            writes, register = self.chance.choice([True, False]), self.chance.choice("xy")
+            call = client.write(register) if writes else client.read(register)
             call.__enter__()
             self.note(client, True)
             self.open[client] = Open(call, False)
