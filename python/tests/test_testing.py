@@ -166,7 +166,7 @@ class Verdicts(unittest.TestCase):
             assert_atomic(locked(False))
 
     def test_bounds_of_the_search(self) -> None:
-        with self.assertRaisesRegex(NotChecked, "unknown: .* raise `--steps`"):
+        with self.assertRaisesRegex(NotChecked, "unknown: .* raise `steps`"):
             assert_atomic(locked(True), steps=1)
         with self.assertRaisesRegex(NotChecked, "'0' for '--configurations"):
             assert_atomic(locked(True), configurations=0)

@@ -244,11 +244,11 @@ fn orders_before(rt: HostRuntime) -> Result<(), Fail> {
 
 #[test]
 fn bounds(rt: HostRuntime) -> Result<(), Fail> {
+    // When the write is answered, none of the two cas has taken effect, or one.
     let ops = [
-        write(2, None, ONE),
-        write(3, None, TWO),
-        write(4, None, THREE),
-        read(5, 6, TWO),
+        cas(2, Some(6), Val::Null, 1),
+        cas(3, Some(7), Val::Null, 2),
+        write(4, Some(5), THREE),
     ];
     let steps = Bounds {
         steps: 1,
