@@ -168,7 +168,7 @@ class Verdicts(unittest.TestCase):
     def test_bounds_of_the_search(self) -> None:
         with self.assertRaisesRegex(NotChecked, "unknown: .* raise `steps`"):
             assert_atomic(locked(True), steps=1)
-        with self.assertRaisesRegex(NotChecked, "'0' for '--configurations"):
+        with self.assertRaisesRegex(ValueError, "configurations is 0, and a whole number from 1 "):
             assert_atomic(locked(True), configurations=0)
 
     def test_a_refused_history_is_no_verdict(self) -> None:
