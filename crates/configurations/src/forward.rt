@@ -11,6 +11,10 @@ use crate::stages::in_stages;
 use crate::work::Limits;
 use std::alloc::{AllocError, Global};
 
+/// The most words of a set, so that 16,384 calls may wait to take effect at a time. More may be open: a look that each
+/// configuration suits takes no slot.
+const MAX_WIDTH: usize = 256;
+
 /// The most words that the sets by value may have, so that they take at most 256 MB.
 const MAX_WORDS_BY_VALUE: usize = 1 << 25;
 
@@ -24,7 +28,7 @@ pub fn go_forward(
 ) -> Result<Found, AllocError>
     ensures { IfOk result (λ found. AreInOrder ops.now [] events.now → IsFound ops.now events.now found) }
 {
-    let words = words_for(most_open(ops, events));
+    let words = words_for(most_open(ops, events)).min(MAX_WIDTH);
     if words.saturating_mul(values) > MAX_WORDS_BY_VALUE {
         return Ok(Found::Stopped(Bound::Configurations));
     }
