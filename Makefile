@@ -56,15 +56,18 @@ bin/history_generator: $(SOURCES) crates.txt
 
 library: bin/libregcheck.a bin/libregcheck.so bin/regcheck.pc
 
+# The names of the library, which library/regcheck.map has too.
+CALLS := regcheck_report regcheck_refusal regsearch_report regsearch_refusal
+
 # The archive of a static library leaves out the C part of the toolchain's allocator; here it is put in, once for both, and its
-# names are hidden, so that nothing but the two calls can clash with a name of the program that links it.
+# names are hidden, so that nothing but the calls can clash with a name of the program that links it.
 bin/libregcheck.a: $(SOURCES) crates.txt
 	for crate in regcheck_c regsearch_c; do \
 	    (cd crates/$$crate && $(CURDIR)/packaging/prove $(CURDIR)/bin/$$crate.log rt lib) || exit 1; \
 	done
-	ld -r -u regcheck_report -u regsearch_report -o bin/regcheck.o crates/regcheck_c/out/libregcheck_c.a \
+	ld -r $(CALLS:%=-u %) -o bin/regcheck.o crates/regcheck_c/out/libregcheck_c.a \
 	    crates/regsearch_c/out/libregsearch_c.a "$$(dirname "$$(rt doc)")/c/liblibc_c.a"
-	objcopy --keep-global-symbol=regcheck_report --keep-global-symbol=regsearch_report bin/regcheck.o
+	objcopy $(CALLS:%=--keep-global-symbol=%) bin/regcheck.o
 	rm -f $@
 	ar rcsD $@ bin/regcheck.o
 

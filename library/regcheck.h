@@ -1,5 +1,5 @@
 /* regcheck: proved checkers of recorded runs of registers, as two calls: regcheck_report for reads and writes, and
-   regsearch_report for histories with compare-and-swap and repeated values too.
+   regsearch_report for histories with compare-and-swap and repeated values too. Two more say in words why a history is refused.
 
    A history and its report are the bytes that the programs `regcheck` and `regsearch` read and write; docs/format.md of the
    project has their format, and docs/embedding.md says more of these calls. */
@@ -47,6 +47,17 @@ void regcheck_report(const uint8_t *input, size_t input_length, uint8_t *out, si
    minutes, and can't be broken off. All else is as of regcheck_report. */
 void regsearch_report(const uint8_t *input, size_t input_length, uint64_t steps, size_t configurations,
                       uint8_t *out, size_t out_length, regcheck_answer *answer);
+
+/* Puts the line that the program `regcheck` writes of a history that it refuses at the beginning of the `out_length` bytes at
+   `out`, without a line end or a null byte, and returns its length: 0 if the history isn't refused, or if memory ran out. If
+   there is no room for all of it, the bytes at `out` stay as they were. REGCHECK_LINE_LENGTH bytes are always enough. What a
+   caller of regcheck_report owes holds here too. */
+size_t regcheck_refusal(const uint8_t *input, size_t input_length, uint8_t *out, size_t out_length);
+
+/* The same for the program `regsearch`. */
+size_t regsearch_refusal(const uint8_t *input, size_t input_length, uint8_t *out, size_t out_length);
+
+enum { REGCHECK_LINE_LENGTH = 128 };
 
 #ifdef __cplusplus
 }

@@ -1,4 +1,5 @@
-/* What the tests ask the library: regcheck_report, or with SEARCH defined regsearch_report, within STEPS and CONFIGURATIONS. */
+/* What the tests ask the library: regcheck_report, or with SEARCH defined regsearch_report, within STEPS and CONFIGURATIONS.
+   For a refused history it then asks for the line that says why: that goes to `out` too, and its length into the answer. */
 #include "regcheck.h"
 
 #ifndef STEPS
@@ -12,7 +13,11 @@ static void ask(const uint8_t *input, size_t input_length, uint8_t *out, size_t 
 {
 #ifdef SEARCH
     regsearch_report(input, input_length, STEPS, CONFIGURATIONS, out, out_length, answer);
+    if (answer->status == REGCHECK_REFUSED)
+        answer->length = regsearch_refusal(input, input_length, out, out_length);
 #else
     regcheck_report(input, input_length, out, out_length, answer);
+    if (answer->status == REGCHECK_REFUSED)
+        answer->length = regcheck_refusal(input, input_length, out, out_length);
 #endif
 }

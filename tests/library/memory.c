@@ -1,8 +1,9 @@
 /* Refuses the library's requests for memory, one after another, and then each with all after it.
 
    The arguments are files with histories. The library is linked with this file, so its malloc and realloc are the ones below.
-   A call has to give the answer that it gives with memory enough, or say that memory ran out and leave the place for the
-   report as it was; and it has to give back all memory either way. Nothing is printed if so; else the exit status is 1. */
+   A call has to give the answer that it gives with memory enough, or say that memory ran out, or give no line of a refusal, and
+   then it has to leave the place for the report as it was. It has to give back all memory either way. Nothing is printed if so;
+   else the exit status is 1. */
 #include <stdio.h>
 #include <stdlib.h>
 #include <string.h>
@@ -73,6 +74,10 @@ static int is_right(const uint8_t *bytes, size_t length, const regcheck_answer *
         return 0;
     if (*refused && have.status == REGCHECK_NO_MEMORY)
         return have.number == 17 && !have.line && !have.other && !have.length && !memcmp(out, before, ROOM);
+    if (*refused && have.status == REGCHECK_REFUSED && !have.length) {
+        have.length = answer->length;
+        return !memcmp(&have, answer, sizeof have) && !memcmp(out, before, ROOM);
+    }
     return !memcmp(&have, answer, sizeof have) && !memcmp(out, report, ROOM);
 }
 

@@ -1,7 +1,8 @@
 /* Answers each history on standard input, by the library: tests/embed compares what it writes.
 
-   A history comes as its length, 8 bytes, and its bytes. Its answer goes out as the struct, 24 bytes, and the report. Numbers
-   are little-endian. A history is asked about twice: without room, and then with room for its report and no byte more. */
+   A history comes as its length, 8 bytes, and its bytes. Its answer goes out as the struct, 24 bytes, and the report or the line
+   of the refusal, whose length is that in the struct. Numbers are little-endian. A history is asked about twice: without room,
+   and then with room for these bytes and no byte more. */
 #include <stdio.h>
 #include <stdlib.h>
 #include <string.h>
@@ -30,16 +31,16 @@ static void answer(const uint8_t *history, size_t length)
     regcheck_answer first, second;
     uint8_t nothing;
     ask(history, length, &nothing, 0, &first);
-    if (first.status != REGCHECK_TOO_SMALL) {
+    if (first.status != REGCHECK_TOO_SMALL && first.status != REGCHECK_REFUSED) {
         put(&first, sizeof first);
         return;
     }
-    uint8_t *report = room_for(first.length);
-    ask(history, length, report, first.length, &second);
+    uint8_t *said = room_for(first.length);
+    ask(history, length, said, first.length, &second);
     put(&second, sizeof second);
-    if (second.status <= REGCHECK_NOT_ATOMIC || second.status == REGCHECK_UNKNOWN)
-        put(report, second.length);
-    free(report);
+    if (second.status != REGCHECK_NO_MEMORY)
+        put(said, second.length);
+    free(said);
 }
 
 int main(void)

@@ -1,5 +1,5 @@
 -- What a call answers, and what it leaves in the place for the report (this project's own interface; docs/embedding.md).
-use Rattle.std.specs.Prelude.{◌≡◌, ◌⊎◌, ◌++◌, ℕ, List, false, length, drop, nat_le, ◌==◌, ◌||◌, if◌then◌else◌, Option, Some, None, Ok}
+use Rattle.std.specs.Prelude.{◌≡◌, ◌⊎◌, ◌++◌, ℕ, List, false, length, drop, nat_le, ◌==◌, ◌||◌, if◌then◌else◌, Option, Some, None, Ok, Err}
 use Rattle.reg_report.specs.Answer.{IsAnswer, IsRefused}
 use Rattle.reg_intake.specs.Refusals.{number_of, line_of, other_of}
 use Rattle.reg_report.specs.Run.{IsOutcome}
@@ -53,6 +53,14 @@ abbrev pub IsAnswered : List ℕ → List ℕ → List ℕ → Answer → Type 0
 IsAnswered input old new answer =
     ((report : Report) × IsAnswer false input (Ok report) × IsPut report old new answer)
     ⊎ ((refusal : Refusal) × IsRefused false input refusal × IsRefusal refusal old new answer)
+
+-- a line of this length is put into the place if there is room; or there is none, and the place is as it was
+abbrev pub IsWorded : List ℕ → List ℕ → ℕ → Type 0
+IsWorded old new size = ((size ≡ 0) × (new ≡ old)) ⊎ ((line : List ℕ) × (size ≡ length line) × (new ≡ with_text line old))
+
+-- a line of this length is said of an input only if it is refused
+abbrev pub IsSaidOf : List ℕ → ℕ → Type 0
+IsSaidOf input size = (size ≡ 0) ⊎ ((refusal : Refusal) × IsAnswer false input (Err refusal))
 
 -- the status of an input's answer says whether its history is atomic, if it says either
 pub record TellsAtomic (input : List ℕ) (status : ℕ) : Type 0 where

@@ -1,14 +1,15 @@
-//! The search for programs in C, and for languages that call C: one function on bytes, for histories of any registers. It starts
-//! no thread, opens no file and keeps nothing between calls.
+//! The search for programs in C, and for languages that call C: two functions on bytes, for histories of any registers. They
+//! start no thread, open no file and keep nothing between calls.
 //!
 //! What a C program may rely on: [`regsearch_report`] says of the history in its input what `regsearch` would say within the
-//! same bounds, and writes the same report if there is room for all of it. `library/regcheck.h` declares it.
+//! same bounds, and writes the same report if there is room for all of it. [`regsearch_refusal`] writes what the program says
+//! of a history that it refuses. `library/regcheck.h` declares both.
 //!
-//! Read it in this order: `status`, which numbers the endings; `answer`, what a call says; `place`, where the report goes;
-//! `bounds`, how far a search goes.
+//! Read it in this order: `status`, which numbers the endings; `answer`, what a call says; `place`, where the report or the
+//! line of a refusal goes; `bounds`, how far a search goes.
 #![tactic(auto)]
 
-ghost use Rattle.regsearch_c.specs.Called.{IsAnswered, TellsAtomic};
+ghost use Rattle.regsearch_c.specs.Called.{IsAnswered, IsSaidOf, IsWorded, TellsAtomic};
 
 mod answer;
 mod bounds;
@@ -20,8 +21,8 @@ mod tests;
 pub use answer::Answer;
 use answer::refused;
 use bounds::bounds_of;
-use place::put_report;
-use search_report::check_alone;
+use place::{put_message, put_report};
+use search_report::{Refusal, check_alone};
 pub use status::{ATOMIC, NO_MEMORY, NOT_ATOMIC, REFUSED, TOO_SMALL, UNKNOWN};
 use std::alloc::Global;
 
@@ -46,4 +47,20 @@ pub extern "C" fn regsearch_report(
         Ok(report) => put_report(alloc, &report, out),
         Err(refusal) => refused(&refusal),
     };
+}
+
+/// Puts the line that `regsearch` writes of a refused input at the beginning of `out`, without its end, if there is room for all
+/// of it. Gives its length, or 0 if the input isn't refused, or if memory ran out.
+#[unsafe(no_mangle)]
+pub extern "C" fn regsearch_refusal(alloc: Global, input: &[u8], out: &mut [u8]) -> usize
+    // So many bytes are put into `out`, or none.
+    ensures worded { IsWorded out.old out.new result }
+
+    // Some are said only of an input that is refused.
+    ensures refused { IsSaidOf input.now result }
+{
+    match check_alone(alloc, input, bounds_of(1, 1)) {
+        Ok(_) | Err(Refusal::NoRoom) => 0,
+        Err(refusal) => put_message(alloc, &refusal, out),
+    }
 }

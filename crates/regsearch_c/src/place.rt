@@ -1,9 +1,9 @@
-//! Where a report goes.
+//! Where a report goes, or the line that says why there is none.
 ghost use Rattle.std.specs.Prelude.{◌≡◌, ◌⊎◌};
-ghost use Rattle.regsearch_c.specs.Called.{IsPut, IsRefusal, with_text};
+ghost use Rattle.regsearch_c.specs.Called.{IsPut, IsRefusal, IsWorded, with_text};
 
 use crate::answer::{Answer, refused, reported};
-use search_report::{Refusal, Report, text};
+use search_report::{Refusal, Report, message, text};
 use std::alloc::{AllocError, Global};
 
 /// Puts a text at the beginning of a place that has room for all of it.
@@ -25,5 +25,19 @@ pub(crate) fn put_report(alloc: Global, report: &Report, out: &mut [u8]) -> Answ
             reported(report, text.len(), out.len())
         }
         Err(AllocError) => refused(&Refusal::NoRoom),
+    }
+}
+
+/// Puts what the program says of a refusal, if memory allows, and gives the length.
+pub(crate) fn put_message(alloc: Global, refusal: &Refusal, out: &mut [u8]) -> usize
+    ensures { IsWorded out.old out.new result }
+{
+    match message(alloc, refusal) {
+        Ok(line) => {
+            let line = line.as_bytes();
+            put(line, out);
+            line.len()
+        }
+        Err(AllocError) => 0,
     }
 }

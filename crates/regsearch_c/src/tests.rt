@@ -142,3 +142,25 @@ fn rooms(rt: HostRuntime) -> Result<(), Fail> {
     }
     Ok(())
 }
+
+// A refused history, the room for its line, the line's length, and what is put there; and a history that isn't refused.
+const LINES: [(&str, usize, usize, &str); 4] = [
+    ("\n[]\n", ROOM, 21, "line 2: not an object"),
+    ("\n[]\n", 21, 21, "line 2: not an object"),
+    ("\n[]\n", 20, 21, ""),
+    (ATOMIC_HISTORY, ROOM, 0, ""),
+];
+
+// The line of a refusal fits into a place of its own size, and into no smaller one, which stays as it was.
+#[test]
+fn refusals(rt: HostRuntime) -> Result<(), Fail> {
+    for (history, room, length, line) in LINES {
+        let mut out = [BEFORE; ROOM];
+        assert!(rt; room <= ROOM);
+        assert_eq!(rt; regsearch_refusal(rt.alloc(), history.as_bytes(), &mut out[..room]), length, "{room}");
+        assert!(rt; line.len() < ROOM);
+        assert_eq!(rt; &out[..line.len()], line.as_bytes(), "{room}");
+        assert!(rt; out[line.len()..].iter().all(|byte| *byte == BEFORE), "{room}");
+    }
+    Ok(())
+}
