@@ -15,6 +15,7 @@
  */
 const { spawnSync } = require("node:child_process");
 const fs = require("node:fs");
+const os = require("node:os");
 const path = require("node:path");
 
 const NAME_BYTES = 255;
@@ -318,17 +319,39 @@ function assertLinearizable(recorder, files) {
   throw new NotChecked(`${words}\nbounds: give the recorder bounds with more steps or configurations`);
 }
 
-/** Why the kept history isn't linearizable, or what to do if nobody knows, in the words of regkit; it draws the page too. */
+/** Why the kept history isn't linearizable, or what to do if nobody knows, in the words of regkit. */
+function explained(files, bounds) {
+  const options = ["--color", "never", ...optionsOf(bounds)];
+  const { status, output, words } = run(mustFind("REGKIT", "regkit"), ["explain", files.history, files.report, ...options]);
+  if (status !== NOT_ATOMIC && status !== GAVE_UP) throw new NotChecked(words);
+  return output.trimEnd();
+}
+
+/**
+ * Why a history isn't linearizable, or what to do if nobody knows, as `regkit explain` says it; of a yes, nothing. The
+ * answer is that of `check`, with the same bounds. Throws NotChecked if there are no words.
+ */
+function words(history, answer, bounds = {}) {
+  if (answer.verdict === "yes") return "";
+  const folder = fs.mkdtempSync(path.join(os.tmpdir(), "regcheck-"));
+  const files = { history: path.join(folder, "history.jsonl"), report: path.join(folder, "history.report") };
+  try {
+    keep(files.history, history);
+    keep(files.report, answer.report);
+    return explained(files, bounds).slice(`${files.history}: `.length);
+  } finally {
+    fs.rmSync(folder, { recursive: true });
+  }
+}
+
+/** The words, and where the files are, of a test that fails; it draws the page too. */
 function explain(files, checked, bounds) {
   const kept = `history: ${files.history}\nreport: ${files.report}`;
   try {
-    const regkit = mustFind("REGKIT", "regkit");
-    const options = ["--color", "never", ...optionsOf(bounds)];
-    const explained = run(regkit, ["explain", files.history, files.report, ...options]);
-    if (explained.status !== NOT_ATOMIC && explained.status !== GAVE_UP) throw new NotChecked(explained.words);
-    const drawn = run(regkit, ["draw", files.history, files.report, "-o", files.page]);
+    const told = explained(files, bounds);
+    const drawn = run(mustFind("REGKIT", "regkit"), ["draw", files.history, files.report, "-o", files.page]);
     const page = drawn.status === 0 ? `page: ${files.page}` : `no page: ${drawn.words}`;
-    return `${explained.output.trimEnd()}\n\n${kept}\n${page}`;
+    return `${told}\n\n${kept}\n${page}`;
   } catch (error) {
     return `${files.history}: ${reported(checked)}\n\n${error.message}\n${kept}`;
   }
@@ -342,4 +365,4 @@ function reported({ verdict, report }) {
   return [words, ...lines].join("\n");
 }
 
-module.exports = { Recorder, Client, Mistake, NoEffect, NotLinearizable, NotChecked, check };
+module.exports = { Recorder, Client, Mistake, NoEffect, NotLinearizable, NotChecked, check, words };

@@ -19,7 +19,7 @@ const (
 
 func (verdict Verdict) String() string { return [...]string{"unknown", "yes", "no"}[verdict] }
 
-// The verdicts of regsearch, by its exit status.
+// The verdicts, by the exit status of a program, or by the status that the library gives.
 var verdicts = map[int]Verdict{statusAtomic: Yes, statusNotAtomic: No, statusUnknown: Unknown}
 
 // An Answer says whether a history is linearizable, and why.
@@ -33,20 +33,36 @@ type Answer struct {
 
 // A Bound is where the search of regsearch gives up, in place of its default. It counts work and never time.
 type Bound struct {
-	option string
-	most   int64
+	name string
+	most uint64
 }
 
-// Steps says how many steps the search for an order of one register may take; by default 10,000,000,000.
-func Steps(most int64) Bound { return Bound{"--steps", most} }
+const steps, configurations = "steps", "configurations"
 
-// Configurations says how many configurations the search may hold in one list; by default 65,536.
-func Configurations(most int64) Bound { return Bound{"--configurations", most} }
+// Steps says how many steps the search for an order of one register may take; by default, or if 0, 10,000,000,000.
+func Steps(most uint64) Bound { return Bound{steps, most} }
 
+// Configurations says how many configurations the search may hold in one list; by default, or if 0, 65,536.
+func Configurations(most uint64) Bound { return Bound{configurations, most} }
+
+// most gives the bound of that name, or 0 for the default.
+func most(bounds []Bound, name string) uint64 {
+	var found uint64
+	for _, bound := range bounds {
+		if bound.name == name {
+			found = bound.most
+		}
+	}
+	return found
+}
+
+// options gives the bounds as the words of a command line.
 func options(bounds []Bound) []string {
 	var words []string
-	for _, bound := range bounds {
-		words = append(words, bound.option, strconv.FormatInt(bound.most, 10))
+	for _, name := range []string{steps, configurations} {
+		if number := most(bounds, name); number > 0 {
+			words = append(words, "--"+name, strconv.FormatUint(number, 10))
+		}
 	}
 	return words
 }
@@ -57,42 +73,24 @@ func options(bounds []Bound) []string {
 // The error says why there is no answer: it may be a *Refusal.
 func CheckHistory(history []byte, bounds ...Bound) (Answer, error) {
 	answer := Answer{History: history, bounds: bounds}
-	atomic, report, err := check(history)
+	var err error
+	answer.Verdict, answer.Report, err = checked(history)
 	var refusal *Refusal
-	switch {
-	case errors.As(err, &refusal):
+	if errors.As(err, &refusal) {
 		return answer.search(refusal)
-	case err != nil:
-		return answer, err
-	case atomic:
-		answer.Verdict = Yes
-	default:
-		answer.Verdict = No
 	}
-	answer.Report = report
-	return answer, nil
+	return answer, err
 }
 
 // search gives the answer of regsearch to a history that regcheck refused. What both refuse has the words of regsearch.
 func (answer Answer) search(refusal *Refusal) (Answer, error) {
-	path, err := search()
-	if err != nil {
-		refusal.tell(answer.History)
-		return answer, fmt.Errorf("%w; repeated values and cas need regsearch, but %v", refusal, err)
+	var err error
+	answer.Verdict, answer.Report, err = searched(answer.History, answer.bounds)
+	var missing notFound
+	if errors.As(err, &missing) {
+		err = fmt.Errorf("%w; repeated values and cas need regsearch, but %v", refusal, missing)
 	}
-	said, err := run(path, answer.History, options(answer.bounds)...)
-	if err != nil {
-		return answer, err
-	}
-	if said.status == statusRefused {
-		return answer, refusalOf(said.complaint)
-	}
-	verdict, known := verdicts[said.status]
-	if !known {
-		return answer, said.failure(path)
-	}
-	answer.Verdict, answer.Report = verdict, said.output
-	return answer, nil
+	return answer, err
 }
 
 // Words says why a history isn't linearizable, or what to do if nobody knows, as `regkit explain` does. Of a yes there is

@@ -13,30 +13,54 @@ import "C"
 
 import "unsafe"
 
-// check gives whether the history is atomic, and the bytes of its report. A refusal has numbers, and no words yet.
-func check(history []byte) (atomic bool, report []byte, err error) {
-	input := history
-	if len(input) == 0 {
-		input = make([]byte, 1) // C is given no null, even for no bytes
-	}
-	report = make([]byte, len(history)+1024) // enough unless registers have one operation or two
-	answer := call(input, len(history), report)
-	if answer.status == C.REGCHECK_TOO_SMALL {
-		report = make([]byte, answer.length)
-		answer = call(input, len(history), report)
-	}
-	switch answer.status {
-	case C.REGCHECK_ATOMIC, C.REGCHECK_NOT_ATOMIC:
-		return answer.status == C.REGCHECK_ATOMIC, report[:answer.length], nil
-	case C.REGCHECK_REFUSED:
-		return false, nil, &Refusal{Number: int(answer.number), Line: int(answer.line), Other: int(answer.other)}
-	default:
-		return false, nil, ErrMemory
-	}
+// checked gives what regcheck says of the history.
+func checked(history []byte) (Verdict, []byte, error) {
+	input, length := at(history), C.size_t(len(history))
+	return asked(len(history), func(out []byte, answer *C.regcheck_answer) {
+		C.regcheck_report(input, length, at(out), C.size_t(len(out)), answer)
+	}, func(line []byte) C.size_t {
+		return C.regcheck_refusal(input, length, at(line), C.size_t(len(line)))
+	})
 }
 
-func call(input []byte, length int, report []byte) (answer C.regcheck_answer) {
-	C.regcheck_report((*C.uint8_t)(unsafe.Pointer(&input[0])), C.size_t(length),
-		(*C.uint8_t)(unsafe.Pointer(&report[0])), C.size_t(len(report)), &answer)
-	return answer
+// searched gives what regsearch says of the history.
+func searched(history []byte, bounds []Bound) (Verdict, []byte, error) {
+	input, length := at(history), C.size_t(len(history))
+	mostSteps, mostConfigurations := C.uint64_t(most(bounds, steps)), C.size_t(most(bounds, configurations))
+	return asked(len(history), func(out []byte, answer *C.regcheck_answer) {
+		C.regsearch_report(input, length, mostSteps, mostConfigurations, at(out), C.size_t(len(out)), answer)
+	}, func(line []byte) C.size_t {
+		return C.regsearch_refusal(input, length, at(line), C.size_t(len(line)))
+	})
+}
+
+// asked gives what the library says of a history of so many bytes, by its functions for a report and for a refusal's words.
+func asked(length int, report func([]byte, *C.regcheck_answer), refusal func([]byte) C.size_t) (Verdict, []byte, error) {
+	var answer C.regcheck_answer
+	out := make([]byte, length+1024) // enough unless registers have one operation or two
+	report(out, &answer)
+	if answer.status == C.REGCHECK_TOO_SMALL {
+		out = make([]byte, answer.length)
+		report(out, &answer)
+	}
+	if verdict, known := verdicts[int(answer.status)]; known {
+		return verdict, out[:answer.length], nil
+	}
+	if answer.status == C.REGCHECK_REFUSED {
+		line := make([]byte, C.REGCHECK_LINE_LENGTH)
+		if words := string(line[:refusal(line)]); words != "" {
+			return Unknown, nil, &Refusal{int(answer.number), int(answer.line), int(answer.other), words}
+		}
+	}
+	return Unknown, nil, ErrMemory
+}
+
+var nothing [1]byte
+
+// at gives where the bytes lie, for C, which is given no null even for no bytes.
+func at(bytes []byte) *C.uint8_t {
+	if len(bytes) == 0 {
+		bytes = nothing[:]
+	}
+	return (*C.uint8_t)(unsafe.Pointer(&bytes[0]))
 }

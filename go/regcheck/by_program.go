@@ -2,20 +2,51 @@
 
 package regcheck
 
-// check gives whether the history is atomic, and the bytes of its report.
-func check(history []byte) (atomic bool, report []byte, err error) {
+import (
+	"regexp"
+	"strconv"
+)
+
+// checked gives what regcheck says of the history.
+func checked(history []byte) (Verdict, []byte, error) {
 	path, err := checker()
 	if err != nil {
-		return false, nil, err
+		return Unknown, nil, err
 	}
-	said, err := run(path, history)
-	switch {
-	case err != nil:
-		return false, nil, err
-	case said.status == statusAtomic, said.status == statusNotAtomic:
-		return said.status == statusAtomic, said.output, nil
-	case said.status == statusRefused:
-		return false, nil, refusalOf(said.complaint)
+	return judged(path, history)
+}
+
+// searched gives what regsearch says of the history.
+func searched(history []byte, bounds []Bound) (Verdict, []byte, error) {
+	path, err := companion("REGSEARCH", "regsearch")
+	if err != nil {
+		return Unknown, nil, err
 	}
-	return false, nil, said.failure(path)
+	return judged(path, history, options(bounds)...)
+}
+
+func judged(path string, history []byte, words ...string) (Verdict, []byte, error) {
+	said, err := run(path, history, words...)
+	if err != nil {
+		return Unknown, nil, err
+	}
+	if verdict, known := verdicts[said.status]; known {
+		return verdict, said.output, nil
+	}
+	if said.status == statusRefused {
+		return Unknown, nil, refusalOf(said.complaint)
+	}
+	return Unknown, nil, said.failure(path)
+}
+
+var ofALine = regexp.MustCompile(`^line (\d+): .*?(?: at line (\d+))?$`)
+
+// refusalOf reads what a program said.
+func refusalOf(words string) *Refusal {
+	refusal := &Refusal{Words: words}
+	if found := ofALine.FindStringSubmatch(words); found != nil {
+		refusal.Line, _ = strconv.Atoi(found[1])
+		refusal.Other, _ = strconv.Atoi(found[2]) // 0 if there is none
+	}
+	return refusal
 }

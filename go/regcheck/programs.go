@@ -21,9 +21,6 @@ const (
 // checker gives the path of regcheck: the one in its variable, or that on PATH.
 func checker() (string, error) { return program("REGCHECK", "regcheck") }
 
-// search gives the path of regsearch.
-func search() (string, error) { return companion("REGSEARCH", "regsearch") }
-
 // regkit gives the path of regkit.
 func regkit() (string, error) { return companion("REGKIT", "regkit") }
 
@@ -35,8 +32,13 @@ func program(variable, name string) (string, error) {
 	if path, err := exec.LookPath(name); err == nil {
 		return path, nil
 	}
-	return "", fmt.Errorf("%s was not found: put it on PATH, or set %s to its path", name, variable)
+	return "", notFound{fmt.Sprintf("%s was not found: put it on PATH, or set %s to its path", name, variable)}
 }
+
+// A notFound says that a program wasn't found.
+type notFound struct{ words string }
+
+func (missing notFound) Error() string { return missing.words }
 
 // companion gives the path in the variable, the program beside regcheck, as a release has it, or that on PATH.
 func companion(variable, name string) (string, error) {

@@ -263,7 +263,7 @@ func TestUnknown(t *testing.T) {
 		{nil, []string{"TestTold_a_b.jsonl: not linearizable", `"kind":"search"`}},
 		{[]regcheck.Bound{regcheck.Steps(1)}, []string{
 			"TestTold_a_b.jsonl: unknown: the search gave up; raise its bounds", `"gave_up":{"bound":"steps"}`}},
-		{[]regcheck.Bound{regcheck.Configurations(0)}, []string{"no verdict: ", "'0' for '--configurations"}},
+		{[]regcheck.Bound{regcheck.Steps(0), regcheck.Configurations(0)}, []string{"TestTold_a_b.jsonl: not linearizable"}},
 	} {
 		recorder.Bounds = test.bounds
 		said := asserted(recorder)

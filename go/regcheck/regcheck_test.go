@@ -178,20 +178,24 @@ func TestRefusals(t *testing.T) {
 	}
 }
 
-// What regcheck refuses for a value that is written twice is refused by Report, and judged by CheckHistory if regsearch is there.
-func TestWithoutSearch(t *testing.T) {
-	twice := append(inversion(2), inversion(2)[0])
-	twice[4].Call, twice[4].Return = 100, 110
-	t.Setenv("REGSEARCH", "/nowhere/regsearch")
-	if answer, err := regcheck.Check(twice); err == nil || answer.Verdict != regcheck.Unknown ||
-		!strings.Contains(err.Error(), "/nowhere/regsearch could not be run") {
-		t.Errorf("%v, %v", answer.Verdict, err)
-	}
+// What regcheck refuses for a value that is written twice is refused by Report, and judged by Check.
+func TestRefusedByReportAlone(t *testing.T) {
+	twice := valueTwice()
 	_, _, err := regcheck.Report(mustHave(regcheck.History(twice)))
 	var refusal *regcheck.Refusal
 	if !errors.As(err, &refusal) || refusal.Line != 9 || refusal.Other != 1 {
 		t.Errorf("%v", err)
 	}
+	if answer, err := regcheck.Check(twice); err != nil || answer.Verdict != regcheck.Yes {
+		t.Errorf("%v, %v", answer.Verdict, err)
+	}
+}
+
+// A history in which a value is written again at the end.
+func valueTwice() []regcheck.Operation {
+	again := inversion(2)[0]
+	again.Call, again.Return = 100, 110
+	return append(inversion(2), again)
 }
 
 func mustHave(history []byte, err error) []byte {

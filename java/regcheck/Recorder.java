@@ -151,7 +151,32 @@ public final class Recorder {
     public enum Verdict { YES, NO, UNKNOWN }
 
     /** The verdict on a history, and the report of regcheck, or of regsearch where regcheck refuses the history. */
-    public record Answer(Verdict verdict, byte[] report) {}
+    public record Answer(Verdict verdict, byte[] report) {
+        /**
+         * Why the history isn't linearizable, or what to do if nobody knows, as {@code regkit explain} says it; of YES,
+         * nothing. Throws NotChecked if there are no words.
+         */
+        public String words(byte[] history) {
+            if (verdict == Verdict.YES) {
+                return "";
+            }
+            try {
+                Path folder = Files.createTempDirectory("regcheck-");
+                Kept kept = new Kept(folder.resolve("history").toString());
+                try {
+                    kept.keep(kept.history(), history);
+                    kept.keep(kept.report(), report);
+                    return kept.told(List.of()).substring((kept.history() + ": ").length());
+                } finally {
+                    Files.deleteIfExists(Path.of(kept.history()));
+                    Files.deleteIfExists(Path.of(kept.report()));
+                    Files.delete(folder);
+                }
+            } catch (IOException error) {
+                throw new UncheckedIOException(error);
+            }
+        }
+    }
 
     /**
      * Asks regcheck, and of what it refuses, such as cas and repeated values, regsearch. Throws NotChecked, in the words of
@@ -476,19 +501,24 @@ public final class Recorder {
             }
         }
 
-        /** Why the kept history isn't linearizable, or what to do if nobody knows, in the words of regkit; drawn too. */
+        /** Why the kept history isn't linearizable, or what to do if nobody knows, in the words of regkit. */
+        String told(List<String> bounds) {
+            Ran told = Ran.run(new byte[0],
+                    concat(List.of(Programs.regkit(), "explain", "--color", "never", history(), report()), bounds));
+            if (told.status() != NOT_ATOMIC && told.status() != GAVE_UP) {
+                throw new NotChecked(told.words());
+            }
+            return new String(told.output(), StandardCharsets.UTF_8).stripTrailing();
+        }
+
+        /** The words, and where the files are; it has the page drawn too. */
         String explain(Answer answer, List<String> bounds) {
             String kept = "history: " + history() + "\nreport: " + report();
             String page = begin + ".html";
             try {
-                String regkit = Programs.regkit();
-                Ran told = Ran.run(new byte[0],
-                        concat(List.of(regkit, "explain", "--color", "never", history(), report()), bounds));
-                if (told.status() != NOT_ATOMIC && told.status() != GAVE_UP) {
-                    throw new NotChecked(told.words());
-                }
-                Ran drawn = Ran.run(new byte[0], List.of(regkit, "draw", history(), report(), "-o", page));
-                return new String(told.output(), StandardCharsets.UTF_8).stripTrailing() + "\n\n" + kept + "\n"
+                String told = told(bounds);
+                Ran drawn = Ran.run(new byte[0], List.of(Programs.regkit(), "draw", history(), report(), "-o", page));
+                return told + "\n\n" + kept + "\n"
                         + (drawn.status() == 0 ? "page: " + page : "no page: " + drawn.words());
             } catch (NotChecked none) {
                 return history() + ": " + shown(answer) + "\n\n" + none.getMessage() + "\n" + kept;

@@ -190,6 +190,24 @@ final class RecorderTest {
         expect(Files.readString(folder.resolve("a_fault_1.jsonl")).equals(text(recorder.history())), "the history is kept");
     }
 
+    /** The words on any history are those of regkit: this one says its arguments. */
+    static void words() throws Exception {
+        Path regkit = folder.resolve("regkit");
+        Files.writeString(regkit, "#!/bin/sh\necho \"$4: $*\"\nexit 1\n");
+        expect(regkit.toFile().setExecutable(true), "regkit can be run");
+        Recorder recorder = new Recorder();
+        recorder.client("one").cas("x", null, 1, () -> recorder.client("two").cas("x", null, 1, () -> true));
+        Recorder.Answer no = Recorder.check(recorder.history());
+        System.setProperty("regkit", regkit.toString());
+        String told = no.words(recorder.history());
+        System.setProperty("regkit", "/nowhere/regkit");
+        String none = thrown(Recorder.NotChecked.class, () -> no.words(recorder.history())).getMessage();
+        System.clearProperty("regkit");
+        expect(told.matches("explain --color never \\S+history.jsonl \\S+history.report"), told);
+        expect(none.contains("/nowhere/regkit could not be run"), none);
+        expect(Recorder.check(new byte[0]).words(new byte[0]).isEmpty(), "of a yes there is nothing to say");
+    }
+
     static void noVerdict() {
         byte[] none = "[]\n".getBytes(StandardCharsets.UTF_8);
         expect(thrown(Recorder.NotChecked.class, () -> Recorder.check(none)).getMessage().startsWith("line 1: "), "refused");
@@ -232,7 +250,7 @@ final class RecorderTest {
         Map<String, Action> tests = Map.of("lines", RecorderTest::lines, "mistakes", RecorderTest::mistakes,
                 "threads", RecorderTest::threads, "evidence", RecorderTest::evidence, "unknown", RecorderTest::unknown,
                 "valuesAfter", RecorderTest::valuesAfter, "faultWithoutRegkit", RecorderTest::faultWithoutRegkit,
-                "noVerdict", RecorderTest::noVerdict);
+                "words", RecorderTest::words, "noVerdict", RecorderTest::noVerdict);
         int failed = 0;
         for (Map.Entry<String, Action> test : tests.entrySet()) {
             try {

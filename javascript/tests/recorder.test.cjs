@@ -4,7 +4,7 @@ const fs = require("node:fs");
 const os = require("node:os");
 const path = require("node:path");
 const test = require("node:test");
-const { check, Mistake, NoEffect, NotChecked, NotLinearizable, Recorder } = require("../regcheck.cjs");
+const { check, Mistake, NoEffect, NotChecked, NotLinearizable, Recorder, words } = require("../regcheck.cjs");
 
 function ticking() {
   let time = 0n;
@@ -177,4 +177,20 @@ test("the checker's own words say why there is no verdict", () => {
   withProgram("REGSEARCH", "/nowhere/regsearch", () => assert.throws(() => check("[]\n"),
     /\/nowhere\/regsearch could not be run/));
   withProgram("REGCHECK", "/nowhere/regcheck", () => assert.throws(() => check(""), /\/nowhere\/regcheck could not be run/));
+});
+
+test("the words on any history are those of regkit", async () => {
+  const recorder = new Recorder();
+  const [one, two] = [recorder.client(), recorder.client()];
+  await one.cas("x", null, 1, () => two.cas("x", null, 1, () => true));
+  const history = recorder.history();
+  const regkit = path.join(folder, "regkit");
+  fs.writeFileSync(regkit, '#!/bin/sh\necho "$2: $*"\ngrep -q gave_up "$3" && exit 6\nexit 1\n', { mode: 0o755 });
+  withProgram("REGKIT", regkit, () => {
+    assert.match(words(history, check(history)), /^explain \S+history.jsonl \S+history.report --color never$/);
+    const few = { steps: 1 };
+    assert.match(words(history, check(history, few), few), /^explain \S+ \S+ --color never --steps 1$/);
+    assert.strictEqual(words("", check("")), "");
+  });
+  withProgram("REGKIT", "/nowhere/regkit", () => assert.throws(() => words(history, check(history)), NotChecked));
 });

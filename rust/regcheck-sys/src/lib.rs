@@ -1,4 +1,4 @@
-//! The functions of `regcheck.h`, as they are. The crate `regcheck` calls the first safely.
+//! The functions of `regcheck.h`, as they are. The crate `regcheck` calls them safely.
 //!
 //! It links `libregcheck.a` from the folder `REGCHECK_LIB_DIR`; else from `lib` or `bin` two folders above the crate, where
 //! a release and the repository have it; else the installed library.
@@ -21,6 +21,9 @@ pub const NO_MEMORY: u32 = 4;
 pub const TOO_SMALL: u32 = 5;
 /// Of `regsearch_report` alone.
 pub const UNKNOWN: u32 = 6;
+
+/// The line of a refusal has no more bytes.
+pub const LINE_LENGTH: usize = 128;
 
 extern "C" {
     /// Puts the report of the input into `out`, and what came of it into `answer`.
@@ -50,4 +53,27 @@ extern "C" {
         out_length: usize,
         answer: *mut Answer,
     );
+
+    /// Puts the line that regcheck writes of a history that it refuses into `out`, and gives its length: 0 if the history isn't
+    /// refused, or if memory ran out.
+    ///
+    /// # Safety
+    /// As of [`regcheck_report`].
+    pub fn regcheck_refusal(
+        input: *const u8,
+        input_length: usize,
+        out: *mut u8,
+        out_length: usize,
+    ) -> usize;
+
+    /// The same for regsearch.
+    ///
+    /// # Safety
+    /// As of [`regcheck_report`].
+    pub fn regsearch_refusal(
+        input: *const u8,
+        input_length: usize,
+        out: *mut u8,
+        out_length: usize,
+    ) -> usize;
 }

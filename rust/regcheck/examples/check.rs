@@ -4,15 +4,11 @@ use std::{env, error::Error, fs};
 
 fn main() -> Result<(), Box<dyn Error>> {
     let path = env::args().nth(1).ok_or("which file?")?;
-    let answer = regcheck::check(&fs::read(path)?, Bounds::default())?;
-    let verdict = match answer.verdict {
-        Verdict::Yes => "linearizable",
-        Verdict::No => "not linearizable",
-        Verdict::Unknown => "unknown",
-    };
-    println!(
-        "{verdict}\n{}",
-        String::from_utf8_lossy(&answer.report).trim_end()
-    );
+    let (history, bounds) = (fs::read(path)?, Bounds::default());
+    let answer = regcheck::check(&history, bounds)?;
+    match answer.verdict {
+        Verdict::Yes => println!("linearizable"),
+        Verdict::No | Verdict::Unknown => println!("{}", answer.words(&history, bounds)?),
+    }
     Ok(())
 }

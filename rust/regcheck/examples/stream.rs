@@ -1,12 +1,35 @@
 //! Answers each history on standard input. tests/embed compares what it writes; its form is that of
-//! tests/library/stream.c, with the words of a refusal.
-use regcheck::{report, Error};
-use std::io::{self, ErrorKind, Read, Write};
+//! tests/library/stream.c.
+//!
+//! With two arguments, of steps and configurations, it asks regsearch too, within these bounds.
+use regcheck::{check, report, Bounds, Error, Verdict};
+use std::{
+    env,
+    io::{self, ErrorKind, Read, Write},
+};
+
+/// The status and the report.
+fn ask(history: &[u8], bounds: Option<Bounds>) -> Result<(u32, Vec<u8>), Error> {
+    match bounds {
+        None => report(history).map(|checked| (u32::from(!checked.atomic), checked.report)),
+        Some(bounds) => {
+            check(history, bounds).map(|answer| (status(answer.verdict), answer.report))
+        }
+    }
+}
+
+fn status(verdict: Verdict) -> u32 {
+    match verdict {
+        Verdict::Yes => 0,
+        Verdict::No => 1,
+        Verdict::Unknown => 6,
+    }
+}
 
 /// Status, number, line and other line, and the report or the words of the refusal.
-fn answer(history: &[u8]) -> ([u32; 4], Vec<u8>) {
-    match report(history) {
-        Ok(checked) => ([u32::from(!checked.atomic), 0, 0, 0], checked.report),
+fn answer(history: &[u8], bounds: Option<Bounds>) -> ([u32; 4], Vec<u8>) {
+    match ask(history, bounds) {
+        Ok((status, report)) => ([status, 0, 0, 0], report),
         Err(error) => {
             let numbers = match &error {
                 Error::Refused(refusal) => [
@@ -23,6 +46,13 @@ fn answer(history: &[u8]) -> ([u32; 4], Vec<u8>) {
 }
 
 fn main() -> io::Result<()> {
+    let mut words = env::args()
+        .skip(1)
+        .map(|word| word.parse().expect("a number"));
+    let bounds = words.next().map(|steps| Bounds {
+        steps: Some(steps),
+        configurations: words.next(),
+    });
     let (mut input, mut output) = (io::stdin().lock(), io::stdout().lock());
     loop {
         let mut length = [0; 8];
@@ -32,7 +62,7 @@ fn main() -> io::Result<()> {
         }
         let mut history = vec![0; u64::from_le_bytes(length) as usize];
         input.read_exact(&mut history)?;
-        let (numbers, bytes) = answer(&history);
+        let (numbers, bytes) = answer(&history, bounds);
         for number in numbers {
             output.write_all(&number.to_le_bytes())?;
         }

@@ -1,9 +1,5 @@
 //! Asks regcheck, and of what it refuses regsearch.
-use crate::{
-    ask,
-    programs::{complaint, failure, regsearch, run, ATOMIC, GAVE_UP, NOT_ATOMIC, REFUSED},
-    Error, Refusal,
-};
+use crate::{ask, kept, search, Error};
 
 /// Whether a history is linearizable.
 #[derive(Clone, Copy, Debug, PartialEq, Eq)]
@@ -22,12 +18,26 @@ pub struct Answer {
     pub report: Vec<u8>,
 }
 
+impl Answer {
+    /// Why the history isn't linearizable, or what to do if nobody knows, as `regkit explain` says it. Of a yes there is
+    /// nothing to say. The history and the bounds are those that the answer was given to.
+    ///
+    /// # Errors
+    /// Why there are no words.
+    pub fn words(&self, history: &[u8], bounds: Bounds) -> Result<String, Error> {
+        match self.verdict {
+            Verdict::Yes => Ok(String::new()),
+            _ => kept::words(history, &self.report, bounds).map_err(Error::Program),
+        }
+    }
+}
+
 /// Where the search of regsearch gives up. The bounds count work and never time.
 #[derive(Clone, Copy, Debug, Default, PartialEq, Eq)]
 pub struct Bounds {
-    /// How many steps the search for an order of one register may take; by default 10,000,000,000.
+    /// How many steps the search for an order of one register may take; by default, or if 0, 10,000,000,000.
     pub steps: Option<u64>,
-    /// How many configurations the search may hold in one list; by default 65,536.
+    /// How many configurations the search may hold in one list; by default, or if 0, 65,536.
     pub configurations: Option<u64>,
 }
 
@@ -38,10 +48,13 @@ impl Bounds {
             ("--steps", self.steps),
             ("--configurations", self.configurations),
         ];
-        let given = bounds
-            .into_iter()
-            .filter_map(|(option, most)| Some([option.to_owned(), most?.to_string()]));
-        given.flatten().collect()
+        let mut words = Vec::new();
+        for (option, most) in bounds {
+            if let Some(most @ 1..) = most {
+                words.extend([option.to_owned(), most.to_string()]);
+            }
+        }
+        words
     }
 }
 
@@ -51,41 +64,9 @@ impl Bounds {
 /// # Errors
 /// Why there is no answer.
 pub fn check(history: &[u8], bounds: Bounds) -> Result<Answer, Error> {
-    let checked = match ask(history) {
-        Err(Error::Refused(refusal)) => return search(history, refusal, bounds),
-        checked => checked?,
-    };
-    let verdict = if checked.atomic {
-        Verdict::Yes
-    } else {
-        Verdict::No
-    };
-    Ok(Answer {
-        verdict,
-        report: checked.report,
-    })
-}
-
-/// The answer of regsearch to a history that regcheck refused. What both refuse has the words of regsearch.
-fn search(history: &[u8], refusal: Refusal, bounds: Bounds) -> Result<Answer, Error> {
-    let program = match regsearch() {
-        Ok(program) => program,
-        Err(missing) => {
-            let mut refusal = refusal.told(history);
-            refusal.words += &format!("; repeated values and cas need regsearch, but {missing}");
-            return Err(Error::Refused(refusal));
-        }
-    };
-    let said = run(&program, bounds.options(), history).map_err(Error::Program)?;
-    let verdict = match said.status.code() {
-        ATOMIC => Verdict::Yes,
-        NOT_ATOMIC => Verdict::No,
-        GAVE_UP => Verdict::Unknown,
-        REFUSED => return Err(Error::Refused(Refusal::read(complaint(&said)))),
-        _ => return Err(Error::Program(failure(&program, &said))),
-    };
-    Ok(Answer {
-        verdict,
-        report: said.stdout,
-    })
+    match ask(history) {
+        // What both refuse has the words of regsearch.
+        Err(Error::Refused(refusal)) => search(history, refusal, bounds),
+        answer => answer,
+    }
 }

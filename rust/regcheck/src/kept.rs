@@ -5,8 +5,10 @@ use crate::{
     Answer, Bounds, Trouble, Verdict,
 };
 use std::{
-    fs,
+    env, fs,
     path::{Path, PathBuf},
+    process,
+    sync::atomic::{AtomicU64, Ordering::Relaxed},
 };
 
 const LONGEST: usize = 200; // bytes of a file's name
@@ -111,6 +113,20 @@ fn shown(answer: &Answer) -> String {
     let text = String::from_utf8_lossy(&answer.report);
     let lines = text.lines().filter(|line| line.contains(key));
     lines.fold(verdict.to_owned(), |words, line| words + "\n  " + line)
+}
+
+/// Why a history isn't linearizable, or what to do if nobody knows, in the words of regkit.
+pub fn words(history: &[u8], report: &[u8], bounds: Bounds) -> Result<String, String> {
+    static NEXT: AtomicU64 = AtomicU64::new(0);
+    let name = format!("regcheck-{}-{}", process::id(), NEXT.fetch_add(1, Relaxed));
+    let folder = env::temp_dir().join(name);
+    let files = Files::named(&folder, "history");
+    let told = files
+        .keep(history, Some(report))
+        .and_then(|()| files.explained(bounds));
+    let _ = fs::remove_dir_all(&folder);
+    let named = format!("{}: ", files.history.display());
+    told.map(|words| words.strip_prefix(&named).unwrap_or(&words).to_owned())
 }
 
 /// Says why a history fails its test, if it does, and keeps it then.

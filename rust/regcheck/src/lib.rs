@@ -12,11 +12,13 @@
 //!
 //! A [`Recorder`] writes such a history while threads use a store, and fails the test in words.
 //!
-//! It links `libregcheck.a`, and depends on nothing else. Without the feature `library` it runs the program `regcheck`: the
-//! one that the variable `REGCHECK` names, or the one on `PATH`. What regcheck refuses, above all histories with
-//! compare-and-swap or repeated values, goes to the program `regsearch`: the one that `REGSEARCH` names, the one beside
+//! It links `libregcheck.a`, which has both checkers, and depends on nothing else. Without the feature `library` it runs the
+//! programs: the `regcheck` that the variable `REGCHECK` names, or the one on `PATH`; and for histories that regcheck refuses,
+//! above all those with compare-and-swap or repeated values, the `regsearch` that `REGSEARCH` names, the one beside
 //! `regcheck`, or the one on `PATH`.
 mod answer;
+#[cfg(not(feature = "library"))]
+mod by_program;
 mod clock;
 mod error;
 mod kept;
@@ -29,10 +31,10 @@ pub use answer::{check, Answer, Bounds, Verdict};
 pub use error::{Error, Refusal, Trouble};
 pub use recorder::{Cas, Client, Read, Recorder, Write};
 
-#[cfg(feature = "library")]
-use library::ask;
 #[cfg(not(feature = "library"))]
-use programs::ask;
+use by_program::{ask, search};
+#[cfg(feature = "library")]
+use library::{ask, search};
 
 /// The report of regcheck on a history.
 #[derive(Clone, Debug, PartialEq, Eq)]
@@ -48,8 +50,9 @@ pub struct Checked {
 /// # Errors
 /// Why there is no report.
 pub fn report(history: &[u8]) -> Result<Checked, Error> {
-    ask(history).map_err(|error| match error {
-        Error::Refused(refusal) => Error::Refused(refusal.told(history)),
-        error => error,
+    let answer = ask(history)?;
+    Ok(Checked {
+        atomic: answer.verdict == Verdict::Yes,
+        report: answer.report,
     })
 }

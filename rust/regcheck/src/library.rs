@@ -1,46 +1,103 @@
 //! Calls the library in this process.
-use crate::{Checked, Error, Refusal};
-use regcheck_sys::{regcheck_report, Answer, ATOMIC, NOT_ATOMIC, REFUSED, TOO_SMALL};
+use crate::{Answer, Bounds, Error, Refusal, Verdict};
+use regcheck_sys::{
+    regcheck_refusal, regcheck_report, regsearch_refusal, regsearch_report, Answer as Told, ATOMIC,
+    LINE_LENGTH, NOT_ATOMIC, REFUSED, TOO_SMALL, UNKNOWN,
+};
 
-/// A refusal has numbers, and no words yet.
-pub fn ask(history: &[u8]) -> Result<Checked, Error> {
-    // Enough unless registers have one operation or two.
-    let mut out = vec![0; history.len() + 1024];
-    let mut answer = call(history, &mut out);
-    if answer.status == TOO_SMALL {
-        out = vec![0; usize::try_from(answer.length).map_err(|_| Error::NoMemory)?];
-        answer = call(history, &mut out);
-    }
-    match answer.status {
-        ATOMIC | NOT_ATOMIC => {
-            out.truncate(answer.length as usize);
-            Ok(Checked {
-                atomic: answer.status == ATOMIC,
-                report: out,
-            })
-        }
-        REFUSED => Err(Error::Refused(Refusal {
-            number: Some(answer.number),
-            line: Some(answer.line).filter(|line| *line > 0),
-            other: Some(answer.other).filter(|line| *line > 0),
-            words: String::new(),
-        })),
-        _ => Err(Error::NoMemory),
-    }
-}
-
-fn call(history: &[u8], out: &mut [u8]) -> Answer {
-    let mut answer = Answer::default();
-    // SAFETY: the pointers and lengths are those of slices, which are never null, and the two that are written are
-    // borrowed by this call alone. The declaration is that of regcheck.h.
-    unsafe {
+/// What regcheck says.
+pub fn ask(history: &[u8]) -> Result<Answer, Error> {
+    // SAFETY: the pointers and lengths are those of slices, which are never null, and the two that are written are borrowed
+    // by this call alone. The declarations are those of regcheck.h.
+    let report = |out: &mut [u8], told: &mut Told| unsafe {
         regcheck_report(
             history.as_ptr(),
             history.len(),
             out.as_mut_ptr(),
             out.len(),
-            &mut answer,
+            told,
         );
+    };
+    // SAFETY: as above.
+    let refusal = |line: &mut [u8]| unsafe {
+        regcheck_refusal(
+            history.as_ptr(),
+            history.len(),
+            line.as_mut_ptr(),
+            line.len(),
+        )
+    };
+    answer(history.len(), report, refusal)
+}
+
+/// What regsearch says. The refusal is that of regcheck.
+pub fn search(history: &[u8], _refusal: Refusal, bounds: Bounds) -> Result<Answer, Error> {
+    let steps = bounds.steps.unwrap_or(0);
+    let configurations = bounds.configurations.unwrap_or(0);
+    let configurations = usize::try_from(configurations).unwrap_or(usize::MAX);
+    // SAFETY: as above.
+    let report = |out: &mut [u8], told: &mut Told| unsafe {
+        regsearch_report(
+            history.as_ptr(),
+            history.len(),
+            steps,
+            configurations,
+            out.as_mut_ptr(),
+            out.len(),
+            told,
+        );
+    };
+    // SAFETY: as above.
+    let refusal = |line: &mut [u8]| unsafe {
+        regsearch_refusal(
+            history.as_ptr(),
+            history.len(),
+            line.as_mut_ptr(),
+            line.len(),
+        )
+    };
+    answer(history.len(), report, refusal)
+}
+
+/// What is said of a history of so many bytes, by the functions for a report and for the words of a refusal.
+fn answer(
+    length: usize,
+    report: impl Fn(&mut [u8], &mut Told),
+    refusal: impl Fn(&mut [u8]) -> usize,
+) -> Result<Answer, Error> {
+    let mut told = Told::default();
+    // Enough unless registers have one operation or two.
+    let mut out = vec![0; length + 1024];
+    report(&mut out, &mut told);
+    if told.status == TOO_SMALL {
+        out = vec![0; usize::try_from(told.length).map_err(|_| Error::NoMemory)?];
+        report(&mut out, &mut told);
     }
-    answer
+    let verdict = match told.status {
+        ATOMIC => Verdict::Yes,
+        NOT_ATOMIC => Verdict::No,
+        UNKNOWN => Verdict::Unknown,
+        REFUSED => return Err(refused(&told, refusal)),
+        _ => return Err(Error::NoMemory),
+    };
+    out.truncate(told.length as usize);
+    Ok(Answer {
+        verdict,
+        report: out,
+    })
+}
+
+fn refused(told: &Told, refusal: impl Fn(&mut [u8]) -> usize) -> Error {
+    let mut line = [0; LINE_LENGTH];
+    let length = refusal(&mut line);
+    if length == 0 {
+        return Error::NoMemory;
+    }
+    let some = |line: u32| Some(line).filter(|line| *line > 0);
+    Error::Refused(Refusal {
+        number: some(told.number),
+        line: some(told.line),
+        other: some(told.other),
+        words: String::from_utf8_lossy(&line[..length]).into_owned(),
+    })
 }

@@ -7,10 +7,8 @@ use std::{
     process::{Command, Output, Stdio},
 };
 
-// The exit statuses of regcheck and regsearch, and of `regkit explain`.
-pub const ATOMIC: Option<i32> = Some(0);
+// Exit statuses of regcheck and regsearch, and of `regkit explain`.
 pub const NOT_ATOMIC: Option<i32> = Some(1);
-pub const REFUSED: Option<i32> = Some(2);
 pub const GAVE_UP: Option<i32> = Some(6);
 
 /// The path in the variable.
@@ -20,7 +18,7 @@ fn named(variable: &str) -> Option<PathBuf> {
 }
 
 /// The path in the variable, or that of the program on PATH.
-fn find(variable: &str, name: &str) -> Option<PathBuf> {
+pub fn find(variable: &str, name: &str) -> Option<PathBuf> {
     named(variable).or_else(|| {
         env::split_paths(&env::var_os("PATH")?)
             .map(|folder| folder.join(name))
@@ -28,18 +26,8 @@ fn find(variable: &str, name: &str) -> Option<PathBuf> {
     })
 }
 
-fn missing(variable: &str, name: &str) -> String {
+pub fn missing(variable: &str, name: &str) -> String {
     format!("{name} was not found: put it on PATH, or set {variable} to its path")
-}
-
-/// The path of regcheck.
-pub fn regcheck() -> Result<PathBuf, String> {
-    find("REGCHECK", "regcheck").ok_or_else(|| missing("REGCHECK", "regcheck"))
-}
-
-/// The path of regsearch.
-pub fn regsearch() -> Result<PathBuf, String> {
-    companion("REGSEARCH", "regsearch")
 }
 
 /// The path of regkit.
@@ -48,7 +36,7 @@ pub fn regkit() -> Result<PathBuf, String> {
 }
 
 /// The path in the variable, that of the program beside regcheck, as a release has it, or that of the one on PATH.
-fn companion(variable: &str, name: &str) -> Result<PathBuf, String> {
+pub fn companion(variable: &str, name: &str) -> Result<PathBuf, String> {
     named(variable)
         .or_else(|| {
             let beside = find("REGCHECK", "regcheck")?.with_file_name(name);
@@ -82,36 +70,4 @@ pub fn run<W: AsRef<OsStr>>(
 /// What a program complains of.
 pub fn complaint(said: &Output) -> String {
     String::from_utf8_lossy(&said.stderr).trim_end().to_owned()
-}
-
-/// What is wrong if a program ends as it shouldn't.
-pub fn failure(program: &Path, said: &Output) -> String {
-    format!(
-        "{} ended with {}: {}",
-        program.display(),
-        said.status,
-        complaint(said)
-    )
-}
-
-#[cfg(not(feature = "library"))]
-pub use by_program::ask;
-
-#[cfg(not(feature = "library"))]
-mod by_program {
-    use super::{complaint, failure, regcheck, run, ATOMIC, NOT_ATOMIC, REFUSED};
-    use crate::{Checked, Error, Refusal};
-
-    pub fn ask(history: &[u8]) -> Result<Checked, Error> {
-        let program = regcheck().map_err(Error::Program)?;
-        let said = run(&program, [""; 0], history).map_err(Error::Program)?;
-        match said.status.code() {
-            status @ (ATOMIC | NOT_ATOMIC) => Ok(Checked {
-                atomic: status == ATOMIC,
-                report: said.stdout,
-            }),
-            REFUSED => Err(Error::Refused(Refusal::read(complaint(&said)))),
-            _ => Err(Error::Program(failure(&program, &said))),
-        }
-    }
 }

@@ -97,9 +97,14 @@ fn cas_and_repeated_values() {
         steps: Some(1),
         ..Bounds::default()
     };
+    let zero = Bounds {
+        steps: Some(0),
+        configurations: Some(0),
+    };
     let rows = [
         (true, false, Bounds::default(), Verdict::Yes),
         (true, true, Bounds::default(), Verdict::No),
+        (true, false, zero, Verdict::Yes),
         (true, false, narrow, Verdict::Unknown),
     ];
     for (first, second, bounds, verdict) in rows {
@@ -110,15 +115,6 @@ fn cas_and_repeated_values() {
         assert!(report.contains("\"cas\":2"), "{report}");
         assert!(matches!(report_of(&history), Error::Refused(_)));
     }
-    let none = Bounds {
-        configurations: Some(0),
-        ..Bounds::default()
-    };
-    let error = check(two_cas(true, false).as_bytes(), none).expect_err("no bound");
-    assert!(
-        error.to_string().contains("'0' for '--configurations"),
-        "{error}"
-    );
 }
 
 fn report_of(history: &str) -> Error {
@@ -148,5 +144,24 @@ fn threads_at_once() {
     let threads: Vec<_> = (0..4).map(|_| std::thread::spawn(all_report)).collect();
     for thread in threads {
         assert!(thread.join().expect("no panic"));
+    }
+}
+
+#[cfg(feature = "library")]
+#[test]
+fn a_refusal_by_the_library_has_a_number() {
+    let no_ok = r#"{"process":1,"event":"call","op":"cas","register":"x","from":null,"to":1}
+{"process":1,"event":"reply"}"#;
+    let rows = [
+        (3, "[]", "line 1: not an object"),
+        (21, no_ok, "line 2: a cas's reply has no ok, true or false"),
+    ];
+    for (number, history, words) in rows {
+        match check(history.as_bytes(), Bounds::default()) {
+            Err(Error::Refused(refusal)) => {
+                assert_eq!((refusal.number, &*refusal.words), (Some(number), words));
+            }
+            answer => panic!("{answer:?}"),
+        }
     }
 }

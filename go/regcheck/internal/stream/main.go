@@ -1,5 +1,7 @@
 // Command stream answers each history on standard input. tests/embed compares what it writes; its form is that of
-// tests/library/stream.c, with the words of a refusal.
+// tests/library/stream.c.
+//
+// With two arguments, of steps and configurations, it asks regsearch too, within these bounds.
 package main
 
 import (
@@ -9,6 +11,7 @@ import (
 	"io"
 	"log"
 	"os"
+	"strconv"
 
 	"regcheck"
 )
@@ -18,8 +21,22 @@ type numbers struct {
 	Length                      uint64
 }
 
-func answer(history []byte) (numbers, []byte) {
+var statuses = map[regcheck.Verdict]uint32{regcheck.Yes: 0, regcheck.No: 1, regcheck.Unknown: 6}
+
+func ask(history []byte, bounds []regcheck.Bound) (uint32, []byte, error) {
+	if len(bounds) > 0 {
+		answer, err := regcheck.CheckHistory(history, bounds...)
+		return statuses[answer.Verdict], answer.Report, err
+	}
 	atomic, report, err := regcheck.Report(history)
+	if atomic {
+		return 0, report, err
+	}
+	return 1, report, err
+}
+
+func answer(history []byte, bounds []regcheck.Bound) (numbers, []byte) {
+	status, report, err := ask(history, bounds)
 	var refusal *regcheck.Refusal
 	switch {
 	case errors.As(err, &refusal):
@@ -27,22 +44,33 @@ func answer(history []byte) (numbers, []byte) {
 		return numbers{2, uint32(refusal.Number), uint32(refusal.Line), uint32(refusal.Other), uint64(len(words))}, words
 	case err != nil:
 		log.Fatal(err)
-	case atomic:
-		return numbers{0, 0, 0, 0, uint64(len(report))}, report
 	}
-	return numbers{1, 0, 0, 0, uint64(len(report))}, report
+	return numbers{status, 0, 0, 0, uint64(len(report))}, report
+}
+
+func boundsOf(words []string) []regcheck.Bound {
+	var bounds []regcheck.Bound
+	for place, word := range words {
+		number, err := strconv.ParseUint(word, 10, 64)
+		if err != nil {
+			log.Fatal(err)
+		}
+		bounds = append(bounds, []func(uint64) regcheck.Bound{regcheck.Steps, regcheck.Configurations}[place](number))
+	}
+	return bounds
 }
 
 func main() {
 	input, output := bufio.NewReader(os.Stdin), bufio.NewWriter(os.Stdout)
 	defer output.Flush()
+	bounds := boundsOf(os.Args[1:])
 	var length uint64
 	for binary.Read(input, binary.LittleEndian, &length) == nil {
 		history := make([]byte, length)
 		if _, err := io.ReadFull(input, history); err != nil {
 			log.Fatal(err)
 		}
-		said, bytes := answer(history)
+		said, bytes := answer(history, bounds)
 		if err := binary.Write(output, binary.LittleEndian, said); err != nil {
 			log.Fatal(err)
 		}
