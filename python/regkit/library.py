@@ -9,10 +9,10 @@ import sys
 from functools import lru_cache
 from typing import Any, Callable, Iterator, NamedTuple, Optional, Tuple
 
-from regkit.refusals import reason_of
-
-ATOMIC, NOT_ATOMIC, TOO_SMALL, UNKNOWN = 0, 1, 5, 6
+ATOMIC, NOT_ATOMIC, REFUSED, NO_MEMORY, TOO_SMALL, UNKNOWN = 0, 1, 2, 4, 5, 6
 FILE = "libregcheck.so.1"  # the number is that of the interface
+LINE_LENGTH = 128  # REGCHECK_LINE_LENGTH
+OUT_OF_MEMORY = "no memory or no thread", 17  # the program's words and number, which a library without memory can't give
 
 
 class NoLibrary(Exception):
@@ -42,7 +42,8 @@ class _Answer(ctypes.Structure):
 
 _INPUT = (ctypes.c_char_p, ctypes.c_size_t)
 _BOUNDS = (ctypes.c_uint64, ctypes.c_size_t)
-_OUTPUT = (ctypes.c_char_p, ctypes.c_size_t, ctypes.POINTER(_Answer))
+_OUTPUT = (ctypes.c_char_p, ctypes.c_size_t)
+_ANSWER = (*_OUTPUT, ctypes.POINTER(_Answer))
 MOST_STEPS, MOST_CONFIGURATIONS = 1_000_000_000_000, 1_048_576
 
 
@@ -55,30 +56,30 @@ class Library:
             self._library = ctypes.CDLL(path)
         except OSError as error:
             raise NoLibrary(path, str(error)) from error
-        self._check = self._function("regcheck_report", (*_INPUT, *_OUTPUT))
+        self._check = self._function("regcheck_report", (*_INPUT, *_ANSWER))
+        self._check_refusal = self._function("regcheck_refusal", (*_INPUT, *_OUTPUT), ctypes.c_size_t)
+        self._search = self._function("regsearch_report", (*_INPUT, *_BOUNDS, *_ANSWER))
+        self._search_refusal = self._function("regsearch_refusal", (*_INPUT, *_OUTPUT), ctypes.c_size_t)
 
-    def _function(self, name: str, types: Tuple[Any, ...]) -> Callable[..., None]:
+    def _function(self, name: str, types: Tuple[Any, ...], result: Any = None) -> Callable[..., Any]:
         try:
             function: Any = getattr(self._library, name)
         except AttributeError as error:
             raise NoLibrary(self._path, str(error)) from error
-        function.argtypes, function.restype = types, None
+        function.argtypes, function.restype = types, result
         return function  # type: ignore[no-any-return]
 
     def check(self, history: bytes) -> Told:
         """What `regcheck` would say of the history, byte for byte."""
-        answer, report = self._answered(self._check, history)
-        return self._told(answer, report, False)
+        return self._told(self._check_refusal, history, *self._answered(self._check, history))
 
     def search(self, history: bytes, steps: int = 0, configurations: int = 0) -> Told:
         """What `regsearch` would say of the history within these bounds, byte for byte. A bound of 0 is its default.
 
-        Raises NoLibrary if the library is of a version that has no search, and ValueError if a bound is out of range."""
+        Raises ValueError if a bound is out of range."""
         if not (0 <= steps <= MOST_STEPS and 0 <= configurations <= MOST_CONFIGURATIONS):
             raise ValueError(f"steps may be up to {MOST_STEPS}, and configurations up to {MOST_CONFIGURATIONS}")
-        function = self._function("regsearch_report", (*_INPUT, *_BOUNDS, *_OUTPUT))
-        answer, report = self._answered(function, history, steps, configurations)
-        return self._told(answer, report, True)
+        return self._told(self._search_refusal, history, *self._answered(self._search, history, steps, configurations))
 
     @staticmethod
     def _answered(function: Callable[..., None], history: bytes, *bounds: int) -> Tuple[_Answer, bytes]:
@@ -91,11 +92,13 @@ class Library:
             room = answer.length
 
     @staticmethod
-    def _told(answer: _Answer, report: bytes, by_search: bool) -> Told:
+    def _told(refusal: Callable[..., int], history: bytes, answer: _Answer, report: bytes) -> Told:
         if answer.status in (ATOMIC, NOT_ATOMIC, UNKNOWN):
             return Told(answer.status, report, "")
-        place = answer.number, answer.line, answer.other
-        return Told(answer.status, b"", reason_of(*place, by_search), *place)
+        line = ctypes.create_string_buffer(LINE_LENGTH)
+        if answer.status == REFUSED and (length := refusal(history, len(history), line, LINE_LENGTH)):
+            return Told(REFUSED, b"", line.raw[:length].decode(), answer.number, answer.line, answer.other)
+        return Told(NO_MEMORY, b"", *OUT_OF_MEMORY)
 
 
 def _places() -> Iterator[str]:

@@ -26,8 +26,6 @@ SEARCH_TEXTS = {
     21: "a cas's reply has no ok, true or false",
 }
 NUMBERS = {text: number for texts in (TEXTS, SEARCH_TEXTS) for number, text in texts.items()}
-# Those that are about the size of a history, or about none.
-OTHER_TEXTS = {14: "more than 1048576 events", 15: "input is longer than 67108864 bytes", 17: "no memory or no thread"}
 WORDS = re.compile(r"line (\d+): (.+?)(?: at line (\d+))?")
 
 
@@ -46,12 +44,6 @@ class Refusal(NamedTuple):
 
     def __str__(self) -> str:
         return f"line {self.line}: {self.text}" + ("" if self.other is None else f" at line {self.other}")
-
-
-def reason_of(number: int, line: int, other: int, by_search: bool = False) -> str:
-    """What the program says of a refusal: `regcheck`, or by a search `regsearch`. A line or other line of 0 is none."""
-    text = {**TEXTS, **(SEARCH_TEXTS if by_search else {}), **OTHER_TEXTS}[number]
-    return (f"line {line}: " if line else "") + text + (f" at line {other}" if other else "")
 
 
 def read_refusal(words: str, line_of: Callable[[int], int]) -> Optional[Refusal]:

@@ -9,7 +9,7 @@ from unittest import mock
 from regkit import checker
 from regkit.checker import LIBRARY_BYTES, NoChecker, find_checker, judge, run_checker
 from regkit.library import Library, NoLibrary, find_library
-from regkit.refusals import SEARCH_TEXTS, TEXTS, reason_of, read_refusal
+from regkit.refusals import SEARCH_TEXTS, TEXTS, read_refusal
 
 from .events import crash, gave, read, reply, text, write
 from .search_sources import find_regsearch
@@ -50,8 +50,7 @@ class Reasons(unittest.TestCase):
             words = run_checker(history).refusal
             refusal = read_refusal(words, int)
             assert refusal is not None, words
-            self.assertEqual(refusal.number, number)
-            self.assertEqual(reason_of(number, refusal.line, refusal.other or 0), words)
+            self.assertEqual((refusal.number, str(refusal)), (number, words))
         self.assertEqual(set(TEXTS), set(REFUSED))
 
     @unittest.skipUnless(REGSEARCH, "no regsearch")
@@ -60,13 +59,8 @@ class Reasons(unittest.TestCase):
             words = run_checker(history, program=REGSEARCH).refusal
             refusal = read_refusal(words, int)
             assert refusal is not None, words
-            self.assertEqual(refusal.number, number)
-            self.assertEqual(reason_of(number, refusal.line, refusal.other or 0, by_search=True), words)
+            self.assertEqual((refusal.number, str(refusal)), (number, words))
         self.assertEqual(set(SEARCH_TEXTS), set(SEARCH_REFUSED))
-
-    def test_words_about_no_line(self) -> None:
-        self.assertEqual(reason_of(15, 0, 0), run_checker(b"\n" * 67_108_865).refusal)
-        self.assertEqual(reason_of(17, 0, 0), "no memory or no thread")
 
 
 class Choice(unittest.TestCase):
@@ -114,7 +108,7 @@ class Answers(unittest.TestCase):
 
     def test_refusals(self) -> None:
         library = Library(BUILT)
-        for number, history in REFUSED.items():
+        for number, history in {**REFUSED, 15: b"\n" * 67_108_865}.items():
             told, want = library.check(history), run_checker(history)
             self.assertEqual((told.number, told.status, told.refusal), (number, want.status, want.refusal))
 
