@@ -15,7 +15,7 @@ use thiserror::Error;
 const ABOUT: &str =
     "Checks a recorded history of reads and writes of registers: whether each is safe, regular and atomic.";
 
-const VERSION: &str = "1.1.0 (rattle logic dac8208d650f15bf)";
+const VERSION: &str = "1.2.0 (rattle logic dac8208d650f15bf)";
 
 const FILE: &str = "The history, one JSON event a line; standard input where it is absent or -";
 

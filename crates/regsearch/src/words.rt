@@ -17,7 +17,7 @@ use thiserror::Error;
 const ABOUT: &str =
     "Decides whether each register of a recorded history of reads, writes and compare-and-swap is atomic (linearizable), as far as the bounds allow.";
 
-const VERSION: &str = "1.1.0 (rattle logic dac8208d650f15bf)";
+const VERSION: &str = "1.2.0 (rattle logic dac8208d650f15bf)";
 
 const FILE: &str = "The history, one JSON event a line; standard input where it is absent or -";
 
