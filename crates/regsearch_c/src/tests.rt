@@ -157,10 +157,17 @@ fn refusals(rt: HostRuntime) -> Result<(), Fail> {
     for (history, room, length, line) in LINES {
         let mut out = [BEFORE; ROOM];
         assert!(rt; room <= ROOM);
-        assert_eq!(rt; regsearch_refusal(rt.alloc(), history.as_bytes(), &mut out[..room]), length, "{room}");
+        assert_eq!(rt;
+            regsearch_refusal(rt.alloc(), history.as_bytes(), &mut out[..room]),
+            length,
+            "{room}"
+        );
         assert!(rt; line.len() < ROOM);
         assert_eq!(rt; &out[..line.len()], line.as_bytes(), "{room}");
-        assert!(rt; out[line.len()..].iter().all(|byte| *byte == BEFORE), "{room}");
+        assert!(rt;
+            out[line.len()..].iter().all(|byte| *byte == BEFORE),
+            "{room}"
+        );
     }
     Ok(())
 }
