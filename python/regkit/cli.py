@@ -6,7 +6,7 @@ from importlib import import_module
 from typing import List, NoReturn, Optional, TextIO
 
 from regkit import __version__
-from regkit.statuses import ExitStatus
+from regkit.base.statuses import ExitStatus
 
 # Each module has HELP, EPILOG, add_arguments(parser) and run(arguments), which returns the exit status.
 COMMANDS = ["check", "explain", "draw", "index", "verify", "convert", "merge", "split", "join"]

@@ -47,7 +47,7 @@ import re
 from types import TracebackType
 from typing import Any, Callable, List, Optional, Type, TypeVar
 
-from regkit.journal import Clock, Failures, Journal, Output, RecordingError
+from regkit.recording.journal import Clock, Failures, Journal, Output, RecordingError
 
 LEAST, GREATEST = -(2**63), 2**63 - 1
 WHOLE_NUMBER = re.compile(r"-?[0-9]{1,19}")

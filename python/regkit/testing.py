@@ -10,14 +10,14 @@ import re
 import tempfile
 from typing import Optional, Sequence, Union
 
-from regkit.checker import WOULD_DECIDE, Answer, NoChecker, decide, is_for_search
-from regkit.evidence import Evidence, count_evidence
-from regkit.history import read_history
-from regkit.options import bounds
+from regkit.base.statuses import ExitStatus
+from regkit.checker.programs import WOULD_DECIDE, Answer, NoChecker, decide, is_for_search
+from regkit.checker.report import read_report
+from regkit.commands.options import bounds
+from regkit.evidence.evidence import Evidence, count_evidence
+from regkit.explain.sentences import counted
+from regkit.history.operations import read_history
 from regkit.record import Recorder, RecordingError
-from regkit.report import read_report
-from regkit.sentences import counted
-from regkit.statuses import ExitStatus
 
 Recorded = Union[Recorder, bytes, str, "os.PathLike[str]"]
 
@@ -67,7 +67,7 @@ def assert_atomic(history: Recorded, *, least_reads: int = 1, least_overlaps: in
 
 def explanation(history: bytes, report: bytes, options: Sequence[str] = ()) -> str:
     """Why a history isn't atomic, as `regkit explain` says it. The options are those of regsearch."""
-    from regkit.explanation import explain_text  # only a test that fails needs it
+    from regkit.explain.explanation import explain_text  # only a test that fails needs it
 
     return explain_text(history, report, options)
 
@@ -123,7 +123,7 @@ def _path(history: Recorded) -> Optional[pathlib.Path]:
 def _without_verdict(data: bytes, answer: Answer) -> str:
     """Why there is no verdict."""
     if answer.status == ExitStatus.UNKNOWN:
-        from regkit.searched import what_to_do  # only a search that gave up needs it
+        from regkit.explain.searched import what_to_do  # only a search that gave up needs it
 
         unknown = read_report(answer.report).unknown
         return f"unknown: the search gave up; {what_to_do(unknown, dashes='')}"

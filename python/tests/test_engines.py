@@ -7,9 +7,9 @@ import tempfile
 import unittest
 from typing import Dict, List, Sequence
 
-from regkit.checker import find_checker
+from regkit.checker.programs import find_checker
 from regkit.commands import join
-from regkit.parts import file_of
+from regkit.parts.folder import file_of
 from tests.split_support import STAND_IN_SBATCH, python_with_dask, run_command, whole
 from tests.test_split import Folder, call, end, has_checker, history_of
 

@@ -12,7 +12,7 @@ import unittest
 import zipfile
 
 from regkit import __version__
-from regkit.library import FILE
+from regkit.checker.library import FILE
 
 ROOT = pathlib.Path(__file__).resolve().parents[2]
 NAME = f"regkit-{__version__}"

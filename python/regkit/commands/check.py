@@ -6,14 +6,14 @@ import sys
 import time
 from typing import List
 
-from regkit.colour import CHOICES, Painter, painter
-from regkit.inputs import STANDARD_INPUT, shown_name
-from regkit.judging import Judge, Wishes
-from regkit.options import add_bounds, bounds_of, count
-from regkit.outcome import STYLES, VERDICTS, Outcome, Timed, gravest, json_of, text_of
-from regkit.progress import Progress
-from regkit.quoting import plain
-from regkit.statuses import ExitStatus
+from regkit.base.statuses import ExitStatus
+from regkit.commands.options import add_bounds, bounds_of, count
+from regkit.history.inputs import STANDARD_INPUT, shown_name
+from regkit.judging.judge import Judge, Wishes
+from regkit.judging.outcome import STYLES, VERDICTS, Outcome, Timed, gravest, json_of, text_of
+from regkit.words.colour import CHOICES, Painter, painter
+from regkit.words.progress import Progress
+from regkit.words.quoting import plain
 
 HELP = "check histories, and say in a few lines what came out"
 EPILOG = """\
@@ -87,7 +87,7 @@ def tell(outcome: Outcome, arguments: argparse.Namespace, progress: Progress) ->
         lines = [heading(outcome, painter(arguments.color, stream)), *text_of(outcome)]
         progress.say("\n".join(lines), stream)
     if arguments.annotate and outcome.status != ExitStatus.ATOMIC:
-        from regkit.annotations import annotations  # only who asks for them waits for this
+        from regkit.judging.annotations import annotations  # only who asks for them waits for this
 
         progress.say("\n".join(annotations(outcome)), sys.stdout)
 
@@ -120,7 +120,7 @@ def run(arguments: argparse.Namespace) -> int:
             told.append(Timed(outcome, time.monotonic() - began))
             tell(outcome, arguments, progress)
     if arguments.junit is not None:
-        from regkit.junit import document  # only who asks for it waits for this
+        from regkit.judging.junit import document  # only who asks for it waits for this
 
         pathlib.Path(arguments.junit).write_text(document(told), encoding="utf-8")
     return gravest([timed.outcome.status for timed in told])

@@ -4,24 +4,24 @@ import shutil
 import sys
 from typing import List, Tuple
 
-from regkit.advice import advice
-from regkit.checker import WOULD_DECIDE, NoChecker, decide, is_for_search
-from regkit.colour import CHOICES, painter
-from regkit.explanation import NotOfHistory, Wishes, explain
-from regkit.garbage import many_objects
-from regkit.history import History, NoRegister, NotAHistory, read_history
-from regkit.inputs import STANDARD_INPUT, TooLong, read_input, shown_name
-from regkit.judging import failure, failure_of
-from regkit.limits import MAX_BYTES
-from regkit.options import add_bounds, bounds_of, count
-from regkit.progress import Progress
-from regkit.quoting import plain, quoted
-from regkit.report import Report, Row, read_report
-from regkit.searched import what_to_do
-from regkit.sentences import counted
-from regkit.shrinking import MOST_RUNS
-from regkit.source_map import NotAMap, put_labels
-from regkit.statuses import ExitStatus
+from regkit.base.garbage import many_objects
+from regkit.base.limits import MAX_BYTES
+from regkit.base.statuses import ExitStatus
+from regkit.checker.programs import WOULD_DECIDE, NoChecker, decide, is_for_search
+from regkit.checker.report import Report, Row, read_report
+from regkit.commands.options import add_bounds, bounds_of, count
+from regkit.explain.advice import advice
+from regkit.explain.explanation import NotOfHistory, Wishes, explain
+from regkit.explain.searched import what_to_do
+from regkit.explain.sentences import counted
+from regkit.explain.shrinking import MOST_RUNS
+from regkit.history.inputs import STANDARD_INPUT, TooLong, read_input, shown_name
+from regkit.history.operations import History, NoRegister, NotAHistory, read_history
+from regkit.history.source_map import NotAMap, put_labels
+from regkit.judging.judge import failure, failure_of
+from regkit.words.colour import CHOICES, painter
+from regkit.words.progress import Progress
+from regkit.words.quoting import plain, quoted
 
 HELP = "say in sentences why a history isn't linearizable"
 EPILOG = """\

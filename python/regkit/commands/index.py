@@ -4,14 +4,14 @@ import pathlib
 import sys
 from typing import List, Sequence
 
+from regkit.base.statuses import ExitStatus
+from regkit.commands.options import add_bounds, bounds_of, count
 from regkit.drawing.page import shows_unknown
-from regkit.judging import Judge, Wishes
-from regkit.options import add_bounds, bounds_of, count
-from regkit.progress import Progress
-from regkit.quoting import plain
-from regkit.runs import PICTURES, Run, page, runs_in
-from regkit.sentences import counted
-from regkit.statuses import ExitStatus
+from regkit.explain.sentences import counted
+from regkit.judging.judge import Judge, Wishes
+from regkit.judging.runs import PICTURES, Run, page, runs_in
+from regkit.words.progress import Progress
+from regkit.words.quoting import plain
 
 HELP = "check and draw the histories of a folder, and list them on a page, newest first"
 EPILOG = """\

@@ -3,13 +3,13 @@ import argparse
 import sys
 from typing import List, NamedTuple, Sequence
 
-from regkit.checker import CHECK, SEARCH
-from regkit.joining import (Answered, Outcome, RefusedPart, Unanswered, command_again, outcomes,
-                            takes_search, verdict_of, write_report)
-from regkit.limits import MAX_EVENTS
-from regkit.parts import Manifest, NotSplit, read_manifest
-from regkit.progress import Progress
-from regkit.statuses import ExitStatus
+from regkit.base.limits import MAX_EVENTS
+from regkit.base.statuses import ExitStatus
+from regkit.checker.programs import CHECK, SEARCH
+from regkit.parts.folder import Manifest, NotSplit, read_manifest
+from regkit.parts.joining import (Answered, Outcome, RefusedPart, Unanswered, command_again, outcomes,
+                                  takes_search, verdict_of, write_report)
+from regkit.words.progress import Progress
 
 HELP = "join the reports of the parts of a split history into the report of the whole"
 EPILOG = """\

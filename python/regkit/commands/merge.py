@@ -7,15 +7,15 @@ import sys
 from fractions import Fraction
 from typing import Iterator, List, Sequence
 
+from regkit.base.garbage import many_objects
+from regkit.base.statuses import ExitStatus
 from regkit.convert.clock import UNITS
 from regkit.convert.summary import too_large
-from regkit.garbage import many_objects
-from regkit.inputs import STANDARD_INPUT, read_input, shown_name
+from regkit.explain.sentences import counted, for_regsearch
+from regkit.history.inputs import STANDARD_INPUT, read_input, shown_name
 from regkit.merge import Merged, Recorded, Unmergeable, first_again, merged
-from regkit.progress import Progress
-from regkit.quoting import plain
-from regkit.sentences import counted, for_regsearch
-from regkit.statuses import ExitStatus
+from regkit.words.progress import Progress
+from regkit.words.quoting import plain
 
 HELP = "merge the histories of several recorders of one run, by their times"
 EPILOG = """\

@@ -5,8 +5,8 @@ import sys
 from typing import Optional
 
 from regkit import verify
-from regkit.inputs import opened
-from regkit.statuses import ExitStatus
+from regkit.base.statuses import ExitStatus
+from regkit.history.inputs import opened
 
 HELP = "check each claim of a report against its history, by the definitions alone"
 EPILOG = """\

@@ -10,7 +10,7 @@ Processes and values may be texts, registers any JSON. What else `regcheck` says
 import shlex
 from typing import Any, Dict, Iterable, Optional, Tuple
 
-from regkit import edn
+from regkit.convert import edn
 from regkit.convert.json_values import json_values
 from regkit.convert.members import Known, Outcomes
 from regkit.convert.model import (CAS, ENDINGS, GREATEST, READS, WRITES, Choices, Client, Operation, Refused,

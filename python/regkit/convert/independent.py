@@ -1,7 +1,7 @@
 """Keys within values, as jepsen.independent puts them: [key value]."""
 from typing import Any, List, Optional, Tuple
 
-from regkit import edn
+from regkit.convert import edn
 from regkit.convert.model import CAS, KNOWN, READS, Choices, Operation, Refused
 
 Pair = Tuple[Any, Any]

@@ -15,7 +15,7 @@ import itertools
 from collections import Counter
 from typing import Any, Dict, Iterable, Iterator, List, Optional, Tuple
 
-from regkit import edn
+from regkit.convert import edn
 from regkit.convert import pairs
 from regkit.convert.independent import are_independent, nothing_for, pair_of, part
 from regkit.convert.jepsen_lines import NO_OPERATION, line_events

@@ -8,7 +8,7 @@ A line has a process, a type, a function, a value and perhaps an error, with tab
 import re
 from typing import Any, Dict, Iterable, Iterator, List, Tuple
 
-from regkit import edn
+from regkit.convert import edn
 from regkit.convert.model import Refused
 
 Event = Dict[Any, Any]

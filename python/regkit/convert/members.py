@@ -12,7 +12,7 @@ import shlex
 from collections import Counter
 from typing import Any, Dict, FrozenSet, Iterable, Iterator, List, Mapping, NamedTuple, Optional, Set, Tuple
 
-from regkit import edn
+from regkit.convert import edn
 from regkit.convert.model import ENDINGS, Choices, Refused, counted, folded
 from regkit.convert.values import spelled
 

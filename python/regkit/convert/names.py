@@ -6,9 +6,9 @@ text is named with its quotes.
 """
 from typing import Dict, Iterable
 
+from regkit.base.limits import MAX_NAME
 from regkit.convert.model import Operation, Refused
 from regkit.convert.values import readable
-from regkit.limits import MAX_NAME
 
 
 def names(operations: Iterable[Operation]) -> Dict[str, str]:

@@ -16,7 +16,7 @@ from typing import Any, Dict, Iterable, Iterator, List, NamedTuple, TextIO
 from regkit.convert.model import CAS, Operation, Source, Value
 from regkit.convert.values import readable
 from regkit.convert.whole import Converted
-from regkit.who import members
+from regkit.history.who import members
 
 _AT_ONCE = 10_000
 

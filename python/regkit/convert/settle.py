@@ -3,7 +3,7 @@ import shlex
 from functools import partial
 from typing import Any, Callable, Dict, List, Optional, Set, Tuple
 
-from regkit import edn
+from regkit.convert import edn
 from regkit.convert.members import WRITE_ANSWERS
 from regkit.convert.model import (CAS, OTHER, READ_AND_WRITE, READS, WRITES, Choices, Operation, Refused,
                                   Source, Value, counted)

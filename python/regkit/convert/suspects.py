@@ -8,7 +8,7 @@ a person has to say what such a value is.
 import shlex
 from typing import Any, Dict, Iterator, List, Optional, Set, Tuple
 
-from regkit import edn
+from regkit.convert import edn
 from regkit.convert.model import CAS, Choices, Operation, Refused, Source, Value, counted
 from regkit.convert.values import Written, bare, initial_value, shown, spelled
 

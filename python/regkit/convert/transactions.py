@@ -1,7 +1,7 @@
 """Transactions of one read or one write, as Elle's rw-register has them: [[:w 3 1]]."""
 from typing import Any, Iterable, List, Optional
 
-from regkit import edn
+from regkit.convert import edn
 from regkit.convert.model import Operation, Refused
 
 

@@ -2,7 +2,7 @@
 import re
 from typing import AbstractSet, Any, Dict, Iterable, Set, Tuple
 
-from regkit import edn
+from regkit.convert import edn
 from regkit.convert.model import GREATEST, LEAST, Operation, Refused, Value
 
 ALL_TEXTS = frozenset({"csv", "porcupine"})  # forms in which a text of a whole number is that number

@@ -7,7 +7,7 @@ import io
 import json
 from typing import Any, Callable, Dict, Iterator, List, Tuple
 
-from regkit import edn
+from regkit.convert import edn
 from regkit.convert.model import CAS, Operation, Source, Value
 from regkit.convert.tables import COLUMNS, PLAIN_COLUMNS
 

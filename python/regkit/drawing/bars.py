@@ -2,8 +2,8 @@
 from typing import List, NamedTuple, Optional
 
 from regkit.drawing.marks import Marks
-from regkit.history import Operation
-from regkit.sentences import value_of, wanted_of
+from regkit.explain.sentences import value_of, wanted_of
+from regkit.history.operations import Operation
 
 INITIAL_CALL = -1  # where the initial write's bar begins; it ends at line 0
 LETTER = 6.9  # the width of a letter of a label, with a little to spare: fonts differ

@@ -9,8 +9,8 @@ from regkit.drawing.marks import Arrow, Marks, Zone
 from regkit.drawing.ruler import OVERVIEW_LABEL, ruler, ruler_height
 from regkit.drawing.scene import Scene
 from regkit.drawing.svg import tag, text
-from regkit.history import History
-from regkit.sentences import capital, precedence, value_of
+from regkit.explain.sentences import capital, precedence, value_of
+from regkit.history.operations import History
 
 PAGE_WIDTH = 1136.0  # of what the page has room for
 LEAST_GUTTER = 84.0  # for the labels at the left

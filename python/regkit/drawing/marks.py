@@ -2,11 +2,11 @@
 first read that can't be explained, the writes that were open beside it, and a stale read and a fresh one."""
 from typing import Any, Dict, List, NamedTuple, Optional, Set, Tuple
 
-from regkit.causes import StalePair, stale_pair
-from regkit.history import History, Operation
-from regkit.searched import contradicted, is_unwritten, value_after, without_effect
-from regkit.sentences import pairs_of, value_of
-from regkit.unexplained import Unexplained
+from regkit.explain.causes import StalePair, stale_pair
+from regkit.explain.searched import contradicted, is_unwritten, value_after, without_effect
+from regkit.explain.sentences import pairs_of, value_of
+from regkit.explain.unexplained import Unexplained
+from regkit.history.operations import History, Operation
 
 Row = Dict[str, Any]
 FIRST, SECOND = "first", "second"  # the two clusters, by the numbers of the arrows that leave them

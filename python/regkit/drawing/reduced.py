@@ -2,16 +2,16 @@
 register can have at each moment."""
 from typing import List, NamedTuple, Optional, Set
 
-from regkit.checker import NoChecker
+from regkit.checker.programs import NoChecker
 from regkit.drawing.svg import tag
 from regkit.drawing.text import words
-from regkit.history import Operation
-from regkit.reaching import Moment, moments
-from regkit.search_explanation import answered, enough
-from regkit.searched import Contradicted
-from regkit.sentences import capital, change_of, value_of
-from regkit.shrinking import Searcher, asker, shrink, until
-from regkit.who import process_of
+from regkit.explain.reaching import Moment, moments
+from regkit.explain.search_explanation import answered, enough
+from regkit.explain.searched import Contradicted
+from regkit.explain.sentences import capital, change_of, value_of
+from regkit.explain.shrinking import Searcher, asker, shrink, until
+from regkit.history.operations import Operation
+from regkit.history.who import process_of
 
 MOST_CALLS = 20_000  # of a register, so that a page takes seconds
 MOST_VALUES = 8  # in one row

@@ -5,7 +5,7 @@ from regkit.drawing import shapes, svg
 from regkit.drawing.axis import DIGIT
 from regkit.drawing.scene import Scene, lines_of
 from regkit.drawing.svg import tag, text
-from regkit.history import History
+from regkit.history.operations import History
 
 NUMBERS, OVERVIEW = 34.0, 26.0  # heights
 OVERVIEW_LABEL = "all lines"

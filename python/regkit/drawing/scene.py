@@ -9,8 +9,8 @@ from regkit.drawing.bars import INITIAL_CALL, Bar, bar_of
 from regkit.drawing.lanes import MOST_PROCESSES, Lanes, lanes_of_processes, packed
 from regkit.drawing.marks import Marks
 from regkit.drawing.windows import Window, count_left_out, windows_around
-from regkit.history import Operation
-from regkit.who import shared
+from regkit.history.operations import Operation
+from regkit.history.who import shared
 
 MOST_CONTEXT = 30  # events on either side of each that matters, if they fit
 WIDEST_STEP = 36  # between two events, if the page has room

@@ -1,7 +1,7 @@
 """What the page says and shows of one register."""
 from typing import List, NamedTuple, Optional
 
-from regkit import causes, sentences
+from regkit.checker.report import Row
 from regkit.drawing import shapes
 from regkit.drawing.figure import PAGE_WIDTH, RIGHT, Figure, gutter_of
 from regkit.drawing.marks import FIRST, SECOND, Marks, marks_of_fault, marks_of_read, marks_of_search
@@ -9,12 +9,12 @@ from regkit.drawing.reduced import Reduced, reduced, table
 from regkit.drawing.scene import Register, Scene, fitted, strips
 from regkit.drawing.svg import tag
 from regkit.drawing.text import name, with_code, words
-from regkit.history import History, Operation
-from regkit.report import Row
-from regkit.searched import contradicted, is_unwritten, sentences_of, what_to_do
-from regkit.sentences import capital, counted, named
-from regkit.shrinking import Searcher
-from regkit.unexplained import Unexplained, find_unexplained
+from regkit.explain import causes, sentences
+from regkit.explain.searched import contradicted, is_unwritten, sentences_of, what_to_do
+from regkit.explain.sentences import capital, counted, named
+from regkit.explain.shrinking import Searcher
+from regkit.explain.unexplained import Unexplained, find_unexplained
+from regkit.history.operations import History, Operation
 
 WHOLE = 600  # events; a register of no more is drawn whole, below its fault
 FIRST_EVENTS = 400  # of a register that is atomic, so many are drawn

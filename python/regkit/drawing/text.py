@@ -5,7 +5,7 @@ import re
 import unicodedata
 from typing import List
 
-from regkit.quoting import escaped, plain, shortened
+from regkit.words.quoting import escaped, plain, shortened
 
 LONGEST = 96  # characters of a name that are shown; the middle of a longer one is left out
 MOST_MARKS = 2  # combining marks on one letter; more of them would climb over the lines above

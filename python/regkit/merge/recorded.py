@@ -2,9 +2,9 @@
 import json
 from typing import Any, Dict, List, NamedTuple, Optional, Sequence, Tuple
 
-from regkit.lines import numbered_lines
-from regkit.quoting import quoted
+from regkit.history.lines import numbered_lines
 from regkit.verify.operations import FOREVER, History, Refused, event_of
+from regkit.words.quoting import quoted
 
 NO_TIME = ("has no `time` in whole nanoseconds: record with a clock, as in "
            "Recorder(\"history.jsonl\", clock=time.monotonic_ns)")

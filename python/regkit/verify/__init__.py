@@ -1,7 +1,7 @@
 """Checks each claim of a report of regcheck or regsearch against its history, by the definitions alone.
 
 Read this package if you trust neither the proof, nor the compiler, nor the toolchain. It is plain code, and
-shares none with the rest of regkit but `regkit/lines.py`, which splits a history into lines and reads JSON.
+shares none with the rest of regkit but `regkit/history/lines.py`, which splits a history into lines and reads JSON.
 
 - `operations.py`: the format of a history, from its bytes to its operations, or the reason to refuse it.
 - `claims.py`: what each key of a report of regcheck claims, and how it is checked.

@@ -4,7 +4,7 @@ docs/format.md has the rules: those of regcheck, and those of regsearch, with va
 """
 from typing import Any, Dict, List, Optional, Tuple
 
-from regkit.lines import NotJson, json_of, numbered_lines
+from regkit.history.lines import NotJson, json_of, numbered_lines
 
 FOREVER = float("inf")  # the line of a reply that never came: it is after every line
 
