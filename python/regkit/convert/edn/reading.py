@@ -1,118 +1,24 @@
-"""A reader and a writer of EDN, the notation in which Clojure's tools write histories.
+"""Lines as values.
 
 It reads line by line, so that a long history is never in memory as one text, and it keeps a stack of its own,
-so that depth costs nothing. nil is None; true, false and whole numbers are Python's; other numbers are
-Decimal; vectors and lists are tuples, since Clojure takes them for equal.
+so that depth costs nothing.
 """
-import itertools
 import re
-from decimal import Decimal
-from typing import Any, Dict, Iterable, Iterator, List, Optional, Tuple
+from typing import Dict, Iterable, Iterator, List, Optional, Tuple
 
-Value = Any
+from regkit.convert.edn.atoms import number_of, text_of
+from regkit.convert.edn.kinds import Keyword, Map, NotEdn, Set, Symbol, Tagged, Value, write
+from regkit.convert.edn.tokens import tokens_of
 
-
-class Keyword(str):
-    """A keyword, with its colon."""
-
-    __slots__ = ()
-
-
-class Symbol(str):
-    """A symbol, a character, a pattern, or a number of another kind (1/2, 1.5M, ##Inf), as it was spelled."""
-
-    __slots__ = ()
-
-
-class Map(Dict[Value, Value]):
-    """A map, and the line on which it began."""
-
-    __slots__ = ("line",)
-    line: int
-
-    def __hash__(self) -> int:  # type: ignore[override]
-        return hash(write(self))
-
-
-class Set(Tuple[Value, ...]):
-    """The members of a set, in the order in which they were written."""
-
-    __slots__ = ()
-
-
-class Tagged:
-    """A value behind a tag, such as a record: #jepsen.history.Op{..}."""
-
-    __slots__ = ("tag", "value")
-
-    def __init__(self, tag: str, value: Value) -> None:
-        self.tag = tag
-        self.value = value
-
-
-class NotEdn(ValueError):
-    """The text isn't EDN, on the line that it names."""
-
-    def __init__(self, line: int, why: str) -> None:
-        super().__init__(f"line {line}: not EDN: {why}")
-
-
-# Every character but a blank or a comma begins a token, and so does the end: `finditer` skips nothing.
-_TOKEN = re.compile(
-    r"[\s,]*("
-    r'"(?:[^"\\]|\\.)*"|".*'  # a text; one that goes on in the next line takes all the rest of this one
-    r"|\#\{|\#_|[\[\](){}]"
-    r'|\#[^\s,\[\](){}";]*'
-    r"|\\(?:newline|space|tab|return|formfeed|backspace|u[0-9a-fA-F]{4}|.)?"
-    r"|;[^\n]*"
-    r'|[^\s,\[\](){}";\\]+'
-    r"|\Z)", re.DOTALL)
 # A line that is one map or record of words, numbers and short texts, and perhaps of one vector of such. Most
 # lines of a history are, and reading them as such is faster.
 _WORDS = r'[^"#;\\()\[\]{}]*(?:(?<![^\s,\[{])"[^"#;\\()\[\]{}\s,]*"(?![^\s,\]}])[^"#;\\()\[\]{}]*)*'
 _FLAT = re.compile(
     rf"\s*(?:#([a-zA-Z][\w./-]*)\s*)?\{{({_WORDS})(?:\[({_WORDS})\]({_WORDS}))?\}}\s*")
-_WHOLE_TEXT = re.compile(r'"(?:[^"\\]|\\.)*"', re.DOTALL)
-_WHOLE = re.compile(r"[+-]?(?:0|[1-9][0-9]*)N?")
-_DECIMAL = re.compile(r"[+-]?[0-9]+(?:\.[0-9]*)?(?:[eE][+-]?[0-9]+)?")
-_HEX = re.compile(r"[+-]?0[xX][0-9a-fA-F]+N?")
-_OTHER_NUMBER = re.compile(r"[+-]?[0-9]+(?:\.[0-9]*)?(?:[eE][+-]?[0-9]+)?M|[+-]?[0-9]+/[0-9]+")
 _NUMBER_START = re.compile(r"[+-]?[0-9]")
-_ESCAPE = re.compile(r"\\(u[0-9a-fA-F]{4}|.)", re.DOTALL)
-_ESCAPED = {"n": "\n", "t": "\t", "r": "\r", "b": "\b", "f": "\f", '"': '"', "\\": "\\"}
 _CLOSING = {"[": "]", "(": ")", "{": "}", "#{": "}"}
-_AT_ONCE = 10_000  # tokens
 _MOST_WORDS = 10_000  # keywords kept; a history that has more of them makes them anew
 _ABSENT = object()
-
-
-def _text(token: str, line: int) -> str:
-    """The text that a token in quotes stands for. The halves of a surrogate pair become their character."""
-    if "\\" not in token:
-        return token[1:-1]
-
-    def unescape(found: "re.Match[str]") -> str:
-        name = found[1]
-        if len(name) == 5:
-            return chr(int(name[1:], 16))
-        if name not in _ESCAPED:
-            raise NotEdn(line, f"\\{name} is no escape")
-        return _ESCAPED[name]
-
-    plain = _ESCAPE.sub(unescape, token[1:-1])
-    return plain.encode("utf-16", "surrogatepass").decode("utf-16", "surrogatepass")
-
-
-def _number(token: str, line: int) -> Value:
-    if _WHOLE.fullmatch(token):
-        return int(token.rstrip("N"))
-    if _DECIMAL.fullmatch(token) and not token.lstrip("+-").isdigit():
-        return Decimal(token)
-    if _HEX.fullmatch(token):
-        return int(token.rstrip("N"), 16)
-    if _OTHER_NUMBER.fullmatch(token):
-        return Symbol(token)
-    raise NotEdn(line, f"{token} is no number")
 
 
 def _map(items: List[Value], line: int) -> Map:
@@ -219,7 +125,7 @@ class _Reader:
         if first == '"':
             if self.prefixes[-1:] == ["#"]:  # a pattern, whose backslashes aren't those of a text
                 return Symbol(self.prefixes.pop() + token)
-            return _text(token, line)
+            return text_of(token, line)
         if first == ":":
             if len(token) == 1:
                 raise NotEdn(line, "a colon without a name")
@@ -229,7 +135,7 @@ class _Reader:
             return word
         if first == "\\" and len(token) == 1:
             raise NotEdn(line, "\\ without a character")
-        return _number(token, line) if _NUMBER_START.match(token) else Symbol(token)
+        return number_of(token, line) if _NUMBER_START.match(token) else Symbol(token)
 
     def done(self) -> List[Value]:
         """What ended at the top since the last time."""
@@ -247,37 +153,6 @@ class _Reader:
             raise NotEdn(line, f"{self.prefixes[-1]} stands before no value")
 
 
-def _unfinished(token: str) -> bool:
-    """Whether a token is a text without its closing quote."""
-    return token[:1] == '"' and not _WHOLE_TEXT.fullmatch(token)
-
-
-def _tokens(line: str, more: Iterator[Tuple[int, str]], number: int) -> Iterator[List[str]]:
-    """The tokens of a line, some thousands at once, and of those behind it if a text goes on there."""
-    found = _TOKEN.finditer(line.rstrip("\n"))
-    tokens = _some(found)
-    while tokens:
-        if _unfinished(tokens[-1]):
-            found = _TOKEN.finditer(_joined(tokens.pop(), more, number))
-        yield tokens
-        tokens = _some(found)
-
-
-def _some(found: Iterator["re.Match[str]"]) -> List[str]:
-    """The next tokens. What matches at the end, behind blanks, is no token."""
-    return [match[1] for match in itertools.islice(found, _AT_ONCE) if match[1]]
-
-
-def _joined(line: str, more: Iterator[Tuple[int, str]], number: int) -> str:
-    """A line and those behind it, up to the next with a quote, where its open text may end."""
-    held = [line]
-    for _, behind in more:
-        held.append(behind.rstrip("\n"))
-        if '"' in behind:
-            return "\n".join(held)
-    raise NotEdn(number, "a text without its closing quote")
-
-
 def values(lines: Iterable[str], elements: bool = False) -> Iterator[Tuple[int, Value]]:
     """Each value at the top, with the number of its line. Raises NotEdn.
 
@@ -291,7 +166,7 @@ def values(lines: Iterable[str], elements: bool = False) -> Iterator[Tuple[int, 
         if flat is not None:
             yield number, reader.flat(flat, number)
             continue
-        for tokens in _tokens(line, numbered, number):
+        for tokens in tokens_of(line, numbered, number):
             reader.read(tokens, number)
             yield from ((_line_of(value, number), value) for value in reader.done())
     reader.end(number)
@@ -301,38 +176,3 @@ def _line_of(value: Value, line: int) -> int:
     """The line on which a value began, if it is a map; else the one on which it was read."""
     inner = value.value if type(value) is Tagged else value
     return inner.line if type(inner) is Map else line
-
-
-_QUOTED = {'"': '\\"', "\\": "\\\\", "\n": "\\n", "\r": "\\r", "\t": "\\t"}
-_TO_QUOTE = re.compile(r'["\\\n\r\t\ud800-\udfff]')
-
-
-def quote(text: str) -> str:
-    """A text as EDN writes it."""
-    return '"' + _TO_QUOTE.sub(lambda found: _QUOTED.get(found[0]) or f"\\u{ord(found[0]):04x}", text) + '"'
-
-
-def _decimal(value: Decimal) -> str:
-    """A number that isn't whole, equal ones alike, and never as a whole number is written."""
-    text = str(value.normalize())
-    return text if "." in text or "E" in text else text + ".0"
-
-
-def write(value: Value) -> str:
-    """The one text of a value: two values have one text only if EDN takes them for equal."""
-    kind = type(value)
-    if kind is int or kind is Keyword or kind is Symbol:
-        return str(value)
-    if kind is str:
-        return quote(value)
-    if value is None or kind is bool:
-        return {None: "nil", True: "true", False: "false"}[value]
-    if isinstance(value, Set):
-        return "#{" + " ".join(sorted(map(write, value))) + "}"
-    if isinstance(value, (tuple, list)):
-        return "[" + " ".join(map(write, value)) + "]"
-    if isinstance(value, dict):
-        return "{" + ", ".join(sorted(f"{write(key)} {write(member)}" for key, member in value.items())) + "}"
-    if kind is Tagged:
-        return f"#{value.tag} {write(value.value)}"
-    return _decimal(value)
