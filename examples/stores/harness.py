@@ -28,7 +28,7 @@ if (ROOT / "python/regkit").is_dir():  # else regkit is installed, or named by P
     sys.path.insert(0, str(ROOT / "python"))
 
 from regkit.record import Client, Recorder  # noqa: E402
-from regkit.explain.sentences import counted  # noqa: E402
+from regkit.words.phrases import counted  # noqa: E402
 
 KEYS = ["x", "y"]
 PAUSE = 0.002  # seconds between two calls of a client, on average

@@ -11,13 +11,13 @@ import tempfile
 from typing import Optional, Sequence, Union
 
 from regkit.base.statuses import ExitStatus
+from regkit.checker.bounds import bounds
 from regkit.checker.programs import WOULD_DECIDE, Answer, NoChecker, decide, is_for_search
 from regkit.checker.report import read_report
-from regkit.commands.options import bounds
 from regkit.evidence.evidence import Evidence, count_evidence
-from regkit.explain.sentences import counted
 from regkit.history.operations import read_history
 from regkit.record import Recorder, RecordingError
+from regkit.words.phrases import counted
 
 Recorded = Union[Recorder, bytes, str, "os.PathLike[str]"]
 
@@ -51,9 +51,9 @@ def assert_atomic(history: Recorded, *, least_reads: int = 1, least_overlaps: in
     name = str(path) if path else "the history"
     options = bounds(steps, configurations)
     answer = decide(data, options)
-    if answer.status not in (0, 1):
+    if answer.status not in (ExitStatus.ATOMIC, ExitStatus.NOT_ATOMIC):
         raise NotChecked(f"{name}: {_without_verdict(data, answer)}")
-    if answer.status == 1:
+    if answer.status == ExitStatus.NOT_ATOMIC:
         raise NotAtomic(_not_atomic(data, answer, path, options))
     evidence = count_evidence(read_history(data))
     reads, overlaps = evidence.completed_reads, evidence.overlapping_reads
@@ -81,12 +81,14 @@ def verdict(recorder: Recorder) -> str:
         answer = decide(data)
     except NoChecker as error:
         return str(error)
-    if answer.status == 0:
+    if answer.status == ExitStatus.ATOMIC:
         evidence = count_evidence(read_history(data))
         return (f"linearizable: {counted(evidence.operations, 'operation')}; "
                 f"{counted(evidence.completed_reads, 'completed read')}, "
                 f"{evidence.overlapping_reads:,} overlap a write")
-    return explanation(data, answer.report) if answer.status == 1 else _without_verdict(data, answer)
+    if answer.status == ExitStatus.NOT_ATOMIC:
+        return explanation(data, answer.report)
+    return _without_verdict(data, answer)
 
 
 def keep(recorder: Recorder, directory: "os.PathLike[str]", test: str) -> pathlib.Path:

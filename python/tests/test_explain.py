@@ -10,7 +10,7 @@ from unittest import mock
 
 from regkit.checker.programs import run_checker
 from regkit.checker.report import read_report
-from regkit.explain.explanation import NotOfHistory, Wishes, explain, explain_text
+from regkit.explain.explanation import Wishes, explain, explain_text
 from regkit.explain.surroundings import find_scene, role_of
 from regkit.explain.timeline import Entry, draw
 from regkit.explain.unexplained import Peaks, find_unexplained

@@ -13,7 +13,7 @@ from types import TracebackType
 from typing import Any, BinaryIO, List, NamedTuple, Optional, Sequence, Type, Union
 
 from regkit.base.statuses import ExitStatus
-from regkit.checker.refusals import read_refusal
+from regkit.checker.refusals import BAD_OP, REPEATED, read_refusal
 from regkit.history.lines import NotJson, json_of
 
 LIBRARY_BYTES = 1_048_576  # the program has several workers: it is as quick with a longer history
@@ -22,7 +22,6 @@ CHECK, SEARCH = "regcheck", "regsearch"
 VARIABLES = {CHECK: "REGCHECK", SEARCH: "REGSEARCH"}  # with the paths of the programs
 WOULD_DECIDE = ("regsearch would decide it, since it takes repeated values and cas: put it beside regcheck or on "
                 "PATH, or set REGSEARCH to its path")
-BAD_OP, REPEATED = 6, 13  # the numbers of the refusals of a cas and of a repeated value
 
 
 class NoChecker(Exception):
@@ -35,8 +34,8 @@ class NoChecker(Exception):
 class Answer(NamedTuple):
     """What one run of a program gave."""
 
-    status: int  # 0 atomic, 1 not, 2 refused, 3 command line, 4 input, memory or output failed, 6 unknown
-    report: bytes  # standard output; empty unless status is 0, 1 or 6
+    status: int  # one of ExitStatus, or below 0 the signal that ended it
+    report: bytes  # standard output; empty unless it decided
     refusal: str  # standard error, without its line feed
     program: str = CHECK
 

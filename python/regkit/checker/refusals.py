@@ -2,32 +2,37 @@
 import re
 from typing import Callable, NamedTuple, Optional, Tuple
 
+from regkit.base.limits import MAX_BYTES, MAX_EVENTS, MAX_LINE, MAX_NAME, MAX_PROCESS
+
+BAD_OP, REPEATED = 6, 13  # the numbers of the refusals of a cas and of a repeated value
+
 # The texts of the refusals of a line, by their numbers in docs/format.md. On one line the lowest number counts.
 TEXTS = {
-    1: "line is longer than 65536 bytes",
+    1: f"line is longer than {MAX_LINE} bytes",
     2: "not JSON",
     3: "not an object",
-    4: "process is not a whole number from 0 to 4294967295",
+    4: f"process is not a whole number from 0 to {MAX_PROCESS}",
     5: "event is not call, reply, fail or crash",
-    6: "op is neither read nor write",
-    7: "register is not a text of 1 to 255 bytes",
+    BAD_OP: "op is neither read nor write",
+    7: f"register is not a text of 1 to {MAX_NAME} bytes",
     8: "value does not fit the event",
     9: "the process has an open call",
     10: "reply without an open call",
     11: "reply disagrees with its call",
     12: "a read's reply has no value",
-    13: "value already written to this register",
+    REPEATED: "value already written to this register",
     19: "the process crashed",
 }
 # Those of `regsearch` that differ.
 SEARCH_TEXTS = {
-    6: "op is neither read, write nor cas",
+    BAD_OP: "op is neither read, write nor cas",
     20: "from or to does not fit the event",
     21: "a cas's reply has no ok, true or false",
 }
 NUMBERS = {text: number for texts in (TEXTS, SEARCH_TEXTS) for number, text in texts.items()}
 # Those that are about the size of a history, or about none.
-OTHER_TEXTS = {14: "more than 1048576 events", 15: "input is longer than 67108864 bytes", 17: "no memory or no thread"}
+OTHER_TEXTS = {14: f"more than {MAX_EVENTS} events", 15: f"input is longer than {MAX_BYTES} bytes",
+               17: "no memory or no thread"}
 WORDS = re.compile(r"line (\d+): (.+?)(?: at line (\d+))?")
 
 

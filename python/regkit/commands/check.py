@@ -10,10 +10,11 @@ from regkit.base.statuses import ExitStatus
 from regkit.commands.options import add_bounds, bounds_of, count
 from regkit.history.inputs import STANDARD_INPUT, shown_name
 from regkit.judging.judge import Judge, Wishes
-from regkit.judging.outcome import STYLES, VERDICTS, Outcome, Timed, gravest, json_of, text_of
+from regkit.judging.outcome import Outcome, Timed, gravest, json_of, text_of
 from regkit.words.colour import CHOICES, Painter, painter
 from regkit.words.progress import Progress
 from regkit.words.quoting import plain
+from regkit.words.verdicts import STYLES, VERDICTS
 
 HELP = "check histories, and say in a few lines what came out"
 EPILOG = """\

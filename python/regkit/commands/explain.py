@@ -13,13 +13,13 @@ from regkit.commands.options import add_bounds, bounds_of, count
 from regkit.explain.advice import advice
 from regkit.explain.explanation import NotOfHistory, Wishes, explain
 from regkit.explain.searched import what_to_do
-from regkit.explain.sentences import counted
 from regkit.explain.shrinking import MOST_RUNS
 from regkit.history.inputs import STANDARD_INPUT, TooLong, read_input, shown_name
 from regkit.history.operations import History, NoRegister, NotAHistory, read_history
 from regkit.history.source_map import NotAMap, put_labels
 from regkit.judging.judge import failure, failure_of
 from regkit.words.colour import CHOICES, painter
+from regkit.words.phrases import counted
 from regkit.words.progress import Progress
 from regkit.words.quoting import plain, quoted
 

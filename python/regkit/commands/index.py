@@ -7,9 +7,9 @@ from typing import List, Sequence
 from regkit.base.statuses import ExitStatus
 from regkit.commands.options import add_bounds, bounds_of, count
 from regkit.drawing.page import shows_unknown
-from regkit.explain.sentences import counted
 from regkit.judging.judge import Judge, Wishes
 from regkit.judging.runs import PICTURES, Run, page, runs_in
+from regkit.words.phrases import counted
 from regkit.words.progress import Progress
 from regkit.words.quoting import plain
 

@@ -7,8 +7,8 @@ from regkit.base.limits import MAX_EVENTS
 from regkit.base.statuses import ExitStatus
 from regkit.checker.programs import CHECK, SEARCH
 from regkit.parts.folder import Manifest, NotSplit, read_manifest
-from regkit.parts.joining import (Answered, Outcome, RefusedPart, Unanswered, command_again, outcomes,
-                                  takes_search, verdict_of, write_report)
+from regkit.parts.joining import (STATUSES, Answered, Outcome, RefusedPart, Unanswered, command_again,
+                                  outcomes, takes_search, verdict_of, write_report)
 from regkit.words.progress import Progress
 
 HELP = "join the reports of the parts of a split history into the report of the whole"
@@ -31,7 +31,6 @@ exit status:
      command that runs it again; or output failed
   6  some part is unknown, and no part is known not to be atomic
 """
-STATUSES = {"yes": ExitStatus.ATOMIC, "no": ExitStatus.NOT_ATOMIC, "unknown": ExitStatus.UNKNOWN}
 
 
 def add_arguments(parser: argparse.ArgumentParser) -> None:

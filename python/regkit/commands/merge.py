@@ -11,9 +11,9 @@ from regkit.base.garbage import many_objects
 from regkit.base.statuses import ExitStatus
 from regkit.convert.clock import UNITS
 from regkit.convert.summary import too_large
-from regkit.explain.sentences import counted, for_regsearch
 from regkit.history.inputs import STANDARD_INPUT, read_input, shown_name
 from regkit.merge import Merged, Recorded, Unmergeable, first_again, merged
+from regkit.words.phrases import counted, for_regsearch
 from regkit.words.progress import Progress
 from regkit.words.quoting import plain
 

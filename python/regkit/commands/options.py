@@ -1,8 +1,9 @@
 """Kinds of values on the command line, and the bounds of a search."""
 import argparse
-from typing import Callable, List, Optional
+from typing import Callable, List
 
-from regkit.base.limits import MAX_CONFIGURATIONS, MAX_STEPS
+from regkit.base.limits import DEFAULT_CONFIGURATIONS, DEFAULT_STEPS, MAX_CONFIGURATIONS, MAX_STEPS
+from regkit.checker.bounds import bounds
 
 
 def count(word: str) -> int:
@@ -25,24 +26,12 @@ def whole(least: int, most: int) -> Callable[[str], int]:
 def add_bounds(parser: argparse.ArgumentParser) -> None:
     """The bounds of a search, which are handed on to regsearch."""
     parser.add_argument("--steps", metavar="N", type=whole(1, MAX_STEPS),
-                        help="how often a search may look at an open call (default 10000000000)")
+                        help=f"how often a search may look at an open call (default {DEFAULT_STEPS})")
     parser.add_argument("--configurations", metavar="N", type=whole(1, MAX_CONFIGURATIONS),
-                        help="how many configurations a search may hold at once (default 65536)")
+                        help="how many configurations a search may hold at once "
+                             f"(default {DEFAULT_CONFIGURATIONS})")
 
 
 def bounds_of(arguments: argparse.Namespace) -> List[str]:
     """The bounds that a command line asks for, as options of regsearch."""
     return bounds(arguments.steps, arguments.configurations)
-
-
-def bounds(steps: Optional[int], configurations: Optional[int]) -> List[str]:
-    """Bounds of a search as options of regsearch. Raises ValueError for one that it doesn't take."""
-    words: List[str] = []
-    for name, number, most in (("steps", steps, MAX_STEPS),
-                               ("configurations", configurations, MAX_CONFIGURATIONS)):
-        if number is None:
-            continue
-        if not 1 <= number <= most:
-            raise ValueError(f"{name} is {number}, and a whole number from 1 to {most} is expected")
-        words += [f"--{name}", str(number)]
-    return words

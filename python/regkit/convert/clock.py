@@ -4,7 +4,8 @@ import re
 from decimal import Decimal, InvalidOperation
 from typing import Any, List, NamedTuple, Optional, Tuple
 
-from regkit.convert.model import GREATEST, Refused, WrongWords
+from regkit.base.limits import GREATEST_VALUE
+from regkit.convert.model import Refused, WrongWords
 
 UNITS = {"ns": 0, "us": 3, "ms": 6, "s": 9}  # by name, how many nanoseconds: the exponent of ten
 _WHOLE = re.compile(r"-?[0-9]+")
@@ -68,7 +69,7 @@ class Clock:
         found = time.digits * 10 ** exponent if exponent >= 0 else time.digits // 10 ** -exponent
         if self.kind != "a number":
             found -= _EPOCH
-        return found if 0 <= found <= GREATEST else None
+        return found if 0 <= found <= GREATEST_VALUE else None
 
     def scaled(self, times: List[Time]) -> List[int]:
         """Times in units of the least exponent."""

@@ -10,11 +10,12 @@ Processes and values may be texts, registers any JSON. What else `regcheck` says
 import shlex
 from typing import Any, Dict, Iterable, Optional, Tuple
 
+from regkit.base.limits import GREATEST_VALUE
 from regkit.convert import edn
 from regkit.convert.json_values import json_values
 from regkit.convert.members import Known, Outcomes
-from regkit.convert.model import (CAS, ENDINGS, GREATEST, READS, WRITES, Choices, Client, Operation, Refused,
-                                  Source, folded)
+from regkit.convert.model import (CAS, ENDINGS, READS, WRITES, Choices, Client, Operation, Refused, Source,
+                                  folded)
 from regkit.convert.pairing import Pairing
 from regkit.convert.rows import client_of
 from regkit.convert.settle import settle
@@ -164,4 +165,4 @@ def _say_who(operation: Operation, event: Event) -> None:
 
 def _time(event: Event) -> Optional[int]:
     time = event.get("time")
-    return time if type(time) is int and 0 <= time <= GREATEST else None
+    return time if type(time) is int and 0 <= time <= GREATEST_VALUE else None

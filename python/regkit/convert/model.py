@@ -8,8 +8,6 @@ Client = Union[int, str]
 # None is null, an int is a whole number of 64 bits, and a text is any other value, as EDN writes it.
 Value = Union[None, int, str]
 
-LEAST, GREATEST = -(2 ** 63), 2 ** 63 - 1
-MOST_PROCESS = 2 ** 32 - 1
 READS = frozenset({"read", "r", "get"})
 WRITES = frozenset({"write", "w", "put", "set"})
 CAS = "cas"

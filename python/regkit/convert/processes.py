@@ -2,7 +2,8 @@
 import heapq
 from typing import Dict, List, NamedTuple, Set
 
-from regkit.convert.model import MOST_PROCESS, Client, Operation, Source
+from regkit.base.limits import MAX_PROCESS
+from regkit.convert.model import Client, Operation, Source
 
 
 class Given(NamedTuple):
@@ -39,7 +40,7 @@ class _Clients:
 
 
 def _is_number(client: Client) -> bool:
-    return type(client) is int and 0 <= client <= MOST_PROCESS
+    return type(client) is int and 0 <= client <= MAX_PROCESS
 
 
 def give_processes(source: Source) -> Given:

@@ -2,8 +2,9 @@
 import re
 from typing import AbstractSet, Any, Dict, Iterable, Set, Tuple
 
+from regkit.base.limits import GREATEST_VALUE, LEAST_VALUE
 from regkit.convert import edn
-from regkit.convert.model import GREATEST, LEAST, Operation, Refused, Value
+from regkit.convert.model import Operation, Refused, Value
 
 ALL_TEXTS = frozenset({"csv", "porcupine"})  # forms in which a text of a whole number is that number
 _WHOLE = re.compile(r"-?[1-9][0-9]{0,18}|0")  # a longer one has more than 64 bits
@@ -39,7 +40,7 @@ def settled(value: Any, nulls: AbstractSet[str], numeric_texts: bool = False, al
         value, numeric_texts = bare(value), True
     if type(value) is str and numeric_texts and _WHOLE.fullmatch(value):
         value = int(value)
-    if type(value) is int and LEAST <= value <= GREATEST:
+    if type(value) is int and LEAST_VALUE <= value <= GREATEST_VALUE:
         return value
     return edn.write(value)
 

@@ -6,7 +6,8 @@ history whose keys are right has right registers too. What the values are isn't 
 """
 from typing import Any, Mapping, Optional, Tuple
 
-from regkit.convert.model import GREATEST, Refused
+from regkit.base.limits import GREATEST_VALUE
+from regkit.convert.model import Refused
 from regkit.convert.values import spelled
 
 # A put by version 3, as a form has it that tells of cas only.
@@ -44,7 +45,7 @@ def agree(told: Mapping[str, Any], member: str, asked: Tuple[Optional[int], int]
 
 def _version(members: Mapping[str, Any], member: str, line: int, where: str) -> int:
     version = members.get(member)
-    if type(version) is not int or not 0 <= version < GREATEST:
+    if type(version) is not int or not 0 <= version < GREATEST_VALUE:
         said = "no version" if version is None else f"the version {spelled(version)[:40]}"
         raise Refused(f"the {where} has {said} in {member}, and by --versions a whole number from 0 is "
                       "expected",

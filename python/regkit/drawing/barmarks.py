@@ -7,7 +7,8 @@ from regkit.drawing.axis import Axis
 from regkit.drawing.bars import LETTER, PADDING, SIGN, SMALL_LETTER, Bar
 from regkit.drawing.scene import Scene
 from regkit.drawing.svg import tag
-from regkit.explain.sentences import capital, named
+from regkit.explain.sentences import named
+from regkit.words.phrases import capital
 
 SIGNS: Dict[str, Callable[[float, float], str]] = {
     "unexplained": shapes.exclamation, "contradicted": shapes.exclamation, "stale": shapes.exclamation,

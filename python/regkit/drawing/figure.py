@@ -9,8 +9,9 @@ from regkit.drawing.marks import Arrow, Marks, Zone
 from regkit.drawing.ruler import OVERVIEW_LABEL, ruler, ruler_height
 from regkit.drawing.scene import Scene
 from regkit.drawing.svg import tag, text
-from regkit.explain.sentences import capital, precedence, value_of
+from regkit.explain.sentences import precedence, value_of
 from regkit.history.operations import History
+from regkit.words.phrases import capital
 
 PAGE_WIDTH = 1136.0  # of what the page has room for
 LEAST_GUTTER = 84.0  # for the labels at the left

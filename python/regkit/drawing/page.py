@@ -7,14 +7,14 @@ from typing import Dict, List, NamedTuple, Sequence
 from regkit.base.statuses import ExitStatus
 from regkit.checker.report import Report, Row
 from regkit.drawing.legend import legend
-from regkit.drawing.section import Section, section
+from regkit.drawing.section import section
 from regkit.drawing.style import STYLE
 from regkit.drawing.svg import tag
 from regkit.drawing.text import attribute, name, words
-from regkit.explain.sentences import capital, counted
 from regkit.explain.shrinking import Searcher
 from regkit.history.operations import History
-from regkit.judging.outcome import VERDICTS
+from regkit.words.phrases import capital, counted
+from regkit.words.verdicts import VERDICTS
 
 MOST_LISTED = 12  # names of registers that aren't drawn
 HEAD = 1024  # bytes of a page in which its title begins

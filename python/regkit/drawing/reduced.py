@@ -8,10 +8,11 @@ from regkit.drawing.text import words
 from regkit.explain.reaching import Moment, moments
 from regkit.explain.search_explanation import answered, enough
 from regkit.explain.searched import Contradicted
-from regkit.explain.sentences import capital, change_of, value_of
+from regkit.explain.sentences import change_of, value_of
 from regkit.explain.shrinking import Searcher, asker, shrink, until
 from regkit.history.operations import Operation
 from regkit.history.who import process_of
+from regkit.words.phrases import capital
 
 MOST_CALLS = 20_000  # of a register, so that a page takes seconds
 MOST_VALUES = 8  # in one row

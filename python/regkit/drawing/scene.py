@@ -2,7 +2,7 @@
 lanes."""
 from bisect import bisect_left, bisect_right
 from collections import Counter
-from typing import Dict, Iterable, List, NamedTuple, Optional, Set, Tuple
+from typing import Dict, Iterable, List, NamedTuple, Set, Tuple
 
 from regkit.drawing.axis import DIGIT, STEP, Axis, Stretch, spread
 from regkit.drawing.bars import INITIAL_CALL, Bar, bar_of

@@ -11,10 +11,11 @@ from regkit.drawing.svg import tag
 from regkit.drawing.text import name, with_code, words
 from regkit.explain import causes, sentences
 from regkit.explain.searched import contradicted, is_unwritten, sentences_of, what_to_do
-from regkit.explain.sentences import capital, counted, named
+from regkit.explain.sentences import named
 from regkit.explain.shrinking import Searcher
 from regkit.explain.unexplained import Unexplained, find_unexplained
 from regkit.history.operations import History, Operation
+from regkit.words.phrases import capital, counted
 
 WHOLE = 600  # events; a register of no more is drawn whole, below its fault
 FIRST_EVENTS = 400  # of a register that is atomic, so many are drawn

@@ -1,10 +1,11 @@
 """What may be behind a fault: the fresh read beside the stale one, lost writes, and what to ask."""
 from typing import List, NamedTuple, Optional, Tuple
 
-from regkit.explain.sentences import counted, failed_write, named
+from regkit.explain.sentences import failed_write, named
 from regkit.explain.surroundings import FOREVER, SUSPECT, end_of, find_scene
 from regkit.explain.unexplained import Unexplained
 from regkit.history.operations import History, Operation
+from regkit.words.phrases import counted
 
 EMPTY = ("was the store empty when the recording began? A value that an earlier run wrote looks like this: "
          "start with an empty store, or with keys that no run has used")

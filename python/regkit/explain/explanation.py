@@ -5,12 +5,13 @@ from typing import Callable, List, NamedTuple, Optional, Sequence, Set
 from regkit.checker.report import Report, Row, read_report
 from regkit.explain import timeline
 from regkit.explain.causes import StalePair, find_lost, questions, stale_pair
-from regkit.explain.sentences import (capital, contradiction, counted, early, failed_write, fault_of,
-                                      inversion, named, pairs_of, unwritten, value_of)
+from regkit.explain.sentences import (contradiction, early, failed_write, fault_of, inversion, named,
+                                      pairs_of, unwritten, value_of)
 from regkit.explain.surroundings import SUSPECT, Bystander, Scene, find_scene, role_of, writes_of
 from regkit.explain.unexplained import Unexplained, find_unexplained
 from regkit.history.operations import History, Operation, read_history
 from regkit.words.colour import Painter
+from regkit.words.phrases import capital, counted
 from regkit.words.quoting import quoted
 
 MOST_BYSTANDERS = 6

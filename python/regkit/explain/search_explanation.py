@@ -10,9 +10,10 @@ from regkit.explain.explanation import ACTOR_SIGN, READ_SIGN, NotOfHistory, Page
 from regkit.explain.reaching import Reached, reached
 from regkit.explain.searched import (MOST_OPEN, Contradicted, contradicted, is_open, is_unwritten,
                                      sentences_of, without_effect)
-from regkit.explain.sentences import counted, named, value_of, wanted_of
+from regkit.explain.sentences import named, value_of, wanted_of
 from regkit.explain.shrinking import MOST_RUNS, Kept, NoFault, Searcher, Small, asker, shrink, until
 from regkit.history.operations import History, Operation
+from regkit.words.phrases import counted
 from regkit.words.quoting import quoted
 
 MOST_SHOWN = 40  # rows of the time line

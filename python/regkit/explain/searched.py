@@ -2,8 +2,9 @@
 from typing import Dict, List, NamedTuple, Optional, Sequence
 
 from regkit.checker.report import Row
-from regkit.explain.sentences import counted, named, value_of, wanted_of
+from regkit.explain.sentences import named, value_of, wanted_of
 from regkit.history.operations import History, Operation
+from regkit.words.phrases import counted
 
 MOST_OPEN = 6  # open calls that are named
 BOUNDS = ("configurations", "steps")  # of a search

@@ -7,18 +7,6 @@ from regkit.history.who import process_of
 from regkit.words.quoting import quoted
 
 
-def counted(number: int, noun: str) -> str:
-    """`1 read`, `2 reads`."""
-    return f"{number:,} {noun}" if number == 1 else f"{number:,} {noun}s"
-
-
-def for_regsearch(cas: bool, repeats: bool) -> str:
-    """What a history has that only regsearch takes. Empty if it has nothing of that kind."""
-    found = " and ".join(what for what, is_there in (("cas", cas), ("repeated values", repeats)) if is_there)
-    return (f"the history has {found}, so it is one for regsearch; regkit check chooses the program by itself"
-            if found else "")
-
-
 def value_of(operation: Operation) -> str:
     return "null" if operation.value is None else str(operation.value)
 
@@ -56,10 +44,6 @@ def named(operation: Operation) -> str:
     gave = operation.kind == "write" or operation.completed
     what = f"{operation.kind} of {value_of(operation)}" if gave else operation.kind
     return f"the {what} by {process_of(operation)} ({lines_of(operation)})"
-
-
-def capital(sentence: str) -> str:
-    return sentence[:1].upper() + sentence[1:]
 
 
 def precedence(before: Operation, after: Operation) -> str:

@@ -4,8 +4,9 @@ import math
 import re
 from typing import Any, Dict, Iterator, Tuple
 
+from regkit.base.limits import MAX_DEPTH
+
 BLANK = b" \t\r"
-MAX_DEPTH = 127  # of lists and objects in one line, as the checker's JSON reader takes them
 Event = Dict[str, Any]
 _MINUS_ZERO = re.compile(r"(?<![^:,\[\s])-0")  # where a number may stand, and not in a name such as worker-0
 

@@ -4,8 +4,9 @@ from typing import List, Optional
 from regkit.base.statuses import ExitStatus
 from regkit.checker.refusals import read_refusal
 from regkit.history.inputs import STANDARD_INPUT
-from regkit.judging.outcome import VERDICTS, Fault, Outcome, unknown_in_words
+from regkit.judging.outcome import Fault, Outcome, unknown_in_words
 from regkit.words.quoting import plain, quoted
+from regkit.words.verdicts import VERDICTS
 
 
 def data(lines: List[str]) -> str:

@@ -11,11 +11,11 @@ from regkit.checker.report import Report, least_completed_reads, read_verdict
 from regkit.evidence.beginning import reads_of_beginning, unusual_reads_of_beginning
 from regkit.evidence.counting import Reads, Unusual, count_reads
 from regkit.evidence.evidence import Evidence, count_evidence
-from regkit.explain.sentences import counted
 from regkit.history.inputs import STANDARD_INPUT, TooLong, read_input, shown_name
 from regkit.history.lines import NotJson
 from regkit.history.operations import NotAHistory, read_history
 from regkit.judging.outcome import Fault, Outcome, evidence_in_words, faults_of, faults_of_search, lacks
+from regkit.words.phrases import counted
 from regkit.words.progress import Progress
 from regkit.words.quoting import plain
 

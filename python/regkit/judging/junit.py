@@ -4,8 +4,9 @@ from typing import List
 
 from regkit.base.statuses import ExitStatus
 from regkit.history.inputs import shown_name
-from regkit.judging.outcome import NO_VERDICT, VERDICTS, Timed, text_of
+from regkit.judging.outcome import NO_VERDICT, Timed, text_of
 from regkit.words.quoting import plain
+from regkit.words.verdicts import VERDICTS
 
 
 def attribute(text: str) -> str:

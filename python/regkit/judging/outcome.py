@@ -6,17 +6,12 @@ from regkit.checker.programs import CHECK
 from regkit.checker.report import Row
 from regkit.evidence import beginning
 from regkit.evidence.evidence import Evidence
-from regkit.explain.sentences import counted, fault_of, inversion
+from regkit.explain.sentences import fault_of, inversion
 from regkit.history.operations import History
+from regkit.words.phrases import counted
 from regkit.words.quoting import plain, quoted
+from regkit.words.verdicts import VERDICTS
 
-VERDICTS: Dict[int, str] = {
-    ExitStatus.ATOMIC: "linearizable", ExitStatus.NOT_ATOMIC: "not linearizable",
-    ExitStatus.REFUSED: "refused", ExitStatus.FAILED: "failed", ExitStatus.TOO_LITTLE: "too little evidence",
-    ExitStatus.UNKNOWN: "unknown"}
-STYLES: Dict[int, str] = {
-    ExitStatus.ATOMIC: "good", ExitStatus.NOT_ATOMIC: "bad", ExitStatus.REFUSED: "bad",
-    ExitStatus.FAILED: "bad", ExitStatus.TOO_LITTLE: "look", ExitStatus.UNKNOWN: "look"}
 GRAVITY: List[int] = [  # the gravest last
     ExitStatus.ATOMIC, ExitStatus.TOO_LITTLE, ExitStatus.UNKNOWN, ExitStatus.NOT_ATOMIC,
     ExitStatus.REFUSED, ExitStatus.COMMAND_LINE, ExitStatus.FAILED]

@@ -9,9 +9,10 @@ from regkit.base.statuses import ExitStatus
 from regkit.drawing.page import document
 from regkit.drawing.svg import tag
 from regkit.drawing.text import name, with_code, words
-from regkit.explain.sentences import capital, counted
-from regkit.judging.outcome import VERDICTS, Outcome
+from regkit.judging.outcome import Outcome
+from regkit.words.phrases import capital, counted
 from regkit.words.quoting import plain
+from regkit.words.verdicts import VERDICTS
 
 ENDINGS = (".jsonl", ".jsonl.gz")
 PICTURES = "pictures"  # the folder of the pictures, in that of the histories

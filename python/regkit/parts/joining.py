@@ -10,15 +10,15 @@ from contextlib import ExitStack, suppress
 from typing import Any, BinaryIO, Callable, Iterator, NamedTuple, Optional, Sequence, Tuple, Union
 
 from regkit.base.statuses import ExitStatus
-from regkit.checker.programs import CHECK, REPEATED, SEARCH, Answer, find_program, is_for_search
-from regkit.checker.refusals import SEARCH_TEXTS, TEXTS, Refusal, read_refusal
+from regkit.checker.programs import CHECK, SEARCH, Answer, find_program, is_for_search
+from regkit.checker.refusals import (BAD_OP, REPEATED, SEARCH_TEXTS, TEXTS, Refusal,
+                                     read_refusal)
 from regkit.checker.report import Row
 from regkit.parts.folder import MAP, LineMap, Manifest, file_of, same_line
 
 # The keys of a register's line whose values are line numbers.
 LINE_KEYS = ("fault", "inversion", "order", "points", "regular_read", "safe_read")
-BAD_OP = 6
-VERDICTS = {ExitStatus.ATOMIC: "yes", ExitStatus.NOT_ATOMIC: "no", ExitStatus.UNKNOWN: "unknown"}
+STATUSES = {"yes": ExitStatus.ATOMIC, "no": ExitStatus.NOT_ATOMIC, "unknown": ExitStatus.UNKNOWN}
 GRAVITY = ("no", "unknown", "yes")  # of the parts' verdicts, the first that there is is that of the whole
 LineOf = Callable[[int], int]
 
@@ -90,12 +90,12 @@ def outcome(directory: str, part: int, registers: int, line_of: LineOf) -> Outco
     """What one run left. Raises FileNotFoundError and ValueError if that isn't whole."""
     status = file_of(directory, part, "status").read_text(encoding="utf-8", errors="replace").strip()
     words = file_of(directory, part, "err").read_text(encoding="utf-8", errors="replace").strip()
-    if status == "2":
+    if status == str(int(ExitStatus.REFUSED)):
         refusal = read_refusal(words, line_of)
         if refusal is None:
             return Unanswered(part, f"unexpected refusal: {words}")
         return RefusedPart(part, program_of_refusal(refusal), refusal, words)
-    verdicts = {str(int(number)): said for number, said in VERDICTS.items()}
+    verdicts = {str(int(number)): said for said, number in STATUSES.items()}
     if status not in verdicts:
         return Unanswered(part, f"status {status or 'unknown'}" + (f": {words}" if words else ""))
     report = file_of(directory, part, "report")
