@@ -2,6 +2,6 @@
 
 - `journal.py`: the lines, whole at every moment, and what all clients share.
 - `values.py`: the values that a store gave, and those that a caller writes.
-- `client.py`: a thread or a task, which makes one call after another.
+- `caller.py`: a thread or a task, which makes one call after another.
 - `calls.py`: a call, open from the beginning of its `with` block to the end.
-- `recorder.py`: what a test makes, and takes its clients from."""
+- `client.py`, `recorder.py`: what a test takes its calls from."""

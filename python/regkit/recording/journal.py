@@ -9,14 +9,12 @@ import pathlib
 import threading
 from typing import IO, Any, Callable, Dict, List, Optional, Tuple, Type, Union
 
-from regkit.base.limits import MAX_NAME
+from regkit.base.limits import GREATEST_VALUE, MAX_NAME
 from regkit.history.who import members
 
 Output = Union[None, str, "os.PathLike[str]", IO[Any], io.IOBase]
 Failures = Union[Type[BaseException], Tuple[Type[BaseException], ...]]
 Clock = Callable[[], int]  # gives nanoseconds, and never goes back
-
-GREATEST = 2**63 - 1  # of values and times
 
 
 class RecordingError(Exception):
@@ -74,7 +72,7 @@ class Journal:
                  clock: Optional[Clock] = None) -> None:
         if prefix != "":
             quoted(prefix, "prefix")
-        if type(values_after) is not int or not 0 <= values_after < GREATEST:
+        if type(values_after) is not int or not 0 <= values_after < GREATEST_VALUE:
             raise RecordingError(f"values_after is {values_after!r}: it is a whole number from 0")
         self.failures = failures
         self.prefix = prefix
@@ -180,7 +178,7 @@ class Journal:
         if self._clock is None:
             return None
         now = self._clock()
-        if type(now) is not int or not 0 <= now <= GREATEST:
+        if type(now) is not int or not 0 <= now <= GREATEST_VALUE:
             raise self.mistake(f"the clock gave {now!r}: give Recorder a clock of whole nanoseconds, such as "
                                "time.monotonic_ns")
         return now
