@@ -474,7 +474,7 @@ class Joined(unittest.TestCase):
 
     def test_beyond_the_limits(self) -> None:
         events, rows = CASES["a read of a write"]
-        for limit, words in (("MAX_EVENTS", "line 4: more than 1048576"), ("MAX_INPUT", "input is longer")):
+        for limit, words in (("MAX_EVENTS", "line 4: more than 1048576"), ("MAX_BYTES", "input is longer")):
             with self.subTest(limit), mock.patch.object(operations, limit, 3):
                 self.assertTrue(verify.verify(events, report(*rows), joined=True).atomic)
                 with self.assertRaisesRegex(verify.Wrong, words):
@@ -516,7 +516,7 @@ class Refusals(unittest.TestCase):
     def test_the_limits(self) -> None:
         words = "input is longer than 67108864 bytes"
         self.assertIsNone(verify.verify_refusal(b"\n" * 67_108_865, words).atomic)
-        with mock.patch.object(operations, "MAX_INPUT", 5):
+        with mock.patch.object(operations, "MAX_BYTES", 5):
             self.assertIsNone(verify.verify_refusal(b"\n" * 6, words).atomic)
             self.assertIn("isn't refused", self.wrong(b"\n" * 5, words))
         with mock.patch.object(operations, "MAX_EVENTS", 2):

@@ -4,16 +4,11 @@ docs/format.md has the rules: those of regcheck, and those of regsearch, with va
 """
 from typing import Any, Dict, List, Optional, Tuple
 
+from regkit.base.limits import (GREATEST_VALUE, LEAST_VALUE, MAX_BYTES, MAX_EVENTS, MAX_LINE, MAX_NAME,
+                                MAX_PROCESS)
 from regkit.history.lines import NotJson, json_of, numbered_lines
 
 FOREVER = float("inf")  # the line of a reply that never came: it is after every line
-
-MAX_INPUT = 67_108_864
-MAX_LINE = 65_536
-MAX_EVENTS = 1_048_576
-MAX_NAME = 255
-MAX_PROCESS = 4_294_967_295
-LEAST_VALUE, GREATEST_VALUE = -(2**63), 2**63 - 1
 
 EVENTS = ("call", "reply", "fail", "crash")
 OPS = ("read", "write")
@@ -21,21 +16,21 @@ SEARCH_OPS = (*OPS, "cas")
 
 BAD_OP_OF_SEARCH = -6  # 6 has another text there
 REASONS = {
-    1: "line is longer than 65536 bytes",
+    1: f"line is longer than {MAX_LINE} bytes",
     2: "not JSON",
     3: "not an object",
-    4: "process is not a whole number from 0 to 4294967295",
+    4: f"process is not a whole number from 0 to {MAX_PROCESS}",
     5: "event is not call, reply, fail or crash",
     6: "op is neither read nor write",
-    7: "register is not a text of 1 to 255 bytes",
+    7: f"register is not a text of 1 to {MAX_NAME} bytes",
     8: "value does not fit the event",
     9: "the process has an open call at line {}",
     10: "reply without an open call",
     11: "reply disagrees with its call",
     12: "a read's reply has no value",
     13: "value already written to this register at line {}",
-    14: "more than 1048576 events",
-    15: "input is longer than 67108864 bytes",
+    14: f"more than {MAX_EVENTS} events",
+    15: f"input is longer than {MAX_BYTES} bytes",
     19: "the process crashed at line {}",
     20: "from or to does not fit the event",
     21: "a cas's reply has no ok, true or false",
@@ -181,7 +176,7 @@ def is_read(call: Operation) -> bool:
 def read_history(history: bytes, limits: bool, search: bool = False) -> History:
     """Raises Refused for the first faulty line. The limits are those on the input and on its events. With
     `search` the rules are those of regsearch."""
-    if limits and len(history) > MAX_INPUT:
+    if limits and len(history) > MAX_BYTES:
         raise Refused(15)
     taken = History(MAX_EVENTS if limits else FOREVER, search)
     for number, line in numbered_lines(history):
