@@ -569,6 +569,13 @@ class Command(unittest.TestCase):
         with self.assertRaises(OSError):
             self.run_command(h, r + "s")
 
+    def test_an_empty_history(self) -> None:
+        holds = "holds: linearizable, since the history has no operation\n"
+        for end in ('"order":[],"registers":0}', '"registers":0}'):
+            with self.subTest(end):
+                summary = self.file("h.report", report('{"atomic":"yes","operations":0,' + end))
+                self.assertEqual(self.run_command(self.file("h.jsonl", b""), summary), (0, holds))
+
     def test_refusals(self) -> None:
         h = self.file("h.jsonl", history("1 ok"))
         e = self.file("h.err", b"line 1: reply without an open call\n")

@@ -97,6 +97,8 @@ def content(name: str) -> bytes:
 def in_words(found: verify.Verified) -> str:
     if found.atomic is None:
         return f"the history is refused{' by regsearch' if found.by_search else ''}: {found.refusal}"
+    if not found.registers:
+        return "linearizable, since the history has no operation"
     size = f"{counted(found.operations, 'operation')} on {counted(found.registers, 'register')}"
     if found.early:
         return f"{'linearizable' if found.atomic else 'not linearizable'}, by an early answer: {size}"
