@@ -1,12 +1,12 @@
 """The bounds of a search, as options of `regsearch`."""
-from typing import List, Optional
+from typing import Optional
 
 from regkit.base.limits import MAX_CONFIGURATIONS, MAX_STEPS
 
 
-def bounds(steps: Optional[int], configurations: Optional[int]) -> List[str]:
+def bounds(steps: Optional[int], configurations: Optional[int]) -> list[str]:
     """Bounds of a search as options of regsearch. Raises ValueError for one that it doesn't take."""
-    words: List[str] = []
+    words: list[str] = []
     for name, number, most in (("steps", steps, MAX_STEPS),
                                ("configurations", configurations, MAX_CONFIGURATIONS)):
         if number is None:

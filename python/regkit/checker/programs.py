@@ -10,7 +10,7 @@ import subprocess
 import sys
 from itertools import islice
 from types import TracebackType
-from typing import Any, BinaryIO, List, NamedTuple, Optional, Sequence, Type, Union
+from typing import Any, BinaryIO, NamedTuple, Optional, Sequence, Union
 
 from regkit.base.statuses import ExitStatus
 from regkit.checker.refusals import BAD_OP, REPEATED, read_refusal
@@ -49,7 +49,7 @@ class Answer(NamedTuple):
         return self.program == SEARCH
 
 
-def beside(program: str = CHECK) -> List[pathlib.Path]:
+def beside(program: str = CHECK) -> list[pathlib.Path]:
     """Where the program may be: next to the command, in bin/ of the repository, or where pip puts commands."""
     places = []
     started = pathlib.Path(sys.argv[0])
@@ -120,7 +120,7 @@ class Run:
     def __enter__(self) -> "Run":
         return self
 
-    def __exit__(self, kind: Optional[Type[BaseException]], error: Optional[BaseException],
+    def __exit__(self, kind: Optional[type[BaseException]], error: Optional[BaseException],
                  trace: Optional[TracebackType]) -> None:
         """Ends the program if nobody waited for it."""
         if self.process.poll() is None:

@@ -1,6 +1,6 @@
 """The refusals of the parts of a history, and the one that a run over the whole history would give."""
 import re
-from typing import Callable, NamedTuple, Optional, Tuple
+from typing import Callable, NamedTuple, Optional
 
 from regkit.base.limits import MAX_BYTES, MAX_EVENTS, MAX_LINE, MAX_NAME, MAX_PROCESS
 
@@ -45,7 +45,7 @@ class Refusal(NamedTuple):
     other: Optional[int]  # the line of the event that the refused one contradicts
 
     @property
-    def rank(self) -> Tuple[int, int]:
+    def rank(self) -> tuple[int, int]:
         """By which one run names the lowest."""
         return self.line, self.number
 

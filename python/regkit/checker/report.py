@@ -1,9 +1,9 @@
 """A report of `regcheck` or `regsearch`, as it was written."""
 import json
 import re
-from typing import Any, Dict, List
+from typing import Any
 
-Row = Dict[str, Any]
+Row = dict[str, Any]
 ATOMIC_ROW = b'{"atomic":"yes",'  # how the line of an atomic register begins
 ORDER = b'"order":['
 
@@ -12,7 +12,7 @@ class Report:
     """The lines of the registers, by order of first call, and the summary. docs/format.md says what each
     key is."""
 
-    def __init__(self, rows: List[Row], summary: Row) -> None:
+    def __init__(self, rows: list[Row], summary: Row) -> None:
         self.rows = rows
         self.summary = summary
 
@@ -21,7 +21,7 @@ class Report:
         return bool(self.summary["atomic"] == "yes")
 
     @property
-    def unknown(self) -> List[Row]:
+    def unknown(self) -> list[Row]:
         """The lines of the registers that a search gave up."""
         return [row for row in self.rows if row["atomic"] == "unknown"]
 
@@ -31,7 +31,7 @@ class Report:
         return any("cas" in row for row in self.rows)
 
     @property
-    def faulty(self) -> List[Row]:
+    def faulty(self) -> list[Row]:
         """The lines of the registers that aren't atomic."""
         return [row for row in self.rows if row["atomic"] == "no"]
 

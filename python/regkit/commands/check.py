@@ -4,7 +4,6 @@ import json
 import pathlib
 import sys
 import time
-from typing import List
 
 from regkit.base.statuses import ExitStatus
 from regkit.commands.options import add_bounds, bounds_of, count
@@ -107,11 +106,11 @@ def run(arguments: argparse.Namespace) -> int:
     if wrong:
         print(f"regkit check: {wrong}", file=sys.stderr)
         return ExitStatus.COMMAND_LINE
-    files: List[str] = arguments.files or [STANDARD_INPUT]
+    files: list[str] = arguments.files or [STANDARD_INPUT]
     wishes = Wishes(arguments.most, arguments.least_reads, arguments.least_overlaps, arguments.first,
                     arguments.verify, arguments.draw, arguments.count_all or arguments.json,
                     bounds_of(arguments))
-    told: List[Timed] = []
+    told: list[Timed] = []
     with Progress() as progress:
         judge = Judge(wishes, progress)
         for place, name in enumerate(files, 1):

@@ -2,7 +2,6 @@
 import argparse
 import shutil
 import sys
-from typing import List, Tuple
 
 from regkit.base.garbage import many_objects
 from regkit.base.limits import MAX_BYTES
@@ -110,7 +109,7 @@ def labelled_history(arguments: argparse.Namespace, data: bytes, progress: Progr
     return history
 
 
-def explained(arguments: argparse.Namespace, progress: Progress) -> Tuple[int, str]:
+def explained(arguments: argparse.Namespace, progress: Progress) -> tuple[int, str]:
     """The exit status and the explanation. Raises Stop if there is none."""
     name = plain(shown_name(arguments.history))
     # A report of `regkit join` may be of a history that is longer than the checker takes.
@@ -141,7 +140,7 @@ def explained(arguments: argparse.Namespace, progress: Progress) -> Tuple[int, s
     return ExitStatus.NOT_ATOMIC, f"{name}: not linearizable: {how_many(report)}\n\n{why}"
 
 
-def unknown_in_words(rows: List[Row], most: int) -> str:
+def unknown_in_words(rows: list[Row], most: int) -> str:
     """The registers that a search gave up, the first few by name, and what to do about them."""
     names = ", ".join(quoted(row["register"]) for row in rows[:max(1, most)])
     more = f" and {len(rows) - most:,} more" if len(rows) > most > 0 else ""
@@ -155,7 +154,7 @@ def how_many(report: Report) -> str:
     return f"{early}{len(report.faulty):,} of {counted(registers, 'register')}"
 
 
-def answer_to(arguments: argparse.Namespace) -> Tuple[int, str]:
+def answer_to(arguments: argparse.Namespace) -> tuple[int, str]:
     """The exit status and what is to be printed on standard output. Raises Stop, whatever goes wrong."""
     try:
         with Progress() as progress, many_objects():

@@ -2,7 +2,7 @@
 import argparse
 import pathlib
 import sys
-from typing import List, Sequence
+from typing import Sequence
 
 from regkit.base.statuses import ExitStatus
 from regkit.commands.options import add_bounds, bounds_of, count
@@ -45,8 +45,8 @@ def is_fresh(picture: pathlib.Path, changed: float) -> bool:
     return picture.exists() and picture.stat().st_mtime >= changed and not shows_unknown(picture)
 
 
-def judged(paths: List[pathlib.Path], pictures: pathlib.Path, bounds: Sequence[str],
-           progress: Progress) -> List[Run]:
+def judged(paths: list[pathlib.Path], pictures: pathlib.Path, bounds: Sequence[str],
+           progress: Progress) -> list[Run]:
     """The runs with their outcomes. A picture that isn't fresh is drawn."""
     judge = Judge(Wishes(1, 1, 0, False, False, None, bounds=bounds), progress)
     runs = []

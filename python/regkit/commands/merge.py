@@ -5,7 +5,7 @@ import math
 import re
 import sys
 from fractions import Fraction
-from typing import Iterator, List, Sequence
+from typing import Iterator, Sequence
 
 from regkit.base.garbage import many_objects
 from regkit.base.statuses import ExitStatus
@@ -92,7 +92,7 @@ def read_files(names: Sequence[str], progress: Progress) -> Iterator[Recorded]:
         yield Recorded(shown_name(name), read_input(name, None))
 
 
-def write(lines: List[str], name: str) -> int:
+def write(lines: list[str], name: str) -> int:
     """Writes the merged history, and gives its size in bytes."""
     data = "".join(lines).encode("utf-8")
     with contextlib.ExitStack() as opened:

@@ -1,6 +1,6 @@
 """Kinds of values on the command line, and the bounds of a search."""
 import argparse
-from typing import Callable, List
+from typing import Callable
 
 from regkit.base.limits import DEFAULT_CONFIGURATIONS, DEFAULT_STEPS, MAX_CONFIGURATIONS, MAX_STEPS
 from regkit.checker.bounds import bounds
@@ -32,6 +32,6 @@ def add_bounds(parser: argparse.ArgumentParser) -> None:
                              f"(default {DEFAULT_CONFIGURATIONS})")
 
 
-def bounds_of(arguments: argparse.Namespace) -> List[str]:
+def bounds_of(arguments: argparse.Namespace) -> list[str]:
     """The bounds that a command line asks for, as options of regsearch."""
     return bounds(arguments.steps, arguments.configurations)

@@ -5,7 +5,7 @@ import os
 import stat
 import sys
 from functools import partial
-from typing import BinaryIO, Callable, List, NamedTuple, Optional
+from typing import BinaryIO, Callable, NamedTuple, Optional
 
 from regkit.base.statuses import ExitStatus
 from regkit.checker.programs import (CHECK, SEARCH, Answer, NoChecker, find_program, is_for_search,
@@ -133,7 +133,7 @@ class RefusedPart(NamedTuple):
 def first_refused(directory: str, manifest: Manifest,
                   check: Callable[[bytes], Answer]) -> Optional[RefusedPart]:
     """The first refusal of a program. Raises NoChecker."""
-    found: List[RefusedPart] = []
+    found: list[RefusedPart] = []
     for part in range(manifest.parts):
         history = file_of(directory, part, "jsonl").read_bytes()
         answer = check(history)

@@ -8,7 +8,7 @@
 Processes and values may be texts, registers any JSON. What else `regcheck` says of a history holds here too.
 """
 import shlex
-from typing import Any, Dict, Iterable, Optional, Tuple
+from typing import Any, Iterable, Optional
 
 from regkit.base.limits import GREATEST_VALUE
 from regkit.convert import edn
@@ -22,7 +22,7 @@ from regkit.convert.settle import settle
 
 _ENDINGS = ("reply", "fail")
 
-Event = Dict[str, Any]
+Event = dict[str, Any]
 
 
 def from_events(lines: Iterable[str], choices: Choices) -> Source:
@@ -89,7 +89,7 @@ class _Log:
         called = self.pairing.open.get(client)
         return self.cas_known[1] if called is not None and called.kind == CAS else self.known
 
-    def _cas(self, event: Event, line: int) -> Tuple[Any, Any]:
+    def _cas(self, event: Event, line: int) -> tuple[Any, Any]:
         """What a cas asks for and what it writes."""
         if "from" not in event or "to" not in event:
             raise Refused("the call of a cas has from and to: write null in from if it asks for no "

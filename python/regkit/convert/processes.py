@@ -1,6 +1,6 @@
 """The clients as processes, which have at most one open call each."""
 import heapq
-from typing import Dict, List, NamedTuple, Set
+from typing import NamedTuple
 
 from regkit.base.limits import MAX_PROCESS
 from regkit.convert.model import Client, Operation, Source
@@ -16,11 +16,11 @@ class Given(NamedTuple):
 class _Clients:
     """The processes of each client, and which of them are free."""
 
-    def __init__(self, taken: Set[Client]) -> None:
+    def __init__(self, taken: set[Client]) -> None:
         self.taken = taken  # the clients that are numbers
         self.next = 0
-        self.processes: Dict[Client, List[int]] = {}
-        self.free: Dict[Client, List[int]] = {}  # by client, a heap of places in its list of processes
+        self.processes: dict[Client, list[int]] = {}
+        self.free: dict[Client, list[int]] = {}  # by client, a heap of places in its list of processes
 
     def fresh(self) -> int:
         """The lowest number that nobody has had."""
@@ -50,7 +50,7 @@ def give_processes(source: Source) -> Given:
     crash or an unknown outcome it never is.
     """
     clients = _Clients({step.client for step in source.steps if _is_number(step.client)})
-    places: Dict[Operation, int] = {}
+    places: dict[Operation, int] = {}
     split = 0
     for operation, is_call in source.moments():
         if is_call:

@@ -1,6 +1,6 @@
 """The source's values as whole numbers: whole numbers stay, all else is numbered register by register."""
 import re
-from typing import AbstractSet, Any, Dict, Iterable, Set, Tuple
+from typing import AbstractSet, Any, Iterable
 
 from regkit.base.limits import GREATEST_VALUE, LEAST_VALUE
 from regkit.convert import edn
@@ -11,8 +11,8 @@ _WHOLE = re.compile(r"-?[1-9][0-9]{0,18}|0")  # a longer one has more than 64 bi
 
 _QUOTED = re.compile(r"""b?(["'])(.*)\1""", re.DOTALL)  # a text as JSON, EDN or Python shows it, or its bytes
 
-Table = Dict[str, Dict[str, int]]  # by key, the number of each text
-Written = Dict[str, Dict[Value, Operation]]  # by key and value, what wrote it, and didn't fail if any didn't
+Table = dict[str, dict[str, int]]  # by key, the number of each text
+Written = dict[str, dict[Value, Operation]]  # by key and value, what wrote it, and didn't fail if any didn't
 
 
 def spelled(value: Any) -> str:
@@ -60,7 +60,7 @@ def initial_value(word: str, form: str, alike: bool = False) -> Value:
     return settled(value, frozenset(), True, alike)
 
 
-def readable(texts: Iterable[str]) -> Dict[str, str]:
+def readable(texts: Iterable[str]) -> dict[str, str]:
     """A form for each value that EDN wrote: a text without its quotes, unless two would then be alike.
 
     It serves as a register's name, and as a value in the map. Two values never get one form: if they would,
@@ -80,8 +80,8 @@ class _Numbers:
     """The numbers of one register's texts: by first appearance, and none that the register has itself."""
 
     def __init__(self) -> None:
-        self.taken: Set[int] = set()  # the register's own whole numbers
-        self.texts: Dict[str, int] = {}
+        self.taken: set[int] = set()  # the register's own whole numbers
+        self.texts: dict[str, int] = {}
         self.last = 0
 
     def number(self, text: str) -> int:
@@ -134,7 +134,7 @@ def all_written(operations: Iterable[Operation]) -> Written:
 
 def repeats(operations: Iterable[Operation]) -> bool:
     """Whether some register is written a value twice, be it by a write that failed."""
-    seen: Set[Tuple[str, Value]] = set()
+    seen: set[tuple[str, Value]] = set()
     for operation in operations:
         if operation.kind == "write":
             if (operation.key, operation.value) in seen:

@@ -1,6 +1,6 @@
 """What is enough for a fault that a search found: a few operations that have no order, and which values their
 register can have at each moment."""
-from typing import List, NamedTuple, Optional, Set
+from typing import NamedTuple, Optional
 
 from regkit.checker.programs import NoChecker
 from regkit.drawing.svg import tag
@@ -22,13 +22,13 @@ MOST_MOMENTS = 40  # rows
 class Reduced(NamedTuple):
     """What is left of a register's calls."""
 
-    calls: List[Operation]
-    loose: Set[int]  # the lines of those whose replies needn't count
-    sentences: List[str]
-    moments: List[Moment]  # empty if there are too many orders
+    calls: list[Operation]
+    loose: set[int]  # the lines of those whose replies needn't count
+    sentences: list[str]
+    moments: list[Moment]  # empty if there are too many orders
 
 
-def reduced(calls: List[Operation], told: Contradicted, searcher: Searcher) -> Optional[Reduced]:
+def reduced(calls: list[Operation], told: Contradicted, searcher: Searcher) -> Optional[Reduced]:
     """The same of some calls; None if they are very many, or if regsearch isn't there or takes too long.
     Raises NoFault."""
     if len(until(calls, told.line)) > MOST_CALLS:
@@ -44,7 +44,7 @@ def reduced(calls: List[Operation], told: Contradicted, searcher: Searcher) -> O
     return Reduced([each.call for each in small.kept], loose, enough(small, told, "in the picture"), found)
 
 
-def table(found: List[Moment]) -> str:
+def table(found: list[Moment]) -> str:
     """What the register can have at each moment, or at the last ones."""
     if not found:
         return ""

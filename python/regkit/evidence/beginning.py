@@ -4,7 +4,7 @@ What comes behind the beginning takes none of them back. But a write without a r
 is no operation then. So here it isn't one, and the whole history has at least the reads that are counted."""
 import io
 from itertools import islice
-from typing import List, Optional
+from typing import Optional
 
 from regkit.evidence.counting import (FAIL, NOTHING, WRITE, Reads, Token, Tokens, count, tokens_of,
                                       without_failed)
@@ -14,7 +14,7 @@ from regkit.history.operations import read_history
 LINES = 65_536  # of the beginning
 
 
-def without_unanswered(found: List[Token], processes: int) -> List[Token]:
+def without_unanswered(found: list[Token], processes: int) -> list[Token]:
     """The same without the calls that nothing ends."""
     kept, opened = list(found), [-1] * processes
     for place, (kind, process, _) in enumerate(found):

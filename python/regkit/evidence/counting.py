@@ -8,12 +8,12 @@ import json
 import marshal
 import re
 from array import array
-from typing import Any, Dict, Iterable, Iterator, List, NamedTuple, Optional, Set, Tuple
+from typing import Any, Iterable, Iterator, NamedTuple, Optional
 
 from regkit.evidence.sharing import Helper, may_share
 
 READ, WRITE, REPLY, FAIL, NOTHING = range(5)
-Token = Tuple[int, int, int]  # what a line says, and the numbers of its process and its register
+Token = tuple[int, int, int]  # what a line says, and the numbers of its process and its register
 
 VALUE, TIME, REGISTER = b'"value"', b'"time"', b'"register"'
 QUOTE, BACKSLASH, BLANK = b'"', b"\\", b" \t\r\n"
@@ -44,7 +44,7 @@ class Reads(NamedTuple):
     at_least: bool = False  # whether the history may have more of either than was counted
 
 
-def object_of(text: bytes) -> Dict[str, Any]:
+def object_of(text: bytes) -> dict[str, Any]:
     """The object of a line's beginning, which a comma may end."""
     text = text.strip(BLANK)
     try:
@@ -56,7 +56,7 @@ def object_of(text: bytes) -> Dict[str, Any]:
     return found
 
 
-def event_of(text: bytes) -> Tuple[int, bytes, bytes]:
+def event_of(text: bytes) -> tuple[int, bytes, bytes]:
     """The process, the event and the operation in a line's beginning. A blank line is as good as a crash."""
     if not text.strip(BLANK):
         return 0, b"crash", b""
@@ -72,14 +72,14 @@ class Tokens:
     """What the beginnings of lines say."""
 
     def __init__(self) -> None:
-        self.events: Dict[bytes, Tuple[int, int]] = {}  # what stands before a register
-        self.names: Dict[bytes, int] = {}  # what stands behind the word `register`
-        self.processes: Dict[int, int] = {}
-        self.registers: Dict[bytes, int] = {}  # by their names in quotes, without escapes
-        self.idle: Set[bytes] = set()  # what stands behind a value, with a 1 for each digit
+        self.events: dict[bytes, tuple[int, int]] = {}  # what stands before a register
+        self.names: dict[bytes, int] = {}  # what stands behind the word `register`
+        self.processes: dict[int, int] = {}
+        self.registers: dict[bytes, int] = {}  # by their names in quotes, without escapes
+        self.idle: set[bytes] = set()  # what stands behind a value, with a 1 for each digit
         self.failed = False  # whether a call failed
 
-    def learn(self, beginning: bytes, known: Dict[bytes, Token]) -> Token:
+    def learn(self, beginning: bytes, known: dict[bytes, Token]) -> Token:
         """What a beginning says that isn't known. It is known then, but for its time."""
         timeless, _, rest = beginning.partition(TIME)
         if rest:
@@ -95,7 +95,7 @@ class Tokens:
             known[timeless] = token
         return token
 
-    def event(self, text: bytes) -> Tuple[int, int]:
+    def event(self, text: bytes) -> tuple[int, int]:
         """What happens, and the number of the process."""
         plain = PLAIN.fullmatch(text)
         process, event, op = (int(plain[1]), plain[2], plain[3]) if plain else event_of(text)
@@ -135,11 +135,11 @@ def spelled_out(text: bytes) -> bytes:
     return b'"%s"' % name.encode("utf-8", "surrogatepass")
 
 
-def tokens_of(lines: Iterable[bytes], tokens: Tokens) -> List[Token]:
+def tokens_of(lines: Iterable[bytes], tokens: Tokens) -> list[Token]:
     """What each line says. Raises Unusual."""
     value, shortest = VALUE, SHORTEST  # local names: this loop is nearly all of the time that the count takes
-    known: Dict[bytes, Token] = {}
-    found: List[Token] = []
+    known: dict[bytes, Token] = {}
+    found: list[Token] = []
     add = found.append
     for line in lines:
         beginning, _, rest = line.partition(value)
@@ -171,7 +171,7 @@ def unpacked(pack: bytes, tokens: Tokens) -> Iterator[Token]:
     return map(own.__getitem__, memoryview(places).cast("I"))
 
 
-def shared_tokens(data: bytes, tokens: Tokens) -> List[Token]:
+def shared_tokens(data: bytes, tokens: Tokens) -> list[Token]:
     """What each line says. Of a long history another process reads the second half. Raises Unusual."""
     half = data.find(b"\n", len(data) // 2) + 1 if len(data) >= LONG and may_share() else 0
     if not half:
@@ -190,7 +190,7 @@ def shared_tokens(data: bytes, tokens: Tokens) -> List[Token]:
     return found
 
 
-def without_failed(found: List[Token], processes: int) -> List[Token]:
+def without_failed(found: list[Token], processes: int) -> list[Token]:
     """The same without the calls that failed."""
     kept, called = list(found), [0] * processes
     for place, (kind, process, _) in enumerate(found):
@@ -201,14 +201,14 @@ def without_failed(found: List[Token], processes: int) -> List[Token]:
     return kept
 
 
-def count(found: List[Token], processes: int, registers: int) -> Reads:
+def count(found: list[Token], processes: int, registers: int) -> Reads:
     """Counts the reads. One overlaps no write if its register is idle from its call to its reply.
 
     `idle` has another number each time that a register becomes idle, and BUSY while a write is open. A write
     whose process crashed, or that nothing answers, is open for good."""
-    idle: List[float] = [0] * registers
+    idle: list[float] = [0] * registers
     opened, quiet = [0] * registers, 0  # the open writes of each register; how often a register became idle
-    was_idle: List[Optional[float]] = [None] * processes  # `idle` when the read was called; None for a write
+    was_idle: list[Optional[float]] = [None] * processes  # `idle` when the read was called; None for a write
     register_of = [0] * processes
     completed = alone = 0
     for kind, process, register in found:

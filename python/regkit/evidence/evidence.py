@@ -1,6 +1,6 @@
 """What a yes rests on. A history without a completed read says nothing of a store, however atomic it is."""
 from bisect import bisect_left
-from typing import List, NamedTuple
+from typing import NamedTuple
 
 from regkit.history.operations import History, Operation
 
@@ -14,7 +14,7 @@ class Evidence(NamedTuple):
     overlapping_reads: int  # of the completed reads, those that overlap a write of their register
 
 
-def count_overlapping(calls: List[Operation]) -> int:
+def count_overlapping(calls: list[Operation]) -> int:
     """How many completed reads of one register overlap a write. A pending write never ends. A cas that was
     answered counts as a read, and one that may have taken place as a write too."""
     writes = [call for call in calls if call.writes and not call.failed]

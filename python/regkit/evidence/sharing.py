@@ -3,7 +3,7 @@ import os
 import signal
 import threading
 from types import TracebackType
-from typing import Callable, NoReturn, Optional, Type
+from typing import Callable, NoReturn, Optional
 
 
 SPARE = 2.0  # processors that have nothing to do, as the load average has it
@@ -42,7 +42,7 @@ class Helper:
     def __enter__(self) -> "Helper":
         return self
 
-    def __exit__(self, kind: Optional[Type[BaseException]], error: Optional[BaseException],
+    def __exit__(self, kind: Optional[type[BaseException]], error: Optional[BaseException],
                  trace: Optional[TracebackType]) -> None:
         """Ends the copy if nobody waited for it."""
         self.made.close()

@@ -1,6 +1,6 @@
 """What to do about each refusal of the checker."""
 import json
-from typing import Any, Callable, Dict, List, NamedTuple, Optional
+from typing import Any, Callable, NamedTuple, Optional
 
 from regkit.checker.refusals import OTHER_TEXTS, Refusal, read_refusal
 from regkit.explain.looks import looks_like, operations
@@ -37,7 +37,7 @@ OF_THE_RUN = {
 class Place(NamedTuple):
     """A refused line, and what is around it."""
 
-    history: List[bytes]  # all lines
+    history: list[bytes]  # all lines
     refusal: Refusal
     event: Event
 
@@ -75,7 +75,7 @@ def misnamed(event: Event, member: str) -> Optional[str]:
     return f"the line has `{other}` where `{member}` is meant: rename it"
 
 
-def synonym(word: Any, words: Dict[str, List[str]]) -> Optional[str]:
+def synonym(word: Any, words: dict[str, list[str]]) -> Optional[str]:
     """The word of the format for another word of the same meaning."""
     if not isinstance(word, str):
         return None
@@ -211,7 +211,7 @@ def crashed(place: Place) -> str:
     return f"a client that comes back after a crash needs a new number: process {process} does nothing more"
 
 
-ADVICE: Dict[int, Callable[[Place], str]] = {
+ADVICE: dict[int, Callable[[Place], str]] = {
     2: no_json, 3: no_object, 4: no_process, 5: no_event, 6: no_op, 7: no_register, 8: no_value, 9: busy,
     10: unasked, 11: disagreeing, 12: unread, 13: repeated, 19: crashed, 20: no_change, 21: unsaid}
 

@@ -1,5 +1,5 @@
 """What may be behind a fault: the fresh read beside the stale one, lost writes, and what to ask."""
-from typing import List, NamedTuple, Optional, Tuple
+from typing import NamedTuple, Optional
 
 from regkit.explain.sentences import failed_write, named
 from regkit.explain.surroundings import FOREVER, SUSPECT, end_of, find_scene
@@ -31,7 +31,7 @@ def ended_before(call: Operation, other: Operation) -> bool:
     return call.completed and (call.end_line or 0) < other.line
 
 
-def stale_pair(pairs: List[Tuple[Operation, Operation]], calls: List[Operation],
+def stale_pair(pairs: list[tuple[Operation, Operation]], calls: list[Operation],
                read: Optional[Operation] = None) -> Optional[StalePair]:
     """The stale read of a contradiction: `read` if that is one, else the later read of the second precedence.
     The fresh operation is the last read of the newer value that ended before it, or else that of the
@@ -49,7 +49,7 @@ class Lost(NamedTuple):
     """Completed writes that a stale read ignored, and whose values no later read gave."""
 
     read: Operation
-    writes: List[Operation]
+    writes: list[Operation]
     surely: bool  # another read ignored them too, before there was another write
 
     def in_words(self) -> str:
@@ -65,7 +65,7 @@ class Lost(NamedTuple):
                 f"and {after}")
 
 
-def find_lost(told: Unexplained, calls: List[Operation]) -> Optional[Lost]:
+def find_lost(told: Unexplained, calls: list[Operation]) -> Optional[Lost]:
     """The writes that were lost. None if they may as well be overwritten, or if another read may have put the
     old value back."""
     old, read = told.write, told.read
@@ -87,7 +87,7 @@ def find_lost(told: Unexplained, calls: List[Operation]) -> Optional[Lost]:
     return None if suspect and len(writes) == 1 else Lost(read, writes, surely)
 
 
-def questions(history: History, told: Unexplained, lost: Optional[Lost]) -> List[str]:
+def questions(history: History, told: Unexplained, lost: Optional[Lost]) -> list[str]:
     """What to ask before the store is blamed."""
     asked = []
     if told.kind in ("unwritten", "early") and failed_write(history, told.read) is None:

@@ -3,14 +3,14 @@ import io
 import re
 from collections import deque
 from itertools import islice
-from typing import Any, Dict, Iterable, Iterator, List, Optional, Set, Tuple
+from typing import Any, Iterable, Iterator, Optional
 
 from regkit.checker.report import Row
 from regkit.history.lines import BLANK, Event, NotJson, json_of
 from regkit.history.operations import History, history_of, read_history
 
 DISGUISED = re.compile(rb"\\u00[67]")  # a letter of a member's name may be written so
-Found = Dict[int, Event]  # by line
+Found = dict[int, Event]  # by line
 
 
 def numbers_in(value: Any) -> Iterator[int]:
@@ -21,7 +21,7 @@ def numbers_in(value: Any) -> Iterator[int]:
         yield from numbers_in(part)
 
 
-def named_lines(row: Row) -> Set[int]:
+def named_lines(row: Row) -> set[int]:
     """The lines of the operations that a register's fault names."""
     return {line for line in numbers_in([row["fault"], row.get("inversion", [])]) if line}
 
@@ -40,7 +40,7 @@ class Searcher:
             raise NotJson("no object")
         return event
 
-    def offsets(self, numbers: Iterable[int]) -> Dict[int, int]:
+    def offsets(self, numbers: Iterable[int]) -> dict[int, int]:
         """Where some lines begin."""
         stream, at = io.BytesIO(self.data), 1
         found = {}
@@ -49,7 +49,7 @@ class Searcher:
             found[number], at = stream.tell(), number
         return found
 
-    def matches(self, member: str, value: int, begin: int) -> Iterator[Tuple[int, Event]]:
+    def matches(self, member: str, value: int, begin: int) -> Iterator[tuple[int, Event]]:
         """Where the lines from some place on begin whose member has a value, and their events."""
         pattern = re.compile(rb'"%s"\s*:\s*%d\b' % (member.encode(), value))
         for match in pattern.finditer(self.data, begin):
@@ -88,7 +88,7 @@ def unwritten_value(searcher: Searcher, row: Row) -> Optional[int]:
     return None if value is None else int(value)
 
 
-def excerpt(data: bytes, rows: List[Row]) -> History:
+def excerpt(data: bytes, rows: list[Row]) -> History:
     """A history of what the sentences about some faults need: the operations that they name, the first one,
     from which times are counted, and the writes of values that nobody wrote to the register."""
     if b"\\" in data and DISGUISED.search(data):

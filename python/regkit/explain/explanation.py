@@ -1,6 +1,6 @@
 """Why a register isn't atomic: what contradicts what, where it began, and who else was there."""
 import textwrap
-from typing import Callable, List, NamedTuple, Optional, Sequence, Set
+from typing import Callable, NamedTuple, Optional, Sequence
 
 from regkit.checker.report import Report, Row, read_report
 from regkit.explain import timeline
@@ -25,7 +25,7 @@ class Page:
     def __init__(self, width: int, paint: Painter) -> None:
         self.width = width
         self.paint = paint
-        self.lines: List[str] = []
+        self.lines: list[str] = []
 
     def heading(self, text: str) -> None:
         self.lines += ["", self.paint("bold", text)]
@@ -54,11 +54,11 @@ def level(history: History, row: Row) -> str:
     return "it is safe and regular"
 
 
-def completed_reads(calls: List[Operation]) -> int:
+def completed_reads(calls: list[Operation]) -> int:
     return sum(call.kind == "read" and call.completed for call in calls)
 
 
-def told_in_words(history: History, told: Unexplained, pair: Optional[StalePair]) -> List[str]:
+def told_in_words(history: History, told: Unexplained, pair: Optional[StalePair]) -> list[str]:
     """What a read that can't be explained contradicts."""
     if told.write is None:
         return unwritten(history, told.read)
@@ -75,7 +75,7 @@ def pair_of(history: History, row: Row) -> Optional[StalePair]:
     return stale_pair(pairs_of(history, row), history.registers[row["register"]])
 
 
-def named_lines(fault: Row) -> Set[int]:
+def named_lines(fault: Row) -> set[int]:
     """The lines of the operations that a fault names."""
     return {line for key in ("first", "second") for line in fault.get(key, [])} | {fault.get("read", 0)}
 
@@ -130,7 +130,7 @@ def entry_of(bystander: Bystander) -> timeline.Entry:
     return timeline.Entry(bystander.call, SUSPECT_SIGN if suspect else "", "look" if suspect else "")
 
 
-def entries(history: History, scene: Scene, pairs: List[StalePair]) -> List[timeline.Entry]:
+def entries(history: History, scene: Scene, pairs: list[StalePair]) -> list[timeline.Entry]:
     """The calls of the time line: the contradiction, the writes of its values, and the first bystanders."""
     shown = {bystander.call.line: entry_of(bystander) for bystander in scene.bystanders[:MOST_BYSTANDERS]}
     failed = failed_write(history, scene.told.read)
@@ -148,7 +148,7 @@ SIGNS = {READ_SIGN: "can't be explained", STALE_SIGN: "stale read", FRESH_SIGN: 
          ACTOR_SIGN: "what it contradicts", SUSPECT_SIGN: "look here first"}
 
 
-def add_timeline(page: Page, history: History, scene: Scene, pairs: List[StalePair]) -> None:
+def add_timeline(page: Page, history: History, scene: Scene, pairs: list[StalePair]) -> None:
     page.heading("Time line: a column for each line where one of these begins or ends")
     shown = entries(history, scene, pairs)
     for line in timeline.draw(shown, page.width - 2):
@@ -159,7 +159,7 @@ def add_timeline(page: Page, history: History, scene: Scene, pairs: List[StalePa
                    page.paint("faint", "  " + "   ".join(timeline.legend(shown)))]
 
 
-def add_causes(page: Page, history: History, told: Unexplained, calls: List[Operation]) -> None:
+def add_causes(page: Page, history: History, told: Unexplained, calls: list[Operation]) -> None:
     """The writes that were lost, and what to ask."""
     lost = find_lost(told, calls)
     if lost is not None:

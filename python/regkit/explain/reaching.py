@@ -2,7 +2,7 @@
 
 It tries all orders of a few operations, and gives up where they are too many: it only helps to explain what
 `regsearch` found."""
-from typing import FrozenSet, List, NamedTuple, Optional, Sequence, Set, Tuple
+from typing import NamedTuple, Optional, Sequence
 
 from regkit.explain.shrinking import Kept
 from regkit.history.operations import Operation
@@ -11,15 +11,15 @@ MOST_STEPS = 300_000
 
 # The write or cas whose value the register has (0: none yet), the calls that took effect, those whose values it
 # had since the call in question began, and whether that call took effect.
-State = Tuple[int, FrozenSet[int], FrozenSet[int], bool]
+State = tuple[int, frozenset[int], frozenset[int], bool]
 
 
 class Reached(NamedTuple):
     """What may be while the call is open. Each operation is named by its line; 0 is the initial null."""
 
-    values: List[int]  # whose values, in the orders that give all replies before
-    last: List[int]  # the same, just before the reply
-    taken: List[int]  # on whose value it may take effect; no such order gives all the replies before
+    values: list[int]  # whose values, in the orders that give all replies before
+    last: list[int]  # the same, just before the reply
+    taken: list[int]  # on whose value it may take effect; no such order gives all the replies before
     broken: Optional[Operation]  # the call whose reply none of those orders gives
 
 
@@ -28,7 +28,7 @@ class Moment(NamedTuple):
 
     line: int
     call: Operation
-    values: List[Optional[int]]  # none behind the reply that no order gives
+    values: list[Optional[int]]  # none behind the reply that no order gives
 
     @property
     def is_call(self) -> bool:
@@ -46,8 +46,8 @@ class Orders:
         self.by_line = {each.call.line: each.call for each in kept}
         self.call = call
         self.steps = 0
-        self.taken: Set[int] = set()
-        self.opened: List[Operation] = []
+        self.taken: set[int] = set()
+        self.opened: list[Operation] = []
 
     def value(self, line: int) -> Optional[int]:
         return self.by_line[line].value if line else None
@@ -68,7 +68,7 @@ class Orders:
         open_now = self.call in self.opened
         return now, done | {call.line}, seen | {now} if open_now and not is_taken else seen, is_taken
 
-    def closed(self, states: Set[State]) -> Set[State]:
+    def closed(self, states: set[State]) -> set[State]:
         """The same with all that the open calls may do. Raises TooMany."""
         known, ahead = set(states), list(states)
         while ahead:
@@ -86,21 +86,21 @@ class Orders:
         return known
 
 
-def null_first(value: Optional[int]) -> Tuple[bool, int]:
+def null_first(value: Optional[int]) -> tuple[bool, int]:
     return value is not None, value or 0
 
 
-def events_of(kept: Sequence[Kept]) -> List[Tuple[int, Operation]]:
+def events_of(kept: Sequence[Kept]) -> list[tuple[int, Operation]]:
     """The calls and the replies that count, by line."""
     events = [(each.call.line, each.call) for each in kept]
     events += [(each.call.end_line or 0, each.call) for each in kept if each.replied]
     return sorted(events, key=lambda event: event[0])
 
 
-def moments(kept: Sequence[Kept], call: Operation, reply: int) -> Optional[List[Moment]]:
+def moments(kept: Sequence[Kept], call: Operation, reply: int) -> Optional[list[Moment]]:
     """What may be at each moment up to the reply of a call. None if there are too many orders."""
     orders, found = Orders(kept, call), []
-    states: Set[State] = {(0, frozenset(), frozenset(), False)}
+    states: set[State] = {(0, frozenset(), frozenset(), False)}
     try:
         for line, each in events_of(kept):
             if line == each.line:
@@ -121,7 +121,7 @@ def moments(kept: Sequence[Kept], call: Operation, reply: int) -> Optional[List[
 def reached(kept: Sequence[Kept], call: Operation, reply: int) -> Optional[Reached]:
     """What may be before the reply of a call. None if there are too many orders."""
     orders, broken = Orders(kept, call), None
-    states: Set[State] = {(0, frozenset(), frozenset(), False)}
+    states: set[State] = {(0, frozenset(), frozenset(), False)}
     try:
         for line, each in events_of(kept):
             if line == each.line:

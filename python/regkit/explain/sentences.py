@@ -1,5 +1,5 @@
 """Operations and faults in words."""
-from typing import List, Optional, Tuple
+from typing import Optional
 
 from regkit.checker.report import Row
 from regkit.history.operations import History, Operation
@@ -53,7 +53,7 @@ def precedence(before: Operation, after: Operation) -> str:
     return f"{named(before)} ended before {named(after)} began"
 
 
-def contradiction(pairs: List[Tuple[Operation, Operation]], values: Tuple[str, str]) -> List[str]:
+def contradiction(pairs: list[tuple[Operation, Operation]], values: tuple[str, str]) -> list[str]:
     """Two precedences that put the writes of two values in both orders."""
     (first, second), (old, new) = pairs, values
     return [f"{precedence(*first)}, so {old} comes before {new}",
@@ -76,7 +76,7 @@ def elsewhere(history: History, read: Operation) -> Optional[Operation]:
     return writes[0] if len(writes) == 1 and writes[0].register != read.register else None
 
 
-def unwritten(history: History, read: Operation) -> List[str]:
+def unwritten(history: History, read: Operation) -> list[str]:
     """A value that no operation wrote: a failed call did, another register has it, or nobody."""
     failed = failed_write(history, read)
     if failed is not None:
@@ -88,23 +88,23 @@ def unwritten(history: History, read: Operation) -> List[str]:
     return sentences
 
 
-def early(read: Operation, write: Operation) -> List[str]:
+def early(read: Operation, write: Operation) -> list[str]:
     return [f"{named(read)} ended before the write of its value began: {named(write)}"]
 
 
-def pairs_of(history: History, row: Row) -> List[Tuple[Operation, Operation]]:
+def pairs_of(history: History, row: Row) -> list[tuple[Operation, Operation]]:
     """The two precedences of a conflict: of each, the operation that ended before the other one began."""
     fault, register = row["fault"], row["register"]
     return [(history.operation(register, begin), history.operation(register, end))
             for begin, end in (fault["first"], fault["second"])]
 
 
-def zones(history: History, row: Row) -> List[str]:
+def zones(history: History, row: Row) -> list[str]:
     old, new = (value_of(history.operation(row["register"], line)) for line in row["fault"]["writes"])
     return contradiction(pairs_of(history, row), (old, new))
 
 
-def fault_of(history: History, row: Row) -> List[str]:
+def fault_of(history: History, row: Row) -> list[str]:
     """The fault of a register's line of the report, in sentences without their full stops."""
     fault, register = row["fault"], row["register"]
     if fault["kind"] == "zones":
@@ -115,7 +115,7 @@ def fault_of(history: History, row: Row) -> List[str]:
     return unwritten(history, read)
 
 
-def inversion_of(row: Row) -> Optional[Tuple[int, int]]:
+def inversion_of(row: Row) -> Optional[tuple[int, int]]:
     """The lines of the two reads of a new-old inversion, if that is what the fault is."""
     if row.get("regular") != "yes" or row["fault"]["kind"] != "zones":
         return None
@@ -123,7 +123,7 @@ def inversion_of(row: Row) -> Optional[Tuple[int, int]]:
     return new, old
 
 
-def inversion(history: History, row: Row) -> List[str]:
+def inversion(history: History, row: Row) -> list[str]:
     """A regular register whose reads went back, in a sentence."""
     lines = inversion_of(row)
     if lines is None:

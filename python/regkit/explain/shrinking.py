@@ -6,7 +6,7 @@ nothing else that was answered comes before that write, which hides it: an order
 the rest. So if there is no order of less, there is none of more either, and the answer to each step is asked of
 regsearch itself."""
 import json
-from typing import Callable, List, NamedTuple, Optional, Sequence, Set, Tuple
+from typing import Callable, NamedTuple, Optional, Sequence
 
 from regkit.base.statuses import ExitStatus
 from regkit.checker.programs import SEARCH, NoChecker, find_program, run_checker
@@ -26,14 +26,14 @@ class Kept(NamedTuple):
 class Small(NamedTuple):
     """What is left of a no."""
 
-    kept: List[Kept]
+    kept: list[Kept]
     whole: int  # how many operations were called before the reply
     runs: int  # of regsearch
     ended: bool  # whether each step was tried that was left
     fence: Optional[Operation] = None  # the write that hides what was answered before it, if that was left out
 
 
-def until(calls: Sequence[Operation], reply: int) -> List[Kept]:
+def until(calls: Sequence[Operation], reply: int) -> list[Kept]:
     """What was called before a reply, with the replies up to it. What replied later is kept only if it may have
     changed the value by then: a read, or a cas that missed, changes no order of the others."""
     called = [call for call in calls if call.line < reply and not call.failed]
@@ -41,13 +41,13 @@ def until(calls: Sequence[Operation], reply: int) -> List[Kept]:
     return [each for each in kept if each.replied or each.call.writes]
 
 
-def asked_values(kept: Sequence[Kept]) -> Set[Optional[int]]:
+def asked_values(kept: Sequence[Kept]) -> set[Optional[int]]:
     """The values that reads gave, and that a cas asks for."""
     return {each.call.asked if each.call.kind == "cas" else each.call.value
             for each in kept if each.call.kind != "write"}
 
 
-def without_idle(kept: List[Kept]) -> List[Kept]:
+def without_idle(kept: list[Kept]) -> list[Kept]:
     """The same without the writes and cas that have no reply and write a value for which nobody asks. In an
     order nothing that asks stands between such a one and the next write, so it may be left out, unless a cas
     missed: that asks for any other value."""
@@ -60,7 +60,7 @@ def without_idle(kept: List[Kept]) -> List[Kept]:
     return kept
 
 
-def fences(kept: Sequence[Kept]) -> List[Operation]:
+def fences(kept: Sequence[Kept]) -> list[Operation]:
     """The writes that were answered and overlap nothing else that was answered, by line."""
     answered = sorted((each.call for each in kept if each.replied), key=lambda call: call.line)
     found, latest = [], 0
@@ -72,12 +72,12 @@ def fences(kept: Sequence[Kept]) -> List[Operation]:
     return found
 
 
-def since(kept: List[Kept], fence: Operation) -> List[Kept]:
+def since(kept: list[Kept], fence: Operation) -> list[Kept]:
     """The same without what was answered before a write that overlaps nothing else that was answered."""
     return without_idle([each for each in kept if not each.replied or each.call.line >= fence.line])
 
 
-def less(kept: List[Kept], chosen: Sequence[Operation]) -> List[Kept]:
+def less(kept: list[Kept], chosen: Sequence[Operation]) -> list[Kept]:
     """The same without some reads and misses, and without the replies of some writes and cas."""
     lines = {call.line for call in chosen}
     changed = [Kept(each.call, each.replied and each.call.line not in lines) for each in kept
@@ -85,7 +85,7 @@ def less(kept: List[Kept], chosen: Sequence[Operation]) -> List[Kept]:
     return without_idle(changed)
 
 
-def events_of(process: int, each: Kept) -> List[Tuple[int, str]]:
+def events_of(process: int, each: Kept) -> list[tuple[int, str]]:
     """The lines of an operation: it has a process of its own, since one without a reply stays open."""
     call = each.call
     said = {"process": process, "event": "call", "op": call.kind, "register": "x"}
@@ -110,7 +110,7 @@ def history_of(kept: Sequence[Kept]) -> bytes:
     return "".join(events.get(line, "") + "\n" for line in range(1, max(events, default=0) + 1)).encode()
 
 
-def asker(bounds: Sequence[str]) -> Callable[[List[Kept]], int]:
+def asker(bounds: Sequence[str]) -> Callable[[list[Kept]], int]:
     """How regsearch ends with some operations. Raises NoChecker if it isn't there."""
     program = find_program(SEARCH)
     if program is None:
@@ -138,7 +138,7 @@ class Searcher(NamedTuple):
 class Shrinker:
     """Asks regsearch about less and less."""
 
-    def __init__(self, kept: List[Kept], ask: Callable[[List[Kept]], int], reach: Callable[[int], None]) -> None:
+    def __init__(self, kept: list[Kept], ask: Callable[[list[Kept]], int], reach: Callable[[int], None]) -> None:
         self.kept = kept
         self.ask = ask
         self.reach = reach
@@ -149,7 +149,7 @@ class Shrinker:
     def may_ask(self) -> bool:
         return self.runs < MOST_RUNS
 
-    def try_out(self, fewer: List[Kept]) -> bool:
+    def try_out(self, fewer: list[Kept]) -> bool:
         """Keeps no more than this if there is no order of it."""
         self.runs += 1
         self.reach(self.runs)
@@ -185,7 +185,7 @@ class Shrinker:
             size = 0 if size == 1 else (size + 1) // 2
 
 
-def shrink(calls: Sequence[Operation], reply: int, ask: Callable[[List[Kept]], int],
+def shrink(calls: Sequence[Operation], reply: int, ask: Callable[[list[Kept]], int],
            reach: Callable[[int], None] = lambda runs: None) -> Optional[Small]:
     """The no of a reply, made small. None if regsearch doesn't decide it in so few steps. Raises NoFault."""
     whole = sum(call.line < reply and not call.failed for call in calls)

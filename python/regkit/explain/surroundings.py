@@ -1,5 +1,5 @@
 """What is around a read that can't be explained: what it contradicts, and who was there at the same time."""
-from typing import List, NamedTuple, Optional
+from typing import NamedTuple, Optional
 
 from regkit.explain.sentences import named, value_of
 from regkit.explain.unexplained import Unexplained
@@ -22,8 +22,8 @@ class Scene(NamedTuple):
     """What happened around a read that can't be explained."""
 
     told: Unexplained
-    actors: List[Operation]  # the operations of the contradiction, by line
-    bystanders: List[Bystander]  # the likeliest culprit first
+    actors: list[Operation]  # the operations of the contradiction, by line
+    bystanders: list[Bystander]  # the likeliest culprit first
 
 
 def end_of(call: Operation) -> float:
@@ -40,7 +40,7 @@ def is_across(call: Operation, write: Operation) -> bool:
     return call.line < write.line and end_of(write) < end_of(call)
 
 
-def actors_of(told: Unexplained) -> List[Operation]:
+def actors_of(told: Unexplained) -> list[Operation]:
     """The operations of the contradiction, each once."""
     found = {told.read.line: told.read}
     for pair in told.pairs:
@@ -50,7 +50,7 @@ def actors_of(told: Unexplained) -> List[Operation]:
     return [found[line] for line in sorted(found)]
 
 
-def writes_of(told: Unexplained) -> List[Operation]:
+def writes_of(told: Unexplained) -> list[Operation]:
     """The writes of its values that have a line."""
     return [write for write in (told.write, told.other) if write is not None and write.line]
 
@@ -73,7 +73,7 @@ def rank_of(told: Unexplained, call: Operation) -> int:
     return ACROSS if any(is_across(call, write) for write in writes_of(told)) else OVERLAPS
 
 
-def find_scene(told: Unexplained, calls: List[Operation]) -> Scene:
+def find_scene(told: Unexplained, calls: list[Operation]) -> Scene:
     """Who else was there, among the calls of the register. What was called when all was over wasn't."""
     actors = actors_of(told)
     lines = {actor.line for actor in actors}

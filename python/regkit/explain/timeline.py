@@ -1,5 +1,5 @@
 """A picture in text: a row for each call, and a column for each line where one of them begins or ends."""
-from typing import Dict, List, NamedTuple, Set
+from typing import NamedTuple
 
 from regkit.explain.sentences import change_of, value_of
 from regkit.history.operations import Operation
@@ -25,7 +25,7 @@ class Line(NamedTuple):
     style: str
 
 
-def labels(call: Operation) -> List[str]:
+def labels(call: Operation) -> list[str]:
     """The lines, the process, and what was called, each for a column of its own."""
     if call.line == 0:
         return ["before line 1", "", "write null"]
@@ -37,15 +37,15 @@ def labels(call: Operation) -> List[str]:
     return [lines, f"process {call.process}", call.kind + value]
 
 
-def columns_of(entries: List[Entry]) -> Dict[int, int]:
+def columns_of(entries: list[Entry]) -> dict[int, int]:
     """The place of each line where a call begins or ends. Nothing else of the history has a column."""
-    lines: Set[int] = set()
+    lines: set[int] = set()
     for entry in entries:
         lines.update(line for line in (entry.call.line, entry.call.end_line) if line is not None)
     return {line: place for place, line in enumerate(sorted(lines))}
 
 
-def bar(call: Operation, columns: Dict[int, int], width: int, filling: str) -> str:
+def bar(call: Operation, columns: dict[int, int], width: int, filling: str) -> str:
     """The bar of a call. An open end goes on to the right edge."""
     begin = columns[call.line] * width
     if call.end_line is None:
@@ -55,13 +55,13 @@ def bar(call: Operation, columns: Dict[int, int], width: int, filling: str) -> s
     return " " * begin + (OPEN + filling * (length - 1) + end if length else end)
 
 
-def legend(entries: List[Entry]) -> List[str]:
+def legend(entries: list[Entry]) -> list[str]:
     """What the ends of the bars mean, those that are there."""
     used = {SIGNS[entry.call.ending] for entry in entries}
     return [f"{OPEN} called"] + [f"{sign} {meaning}" for sign, meaning in MEANINGS.items() if sign in used]
 
 
-def draw(entries: List[Entry], width: int) -> List[Line]:
+def draw(entries: list[Entry], width: int) -> list[Line]:
     """The rows, by line of call, no wider than `width` if that is possible."""
     entries = sorted(entries, key=lambda entry: entry.call.line)
     columns = columns_of(entries)

@@ -11,7 +11,7 @@ reply of each comes before the last call of the other. A reply that is the first
 all calls, so it makes no conflict, and neither does the reply of a write. That leaves the reads that move
 their cluster's last call."""
 from bisect import bisect_left
-from typing import Dict, List, NamedTuple, Optional, Tuple
+from typing import NamedTuple, Optional
 
 from regkit.history.operations import Operation, initial_write
 
@@ -63,20 +63,20 @@ class Unexplained(NamedTuple):
     kind: str  # "unwritten", "early" or "zones"
     write: Optional[Operation]  # the write of its value, unless it is unwritten
     other: Optional[Operation]  # zones: a write that has to come both before and after that one
-    pairs: List[Tuple[Operation, Operation]]  # zones: two pairs of which the one ended before the other began
+    pairs: list[tuple[Operation, Operation]]  # zones: two pairs of which the one ended before the other began
 
 
 class Replay:
     """The replay of one register: all replies, in the order of their lines."""
 
-    def __init__(self, calls: List[Operation]) -> None:
+    def __init__(self, calls: list[Operation]) -> None:
         operations = [call for call in calls if not call.failed]
         initial = initial_write(calls[0].register)
         writes = [initial] + [call for call in operations if call.kind == "write"]
-        self.clusters: Dict[Optional[int], Cluster] = {write.value: Cluster(write) for write in writes}
+        self.clusters: dict[Optional[int], Cluster] = {write.value: Cluster(write) for write in writes}
         self.peaks = Peaks(len(writes))
-        self.begun: List[Cluster] = []  # the clusters with a reply, in the order of their first replies
-        self.first_replies: List[int] = []  # the lines of those replies
+        self.begun: list[Cluster] = []  # the clusters with a reply, in the order of their first replies
+        self.first_replies: list[int] = []  # the lines of those replies
         self.replies = sorted((call for call in operations if call.completed), key=end_of)
         self.add_reply(self.clusters[None], initial)
 
@@ -138,7 +138,7 @@ def end_of(operation: Operation) -> int:
     return operation.end_line
 
 
-def witnesses(before: Cluster, after: Cluster, last: Operation) -> Tuple[Operation, Operation]:
+def witnesses(before: Cluster, after: Cluster, last: Operation) -> tuple[Operation, Operation]:
     """An operation of one cluster that ended before one of the other, called no later than `last`, began.
     The writes themselves are taken if they will do, as they are the easiest to understand."""
     assert before.first is not None
@@ -147,7 +147,7 @@ def witnesses(before: Cluster, after: Cluster, last: Operation) -> Tuple[Operati
     return (own if own.completed and end_of(own) < late.line else before.first), late
 
 
-def find_unexplained(calls: List[Operation]) -> Tuple[Optional[Unexplained], int]:
+def find_unexplained(calls: list[Operation]) -> tuple[Optional[Unexplained], int]:
     """The first read of one register that can't be explained, and how many there are."""
     replay = Replay(calls)
     first, count = None, 0

@@ -2,12 +2,12 @@
 import json
 import math
 import re
-from typing import Any, Dict, Iterator, Tuple
+from typing import Any, Iterator
 
 from regkit.base.limits import MAX_DEPTH
 
 BLANK = b" \t\r"
-Event = Dict[str, Any]
+Event = dict[str, Any]
 _MINUS_ZERO = re.compile(r"(?<![^:,\[\s])-0")  # where a number may stand, and not in a name such as worker-0
 
 
@@ -15,7 +15,7 @@ class NotJson(ValueError):
     """A line that isn't JSON, as the checker reads it."""
 
 
-def numbered_lines(history: bytes) -> Iterator[Tuple[int, bytes]]:
+def numbered_lines(history: bytes) -> Iterator[tuple[int, bytes]]:
     """Each line that isn't blank, without its line feed, with its number from 1."""
     for number, line in enumerate(history.split(b"\n"), 1):
         if line.strip(BLANK):
@@ -38,7 +38,7 @@ def _whole(text: str) -> Any:
     return near if text == "-0" else int(text)
 
 
-class _Members(Tuple[Tuple[str, Any], ...]):
+class _Members(tuple[tuple[str, Any], ...]):
     """The members of an object, those of one name too."""
 
 
@@ -71,7 +71,7 @@ def _checked(value: Any, depth: int) -> Any:
     return {_checked(key, depth): _checked(part, depth - 1) for key, part in value}
 
 
-def events(history: bytes) -> Iterator[Tuple[int, Event]]:
+def events(history: bytes) -> Iterator[tuple[int, Event]]:
     """The objects of an accepted history, each with the number of its line."""
     for number, line in numbered_lines(history):
         yield number, json_of(line)

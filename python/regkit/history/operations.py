@@ -1,5 +1,5 @@
 """An accepted history as its operations, for everything that explains or draws."""
-from typing import Callable, Dict, Iterable, List, Optional, Tuple
+from typing import Callable, Iterable, Optional
 
 from regkit.history import lines
 from regkit.words.quoting import quoted
@@ -74,13 +74,13 @@ def initial_write(register: str) -> Operation:
 class History:
     """All calls of a history, failed ones too, in the order of their lines."""
 
-    def __init__(self, calls: List[Operation], events: int, last_line: int, crashes: Dict[int, int]) -> None:
+    def __init__(self, calls: list[Operation], events: int, last_line: int, crashes: dict[int, int]) -> None:
         self.calls = calls
         self.events = events
         self.last_line = last_line
         self.crashes = crashes  # process -> the line of its crash
-        self.by_line: Dict[int, Operation] = {call.line: call for call in calls}
-        self.registers: Dict[str, List[Operation]] = {}  # in the order of their first calls
+        self.by_line: dict[int, Operation] = {call.line: call for call in calls}
+        self.registers: dict[str, list[Operation]] = {}  # in the order of their first calls
         for call in calls:
             self.registers.setdefault(call.register, []).append(call)
 
@@ -100,12 +100,12 @@ def read_history(data: bytes, watch: Optional[Callable[[int], None]] = None) -> 
     return history_of(lines.events(data), watch)
 
 
-def history_of(events: Iterable[Tuple[int, lines.Event]],
+def history_of(events: Iterable[tuple[int, lines.Event]],
                watch: Optional[Callable[[int], None]] = None) -> History:
     """The history of some events, each with the number of its line. Raises NotAHistory."""
-    calls: List[Operation] = []
-    open_calls: Dict[int, Operation] = {}
-    crashes: Dict[int, int] = {}
+    calls: list[Operation] = []
+    open_calls: dict[int, Operation] = {}
+    crashes: dict[int, int] = {}
     count = line = 0
     try:
         for line, event in events:
@@ -145,7 +145,7 @@ def text_in(event: lines.Event, name: str) -> Optional[str]:
     return said if type(said) is str and said else None
 
 
-def count_from_first(calls: List[Operation]) -> None:
+def count_from_first(calls: list[Operation]) -> None:
     """Lets the times begin with the first call that has one."""
     first = min((call.time for call in calls if call.time is not None), default=0)
     for call in calls:
@@ -153,7 +153,7 @@ def count_from_first(calls: List[Operation]) -> None:
             call.time -= first
 
 
-def end_call(open_calls: Dict[int, Operation], crashes: Dict[int, int], line: int,
+def end_call(open_calls: dict[int, Operation], crashes: dict[int, int], line: int,
              event: lines.Event) -> None:
     """Notes a reply, a fail or a crash on the open call of its process."""
     process, what = event["process"], event["event"]
@@ -170,6 +170,6 @@ def end_call(open_calls: Dict[int, Operation], crashes: Dict[int, int], line: in
         ended.took = event["ok"]
 
 
-def operations(calls: Iterable[Operation]) -> List[Operation]:
+def operations(calls: Iterable[Operation]) -> list[Operation]:
     """The calls that are operations: all but those that failed."""
     return [call for call in calls if not call.failed]

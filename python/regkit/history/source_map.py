@@ -1,6 +1,6 @@
 """The source's own values and processes in place of numbers, by the map of `regkit convert --map`."""
 import json
-from typing import Any, Dict
+from typing import Any
 
 from regkit.history.operations import History
 from regkit.words.quoting import plain
@@ -30,8 +30,8 @@ def put_labels(history: History, written: bytes) -> None:
     """Labels the values and processes of a history. Raises NotAMap."""
     try:
         found = json.loads(written)
-        values: Dict[str, Dict[str, Any]] = found["values"]
-        processes: Dict[str, Any] = found["processes"]
+        values: dict[str, dict[str, Any]] = found["values"]
+        processes: dict[str, Any] = found["processes"]
         for call in history.calls:
             own = values.get(call.register, {}).get(str(call.value))
             if call.value is not None and own is not None:

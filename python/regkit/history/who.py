@@ -7,7 +7,7 @@ never goes back; people are shown the time since the first call of the history.
 """
 import json
 import re
-from typing import List, Optional
+from typing import Optional
 
 from regkit.history.operations import Operation
 from regkit.words.quoting import quoted, shortened
@@ -24,7 +24,7 @@ def members(client: str = "", node: str = "", time: Optional[int] = None) -> str
     return named + asked + ("" if time is None else f',"time":{time}')
 
 
-def in_words(client: Optional[str], node: Optional[str], longest: int) -> List[str]:
+def in_words(client: Optional[str], node: Optional[str], longest: int) -> list[str]:
     """`client worker-3` and `node replica-1`, as far as they are known, quoted if they aren't one word."""
     said = []
     for what, name in (("client", client), ("node", node)):
@@ -45,7 +45,7 @@ def process_of(operation: Operation) -> str:
     return ", ".join(words if operation.time is None else [*words, seconds(operation.time)])
 
 
-def shared(calls: List[Operation]) -> str:
+def shared(calls: list[Operation]) -> str:
     """The client and the node of some calls, as far as all have the same."""
     clients, nodes = {call.client for call in calls}, {call.node for call in calls}
     return ", ".join(in_words(clients.pop() if len(clients) == 1 else None,

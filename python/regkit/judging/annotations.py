@@ -1,5 +1,5 @@
 """Outcomes as annotations: lines that GitHub Actions shows beside the history's own."""
-from typing import List, Optional
+from typing import Optional
 
 from regkit.base.statuses import ExitStatus
 from regkit.checker.refusals import read_refusal
@@ -9,7 +9,7 @@ from regkit.words.quoting import plain, quoted
 from regkit.words.verdicts import VERDICTS
 
 
-def data(lines: List[str]) -> str:
+def data(lines: list[str]) -> str:
     """The text of an annotation."""
     return "%0A".join(plain(line).replace("%", "%25") for line in lines)
 
@@ -19,7 +19,7 @@ def member(text: str) -> str:
     return data([text]).replace(":", "%3A").replace(",", "%2C")
 
 
-def annotation(level: str, outcome: Outcome, line: Optional[int], lines: List[str]) -> str:
+def annotation(level: str, outcome: Outcome, line: Optional[int], lines: list[str]) -> str:
     where = [] if outcome.file == STANDARD_INPUT else [f"file={member(outcome.file)}"]
     if where and line:
         where.append(f"line={line}")
@@ -34,7 +34,7 @@ def line_of(fault: Fault) -> int:
                else next(told[key] for key in ("read", "call", "reply") if key in told))
 
 
-def annotations(outcome: Outcome) -> List[str]:
+def annotations(outcome: Outcome) -> list[str]:
     """An annotation for each fault that is shown; one for any other verdict than linearizable."""
     if outcome.status == ExitStatus.ATOMIC:
         return []

@@ -1,7 +1,7 @@
 """Checks one history, from the name of its file to its outcome."""
 import pathlib
 from itertools import chain, count
-from typing import List, NamedTuple, Optional, Sequence, Set
+from typing import NamedTuple, Optional, Sequence
 
 from regkit.base.garbage import many_objects
 from regkit.base.statuses import ExitStatus
@@ -73,7 +73,7 @@ def parsed(written: bytes) -> Report:
         raise Untrue(str(error)) from error
 
 
-def told_faults(data: bytes, report: Report, most: int, by_search: bool = False) -> List[Fault]:
+def told_faults(data: bytes, report: Report, most: int, by_search: bool = False) -> list[Fault]:
     """The faults in sentences. Raises Untrue if they can't be of this history."""
     from regkit.explain.excerpt import excerpt  # only a fault waits for this
 
@@ -86,7 +86,7 @@ def told_faults(data: bytes, report: Report, most: int, by_search: bool = False)
         raise Untrue("its faults aren't those of the history") from error
 
 
-def gave_up(report: Report) -> List[str]:
+def gave_up(report: Report) -> list[str]:
     """The registers that a search gave up."""
     return [row["register"] for row in report.unknown]
 
@@ -137,7 +137,7 @@ class Judge:
         self.progress = progress
         self.label = ""
         self.program = ""  # whose answer is looked at
-        self.taken: Set[pathlib.Path] = set()  # the pages drawn so far
+        self.taken: set[pathlib.Path] = set()  # the pages drawn so far
 
     def judge(self, name: str, label: str) -> Outcome:
         """The outcome of one file. Whatever fails is the outcome of this file alone."""

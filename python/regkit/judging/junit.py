@@ -1,6 +1,5 @@
 """The outcomes of some histories in JUnit's XML, which CI systems show as the results of tests."""
 import html
-from typing import List
 
 from regkit.base.statuses import ExitStatus
 from regkit.history.inputs import shown_name
@@ -13,7 +12,7 @@ def attribute(text: str) -> str:
     return html.escape(plain(text), quote=True)
 
 
-def content(lines: List[str]) -> str:
+def content(lines: list[str]) -> str:
     return html.escape("\n".join(map(plain, lines)), quote=False)
 
 
@@ -31,7 +30,7 @@ def test_case(timed: Timed) -> str:
             f"{content(text_of(outcome))}</{kind}></testcase>")
 
 
-def document(told: List[Timed]) -> str:
+def document(told: list[Timed]) -> str:
     """The whole file: one suite, with a test for each history."""
     errors = sum(timed.outcome.status in NO_VERDICT for timed in told)
     failures = sum(timed.outcome.status != ExitStatus.ATOMIC for timed in told) - errors

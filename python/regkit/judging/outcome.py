@@ -1,5 +1,5 @@
 """What came out of checking one history: the exit status, and words for people and for machines."""
-from typing import Any, Dict, List, NamedTuple, Optional, Tuple
+from typing import Any, NamedTuple, Optional
 
 from regkit.base.statuses import ExitStatus
 from regkit.checker.programs import CHECK
@@ -12,7 +12,7 @@ from regkit.words.phrases import counted
 from regkit.words.quoting import plain, quoted
 from regkit.words.verdicts import VERDICTS
 
-GRAVITY: List[int] = [  # the gravest last
+GRAVITY: list[int] = [  # the gravest last
     ExitStatus.ATOMIC, ExitStatus.TOO_LITTLE, ExitStatus.UNKNOWN, ExitStatus.NOT_ATOMIC,
     ExitStatus.REFUSED, ExitStatus.COMMAND_LINE, ExitStatus.FAILED]
 MOST_NAMED = 6  # registers that a search gave up
@@ -24,7 +24,7 @@ class Fault(NamedTuple):
 
     register: str
     row: Row
-    sentences: List[str]
+    sentences: list[str]
 
 
 class Outcome(NamedTuple):
@@ -36,11 +36,11 @@ class Outcome(NamedTuple):
     advice: str = ""
     evidence: Optional[Evidence] = None
     faulty: int = 0  # how many registers aren't atomic
-    faults: List[Fault] = []  # as many of them as were asked for
+    faults: list[Fault] = []  # as many of them as were asked for
     verified: bool = False
     drawing: str = ""
     program: str = CHECK  # which one decided
-    unknown: List[str] = []  # the registers that a search gave up
+    unknown: list[str] = []  # the registers that a search gave up
 
 
 class Timed(NamedTuple):
@@ -50,7 +50,7 @@ class Timed(NamedTuple):
     seconds: float
 
 
-def gravest(statuses: List[int]) -> int:
+def gravest(statuses: list[int]) -> int:
     """The status of several histories together: 4, 3, 2, 1, 6, 5, 0, whichever of these comes first."""
     return max(statuses, default=ExitStatus.ATOMIC, key=GRAVITY.index)
 
@@ -65,7 +65,7 @@ def evidence_in_words(evidence: Evidence, at_least: bool, with_cas: bool = False
             f"{least}{counted(reads, 'completed read')}{' or cas' if with_cas else ''}, {found}")
 
 
-def lacks(evidence: Evidence, least_reads: int, least_overlaps: int) -> Tuple[str, str]:
+def lacks(evidence: Evidence, least_reads: int, least_overlaps: int) -> tuple[str, str]:
     """What a yes lacks, and what to do about it. Both are empty if it lacks nothing."""
     if evidence.completed_reads < least_reads:
         hint = "" if evidence.completed_reads else "did the recorder stop before the first read was answered?"
@@ -76,19 +76,19 @@ def lacks(evidence: Evidence, least_reads: int, least_overlaps: int) -> Tuple[st
     return "", ""
 
 
-def faults_of(history: History, rows: List[Row]) -> List[Fault]:
+def faults_of(history: History, rows: list[Row]) -> list[Fault]:
     """The faults of some registers' lines of the report."""
     return [Fault(row["register"], row, fault_of(history, row) + inversion(history, row)) for row in rows]
 
 
-def faults_of_search(history: History, rows: List[Row]) -> List[Fault]:
+def faults_of_search(history: History, rows: list[Row]) -> list[Fault]:
     """The same of a report of regsearch."""
     from regkit.explain.searched import sentences_of  # only a fault of a search waits for this
 
     return [Fault(row["register"], row, sentences_of(history, row)) for row in rows]
 
 
-def unknown_in_words(registers: List[str]) -> str:
+def unknown_in_words(registers: list[str]) -> str:
     """The registers that a search gave up, the first few of them by name."""
     shown = ", ".join(map(quoted, registers[:MOST_NAMED]))
     rest = len(registers) - MOST_NAMED
@@ -96,7 +96,7 @@ def unknown_in_words(registers: List[str]) -> str:
         f", and {counted(rest, 'more register')}" if rest > 0 else "")
 
 
-def text_of(outcome: Outcome) -> List[str]:
+def text_of(outcome: Outcome) -> list[str]:
     """The lines for people that follow the first one."""
     lines = []
     for fault in outcome.faults:
@@ -115,9 +115,9 @@ def text_of(outcome: Outcome) -> List[str]:
     return lines
 
 
-def json_of(outcome: Outcome) -> Dict[str, Any]:
+def json_of(outcome: Outcome) -> dict[str, Any]:
     """The object for machines. docs/regkit.1 says what each key is."""
-    said: Dict[str, Any] = {"file": outcome.file, "status": outcome.status,
+    said: dict[str, Any] = {"file": outcome.file, "status": outcome.status,
                             "verdict": VERDICTS[outcome.status]}
     if outcome.evidence is not None:
         said.update(outcome.evidence._asdict())

@@ -2,7 +2,7 @@
 import os
 import pathlib
 from datetime import datetime, timezone
-from typing import List, NamedTuple, Optional
+from typing import NamedTuple, Optional
 from urllib.parse import quote
 
 from regkit.base.statuses import ExitStatus
@@ -27,7 +27,7 @@ class Run(NamedTuple):
     picture: Optional[pathlib.Path]
 
 
-def runs_in(folder: pathlib.Path) -> List[pathlib.Path]:
+def runs_in(folder: pathlib.Path) -> list[pathlib.Path]:
     """The histories of a folder, the newest first. Raises OSError."""
     paths = [path for path in folder.iterdir() if path.name.endswith(ENDINGS) and path.is_file()]
     return sorted(paths, key=lambda path: (-path.stat().st_mtime, path.name))
@@ -51,7 +51,7 @@ def row(run: Run, page: pathlib.Path) -> str:
     return tag("tr", "".join(cells))
 
 
-def page(runs: List[Run], found: int, folder: pathlib.Path, output: pathlib.Path) -> str:
+def page(runs: list[Run], found: int, folder: pathlib.Path, output: pathlib.Path) -> str:
     """The whole page, which will stand at `output`. There may be more runs in the folder than are listed."""
     wrong = sum(run.outcome.status == ExitStatus.NOT_ATOMIC for run in runs)
     listed = ("" if len(runs) == found else f"The newest {len(runs):,} of ") + counted(found, "run")

@@ -3,7 +3,7 @@ import json
 import mmap
 import os
 import pathlib
-from typing import Dict, List, NamedTuple, Optional
+from typing import NamedTuple, Optional
 
 MAX_PARTS = 1000
 FORMAT = "regkit split 1"
@@ -25,7 +25,7 @@ class Manifest(NamedTuple):
     events: int  # of the whole history, each counted once
     last_line: int  # the last line that was read
     stopped: Optional[int]  # the line that was sure to be refused; nothing after it was read
-    registers: List[int]  # the part of each register, in the order of their first calls
+    registers: list[int]  # the part of each register, in the order of their first calls
     cas: bool = False  # whether any call is a cas, which only regsearch takes
 
 
@@ -38,7 +38,7 @@ def write_manifest(directory: str, manifest: Manifest) -> None:
     """Written last and at once, so that a folder with a manifest is whole."""
     path = pathlib.Path(directory) / MANIFEST
     unfinished = path.with_suffix(".new")
-    told: Dict[str, object] = {"format": FORMAT, **manifest._asdict()}
+    told: dict[str, object] = {"format": FORMAT, **manifest._asdict()}
     unfinished.write_text(json.dumps(told, separators=(",", ":")) + "\n", encoding="utf-8")
     os.replace(unfinished, path)
 

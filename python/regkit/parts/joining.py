@@ -7,7 +7,7 @@ import resource
 import shlex
 from array import array
 from contextlib import ExitStack, suppress
-from typing import Any, BinaryIO, Callable, Iterator, NamedTuple, Optional, Sequence, Tuple, Union
+from typing import Any, BinaryIO, Callable, Iterator, NamedTuple, Optional, Sequence, Union
 
 from regkit.base.statuses import ExitStatus
 from regkit.checker.programs import CHECK, SEARCH, Answer, find_program, is_for_search
@@ -114,7 +114,7 @@ def program_of_refusal(refusal: Refusal) -> Optional[str]:
     return CHECK if refusal.number == REPEATED or refusal.text == TEXTS[BAD_OP] else None
 
 
-def ends_of(report: pathlib.Path, registers: int) -> Tuple[Row, Row]:
+def ends_of(report: pathlib.Path, registers: int) -> tuple[Row, Row]:
     """The first and the last line of a report. Raises ValueError unless there is a line for each register
     before the summary."""
     lines, first, last = 0, b"", b""

@@ -8,7 +8,7 @@ history finds."""
 import heapq
 import re
 from array import array
-from typing import Any, Dict, List, NamedTuple, Optional, Tuple
+from typing import Any, NamedTuple, Optional
 
 from regkit.base.limits import MAX_EVENTS, MAX_LINE, MAX_NAME, MAX_PROCESS
 from regkit.history.lines import BLANK, NotJson, json_of
@@ -66,11 +66,11 @@ class Router:
         self.events = [0] * parts
         self.part_of = array("H")  # of each register, by number
         self.events_of = array("L")
-        self.registers: Dict[bytes, int] = {}  # numbered by their first calls
-        self.open: Dict[bytes, int] = {}  # the register of the open call of each process
-        self.crashed: Dict[bytes, int] = {}  # the part of the crash of each process
+        self.registers: dict[bytes, int] = {}  # numbered by their first calls
+        self.open: dict[bytes, int] = {}  # the register of the open call of each process
+        self.crashed: dict[bytes, int] = {}  # the part of the crash of each process
         self.has_cas = False
-        self._least: List[Tuple[int, int]] = [(0, part) for part in range(parts)]
+        self._least: list[tuple[int, int]] = [(0, part) for part in range(parts)]
 
     def route(self, line: bytes) -> Optional[int]:
         """The part of a line, or None if the line is blank. Raises CertainRefusal and TooManyEvents."""

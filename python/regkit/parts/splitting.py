@@ -2,7 +2,7 @@
 import os
 import pathlib
 from contextlib import suppress
-from typing import BinaryIO, Callable, Iterator, List, NamedTuple, Optional
+from typing import BinaryIO, Callable, Iterator, NamedTuple, Optional
 
 from regkit.base.limits import MAX_BYTES, MAX_EVENTS, MAX_LINE
 from regkit.history.lines import BLANK
@@ -41,7 +41,7 @@ class PartWriter:
         for path in self.paths():
             open(path, "xb").close()
 
-    def paths(self) -> List[pathlib.Path]:
+    def paths(self) -> list[pathlib.Path]:
         return [self.history, self.map] if self.by_map else [self.history]
 
     def put(self, number: int, line: bytes) -> None:
@@ -116,7 +116,7 @@ def split(history: BinaryIO, plan: Plan, reach: Callable[[int], None]) -> Manife
     return manifest
 
 
-def write_parts(history: BinaryIO, plan: Plan, router: Router, writers: List[PartWriter],
+def write_parts(history: BinaryIO, plan: Plan, router: Router, writers: list[PartWriter],
                 reach: Callable[[int], None]) -> Manifest:
     number = read = 0
     stopped: Optional[int] = None
@@ -143,7 +143,7 @@ def write_parts(history: BinaryIO, plan: Plan, router: Router, writers: List[Par
     return Manifest(plan.name, plan.lines, plan.parts, events, number, stopped, registers, router.has_cas)
 
 
-def check_limits(plan: Plan, router: Router, writers: List[PartWriter]) -> None:
+def check_limits(plan: Plan, router: Router, writers: list[PartWriter]) -> None:
     """Raises CannotSplit if the checker would refuse a part for its size."""
     most_events = max(router.events)
     most_bytes = max(writer.size for writer in writers)
@@ -158,7 +158,7 @@ def check_limits(plan: Plan, router: Router, writers: List[PartWriter]) -> None:
     raise CannotSplit(f"a part has {size}, and one run takes {limits}: {advice}")
 
 
-def remove(writers: List[PartWriter]) -> None:
+def remove(writers: list[PartWriter]) -> None:
     for writer in writers:
         for path in writer.paths():
             with suppress(OSError):

@@ -1,5 +1,5 @@
 """Who makes one call after another, under a process number of its own."""
-from typing import Optional, Type, TypeVar
+from typing import Optional, TypeVar
 
 from regkit.recording.journal import Journal
 
@@ -45,7 +45,7 @@ class Caller:
     def __enter__(self: AnyCaller) -> AnyCaller:
         return self
 
-    def __exit__(self, kind: Optional[Type[BaseException]], *_: object) -> None:
+    def __exit__(self, kind: Optional[type[BaseException]], *_: object) -> None:
         self.close() if kind is None else self.crash()
 
     def begin(self, op: str, register: str, behind: Optional[str]) -> Optional[int]:

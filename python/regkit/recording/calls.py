@@ -1,6 +1,6 @@
 """A call, open from the beginning of its `with` block to the end: how the block is left says how it ended."""
 from types import TracebackType
-from typing import Any, Callable, Optional, Type, TypeVar
+from typing import Any, Callable, Optional, TypeVar
 
 from regkit.recording.caller import FAIL, NOTHING, REPLY, Caller
 from regkit.recording.journal import RecordingError
@@ -60,7 +60,7 @@ class Call:
         self._stage = "open"
         return self
 
-    def __exit__(self, kind: Optional[Type[BaseException]], error: Optional[BaseException],
+    def __exit__(self, kind: Optional[type[BaseException]], error: Optional[BaseException],
                  trace: Optional[TracebackType]) -> None:
         self._stage = "ended"
         missing = "" if self._said or kind is not None else self.missing()
@@ -70,7 +70,7 @@ class Call:
         if missing:
             raise self.mistake(missing)
 
-    def _ending(self, kind: Optional[Type[BaseException]], missing: str) -> str:
+    def _ending(self, kind: Optional[type[BaseException]], missing: str) -> str:
         if self._said:
             return self._said
         if kind is not None:

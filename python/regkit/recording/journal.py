@@ -7,13 +7,13 @@ import json
 import os
 import pathlib
 import threading
-from typing import IO, Any, Callable, Dict, List, Optional, Tuple, Type, Union
+from typing import IO, Any, Callable, Optional, Union
 
 from regkit.base.limits import GREATEST_VALUE, MAX_NAME
 from regkit.history.who import members
 
 Output = Union[None, str, "os.PathLike[str]", IO[Any], io.IOBase]
-Failures = Union[Type[BaseException], Tuple[Type[BaseException], ...]]
+Failures = Union[type[BaseException], tuple[type[BaseException], ...]]
 Clock = Callable[[], int]  # gives nanoseconds, and never goes back
 
 
@@ -76,16 +76,16 @@ class Journal:
             raise RecordingError(f"values_after is {values_after!r}: it is a whole number from 0")
         self.failures = failures
         self.prefix = prefix
-        self.mistakes: List[RecordingError] = []
+        self.mistakes: list[RecordingError] = []
         self._log = Log(output)
         self._clock = clock
         self._lock = threading.Lock()
         self._closed = False
-        self._free: List[int] = []  # a heap of the process numbers given back
+        self._free: list[int] = []  # a heap of the process numbers given back
         self._processes = 0
         self._values_after = values_after
-        self._values: Dict[str, int] = {}  # register -> the greatest value written
-        self._names: Dict[str, str] = {}  # register -> its name in JSON
+        self._values: dict[str, int] = {}  # register -> the greatest value written
+        self._names: dict[str, str] = {}  # register -> its name in JSON
 
     @property
     def path(self) -> Optional[pathlib.Path]:
@@ -116,7 +116,7 @@ class Journal:
         return members(client, node)
 
     def call(self, process: Optional[int], op: str, register: str, behind: Optional[str],
-             who: str) -> Tuple[int, Optional[int]]:
+             who: str) -> tuple[int, Optional[int]]:
         """Writes a call, under a free number if none is given. Gives the number.
 
         `behind` is what the line says behind its register. If it is None, that is a value which the register never

@@ -1,6 +1,6 @@
 """The recorder of a test."""
 import pathlib
-from typing import List, Optional
+from typing import Optional
 
 from regkit.recording.calls import Cas, Read, Write
 from regkit.recording.client import Client
@@ -44,7 +44,7 @@ class Recorder:
         return self._journal.path
 
     @property
-    def mistakes(self) -> List[RecordingError]:
+    def mistakes(self) -> list[RecordingError]:
         """Each wrong use so far, also one that was raised in a thread that nobody looked at."""
         return list(self._journal.mistakes)
 

@@ -20,7 +20,7 @@ What isn't checked:
 - the layout: the order of the keys, the spaces between them, and how a name is escaped;
 - the recording: whether the lines stand in the order in which things happened.
 """
-from typing import List, NamedTuple, Optional
+from typing import NamedTuple, Optional
 
 from regkit.base.garbage import many_objects
 from regkit.verify.claims import check_report
@@ -64,7 +64,7 @@ def verify(history: bytes, report: bytes, joined: bool = False) -> Verified:
     return Verified(faulty == 0, rows[-1]["operations"], len(read.registers), faulty, early=early)
 
 
-def _verify_search(history: bytes, rows: List[Row], joined: bool) -> Verified:
+def _verify_search(history: bytes, rows: list[Row], joined: bool) -> Verified:
     """The same of a report of regsearch."""
     read = _accepted(history, limits=not joined, search=True)
     nos = check_search_report(read, rows)

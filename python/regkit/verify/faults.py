@@ -1,5 +1,5 @@
 """What a register that isn't atomic claims: a few operations that no order can hold."""
-from typing import Any, List
+from typing import Any
 
 from regkit.verify.operations import Operation
 from regkit.verify.register import Register, operation_of, pair_of
@@ -28,7 +28,7 @@ def check_fault(register: Register, fault: Any) -> None:
         need(read.end < fault["write"], f"line {read.line} didn't end before the write")
 
 
-def check_zones(writes: List[Operation], first: List[Operation], second: List[Operation]) -> None:
+def check_zones(writes: list[Operation], first: list[Operation], second: list[Operation]) -> None:
     """By `first`, write V has to come before write W in any order; by `second`, W before V.
 
     In an order, a write and the reads of its value stand together. So if one of V's precedes one of W's, all

@@ -2,7 +2,7 @@
 
 docs/format.md has the rules: those of regcheck, and those of regsearch, with values that repeat and cas.
 """
-from typing import Any, Dict, List, Optional, Tuple
+from typing import Any, Optional
 
 from regkit.base.limits import (GREATEST_VALUE, LEAST_VALUE, MAX_BYTES, MAX_EVENTS, MAX_LINE, MAX_NAME,
                                 MAX_PROCESS)
@@ -82,12 +82,12 @@ class History:
         self.limit = limit  # how many events it may take
         self.search = search  # by the rules of regsearch
         self.events = 0
-        self.registers: Dict[str, List[Operation]] = {}
-        self.written: Dict[str, Dict[int, int]] = {}  # register -> value -> the line of its write's call
-        self.open_calls: Dict[int, Operation] = {}
-        self.crashes: Dict[int, int] = {}
+        self.registers: dict[str, list[Operation]] = {}
+        self.written: dict[str, dict[int, int]] = {}  # register -> value -> the line of its write's call
+        self.open_calls: dict[int, Operation] = {}
+        self.crashes: dict[int, int] = {}
 
-    def take(self, line: int, event: Dict[str, Any]) -> None:
+    def take(self, line: int, event: dict[str, Any]) -> None:
         """Takes the event of a line. Raises Refused with the lowest of 9 to 14 and 19 that applies."""
         what, process = event["event"], event["process"]
         if what == "call":
@@ -109,7 +109,7 @@ class History:
         else:
             self.end(line, event)
 
-    def check_call(self, line: int, event: Dict[str, Any]) -> None:
+    def check_call(self, line: int, event: dict[str, Any]) -> None:
         open_call = self.open_calls.get(event["process"])
         if open_call is not None:
             raise Refused(9, line, open_call.line)
@@ -118,7 +118,7 @@ class History:
             if earlier is not None:
                 raise Refused(13, line, earlier)
 
-    def check_end(self, line: int, event: Dict[str, Any]) -> None:
+    def check_end(self, line: int, event: dict[str, Any]) -> None:
         """Of a reply or a fail."""
         call = self.open_calls.get(event["process"])
         if call is None:
@@ -130,7 +130,7 @@ class History:
         if event["event"] == "reply" and is_read(call) and "value" not in event:
             raise Refused(12, line)
 
-    def begin(self, line: int, event: Dict[str, Any]) -> None:
+    def begin(self, line: int, event: dict[str, Any]) -> None:
         process, register, is_write = event["process"], event["register"], event["op"] == "write"
         call = Operation(line, register, is_write, event.get("value"))
         call.process = process
@@ -141,7 +141,7 @@ class History:
         if is_write:
             self.written.setdefault(register, {})[event["value"]] = line
 
-    def end(self, line: int, event: Dict[str, Any]) -> None:
+    def end(self, line: int, event: dict[str, Any]) -> None:
         call = self.open_calls.pop(event["process"])
         if event["event"] == "fail":
             call.failed = True
@@ -158,7 +158,7 @@ class History:
             self.registers[name] = [call for call in calls if not call.failed]
 
 
-def agrees(event: Dict[str, Any], call: Operation) -> bool:
+def agrees(event: dict[str, Any], call: Operation) -> bool:
     """Each thing that a reply or a fail says is as in its call."""
     op = "write" if call.is_write else "cas" if call.is_cas else "read"
     if event.get("op", op) != op or event.get("register", call.register) != call.register:
@@ -185,7 +185,7 @@ def read_history(history: bytes, limits: bool, search: bool = False) -> History:
     return taken
 
 
-def event_of(number: int, line: bytes, search: bool = False) -> Dict[str, Any]:
+def event_of(number: int, line: bytes, search: bool = False) -> dict[str, Any]:
     """The event of a line. Raises Refused with the lowest of 1 to 8 and 20 that applies."""
     if len(line) > MAX_LINE:
         raise Refused(1, number)
@@ -208,7 +208,7 @@ def event_of(number: int, line: bytes, search: bool = False) -> Dict[str, Any]:
     return event
 
 
-def call_fault(event: Dict[str, Any], ops: Tuple[str, ...]) -> int:
+def call_fault(event: dict[str, Any], ops: tuple[str, ...]) -> int:
     op, value = event.get("op"), event.get("value")
     if op not in ops:
         return 6
@@ -220,12 +220,12 @@ def call_fault(event: Dict[str, Any], ops: Tuple[str, ...]) -> int:
     return 20 if op == "cas" and not is_change(event) else 0
 
 
-def is_change(cas: Dict[str, Any]) -> bool:
+def is_change(cas: dict[str, Any]) -> bool:
     """Whether the two values of a cas are there and of their form."""
     return "from" in cas and (cas["from"] is None or is_value(cas["from"])) and is_value(cas.get("to"))
 
 
-def end_fault(event: Dict[str, Any], ops: Tuple[str, ...]) -> int:
+def end_fault(event: dict[str, Any], ops: tuple[str, ...]) -> int:
     """Of a reply or a fail, which may leave out its op, its register and its value."""
     if "op" in event and event["op"] not in ops:
         return 6

@@ -1,5 +1,5 @@
 """What an atomic register claims: an order of its operations, which is replayed."""
-from typing import Dict, Iterable, List, Optional
+from typing import Iterable, Optional
 
 from regkit.verify.operations import Operation
 from regkit.verify.register import Register
@@ -24,12 +24,12 @@ def check_order(register: Register, order: Lines, points: Lines) -> None:
             raise Wrong(f"the point of line {line} is {latest}")
 
 
-def replay(order: Iterable[int], operations: Dict[int, Operation]) -> None:
+def replay(order: Iterable[int], operations: dict[int, Operation]) -> None:
     """Lets the operations take effect one after another. Raises Wrong.
 
     None may stand after one that it precedes. Each read has to give the value of its register's last write.
     """
-    values: Dict[str, Optional[int]] = {}
+    values: dict[str, Optional[int]] = {}
     latest = 0  # the greatest call so far
     for line in order:
         operation = operations[line]
@@ -56,7 +56,7 @@ def built_order(register: Register) -> Lines:
     A cluster is a write with all completed reads of its value. Clusters are sorted by their first reply or
     their last call, whichever comes first. Nothing rests on this rule, since the order is replayed.
     """
-    clusters: Dict[Optional[int], List[Operation]] = {}
+    clusters: dict[Optional[int], list[Operation]] = {}
     for read in register.completed_reads:
         clusters.setdefault(read.value, []).append(read)
     for write in register.writes:
@@ -67,5 +67,5 @@ def built_order(register: Register) -> Lines:
     return [a.line for cluster in [initial, *ranked] for a in cluster]
 
 
-def low_end(cluster: List[Operation]) -> float:
+def low_end(cluster: list[Operation]) -> float:
     return min(min(a.end for a in cluster), max(a.line for a in cluster))

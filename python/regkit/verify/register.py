@@ -1,7 +1,7 @@
 """One register: its operations, and at which levels it is safe and regular."""
 import json
 from bisect import bisect_left
-from typing import Any, Dict, List, Optional, Tuple
+from typing import Any, Optional
 
 from regkit.verify.operations import Operation, initial_write
 from regkit.verify.rows import Row, is_number, lines_of, need
@@ -10,14 +10,14 @@ from regkit.verify.rows import Row, is_number, lines_of, need
 class Register:
     """The operations of one register."""
 
-    def __init__(self, name: str, operations: List[Operation]) -> None:
+    def __init__(self, name: str, operations: list[Operation]) -> None:
         initial = initial_write(name)
         self.operations = operations  # by call, without the initial write
-        self.by_line: Dict[int, Operation] = {a.line: a for a in [initial, *operations]}
+        self.by_line: dict[int, Operation] = {a.line: a for a in [initial, *operations]}
         self.writes = [a for a in operations if a.is_write]
         self.reads = [a for a in operations if not a.is_write]
         self.completed_reads = [a for a in self.reads if a.completed]
-        self.write_of: Dict[Optional[int], Operation] = {a.value: a for a in [initial, *self.writes]}
+        self.write_of: dict[Optional[int], Operation] = {a.value: a for a in [initial, *self.writes]}
         self.single_writer = len({a.process for a in self.writes}) <= 1
 
 
@@ -27,7 +27,7 @@ def operation_of(register: Register, line: Any) -> Operation:
     return register.by_line[line]
 
 
-def pair_of(register: Register, row: Row, key: str) -> List[Operation]:
+def pair_of(register: Register, row: Row, key: str) -> list[Operation]:
     pair = [operation_of(register, line) for line in lines_of(row, key)]
     need(len(pair) == 2, f"`{key}` is not a pair")
     return pair
@@ -46,7 +46,7 @@ def check_levels(register: Register, line: Row) -> None:
             need(holds, f"line {first} is the first read that breaks `{level}`")
 
 
-def first_breaks(register: Register) -> Tuple[Optional[int], Optional[int]]:
+def first_breaks(register: Register) -> tuple[Optional[int], Optional[int]]:
     """The first reads by call that aren't safe and aren't regular, of a register with a single writer.
 
     The writes of one process follow one another, so their calls and their replies both ascend.

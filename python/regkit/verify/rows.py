@@ -1,9 +1,9 @@
 """The lines of a report, as they were written, and how a claim that doesn't hold is said."""
 import json
-from typing import Any, Callable, Dict, List, NoReturn, Optional, Sequence, Tuple
+from typing import Any, Callable, NoReturn, Optional, Sequence
 
-Row = Dict[str, Any]
-Lines = List[int]  # operations, each by the line of its call
+Row = dict[str, Any]
+Lines = list[int]  # operations, each by the line of its call
 
 
 class Wrong(Exception):
@@ -19,7 +19,7 @@ def need(holds: bool, why: str) -> None:
         raise Wrong(why)
 
 
-def read_rows(report: bytes) -> List[Row]:
+def read_rows(report: bytes) -> list[Row]:
     """The lines of a report: those of registers, then the summary. Raises Unreadable."""
     try:
         *rows, end = [_row(line) for line in report.decode("utf-8").split("\n")]
@@ -33,7 +33,7 @@ def read_rows(report: bytes) -> List[Row]:
     return lines
 
 
-def _object(pairs: Sequence[Tuple[str, Any]]) -> Row:
+def _object(pairs: Sequence[tuple[str, Any]]) -> Row:
     keys = [key for key, _ in pairs]
     if len(keys) != len(set(keys)):
         raise ValueError(f"a key stands twice among {', '.join(keys)}")

@@ -3,7 +3,7 @@ import sys
 import threading
 import time
 from types import TracebackType
-from typing import Optional, TextIO, Type
+from typing import Optional, TextIO
 
 PATIENCE = 2.0  # seconds before the bar shows
 PAUSE = 0.2  # seconds between two looks
@@ -34,7 +34,7 @@ class Progress:
             self._thread.start()
         return self
 
-    def __exit__(self, kind: Optional[Type[BaseException]], error: Optional[BaseException],
+    def __exit__(self, kind: Optional[type[BaseException]], error: Optional[BaseException],
                  trace: Optional[TracebackType]) -> None:
         self._ended.set()
         if self._thread is not None:

@@ -5,7 +5,7 @@ since Clojure takes them for equal.
 """
 import re
 from decimal import Decimal
-from typing import Any, Dict, Tuple
+from typing import Any
 
 Value = Any
 
@@ -22,7 +22,7 @@ class Symbol(str):
     __slots__ = ()
 
 
-class Map(Dict[Value, Value]):
+class Map(dict[Value, Value]):
     """A map, and the line on which it began."""
 
     __slots__ = ("line",)
@@ -32,7 +32,7 @@ class Map(Dict[Value, Value]):
         return hash(write(self))
 
 
-class Set(Tuple[Value, ...]):
+class Set(tuple[Value, ...]):
     """The members of a set, in the order in which they were written."""
 
     __slots__ = ()

@@ -4,7 +4,7 @@ It reads line by line, so that a long history is never in memory as one text, an
 so that depth costs nothing.
 """
 import re
-from typing import Dict, Iterable, Iterator, List, Optional, Tuple
+from typing import Iterable, Iterator, Optional
 
 from regkit.convert.edn.atoms import number_of, text_of
 from regkit.convert.edn.kinds import Keyword, Map, NotEdn, Set, Symbol, Tagged, Value, write
@@ -21,7 +21,7 @@ _MOST_WORDS = 10_000  # keywords kept; a history that has more of them makes the
 _ABSENT = object()
 
 
-def _map(items: List[Value], line: int) -> Map:
+def _map(items: list[Value], line: int) -> Map:
     if len(items) % 2:
         raise NotEdn(line, "a map with a key and no value")
     made = Map(zip(items[::2], items[1::2]))
@@ -38,13 +38,13 @@ class _Reader:
 
     def __init__(self, elements: bool) -> None:
         self.elements = elements
-        self.wrapper: Optional[Tuple[str, int]] = None  # the vector at the top that gives its elements
-        self.words: Dict[str, Value] = {"nil": None, "true": True, "false": False, "0": 0}
-        self.stack: List[Tuple[str, List[Value], int, List[str]]] = []
-        self.items: List[Value] = []  # of the innermost open collection, or of the top
-        self.prefixes: List[str] = []  # tags and discards that wait for their value
+        self.wrapper: Optional[tuple[str, int]] = None  # the vector at the top that gives its elements
+        self.words: dict[str, Value] = {"nil": None, "true": True, "false": False, "0": 0}
+        self.stack: list[tuple[str, list[Value], int, list[str]]] = []
+        self.items: list[Value] = []  # of the innermost open collection, or of the top
+        self.prefixes: list[str] = []  # tags and discards that wait for their value
 
-    def read(self, tokens: List[str], line: int) -> None:
+    def read(self, tokens: list[str], line: int) -> None:
         """Reads some tokens of a line."""
         words, items, prefixes = self.words, self.items, self.prefixes
         for token in tokens:
@@ -69,7 +69,7 @@ class _Reader:
         value = _map(items, line)
         return Tagged(found[1], value) if found[1] else value
 
-    def flat_words(self, text: str, line: int) -> List[Value]:
+    def flat_words(self, text: str, line: int) -> list[Value]:
         words = self.words
         return [words[token] if token in words else
                 int(token) if token[0] != "0" and token.isdecimal() and token.isascii() else
@@ -137,7 +137,7 @@ class _Reader:
             raise NotEdn(line, "\\ without a character")
         return number_of(token, line) if _NUMBER_START.match(token) else Symbol(token)
 
-    def done(self) -> List[Value]:
+    def done(self) -> list[Value]:
         """What ended at the top since the last time."""
         if self.stack or not self.items:
             return []
@@ -153,7 +153,7 @@ class _Reader:
             raise NotEdn(line, f"{self.prefixes[-1]} stands before no value")
 
 
-def values(lines: Iterable[str], elements: bool = False) -> Iterator[Tuple[int, Value]]:
+def values(lines: Iterable[str], elements: bool = False) -> Iterator[tuple[int, Value]]:
     """Each value at the top, with the number of its line. Raises NotEdn.
 
     With `elements`, a vector or list at the top gives its elements, one by one, in its place.

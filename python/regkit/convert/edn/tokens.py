@@ -1,7 +1,7 @@
 """Lines as tokens."""
 import itertools
 import re
-from typing import Iterator, List, Tuple
+from typing import Iterator
 
 from regkit.convert.edn.kinds import NotEdn
 
@@ -24,7 +24,7 @@ def _unfinished(token: str) -> bool:
     return token[:1] == '"' and not _WHOLE_TEXT.fullmatch(token)
 
 
-def tokens_of(line: str, more: Iterator[Tuple[int, str]], number: int) -> Iterator[List[str]]:
+def tokens_of(line: str, more: Iterator[tuple[int, str]], number: int) -> Iterator[list[str]]:
     """The tokens of a line, some thousands at once, and of those behind it if a text goes on there."""
     found = _TOKEN.finditer(line.rstrip("\n"))
     tokens = _some(found)
@@ -35,12 +35,12 @@ def tokens_of(line: str, more: Iterator[Tuple[int, str]], number: int) -> Iterat
         tokens = _some(found)
 
 
-def _some(found: Iterator["re.Match[str]"]) -> List[str]:
+def _some(found: Iterator["re.Match[str]"]) -> list[str]:
     """The next tokens. What matches at the end, behind blanks, is no token."""
     return [match[1] for match in itertools.islice(found, _AT_ONCE) if match[1]]
 
 
-def _joined(line: str, more: Iterator[Tuple[int, str]], number: int) -> str:
+def _joined(line: str, more: Iterator[tuple[int, str]], number: int) -> str:
     """A line and those behind it, up to the next with a quote, where its open text may end."""
     held = [line]
     for _, behind in more:
