@@ -17,8 +17,8 @@ Its packages are floors, the lowest first. A module imports from its own floor a
     convert     histories of other tools
     commands    the commands, a module each
 
-Above them are the modules that a test imports: `record`, `testing`, `pytest_plugin` and `library`. `cli` is the
-command line.
+Above them are the modules that a test imports: `record`, `testing`, `pytest_plugin` and `library`. `cli` is
+the command line.
 """
 
 __version__ = "1.1.0"

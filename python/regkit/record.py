@@ -9,24 +9,24 @@
 
 Entering a block writes the line of the call. How the block is left decides what is written then:
 
-- Normally: a reply. By then a write must have been asked for its value, a read must have been given one, and a
-  cas must have been told whether it took place.
+- Normally: a reply. By then a write must have been asked for its value, a read must have been given one, and
+  a cas must have been told whether it took place.
 - By an exception: nothing, since nobody knows what the store did. The call stays pending. Its process number
   is never used again; the client goes on under a new one.
 - After `call.failed()`, or by one of the exceptions in `Recorder(failures=...)`: a fail. It says that the
-  call certainly had no effect. Don't say it of a call that timed out: if the store did the write after all, that
-  invents a fault.
+  call certainly had no effect. Don't say it of a call that timed out: if the store did the write after all,
+  that invents a fault.
 
 The values of a register's writes are 1, 2, 3, and so on. A store of texts is given `str(write.value)`; a read
 takes the number, its text, its bytes, or None if the store has no value.
 
-A caller may choose the values itself, and repeat them, and may compare and swap (cas). `regsearch` checks such a
-history, and `assert_atomic` chooses it:
+A caller may choose the values itself, and repeat them, and may compare and swap (cas). `regsearch` checks
+such a history, and `assert_atomic` chooses it:
 
     with client.write("lock", 0):
         store.set("lock", 0)
     with client.cas("lock", 0, 1) as cas:
-        cas.ok = store.compare_and_set("lock", 0, 1)  # False only if the store says that it found another value
+        cas.ok = store.compare_and_set("lock", 0, 1)  # False only if the store found another value
 
 Threads and asyncio tasks share one recorder, and each takes a client of its own. No lock is held inside a
 block, so a block may await. A program that forks needs a recorder in each of its processes, each with values

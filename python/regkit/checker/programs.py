@@ -20,8 +20,8 @@ LIBRARY_BYTES = 1_048_576  # the program has several workers: it is as quick wit
 NOT_FOUND = "regcheck was not found: put it on PATH, or set REGCHECK to its path"
 CHECK, SEARCH = "regcheck", "regsearch"
 VARIABLES = {CHECK: "REGCHECK", SEARCH: "REGSEARCH"}  # with the paths of the programs
-WOULD_DECIDE = ("regsearch would decide it, since it takes repeated values and cas: put it beside regcheck or on "
-                "PATH, or set REGSEARCH to its path")
+WOULD_DECIDE = ("regsearch would decide it, since it takes repeated values and cas: put it beside regcheck "
+                "or on PATH, or set REGSEARCH to its path")
 
 
 class NoChecker(Exception):
@@ -50,7 +50,7 @@ class Answer(NamedTuple):
 
 
 def beside(program: str = CHECK) -> list[pathlib.Path]:
-    """Where the program may be: next to the command, in bin/ of the repository, or where pip puts commands."""
+    """Where the program may be: beside the command, in bin/ of the repository, or where pip puts commands."""
     places = []
     started = pathlib.Path(sys.argv[0])
     if started.is_file():

@@ -6,7 +6,7 @@ from regkit.base.limits import MAX_BYTES, MAX_EVENTS, MAX_LINE, MAX_NAME, MAX_PR
 
 BAD_OP, REPEATED = 6, 13  # the numbers of the refusals of a cas and of a repeated value
 
-# The texts of the refusals of a line, by their numbers in docs/format.md. On one line the lowest number counts.
+# The texts of the refusals of a line, by their numbers in docs/format.md. On one line the lowest counts.
 TEXTS = {
     1: f"line is longer than {MAX_LINE} bytes",
     2: "not JSON",
@@ -54,7 +54,7 @@ class Refusal(NamedTuple):
 
 
 def reason_of(number: int, line: int, other: int, by_search: bool = False) -> str:
-    """What the program says of a refusal: `regcheck`, or by a search `regsearch`. A line or other line of 0 is none."""
+    """What the program says of a refusal: `regcheck`, or by a search `regsearch`. A line of 0 is none."""
     text = {**TEXTS, **(SEARCH_TEXTS if by_search else {}), **OTHER_TEXTS}[number]
     return (f"line {line}: " if line else "") + text + (f" at line {other}" if other else "")
 

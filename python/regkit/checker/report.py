@@ -46,8 +46,8 @@ def read_report(data: bytes) -> Report:
 
 
 def read_verdict(data: bytes) -> Report:
-    """The same with the lines of the faulty and unknown registers alone, and a summary without its order. The numbers of
-    an order are nearly all of a report, and a verdict doesn't need them."""
+    """The same with the lines of the faulty and unknown registers alone, and a summary without its order. The
+    numbers of an order are nearly all of a report, and a verdict doesn't need them."""
     last = data.rfind(b"\n", 0, len(data) - 1) + 1
     faulty, begin = [], 0
     while begin < last:
@@ -62,13 +62,13 @@ def read_verdict(data: bytes) -> Report:
 
 
 def number_behind(line: bytes, key: bytes) -> int:
-    """The number behind the last such key, which no name of a register can hold: there its quotes are escaped."""
+    """The number behind the last such key. No register's name can hold it: there its quotes are escaped."""
     place = line.rfind(key)
     found = re.match(rb"\d+", line[place + len(key):place + len(key) + 20]) if place >= 0 else None
     return int(found[0]) if found else 0
 
 
 def least_completed_reads(written: bytes) -> int:
-    """At least how many reads were completed: of each register all reads but as many as operations are pending."""
+    """At least how many reads were completed: of each register all but as many as operations are pending."""
     return sum(max(0, number_behind(line, b'"reads":') - number_behind(line, b'"pending":'))
                for line in written.splitlines()[:-1])

@@ -144,7 +144,8 @@ def unknown_in_words(rows: list[Row], most: int) -> str:
     """The registers that a search gave up, the first few by name, and what to do about them."""
     names = ", ".join(quoted(row["register"]) for row in rows[:max(1, most)])
     more = f" and {len(rows) - most:,} more" if len(rows) > most > 0 else ""
-    return f"unknown: the search gave up on {counted(len(rows), 'register')}, {names}{more}\n  {what_to_do(rows)}"
+    gave_up = f"unknown: the search gave up on {counted(len(rows), 'register')}, {names}{more}"
+    return f"{gave_up}\n  {what_to_do(rows)}"
 
 
 def how_many(report: Report) -> str:

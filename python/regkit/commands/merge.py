@@ -108,8 +108,8 @@ def told(files: Sequence[Recorded], found: Merged, clock_error: int) -> Iterator
         yield f"{plain(file.name)}: {counted(len(file.events), 'event')}{numbered(found, file, number)}"
     apart = [plain(file.name) for file in files if is_apart(file, files, clock_error)]
     if apart:
-        yield (f"no other history has times near those of {', '.join(apart)}: were all recorded at once, with "
-               "clocks that agree?")
+        yield (f"no other history has times near those of {', '.join(apart)}: were all recorded at once, "
+               "with clocks that agree?")
     if found.given_up:
         yield (f"the orders of two histories contradict each other within the clock error at "
                f"{counted(found.given_up, 'call')}: there operations of one history overlap")

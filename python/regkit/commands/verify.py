@@ -43,7 +43,8 @@ REFUSALS = (".err", ".refusal")  # what a file with a refusal is called
 
 
 def add_arguments(parser: argparse.ArgumentParser) -> None:
-    parser.add_argument("history", metavar="HISTORY", help="the history, packed by gzip or not; - is standard input")
+    parser.add_argument("history", metavar="HISTORY",
+                        help="the history, packed by gzip or not; - is standard input")
     parser.add_argument("report", metavar="REPORT", nargs="?",
                         help="its report; - is standard input; a file .err or .refusal is a refusal's text")
     parser.add_argument("--refusal", metavar="FILE", help="the text of its refusal, in place of REPORT")

@@ -61,7 +61,7 @@ class Clock:
         return Time(digits, places + exponent)
 
     def nanoseconds(self, time: Time, unit: Optional[str]) -> Optional[int]:
-        """A time from 0 to the greatest of 64 bits, if the source's unit is known. A date counts from 1970."""
+        """A time from 0 to the greatest value, if the source's unit is known. A date counts from 1970."""
         own = unit if self.kind == "a number" else "s"
         if own is None:
             return None

@@ -6,10 +6,10 @@ One operation is a map or a record of EDN, an object of JSON with the same membe
     {"process":0,"type":"invoke","f":"write","value":[3,11],"index":0,"time":12}
     INFO  jepsen.util - 0 :invoke :write 11
 
-`:ok` is a reply, `:fail` a failure that certainly had no effect, and `:info` a crash of the client: the outcome
-is unknown and the process does nothing more. A cas has [from to] as its value; if its `:fail` says that the
-store found another value, `--failed-cas missed` says so. Processes that aren't numbers, such as :nemesis, are
-no clients.
+`:ok` is a reply, `:fail` a failure that certainly had no effect, and `:info` a crash of the client: the
+outcome is unknown and the process does nothing more. A cas has [from to] as its value; if its `:fail` says
+that the store found another value, `--failed-cas missed` says so. Processes that aren't numbers, such as
+:nemesis, are no clients.
 """
 import itertools
 from collections import Counter

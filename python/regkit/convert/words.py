@@ -58,8 +58,8 @@ def _add_meanings(parser: argparse.ArgumentParser) -> None:
         help="what the source's words for operations mean: read, write, cas, or other, whose keys --cas "
         "skip-key leaves out")
     add("--outcomes", metavar="WORD=OUTCOME,..", action="append", default=[],
-        help="what the source's words for outcomes mean: ok, fail (it certainly had no effect), unknown, or of "
-             "a cas missed (the store found another value)")
+        help="what the source's words for outcomes mean: ok, fail (it certainly had no effect), unknown, or "
+             "of a cas missed (the store found another value)")
     add("--ok-when", metavar="MEMBER=WORD,..", action="append", default=[],
         help="an operation took place only if this member or column has one of these words; any other is an "
         "unknown outcome unless --outcomes has it; the empty word is null too, and no such member")

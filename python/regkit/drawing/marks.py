@@ -99,8 +99,8 @@ def overlapped_writes(read: Operation, calls: list[Operation]) -> list[Operation
     good."""
     assert read.end_line is not None
     end = read.end_line
-    found = [call for call in calls if call.line < end and call.writes and not call.failed and call is not read
-             and (call.pending or (call.end_line or 0) > read.line)]
+    found = [call for call in calls if call.line < end and call.writes and not call.failed
+             and call is not read and (call.pending or (call.end_line or 0) > read.line)]
     return sorted(found, key=lambda call: call.pending)
 
 
@@ -143,7 +143,8 @@ def marks_of_read(found: Unexplained, calls: list[Operation]) -> Marks:
 
 
 def marks_of_search(history: History, row: Row) -> Marks:
-    """The reply for which a search found no order, and what wrote the value that the register may have there."""
+    """The reply for which a search found no order, and what wrote the value that the register may have
+    there."""
     marks = Marks()
     if is_unwritten(row):
         call = history.operation(row["register"], row["fault"]["call"])

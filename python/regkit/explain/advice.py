@@ -196,14 +196,14 @@ def repeated(place: Place) -> str:
 
 def no_change(place: Place) -> str:
     """A cas whose values don't fit."""
-    return ("a cas has the value that it asks for in `from`, a whole number or null, and the one that it writes in "
-            "`to`, a whole number")
+    return ("a cas has the value that it asks for in `from`, a whole number or null, and the one that it "
+            "writes in `to`, a whole number")
 
 
 def unsaid(place: Place) -> str:
     """A cas's reply that doesn't say whether it took place."""
-    return ("write `\"ok\":true` if it took place, and `\"ok\":false` if the store found another value; if you "
-            "don't know, write no reply, as the call then stays pending")
+    return ("write `\"ok\":true` if it took place, and `\"ok\":false` if the store found another value; if "
+            "you don't know, write no reply, as the call then stays pending")
 
 
 def crashed(place: Place) -> str:

@@ -9,8 +9,8 @@ from regkit.history.operations import Operation
 
 MOST_STEPS = 300_000
 
-# The write or cas whose value the register has (0: none yet), the calls that took effect, those whose values it
-# had since the call in question began, and whether that call took effect.
+# The write or cas whose value the register has (0: none yet), the calls that took effect, those whose values
+# it had since the call in question began, and whether that call took effect.
 State = tuple[int, frozenset[int], frozenset[int], bool]
 
 

@@ -1,10 +1,10 @@
 """Makes a no of `regsearch` small: fewer operations, and fewer replies, that still have no order.
 
-Each step claims less. An order of more, without a read, or without a cas that missed, is an order of less; and a
-write or a cas whose reply is taken away may still stand where it stood. What was answered before a write that overlaps
-nothing else that was answered comes before that write, which hides it: an order of all is, from that write on, one of
-the rest. So if there is no order of less, there is none of more either, and the answer to each step is asked of
-regsearch itself."""
+Each step claims less. An order of more, without a read, or without a cas that missed, is an order of
+less; and a write or a cas whose reply is taken away may still stand where it stood. What was answered
+before a write that overlaps nothing else that was answered comes before that write, which hides it: an
+order of all is, from that write on, one of the rest. So if there is no order of less, there is none of
+more either, and the answer to each step is asked of regsearch itself."""
 import json
 from typing import Callable, NamedTuple, Optional, Sequence
 
@@ -30,12 +30,12 @@ class Small(NamedTuple):
     whole: int  # how many operations were called before the reply
     runs: int  # of regsearch
     ended: bool  # whether each step was tried that was left
-    fence: Optional[Operation] = None  # the write that hides what was answered before it, if that was left out
+    fence: Optional[Operation] = None  # the write that hides what was answered before it and was left out
 
 
 def until(calls: Sequence[Operation], reply: int) -> list[Kept]:
-    """What was called before a reply, with the replies up to it. What replied later is kept only if it may have
-    changed the value by then: a read, or a cas that missed, changes no order of the others."""
+    """What was called before a reply, with the replies up to it. What replied later is kept only if it may
+    have changed the value by then: a read, or a cas that missed, changes no order of the others."""
     called = [call for call in calls if call.line < reply and not call.failed]
     kept = [Kept(call, call.completed and (call.end_line or 0) <= reply) for call in called]
     return [each for each in kept if each.replied or each.call.writes]
@@ -114,7 +114,8 @@ def asker(bounds: Sequence[str]) -> Callable[[list[Kept]], int]:
     """How regsearch ends with some operations. Raises NoChecker if it isn't there."""
     program = find_program(SEARCH)
     if program is None:
-        raise NoChecker("regsearch was not found: put it beside regcheck or on PATH, or set REGSEARCH to its path")
+        raise NoChecker("regsearch was not found: put it beside regcheck or on PATH, or set REGSEARCH to its "
+                        "path")
     options = list(bounds)
     if "--steps" in options:
         place = options.index("--steps") + 1
@@ -138,7 +139,8 @@ class Searcher(NamedTuple):
 class Shrinker:
     """Asks regsearch about less and less."""
 
-    def __init__(self, kept: list[Kept], ask: Callable[[list[Kept]], int], reach: Callable[[int], None]) -> None:
+    def __init__(self, kept: list[Kept], ask: Callable[[list[Kept]], int],
+                 reach: Callable[[int], None]) -> None:
         self.kept = kept
         self.ask = ask
         self.reach = reach
@@ -170,8 +172,8 @@ class Shrinker:
             back *= 2
 
     def drop(self, writes: bool, reply: int) -> None:
-        """Leaves out reads and misses, or takes away replies of writes and other cas: all, half of them, and so
-        on to each by itself."""
+        """Leaves out reads and misses, or takes away replies of writes and other cas: all, half of them, and
+        so on to each by itself."""
         left = [each.call for each in self.kept if each.replied and each.call.writes == writes
                 and each.call.end_line != reply and each.call is not self.fence]
         size = len(left)

@@ -95,8 +95,8 @@ class History:
 
 
 def read_history(data: bytes, watch: Optional[Callable[[int], None]] = None) -> History:
-    """The history in some bytes that `regcheck` or `regsearch` accepted. What it would refuse is not looked for here, and
-    may raise NotAHistory. `watch` is told the number of the line from time to time."""
+    """The history in some bytes that `regcheck` or `regsearch` accepted. What it would refuse is not looked
+    for here, and may raise NotAHistory. `watch` is told the number of the line from time to time."""
     return history_of(lines.events(data), watch)
 
 

@@ -93,7 +93,8 @@ def gave_up(report: Report) -> list[str]:
 
 def check_status(answer: Answer, report: Report) -> None:
     """Raises Untrue if regsearch didn't end as its report says."""
-    due = (ExitStatus.NOT_ATOMIC if report.faulty else ExitStatus.UNKNOWN if report.unknown else ExitStatus.ATOMIC)
+    due = (ExitStatus.NOT_ATOMIC if report.faulty else
+           ExitStatus.UNKNOWN if report.unknown else ExitStatus.ATOMIC)
     if answer.status != due:
         raise Untrue(f"its exit status is {answer.status}, and by its report {int(due)}")
 
@@ -206,11 +207,12 @@ class Judge:
 
     def enough(self, reads: Optional[Reads]) -> bool:
         """Whether the beginning of a history has the evidence that is asked for."""
-        return reads is not None and reads.completed >= self.wishes.least_reads and self.overlaps_enough(reads)
+        return (reads is not None and reads.completed >= self.wishes.least_reads
+                and self.overlaps_enough(reads))
 
     def reads_of(self, data: bytes) -> Optional[Reads]:
-        """The completed reads: of a long history those of its beginning, if it has the overlaps that are asked
-        for. None if a line that matters is unusual."""
+        """The completed reads: of a long history those of its beginning, if it has the overlaps that are
+        asked for. None if a line that matters is unusual."""
         try:
             reads = None if self.wishes.count_all else reads_of_beginning(data)
             return reads if self.overlaps_enough(reads) else count_reads(data)
@@ -218,7 +220,7 @@ class Judge:
             return None
 
     def settled(self, data: bytes, written: bytes, reads: Optional[Reads]) -> Optional[Reads]:
-        """The same; if the beginning has too few, by the report where that has enough, or else all of them."""
+        """The same; if the beginning has too few, by the report where that has enough, or else all."""
         if reads is None or not reads.at_least or reads.completed >= self.wishes.least_reads:
             return reads
         completed = least_completed_reads(written)

@@ -49,7 +49,8 @@ class Caller:
         self.close() if kind is None else self.crash()
 
     def begin(self, op: str, register: str, behind: Optional[str]) -> Optional[int]:
-        """Writes the line of a call, and gives the value that the recorder chose, if it did. For Call alone."""
+        """Writes the line of a call, and gives the value that the recorder chose, if it did. For Call
+        alone."""
         if self._open:
             raise self.journal.mistake(f"the client has a call open while it calls a {op} of {register!r}: "
                                        "take a client for each thread and each task")

@@ -15,7 +15,7 @@ class Call:
 
     op = ""
     rest = ""  # of its arguments, for a person
-    behind: Optional[str] = ""  # what its line says behind the register; None for a value of the recorder's choice
+    behind: Optional[str] = ""  # what its line says behind the register; None for a value that is chosen
 
     def __init__(self, client: Caller, register: str, alone: bool = False) -> None:
         self.register = client.journal.key(register)  # its name in the store, too
@@ -92,7 +92,8 @@ class Write(Call):
     op = "write"
     _asked = False
 
-    def __init__(self, client: Caller, register: str, value: Optional[int] = None, alone: bool = False) -> None:
+    def __init__(self, client: Caller, register: str, value: Optional[int] = None,
+                 alone: bool = False) -> None:
         super().__init__(client, register, alone)
         self.behind = None
         if value is not None:
@@ -148,7 +149,8 @@ class Cas(Call):
     rest = ", from_, to"
     _ok: Optional[bool] = None
 
-    def __init__(self, client: Caller, register: str, from_: Optional[int], to: int, alone: bool = False) -> None:
+    def __init__(self, client: Caller, register: str, from_: Optional[int], to: int,
+                 alone: bool = False) -> None:
         super().__init__(client, register, alone)
         self.from_ = None if from_ is None else self.checked(chosen, from_)
         self.to = self.checked(chosen, to)
@@ -171,7 +173,8 @@ class Cas(Call):
         self._ok = ok
 
     def missing(self) -> str:
-        return "" if self._ok is not None else "wasn't told how it ended: set `cas.ok` to whether it took place"
+        return ("" if self._ok is not None
+                else "wasn't told how it ended: set `cas.ok` to whether it took place")
 
     def reply_value(self) -> str:
         return f',"ok":{"true" if self._ok else "false"}'

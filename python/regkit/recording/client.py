@@ -14,8 +14,8 @@ class Client(Caller):
     As a context manager it gives the number back at the end. If an exception leaves the block, it crashes."""
 
     def write(self, register: str, value: Optional[int] = None) -> Write:
-        """The call of a write, for a `with` statement. Its `value` is what to write: the one that is given here,
-        which may repeat, or one that the recorder chooses, which no other write of the register has."""
+        """The call of a write, for a `with` statement. Its `value` is what to write: the one that is given
+        here, which may repeat, or one that the recorder chooses, which no other write of the register has."""
         return Write(self, register, value)
 
     def read(self, register: str) -> Read:
@@ -23,6 +23,6 @@ class Client(Caller):
         return Read(self, register)
 
     def cas(self, register: str, from_: Optional[int], to: int) -> Cas:
-        """The call of a compare-and-swap, for a `with` statement. It writes `to` if the register holds `from_`,
-        which is None for no value. Set its `ok` to whether it took place."""
+        """The call of a compare-and-swap, for a `with` statement. It writes `to` if the register holds
+        `from_`, which is None for no value. Set its `ok` to whether it took place."""
         return Cas(self, register, from_, to)

@@ -70,7 +70,8 @@ def _verify_search(history: bytes, rows: list[Row], joined: bool) -> Verified:
     nos = check_search_report(read, rows)
     unknown = sum(row["atomic"] == "unknown" for row in rows[:-1])
     faulty = sum(row["atomic"] == "no" for row in rows[:-1])
-    return Verified(faulty == unknown == 0, rows[-1]["operations"], len(read.registers), faulty, unknown, nos, True)
+    return Verified(faulty == unknown == 0, rows[-1]["operations"], len(read.registers), faulty, unknown, nos,
+                    by_search=True)
 
 
 def _accepted(history: bytes, limits: bool, search: bool = False) -> History:

@@ -50,7 +50,8 @@ class Refused(Exception):
 class Operation:
     """A read or a write, identified by the line of its call. A register's initial write of null has 0."""
 
-    __slots__ = ("line", "end", "process", "register", "is_write", "value", "failed", "is_cas", "asked", "took")
+    __slots__ = ("line", "end", "process", "register", "is_write", "value", "failed", "is_cas", "asked",
+                 "took")
 
     def __init__(self, line: int, register: str, is_write: bool, value: Optional[int]) -> None:
         self.line = line

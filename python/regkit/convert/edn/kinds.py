@@ -1,7 +1,7 @@
 """Values as EDN has them, and the one text of each.
 
-nil is None; true, false and whole numbers are Python's; other numbers are Decimal; vectors and lists are tuples,
-since Clojure takes them for equal.
+nil is None; true, false and whole numbers are Python's; other numbers are Decimal; vectors and lists are
+tuples, since Clojure takes them for equal.
 """
 import re
 from decimal import Decimal
