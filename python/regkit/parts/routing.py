@@ -16,12 +16,12 @@ from regkit.history.lines import BLANK, NotJson, json_of
 # The usual form of a line. What such a pattern captures is what any reader of JSON finds there. Every other
 # line is read as JSON, which takes longer. Values are left to the checker.
 _START = rb'\{"process": ?(0|[1-9][0-9]{0,8}), ?"event": ?'
-_REGISTER = rb'"register": ?"([^"\\\x00-\x1f]{1,255})"'
+_REGISTER = rb'"register": ?"([^"\\\x00-\x1f]{1,%d})"' % MAX_NAME
 _NUMBER = rb"(?:-?[1-9][0-9]{0,17}|0|null)"
 _VALUE = rb'(?:, ?"value": ?' + _NUMBER + rb")?"
 _CHANGE = rb'(?:, ?"from": ?' + _NUMBER + rb', ?"to": ?' + _NUMBER + rb")?"
 _OK = rb'(?:, ?"ok": ?(?:true|false))?'
-_TEXT = rb'"[^"\\\x00-\x1f]{0,255}"'
+_TEXT = rb'"[^"\\\x00-\x1f]{0,%d}"' % MAX_NAME
 _TIME = rb'(?:, ?"time": ?(?:0|[1-9][0-9]{0,18}))?'
 _WHO = rb'(?:, ?"client": ?' + _TEXT + rb')?(?:, ?"node": ?' + _TEXT + rb")?" + _TIME
 _END = _WHO + rb'\}\r?\n?'
