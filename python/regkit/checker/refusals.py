@@ -2,7 +2,7 @@
 import re
 from typing import Callable, NamedTuple, Optional
 
-from regkit.base.limits import MAX_BYTES, MAX_EVENTS, MAX_LINE, MAX_NAME, MAX_PROCESS
+from regkit.base.limits import MAX_LINE, MAX_NAME, MAX_PROCESS
 
 BAD_OP, REPEATED = 6, 13  # the numbers of the refusals of a cas and of a repeated value
 
@@ -31,8 +31,7 @@ SEARCH_TEXTS = {
 }
 NUMBERS = {text: number for texts in (TEXTS, SEARCH_TEXTS) for number, text in texts.items()}
 # Those that are about the size of a history, or about none.
-OTHER_TEXTS = {14: f"more than {MAX_EVENTS} events", 15: f"input is longer than {MAX_BYTES} bytes",
-               17: "no memory or no thread"}
+OTHER_TEXTS = {14: "more than 1048576 events", 15: "input is longer than 67108864 bytes", 17: "no memory or no thread"}
 WORDS = re.compile(r"line (\d+): (.+?)(?: at line (\d+))?")
 
 
@@ -54,7 +53,7 @@ class Refusal(NamedTuple):
 
 
 def reason_of(number: int, line: int, other: int, by_search: bool = False) -> str:
-    """What the program says of a refusal: `regcheck`, or by a search `regsearch`. A line of 0 is none."""
+    """What the program says of a refusal: `regcheck`, or by a search `regsearch`. A line or other line of 0 is none."""
     text = {**TEXTS, **(SEARCH_TEXTS if by_search else {}), **OTHER_TEXTS}[number]
     return (f"line {line}: " if line else "") + text + (f" at line {other}" if other else "")
 

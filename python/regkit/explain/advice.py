@@ -2,7 +2,8 @@
 import json
 from typing import Any, Callable, NamedTuple, Optional
 
-from regkit.checker.refusals import OTHER_TEXTS, Refusal, read_refusal
+from regkit.base.limits import MAX_EVENTS
+from regkit.checker.refusals import Refusal, read_refusal
 from regkit.explain.looks import looks_like, operations
 from regkit.history.lines import Event, NotJson, json_of
 from regkit.words.quoting import plain, quoted
@@ -27,9 +28,9 @@ SPLIT = "check parts of it: `regkit split` makes them, each with whole registers
 CONVERT_VALUES = "values are whole numbers: number them, or let `regkit convert --from jsonl` do it"
 OF_THE_RUN = {
     "input is longer than": SPLIT,
-    OTHER_TEXTS[14]: SPLIT,
+    f"more than {MAX_EVENTS} events": SPLIT,
     "input could not be read": "is it a file that can be read?",
-    OTHER_TEXTS[17]: "give it more memory, or check parts of it: `regkit split` makes them",
+    "no memory or no thread": "give it more memory, or check parts of it: `regkit split` makes them",
     "output could not be written": "is the disk full?",
 }
 
