@@ -19,7 +19,6 @@ from regkit.words.phrases import counted
 from regkit.words.progress import Progress
 from regkit.words.quoting import plain
 
-
 BUG = "don't trust it, and keep the history: this is a bug of regcheck, regsearch or regkit"
 
 
