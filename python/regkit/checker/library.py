@@ -7,11 +7,13 @@ import os
 import pathlib
 import sys
 from functools import lru_cache
-from typing import Any, Callable, Iterator, NamedTuple, Optional, Tuple
+from typing import Any, Callable, Iterator, NamedTuple, Optional
 
+from regkit.base.limits import MAX_CONFIGURATIONS, MAX_STEPS
+from regkit.base.statuses import ExitStatus
 from regkit.checker.refusals import reason_of
 
-ATOMIC, NOT_ATOMIC, TOO_SMALL, UNKNOWN = 0, 1, 5, 6
+TOO_SMALL = 5  # the only status of regcheck.h that isn't one of the programs: the report needs more room
 FILE = "libregcheck.so.1"  # the number is that of the interface
 
 
@@ -25,7 +27,7 @@ class NoLibrary(Exception):
 class Told(NamedTuple):
     """What the library says of a history."""
 
-    status: int  # 0 atomic, 1 not atomic, 2 refused, 4 memory ran out, 6 unknown, as the program's exit status
+    status: int  # one of ExitStatus, as the program's
     report: bytes
     refusal: str  # in the words of the program
     number: int = 0  # of the refusal
@@ -43,7 +45,6 @@ class _Answer(ctypes.Structure):
 _INPUT = (ctypes.c_char_p, ctypes.c_size_t)
 _BOUNDS = (ctypes.c_uint64, ctypes.c_size_t)
 _OUTPUT = (ctypes.c_char_p, ctypes.c_size_t, ctypes.POINTER(_Answer))
-MOST_STEPS, MOST_CONFIGURATIONS = 1_000_000_000_000, 1_048_576
 
 
 class Library:
@@ -57,7 +58,7 @@ class Library:
             raise NoLibrary(path, str(error)) from error
         self._check = self._function("regcheck_report", (*_INPUT, *_OUTPUT))
 
-    def _function(self, name: str, types: Tuple[Any, ...]) -> Callable[..., None]:
+    def _function(self, name: str, types: tuple[Any, ...]) -> Callable[..., None]:
         try:
             function: Any = getattr(self._library, name)
         except AttributeError as error:
@@ -71,17 +72,19 @@ class Library:
         return self._told(answer, report, False)
 
     def search(self, history: bytes, steps: int = 0, configurations: int = 0) -> Told:
-        """What `regsearch` would say of the history within these bounds, byte for byte. A bound of 0 is its default.
+        """What `regsearch` would say of the history within these bounds, byte for byte. A bound of 0 is its
+        default.
 
-        Raises NoLibrary if the library is of a version that has no search, and ValueError if a bound is out of range."""
-        if not (0 <= steps <= MOST_STEPS and 0 <= configurations <= MOST_CONFIGURATIONS):
-            raise ValueError(f"steps may be up to {MOST_STEPS}, and configurations up to {MOST_CONFIGURATIONS}")
+        Raises NoLibrary if the library is of a version that has no search, and ValueError if a bound is out
+        of range."""
+        if not (0 <= steps <= MAX_STEPS and 0 <= configurations <= MAX_CONFIGURATIONS):
+            raise ValueError(f"steps may be up to {MAX_STEPS}, and configurations up to {MAX_CONFIGURATIONS}")
         function = self._function("regsearch_report", (*_INPUT, *_BOUNDS, *_OUTPUT))
         answer, report = self._answered(function, history, steps, configurations)
         return self._told(answer, report, True)
 
     @staticmethod
-    def _answered(function: Callable[..., None], history: bytes, *bounds: int) -> Tuple[_Answer, bytes]:
+    def _answered(function: Callable[..., None], history: bytes, *bounds: int) -> tuple[_Answer, bytes]:
         room = len(history) + 1024  # enough unless registers have one operation or two
         while True:
             out, answer = ctypes.create_string_buffer(room), _Answer()
@@ -92,14 +95,15 @@ class Library:
 
     @staticmethod
     def _told(answer: _Answer, report: bytes, by_search: bool) -> Told:
-        if answer.status in (ATOMIC, NOT_ATOMIC, UNKNOWN):
+        if answer.status in (ExitStatus.ATOMIC, ExitStatus.NOT_ATOMIC, ExitStatus.UNKNOWN):
             return Told(answer.status, report, "")
         place = answer.number, answer.line, answer.other
         return Told(answer.status, b"", reason_of(*place, by_search), *place)
 
 
 def _places() -> Iterator[str]:
-    """Where the library may be: in the package, below the installed command's prefix, or where the system looks."""
+    """Where the library may be: in the package, below the installed command's prefix, or where the system
+    looks."""
     within = pathlib.Path(__file__).resolve().parents[1] / FILE
     if within.is_file():
         yield str(within)
@@ -118,10 +122,11 @@ def _loaded(path: str) -> Library:
 
 
 def find_library() -> Optional[Library]:
-    """The library in REGCHECK_LIBRARY, or the one installed with this command, or the system's; None if there is none.
+    """The library in REGCHECK_LIBRARY, or the one installed with this command, or the system's; None if there
+    is none.
 
-    If only REGCHECK is set, the program that it names is what was asked for. Raises NoLibrary if REGCHECK_LIBRARY names
-    another file."""
+    If only REGCHECK is set, the program that it names is what was asked for. Raises NoLibrary if
+    REGCHECK_LIBRARY names another file."""
     named = os.environ.get("REGCHECK_LIBRARY")
     if named is not None:
         return _loaded(named) if named else None
