@@ -17,7 +17,8 @@ from regkit.checker.library import FILE
 ROOT = pathlib.Path(__file__).resolve().parents[2]
 NAME = f"regkit-{__version__}"
 PROGRAMS = ("regcheck", "regsearch")
-FOUND = "from regkit import checker, library; print(checker.find_checker()); print(next(library._places()))"
+FOUND = ("from regkit.checker import library, programs; print(programs.find_checker()); "
+         "print(next(library._places()))")
 
 
 def packed(name: str, *paths: pathlib.Path) -> None:
