@@ -28,7 +28,6 @@ if (ROOT / "python/regkit").is_dir():  # else regkit is installed, or named by P
     sys.path.insert(0, str(ROOT / "python"))
 
 from regkit.record import Client, Recorder  # noqa: E402
-from regkit.sentences import counted  # noqa: E402
 
 KEYS = ["x", "y"]
 PAUSE = 0.002  # seconds between two calls of a client, on average
@@ -332,7 +331,7 @@ def clients(recorder: Recorder, users: Sequence[User]) -> Iterator[Load]:
             for one in ran:
                 one.result()
     for words, times in load.lost.most_common(3):
-        print(f"{counted(times, 'connection')} lost: {words}")
+        print(f"{times:,} connection{'' if times == 1 else 's'} lost: {words}")
 
 
 def regkit(*words: str, output: Optional[pathlib.Path] = None) -> int:

@@ -3,14 +3,13 @@ import argparse
 import os
 import sys
 from importlib import import_module
-from typing import List, NoReturn, Optional, TextIO
+from typing import NoReturn, Optional, TextIO
 
 from regkit import __version__
-from regkit.statuses import ExitStatus
+from regkit.base.statuses import ExitStatus
 
 # Each module has HELP, EPILOG, add_arguments(parser) and run(arguments), which returns the exit status.
 COMMANDS = ["check", "explain", "draw", "index", "verify", "convert", "merge", "split", "join"]
-
 
 
 class Parser(argparse.ArgumentParser):
@@ -21,7 +20,7 @@ class Parser(argparse.ArgumentParser):
         self.exit(ExitStatus.COMMAND_LINE, f"{self.prog}: {message}\n")
 
 
-def parser(words: List[str]) -> argparse.ArgumentParser:
+def parser(words: list[str]) -> argparse.ArgumentParser:
     """The parser for a command line. It loads the command that is named, or else all of them."""
     top = Parser(prog="regkit",
                  description="Record, check, explain and draw histories of read/write registers.")
@@ -50,7 +49,7 @@ def silence(stream: TextIO) -> None:
         pass  # the stream is no file, so nothing is held back
 
 
-def main(words: Optional[List[str]] = None) -> int:
+def main(words: Optional[list[str]] = None) -> int:
     """Runs a command and returns its exit status. It fails if output can't be written, even at the end."""
     escape_unprintable(sys.stdout)
     escape_unprintable(sys.stderr)

@@ -8,7 +8,7 @@ The test may call `assert_atomic(regkit_recorder)` itself; then its own check is
 this module if regkit is installed; else say `pytest -p regkit.pytest_plugin`.
 """
 import pathlib
-from typing import Any, Callable, Iterator, Optional, Tuple
+from typing import Any, Callable, Iterator, Optional
 
 from regkit.record import Recorder
 from regkit.testing import assert_atomic, keep, verdict
@@ -18,7 +18,7 @@ FIXTURE = "regkit_recorder"
 Decorator = Callable[[Any], Any]
 
 
-def decorators() -> Tuple[Decorator, Callable[..., Decorator]]:
+def decorators() -> tuple[Decorator, Callable[..., Decorator]]:
     """Those of pytest. Without pytest, some that do nothing, so that this module can still be imported."""
     try:
         from pytest import fixture, hookimpl

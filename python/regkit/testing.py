@@ -10,14 +10,14 @@ import re
 import tempfile
 from typing import Optional, Sequence, Union
 
-from regkit.checker import WOULD_DECIDE, Answer, NoChecker, decide, is_for_search
-from regkit.evidence import Evidence, count_evidence
-from regkit.history import read_history
-from regkit.options import bounds
+from regkit.base.statuses import ExitStatus
+from regkit.checker.bounds import bounds
+from regkit.checker.programs import WOULD_DECIDE, Answer, NoChecker, decide, is_for_search
+from regkit.checker.report import read_report
+from regkit.evidence.evidence import Evidence, count_evidence
+from regkit.history.operations import read_history
 from regkit.record import Recorder, RecordingError
-from regkit.report import read_report
-from regkit.sentences import counted
-from regkit.statuses import ExitStatus
+from regkit.words.phrases import counted
 
 Recorded = Union[Recorder, bytes, str, "os.PathLike[str]"]
 
@@ -51,9 +51,9 @@ def assert_atomic(history: Recorded, *, least_reads: int = 1, least_overlaps: in
     name = str(path) if path else "the history"
     options = bounds(steps, configurations)
     answer = decide(data, options)
-    if answer.status not in (0, 1):
+    if answer.status not in (ExitStatus.ATOMIC, ExitStatus.NOT_ATOMIC):
         raise NotChecked(f"{name}: {_without_verdict(data, answer)}")
-    if answer.status == 1:
+    if answer.status == ExitStatus.NOT_ATOMIC:
         raise NotAtomic(_not_atomic(data, answer, path, options))
     evidence = count_evidence(read_history(data))
     reads, overlaps = evidence.completed_reads, evidence.overlapping_reads
@@ -67,7 +67,7 @@ def assert_atomic(history: Recorded, *, least_reads: int = 1, least_overlaps: in
 
 def explanation(history: bytes, report: bytes, options: Sequence[str] = ()) -> str:
     """Why a history isn't atomic, as `regkit explain` says it. The options are those of regsearch."""
-    from regkit.explanation import explain_text  # only a test that fails needs it
+    from regkit.explain.explanation import explain_text  # only a test that fails needs it
 
     return explain_text(history, report, options)
 
@@ -81,12 +81,14 @@ def verdict(recorder: Recorder) -> str:
         answer = decide(data)
     except NoChecker as error:
         return str(error)
-    if answer.status == 0:
+    if answer.status == ExitStatus.ATOMIC:
         evidence = count_evidence(read_history(data))
         return (f"linearizable: {counted(evidence.operations, 'operation')}; "
                 f"{counted(evidence.completed_reads, 'completed read')}, "
                 f"{evidence.overlapping_reads:,} overlap a write")
-    return explanation(data, answer.report) if answer.status == 1 else _without_verdict(data, answer)
+    if answer.status == ExitStatus.NOT_ATOMIC:
+        return explanation(data, answer.report)
+    return _without_verdict(data, answer)
 
 
 def keep(recorder: Recorder, directory: "os.PathLike[str]", test: str) -> pathlib.Path:
@@ -123,7 +125,7 @@ def _path(history: Recorded) -> Optional[pathlib.Path]:
 def _without_verdict(data: bytes, answer: Answer) -> str:
     """Why there is no verdict."""
     if answer.status == ExitStatus.UNKNOWN:
-        from regkit.searched import what_to_do  # only a search that gave up needs it
+        from regkit.explain.searched import what_to_do  # only a search that gave up needs it
 
         unknown = read_report(answer.report).unknown
         return f"unknown: the search gave up; {what_to_do(unknown, dashes='')}"

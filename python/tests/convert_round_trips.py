@@ -5,7 +5,7 @@ With 20,000 events, the default, it takes a minute.
 """
 import sys
 
-from regkit.checker import run_checker
+from regkit.checker.programs import run_checker
 from tests.convert_support import generated
 from tests.test_convert_rule import KINDS, forms_of, there_and_back
 

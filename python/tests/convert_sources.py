@@ -7,8 +7,10 @@ import json
 import random
 from typing import Any, Callable, Dict, Iterator, List, NamedTuple, Optional, Tuple
 
-from regkit.verify.claims import Register, Wrong, check_without_line
 from regkit.verify.operations import read_history
+from regkit.verify.orders import check_without_line
+from regkit.verify.register import Register
+from regkit.verify.rows import Wrong
 
 Event = Tuple[int, bool, "Call"]  # a time, whether it is the call, and of which
 

@@ -10,9 +10,10 @@ import tempfile
 from contextlib import redirect_stderr, redirect_stdout
 from typing import Any, Callable, Dict, List, NamedTuple, Optional, Tuple
 
-from regkit.checker import SEARCH, Answer, find_program, is_for_search, run_checker, run_search, searched
+from regkit.checker.programs import (SEARCH, Answer, find_program, is_for_search, run_checker, run_search,
+                                     searched)
 from regkit.commands import join, split
-from regkit.parts import file_of, read_manifest
+from regkit.parts.folder import file_of, read_manifest
 
 Check = Callable[[bytes], Answer]
 Line = Dict[str, Any]

@@ -5,9 +5,9 @@ import unittest
 from typing import Any, List, Tuple
 from unittest import mock
 
-from regkit import beginning
-from regkit.beginning import reads_of_beginning, unusual_reads_of_beginning
-from regkit.counting import Reads, Unusual
+from regkit.evidence import beginning
+from regkit.evidence.beginning import reads_of_beginning, unusual_reads_of_beginning
+from regkit.evidence.counting import Reads, Unusual
 
 from .events import Line, crash, fail, gave, read, reply, run, text, write
 from .test_counting import counted, run_of, spelled

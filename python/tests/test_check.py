@@ -14,11 +14,12 @@ import unittest
 from typing import Any, Dict, List, Tuple
 from unittest import mock
 
-from regkit import inputs, progress
-from regkit.advice import advice
-from regkit.checker import find_checker, run_checker
-from regkit.outcome import gravest
-from regkit.shrinking import Searcher
+from regkit.checker.programs import find_checker, run_checker
+from regkit.explain.advice import advice
+from regkit.explain.shrinking import Searcher
+from regkit.history import inputs
+from regkit.judging.outcome import gravest
+from regkit.words import progress
 
 from .events import Line, gave, read, reply, run, stale, text, write
 
@@ -464,7 +465,7 @@ exit 1"""
         pages = self.folder / "new" / "pages"
         names = [self.file("a/h.jsonl", text(*FINE)), self.file("b/h.jsonl", text(*STALE))]
         names.append(self.file("no", b"no"))
-        with mock.patch("regkit.draw.draw_page", drawn):
+        with mock.patch("regkit.drawing.draw.draw_page", drawn):
             ran = run("check", "--draw", str(pages), *names, "-", given=text(*FINE))
         self.assertEqual(ran.status, 2)
         self.assertEqual(sorted(path.name for path in pages.iterdir()), ["h-2.html", "h.html", "stdin.html"])
@@ -473,7 +474,7 @@ exit 1"""
         self.assertIn(f"  drawn: {pages}/h-2.html\n", ran.out)
 
     def test_a_page_that_cannot_be_written(self) -> None:
-        with mock.patch("regkit.draw.draw_page", lambda *_: ""):
+        with mock.patch("regkit.drawing.draw.draw_page", lambda *_: ""):
             ran = run("check", "--draw", self.file("file", b""), given=text(*FINE))
         self.assertEqual((ran.status, ran.out), (4, ""))
         self.assertEqual(ran.err, f"standard input: failed: {self.folder}/file: File exists\n")

@@ -8,10 +8,10 @@ from typing import List
 from urllib.parse import unquote
 from xml.etree import ElementTree
 
-from regkit.annotations import annotations
-from regkit.junit import document
-from regkit.outcome import Outcome, Timed
-from regkit.statuses import ExitStatus
+from regkit.base.statuses import ExitStatus
+from regkit.judging.annotations import annotations
+from regkit.judging.junit import document
+from regkit.judging.outcome import Outcome, Timed
 
 from .events import Line, gave, read, reply, run, stale, text, write
 from .test_draw import DANGEROUS, Elements

@@ -11,7 +11,8 @@ import unittest
 from typing import Any, Dict, List, Tuple
 from unittest import mock
 
-from regkit import __version__, checker
+from regkit import __version__
+from regkit.checker import programs as checker
 from regkit.cli import COMMANDS
 
 from .events import gave, read, reply, run, text, write

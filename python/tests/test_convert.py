@@ -8,7 +8,7 @@ import tempfile
 import unittest
 from typing import List, Sequence, Tuple
 
-from regkit.checker import run_checker
+from regkit.checker.programs import run_checker
 from regkit.convert.summary import too_large
 from tests.convert_support import SAMPLES, run, short
 from tests.events import run as command

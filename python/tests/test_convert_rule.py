@@ -8,7 +8,7 @@ import random
 import unittest
 from typing import Any, Dict, FrozenSet, List, NamedTuple, Optional, Tuple
 
-from regkit.checker import run_checker
+from regkit.checker.programs import run_checker
 from tests.convert_support import HISTORIES, Ran, generated, run
 
 KINDS = [

@@ -5,14 +5,14 @@ import unittest
 from typing import Any, Dict, List, Set
 from unittest import mock
 
-from regkit import counting
-from regkit.checker import run_checker
-from regkit.counting import Reads, Unusual, count_reads
-from regkit.evidence import count_evidence
-from regkit.excerpt import excerpt
-from regkit.history import Operation, read_history
-from regkit.outcome import faults_of
-from regkit.report import read_report, read_verdict
+from regkit.checker.programs import run_checker
+from regkit.checker.report import read_report, read_verdict
+from regkit.evidence import counting
+from regkit.evidence.counting import Reads, Unusual, count_reads
+from regkit.evidence.evidence import count_evidence
+from regkit.explain.excerpt import excerpt
+from regkit.history.operations import Operation, read_history
+from regkit.judging.outcome import faults_of
 
 from .events import Line, crash, fail, gave, read, reply, text, write
 

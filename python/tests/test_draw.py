@@ -11,17 +11,17 @@ import unittest
 from html.parser import HTMLParser
 from typing import Any, Dict, List, Optional, Sequence, Tuple
 
-from regkit.checker import run_checker
-from regkit.draw import Mismatch, draw_page, page_of
+from regkit.checker.programs import run_checker
+from regkit.checker.report import read_report
 from regkit.drawing import svg, text
+from regkit.drawing.draw import Mismatch, draw_page, page_of
 from regkit.drawing.figure import PAGE_WIDTH, RIGHT, gutter_of
 from regkit.drawing.lanes import MOST_LANES, Span
 from regkit.drawing.marks import Marks, marks_of_fault, overlapped_writes
 from regkit.drawing.page import Asked
 from regkit.drawing.scene import Register, Scene, fitted, strips
 from regkit.drawing.windows import Window, count_left_out, windows_around
-from regkit.history import History, NoRegister, read_history
-from regkit.report import read_report
+from regkit.history.operations import History, NoRegister, read_history
 
 from .events import Line, crash, fail, gave, read, reply, run, write
 

@@ -4,7 +4,7 @@ import unittest
 from decimal import Decimal
 from typing import Any, List
 
-from regkit import edn
+from regkit.convert import edn
 
 
 def read(text: str, elements: bool = False) -> List[Any]:

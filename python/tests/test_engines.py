@@ -7,9 +7,9 @@ import tempfile
 import unittest
 from typing import Dict, List, Sequence
 
-from regkit.checker import find_checker
+from regkit.checker.programs import find_checker
 from regkit.commands import join
-from regkit.parts import file_of
+from regkit.parts.folder import file_of
 from tests.split_support import STAND_IN_SBATCH, python_with_dask, run_command, whole
 from tests.test_split import Folder, call, end, has_checker, history_of
 
@@ -102,6 +102,13 @@ class Engines(Folder):
         self.assertEqual(3, self.run_engine(str(ENGINES / "check_part"), self.directory).returncode)
         self.assertEqual([], list(pathlib.Path(self.directory).glob("*.new.*")))
 
+    def test_a_part_that_is_unknown(self) -> None:
+        """It has an answer, and is not run again; standard error says what it is."""
+        self.fails.write_text('echo "a report"; exit 6\n')
+        ran = self.check_part(HISTORY)
+        self.assertEqual((0, "6\n", "a report\n"), (ran.returncode, self.left("status"), self.left("report")))
+        self.assertIn("part-000.jsonl: unknown, since the search gave up", ran.stderr.decode())
+
     def test_an_old_status_does_not_outlive_a_killed_run(self) -> None:
         self.check_part(HISTORY)
         self.fails.write_text("kill -9 $PPID\nexit 4\n")
@@ -119,11 +126,21 @@ class Engines(Folder):
         self.must_resume(words, [*words, "--mem=2G"], PATH=path)
         done = self.run_engine(*words, PATH=path)
         self.assertEqual((0, []), (done.returncode, self.runs()))
+        file_of(self.directory, 1, "status").write_text("6\n")
+        unknown = self.run_engine(*words, PATH=path)
+        self.assertEqual((0, []), (unknown.returncode, self.runs()))
+        self.assertIn("part-001.jsonl: unknown, since the search gave up", unknown.stderr.decode())
 
     @unittest.skipUnless(python_with_dask(), "Dask's distributed is not installed")
     def test_with_dask(self) -> None:
         words = [str(python_with_dask()), str(ENGINES / "with_dask"), self.directory, "--workers", "1"]
         self.must_resume(words)
+        file_of(self.directory, 1, "status").unlink()
+        self.fails.write_text("exit 6\n")
+        unknown = self.run_engine(*words)
+        self.assertEqual((0, ["part-001.jsonl"]), (unknown.returncode, self.runs()), unknown.stderr)
+        self.assertIn("part-001.jsonl: unknown, since the search gave up", unknown.stderr.decode())
+        self.assertEqual((0, []), (self.run_engine(*words).returncode, self.runs()))
 
     def test_folders_without_parts(self) -> None:
         with tempfile.TemporaryDirectory() as empty:

@@ -8,14 +8,14 @@ import unittest
 from typing import Any, Dict, List, Optional, Sequence, Tuple
 from unittest import mock
 
-from regkit.checker import run_checker
-from regkit.colour import Painter, painter
-from regkit.explanation import NotOfHistory, Wishes, explain, explain_text
-from regkit.history import Operation, read_history
-from regkit.report import read_report
-from regkit.surroundings import find_scene, role_of
-from regkit.timeline import Entry, draw
-from regkit.unexplained import Peaks, find_unexplained
+from regkit.checker.programs import run_checker
+from regkit.checker.report import read_report
+from regkit.explain.explanation import Wishes, explain, explain_text
+from regkit.explain.surroundings import find_scene, role_of
+from regkit.explain.timeline import Entry, draw
+from regkit.explain.unexplained import Peaks, find_unexplained
+from regkit.history.operations import Operation, read_history
+from regkit.words.colour import Painter, painter
 
 from .events import Line, crash, fail, gave, random_history, read, reply, run, stale, text, write
 

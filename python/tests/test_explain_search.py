@@ -5,11 +5,11 @@ from itertools import permutations
 from typing import Iterator, List, Optional
 from unittest import mock
 
-from regkit import reaching, shrinking
-from regkit.checker import SEARCH, decide, find_program, run_checker
-from regkit.history import Operation, read_history
-from regkit.report import read_report
-from regkit.shrinking import Kept, asker, fences, history_of, less, shrink, since, until, without_idle
+from regkit.checker.programs import SEARCH, decide, find_program, run_checker
+from regkit.checker.report import read_report
+from regkit.explain import reaching, shrinking
+from regkit.explain.shrinking import Kept, asker, fences, history_of, less, shrink, since, until, without_idle
+from regkit.history.operations import Operation, read_history
 
 from .events import Line, cas, crash, fail, gave, read, reply, run, text, took, write
 from .test_search import FINE, NULL_TWICE, STALE, TWO_WINNERS, Files
@@ -296,7 +296,7 @@ class Told(Files):
         history.write_bytes(text(*TWO_WINNERS))
         written.write_bytes(decide(text(*TWO_WINNERS)).report)
         self.assertIn("These 3 of the 3 operations", " ".join(run("explain", str(history), str(written)).out.split()))
-        with mock.patch("regkit.shrinking.find_program", lambda name: None):
+        with mock.patch("regkit.explain.shrinking.find_program", lambda name: None):
             ran = run("explain", str(history), str(written))
         self.assertEqual(ran.status, 1)
         said = " ".join(ran.out.split())
@@ -324,7 +324,7 @@ class Told(Files):
         self.assertEqual(ran.status, 6)
 
     def test_without_regsearch(self) -> None:
-        with mock.patch("regkit.checker.find_program", self.no_search()):
+        with mock.patch("regkit.checker.programs.find_program", self.no_search()):
             ran = run("explain", "-", given=text(*STALE))
         self.assertEqual((ran.status, ran.out), (2, ""))
         self.assertIn("regsearch would decide it", ran.err)

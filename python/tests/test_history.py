@@ -3,10 +3,10 @@ import random
 import unittest
 from typing import List, Tuple
 
-from regkit.evidence import Evidence, count_evidence, count_overlapping
-from regkit.history import NotAHistory, Operation, initial_write, operations, read_history
-from regkit.quoting import plain, quoted
-from regkit.report import read_report
+from regkit.checker.report import read_report
+from regkit.evidence.evidence import Evidence, count_evidence, count_overlapping
+from regkit.history.operations import NotAHistory, Operation, initial_write, operations, read_history
+from regkit.words.quoting import plain, quoted
 
 from .events import Line, crash, fail, gave, random_history, read, reply, text, write
 

@@ -5,7 +5,7 @@ import pathlib
 import tempfile
 import unittest
 
-from regkit.checker import run_checker
+from regkit.checker.programs import run_checker
 
 from .events import gave, read, reply, run, text, write
 

@@ -8,11 +8,11 @@ import unittest
 from typing import List, Optional, Sequence, Tuple
 from unittest import mock
 
-from regkit.checker import SEARCH, Answer, find_program, run_search
+from regkit.checker.programs import SEARCH, Answer, find_program, run_search
+from regkit.checker.refusals import NUMBERS, SEARCH_TEXTS
+from regkit.checker.report import Row
 from regkit.commands import join as command
-from regkit.parts import BLANK, MAP, MAP_LINE, Manifest, file_of, write_manifest
-from regkit.refusals import NUMBERS, SEARCH_TEXTS
-from regkit.report import Row
+from regkit.parts.folder import BLANK, MAP, MAP_LINE, Manifest, file_of, write_manifest
 from tests import split_support
 from tests.split_support import (FOR_SEARCH, check_parts, differences, random_history, random_search_history,
                                  run_command, search, whole)
@@ -206,7 +206,7 @@ class Searched(HandMade):
             write_manifest(self.directory, manifest)
             self.part(0, "4", words="no memory or no thread")
             self.part(1, "6" if answered else "4", [GAVE_UP, summary("unknown", 1, 1)] if answered else [])
-            with mock.patch("regkit.joining.find_program", lambda name: None):
+            with mock.patch("regkit.parts.joining.find_program", lambda name: None):
                 self.assertIn(f"  {expected} {self.directory}/part-000.jsonl > ", self.join().words)
 
 

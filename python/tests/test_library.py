@@ -6,10 +6,10 @@ import unittest
 from typing import Any, Dict, List
 from unittest import mock
 
-from regkit import checker
-from regkit.checker import LIBRARY_BYTES, NoChecker, find_checker, judge, run_checker
-from regkit.library import Library, NoLibrary, find_library
-from regkit.refusals import SEARCH_TEXTS, TEXTS, read_refusal
+from regkit.checker import programs as checker
+from regkit.checker.library import Library, NoLibrary, find_library
+from regkit.checker.programs import LIBRARY_BYTES, NoChecker, find_checker, judge, run_checker
+from regkit.checker.refusals import SEARCH_TEXTS, TEXTS, read_refusal
 
 from .events import crash, gave, read, reply, text, write
 from .search_sources import find_regsearch
@@ -83,7 +83,7 @@ class Choice(unittest.TestCase):
         """What a library was asked, where the program says nothing."""
         library = mock.Mock()
         library.check.return_value = mock.Mock(status=0, report=b"", refusal="")
-        with mock.patch("regkit.library.find_library", return_value=library), \
+        with mock.patch("regkit.checker.library.find_library", return_value=library), \
                 mock.patch.object(checker, "run_checker"):
             judge(history, options)
         return [call.args[0] for call in library.check.call_args_list]

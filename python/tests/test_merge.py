@@ -12,7 +12,7 @@ import textwrap
 import unittest
 from typing import Any, Dict, List, NamedTuple, Optional, Set, Tuple
 
-from regkit.checker import SEARCH, find_program, run_checker, run_search
+from regkit.checker.programs import SEARCH, find_program, run_checker, run_search
 from regkit.commands import merge as command
 from regkit.commands.merge import duration
 from regkit.merge import Unmergeable, merge

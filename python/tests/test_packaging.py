@@ -12,12 +12,13 @@ import unittest
 import zipfile
 
 from regkit import __version__
-from regkit.library import FILE
+from regkit.checker.library import FILE
 
 ROOT = pathlib.Path(__file__).resolve().parents[2]
 NAME = f"regkit-{__version__}"
 PROGRAMS = ("regcheck", "regsearch")
-FOUND = "from regkit import checker, library; print(checker.find_checker()); print(next(library._places()))"
+FOUND = ("from regkit.checker import library, programs; print(programs.find_checker()); "
+         "print(next(library._places()))")
 
 
 def packed(name: str, *paths: pathlib.Path) -> None:

@@ -7,7 +7,7 @@ import textwrap
 import unittest
 from typing import List, Optional
 
-from regkit.checker import SEARCH, find_program, run_checker
+from regkit.checker.programs import SEARCH, find_program, run_checker
 from regkit.commands import convert
 from regkit.convert.words import choices_of
 from regkit.record import Recorder

@@ -15,9 +15,9 @@ import time
 import unittest
 from typing import Any, Callable, Dict, List, Optional, Set, Tuple, Type
 
-from regkit.checker import run_checker
-from regkit.journal import Failures
+from regkit.checker.programs import run_checker
 from regkit.record import Recorder, RecordingError
+from regkit.recording.journal import Failures
 
 PYTHON = pathlib.Path(__file__).resolve().parents[1]
 

@@ -9,11 +9,12 @@ import unittest
 from typing import Any, List, Optional, Tuple
 from unittest import mock
 
-from regkit import checker, reaching
-from regkit.checker import CHECK, SEARCH, Answer, decide, find_program, is_for_search
+from regkit.checker import programs as checker
+from regkit.checker.programs import CHECK, SEARCH, Answer, decide, find_program, is_for_search
 from regkit.drawing.reduced import values
-from regkit.history import read_history
-from regkit.reaching import Moment
+from regkit.explain import reaching
+from regkit.explain.reaching import Moment
+from regkit.history.operations import read_history
 from regkit.testing import NotAtomic, NotChecked, TooLittleEvidence, assert_atomic
 
 from .events import Line, cas, crash, fail, gave, read, reply, run, text, took, write
@@ -391,7 +392,7 @@ class Drawings(Files):
         path, page = self.folder / "h.jsonl", self.folder / "h.html"
         path.write_bytes(text(*TWO_WINNERS))
         (self.folder / "report").write_bytes(decide(text(*TWO_WINNERS)).report)
-        with mock.patch("regkit.shrinking.find_program", lambda name: None):
+        with mock.patch("regkit.explain.shrinking.find_program", lambda name: None):
             ran = run("draw", str(path), str(self.folder / "report"), "-o", str(page))
         self.assertEqual((ran.status, ran.err), (0, ""))
         self.assertNotIn("What is enough", page.read_text())

@@ -8,13 +8,14 @@ import unittest
 from typing import Any, Dict, List, Optional, Tuple
 from unittest import mock
 
-from regkit import cli, routing, splitting
-from regkit.checker import SEARCH, NoChecker, find_checker, find_program
+from regkit import cli
+from regkit.checker.programs import SEARCH, NoChecker, find_checker, find_program
 from regkit.commands import split as command
-from regkit.joining import line_map
-from regkit.parts import BLANK, MAP, LineMap, file_of, read_manifest
-from regkit.routing import CertainRefusal, Router
-from regkit.splitting import Plan, lines_of, split
+from regkit.parts import routing, splitting
+from regkit.parts.folder import BLANK, MAP, LineMap, file_of, read_manifest
+from regkit.parts.joining import line_map
+from regkit.parts.routing import CertainRefusal, Router
+from regkit.parts.splitting import Plan, lines_of, split
 from tests import split_support
 from tests.split_support import random_history, run_command
 

@@ -10,7 +10,7 @@ import time
 import unittest
 from typing import List
 
-from regkit.checker import find_checker
+from regkit.checker.programs import find_checker
 
 STORES = pathlib.Path(__file__).resolve().parents[2] / "examples/stores"
 NOT_HERE, INTERRUPTED = 5, 130

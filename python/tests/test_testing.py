@@ -12,7 +12,7 @@ from typing import Any, Callable, List, Optional, Tuple
 from unittest import mock
 
 from regkit import pytest_plugin, testing
-from regkit.checker import NoChecker, find_checker
+from regkit.checker.programs import NoChecker, find_checker
 from regkit.record import Recorder, RecordingError
 from regkit.testing import NotAtomic, NotChecked, TooLittleEvidence, assert_atomic
 

@@ -14,7 +14,7 @@ import unittest
 from contextlib import suppress
 from typing import Any, Dict, List, NamedTuple, Optional
 
-from regkit.checker import find_checker, run_checker
+from regkit.checker.programs import find_checker, run_checker
 from regkit.record import Recorder
 from regkit.testing import assert_atomic
 
@@ -120,7 +120,7 @@ class Said(unittest.TestCase):
 
     def test_the_seeds(self) -> None:
         program = ("import sys; from cache import *; from workload import record\n"
-                   "from regkit.checker import run_checker\n"
+                   "from regkit.checker.programs import run_checker\n"
                    "for kind, last in ((Cache, 11), (CountingCache, 176)):\n"
                    "    histories = [record(None, seed, kind).history() for seed in range(last + 1)]\n"
                    "    print(*(run_checker(history).status for history in histories))\n")

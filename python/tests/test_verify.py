@@ -474,7 +474,7 @@ class Joined(unittest.TestCase):
 
     def test_beyond_the_limits(self) -> None:
         events, rows = CASES["a read of a write"]
-        for limit, words in (("MAX_EVENTS", "line 4: more than 1048576"), ("MAX_INPUT", "input is longer")):
+        for limit, words in (("MAX_EVENTS", "line 4: more than 1048576"), ("MAX_BYTES", "input is longer")):
             with self.subTest(limit), mock.patch.object(operations, limit, 3):
                 self.assertTrue(verify.verify(events, report(*rows), joined=True).atomic)
                 with self.assertRaisesRegex(verify.Wrong, words):
@@ -516,7 +516,7 @@ class Refusals(unittest.TestCase):
     def test_the_limits(self) -> None:
         words = "input is longer than 67108864 bytes"
         self.assertIsNone(verify.verify_refusal(b"\n" * 67_108_865, words).atomic)
-        with mock.patch.object(operations, "MAX_INPUT", 5):
+        with mock.patch.object(operations, "MAX_BYTES", 5):
             self.assertIsNone(verify.verify_refusal(b"\n" * 6, words).atomic)
             self.assertIn("isn't refused", self.wrong(b"\n" * 5, words))
         with mock.patch.object(operations, "MAX_EVENTS", 2):
@@ -568,6 +568,13 @@ class Command(unittest.TestCase):
             self.assertEqual(self.run_command(*words)[0], 3)
         with self.assertRaises(OSError):
             self.run_command(h, r + "s")
+
+    def test_an_empty_history(self) -> None:
+        holds = "holds: linearizable, since the history has no operation\n"
+        for end in ('"order":[],"registers":0}', '"registers":0}'):
+            with self.subTest(end):
+                summary = self.file("h.report", report('{"atomic":"yes","operations":0,' + end))
+                self.assertEqual(self.run_command(self.file("h.jsonl", b""), summary), (0, holds))
 
     def test_refusals(self) -> None:
         h = self.file("h.jsonl", history("1 ok"))

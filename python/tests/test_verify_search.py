@@ -9,7 +9,7 @@ from typing import Any, Dict, List, Optional
 from unittest import mock
 
 from regkit import verify
-from regkit.checker import SEARCH, decide, find_program, run_checker
+from regkit.checker.programs import SEARCH, decide, find_program, run_checker
 from regkit.verify import searches
 from regkit.verify.operations import Operation, read_history
 

@@ -6,13 +6,13 @@ import tempfile
 import unittest
 from typing import Any, Dict, List, Sequence, Tuple
 
-from regkit.checker import run_checker
-from regkit.draw import draw_page
+from regkit.checker.programs import run_checker
+from regkit.drawing.draw import draw_page
 from regkit.drawing.figure import PAGE_WIDTH
-from regkit.explanation import explain_text
-from regkit.history import Operation, read_history
-from regkit.lines import NotJson, json_of
-from regkit.who import members, process_of
+from regkit.explain.explanation import explain_text
+from regkit.history.lines import NotJson, json_of
+from regkit.history.operations import Operation, read_history
+from regkit.history.who import members, process_of
 
 from . import convert_support
 from .events import Line, crash, gave, read, reply, run, text, write

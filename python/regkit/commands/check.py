@@ -4,16 +4,16 @@ import json
 import pathlib
 import sys
 import time
-from typing import List
 
-from regkit.colour import CHOICES, Painter, painter
-from regkit.inputs import STANDARD_INPUT, shown_name
-from regkit.judging import Judge, Wishes
-from regkit.options import add_bounds, bounds_of, count
-from regkit.outcome import STYLES, VERDICTS, Outcome, Timed, gravest, json_of, text_of
-from regkit.progress import Progress
-from regkit.quoting import plain
-from regkit.statuses import ExitStatus
+from regkit.base.statuses import ExitStatus
+from regkit.commands.options import add_bounds, bounds_of, count
+from regkit.history.inputs import STANDARD_INPUT, shown_name
+from regkit.judging.judge import Judge, Wishes
+from regkit.judging.outcome import Outcome, Timed, gravest, json_of, text_of
+from regkit.words.colour import CHOICES, Painter, painter
+from regkit.words.progress import Progress
+from regkit.words.quoting import plain
+from regkit.words.verdicts import STYLES, VERDICTS
 
 HELP = "check histories, and say in a few lines what came out"
 EPILOG = """\
@@ -87,7 +87,7 @@ def tell(outcome: Outcome, arguments: argparse.Namespace, progress: Progress) ->
         lines = [heading(outcome, painter(arguments.color, stream)), *text_of(outcome)]
         progress.say("\n".join(lines), stream)
     if arguments.annotate and outcome.status != ExitStatus.ATOMIC:
-        from regkit.annotations import annotations  # only who asks for them waits for this
+        from regkit.judging.annotations import annotations  # only who asks for them waits for this
 
         progress.say("\n".join(annotations(outcome)), sys.stdout)
 
@@ -106,11 +106,11 @@ def run(arguments: argparse.Namespace) -> int:
     if wrong:
         print(f"regkit check: {wrong}", file=sys.stderr)
         return ExitStatus.COMMAND_LINE
-    files: List[str] = arguments.files or [STANDARD_INPUT]
+    files: list[str] = arguments.files or [STANDARD_INPUT]
     wishes = Wishes(arguments.most, arguments.least_reads, arguments.least_overlaps, arguments.first,
                     arguments.verify, arguments.draw, arguments.count_all or arguments.json,
                     bounds_of(arguments))
-    told: List[Timed] = []
+    told: list[Timed] = []
     with Progress() as progress:
         judge = Judge(wishes, progress)
         for place, name in enumerate(files, 1):
@@ -120,7 +120,7 @@ def run(arguments: argparse.Namespace) -> int:
             told.append(Timed(outcome, time.monotonic() - began))
             tell(outcome, arguments, progress)
     if arguments.junit is not None:
-        from regkit.junit import document  # only who asks for it waits for this
+        from regkit.judging.junit import document  # only who asks for it waits for this
 
         pathlib.Path(arguments.junit).write_text(document(told), encoding="utf-8")
     return gravest([timed.outcome.status for timed in told])

@@ -6,14 +6,14 @@ import json
 import sys
 from typing import Iterable, Iterator, Optional, TextIO
 
+from regkit.base.garbage import many_objects
+from regkit.base.statuses import ExitStatus
 from regkit.convert import output, summary, write_back
+from regkit.convert.edn import NotEdn
 from regkit.convert.model import Refused, WrongWords
 from regkit.convert.whole import Converted, convert
 from regkit.convert.words import add_arguments, choices_of
-from regkit.edn import NotEdn
-from regkit.garbage import many_objects
-from regkit.inputs import STANDARD_INPUT, opened
-from regkit.statuses import ExitStatus
+from regkit.history.inputs import STANDARD_INPUT, opened
 
 __all__ = ["EPILOG", "HELP", "add_arguments", "run"]
 

@@ -4,17 +4,17 @@ import os
 import sys
 from typing import Union
 
-from regkit.checker import WOULD_DECIDE, NoChecker, decide, is_for_search
-from regkit.draw import page_of
+from regkit.base.garbage import many_objects
+from regkit.base.statuses import ExitStatus
+from regkit.checker.programs import WOULD_DECIDE, NoChecker, decide, is_for_search
+from regkit.checker.report import read_report
+from regkit.commands.options import add_bounds, bounds_of
+from regkit.drawing.draw import page_of
 from regkit.drawing.page import Asked
-from regkit.garbage import many_objects
-from regkit.history import NoRegister, read_history
-from regkit.inputs import TooLong, read_input, shown_name
-from regkit.options import add_bounds, bounds_of
-from regkit.progress import Progress
-from regkit.report import read_report
-from regkit.shrinking import MOST_RUNS, Searcher
-from regkit.statuses import ExitStatus
+from regkit.explain.shrinking import MOST_RUNS, Searcher
+from regkit.history.inputs import TooLong, read_input, shown_name
+from regkit.history.operations import NoRegister, read_history
+from regkit.words.progress import Progress
 
 HELP = "draw a history on a page for a browser: the fault, or the order of a yes"
 EPILOG = """\

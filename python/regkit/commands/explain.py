@@ -2,26 +2,25 @@
 import argparse
 import shutil
 import sys
-from typing import List, Tuple
 
-from regkit.advice import advice
-from regkit.checker import WOULD_DECIDE, NoChecker, decide, is_for_search
-from regkit.colour import CHOICES, painter
-from regkit.explanation import NotOfHistory, Wishes, explain
-from regkit.garbage import many_objects
-from regkit.history import History, NoRegister, NotAHistory, read_history
-from regkit.inputs import STANDARD_INPUT, TooLong, read_input, shown_name
-from regkit.judging import failure, failure_of
-from regkit.limits import MAX_BYTES
-from regkit.options import add_bounds, bounds_of, count
-from regkit.progress import Progress
-from regkit.quoting import plain, quoted
-from regkit.report import Report, Row, read_report
-from regkit.searched import what_to_do
-from regkit.sentences import counted
-from regkit.shrinking import MOST_RUNS
-from regkit.source_map import NotAMap, put_labels
-from regkit.statuses import ExitStatus
+from regkit.base.garbage import many_objects
+from regkit.base.limits import MAX_BYTES
+from regkit.base.statuses import ExitStatus
+from regkit.checker.programs import WOULD_DECIDE, NoChecker, decide, is_for_search
+from regkit.checker.report import Report, Row, read_report
+from regkit.commands.options import add_bounds, bounds_of, count
+from regkit.explain.advice import advice
+from regkit.explain.explanation import NotOfHistory, Wishes, explain
+from regkit.explain.searched import what_to_do
+from regkit.explain.shrinking import MOST_RUNS
+from regkit.history.inputs import STANDARD_INPUT, TooLong, read_input, shown_name
+from regkit.history.operations import History, NoRegister, NotAHistory, read_history
+from regkit.history.source_map import NotAMap, put_labels
+from regkit.judging.judge import failure, failure_of
+from regkit.words.colour import CHOICES, painter
+from regkit.words.phrases import counted
+from regkit.words.progress import Progress
+from regkit.words.quoting import plain, quoted
 
 HELP = "say in sentences why a history isn't linearizable"
 EPILOG = """\
@@ -110,7 +109,7 @@ def labelled_history(arguments: argparse.Namespace, data: bytes, progress: Progr
     return history
 
 
-def explained(arguments: argparse.Namespace, progress: Progress) -> Tuple[int, str]:
+def explained(arguments: argparse.Namespace, progress: Progress) -> tuple[int, str]:
     """The exit status and the explanation. Raises Stop if there is none."""
     name = plain(shown_name(arguments.history))
     # A report of `regkit join` may be of a history that is longer than the checker takes.
@@ -141,11 +140,12 @@ def explained(arguments: argparse.Namespace, progress: Progress) -> Tuple[int, s
     return ExitStatus.NOT_ATOMIC, f"{name}: not linearizable: {how_many(report)}\n\n{why}"
 
 
-def unknown_in_words(rows: List[Row], most: int) -> str:
+def unknown_in_words(rows: list[Row], most: int) -> str:
     """The registers that a search gave up, the first few by name, and what to do about them."""
     names = ", ".join(quoted(row["register"]) for row in rows[:max(1, most)])
     more = f" and {len(rows) - most:,} more" if len(rows) > most > 0 else ""
-    return f"unknown: the search gave up on {counted(len(rows), 'register')}, {names}{more}\n  {what_to_do(rows)}"
+    gave_up = f"unknown: the search gave up on {counted(len(rows), 'register')}, {names}{more}"
+    return f"{gave_up}\n  {what_to_do(rows)}"
 
 
 def how_many(report: Report) -> str:
@@ -155,7 +155,7 @@ def how_many(report: Report) -> str:
     return f"{early}{len(report.faulty):,} of {counted(registers, 'register')}"
 
 
-def answer_to(arguments: argparse.Namespace) -> Tuple[int, str]:
+def answer_to(arguments: argparse.Namespace) -> tuple[int, str]:
     """The exit status and what is to be printed on standard output. Raises Stop, whatever goes wrong."""
     try:
         with Progress() as progress, many_objects():

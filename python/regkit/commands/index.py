@@ -2,16 +2,16 @@
 import argparse
 import pathlib
 import sys
-from typing import List, Sequence
+from typing import Sequence
 
+from regkit.base.statuses import ExitStatus
+from regkit.commands.options import add_bounds, bounds_of, count
 from regkit.drawing.page import shows_unknown
-from regkit.judging import Judge, Wishes
-from regkit.options import add_bounds, bounds_of, count
-from regkit.progress import Progress
-from regkit.quoting import plain
-from regkit.runs import PICTURES, Run, page, runs_in
-from regkit.sentences import counted
-from regkit.statuses import ExitStatus
+from regkit.judging.judge import Judge, Wishes
+from regkit.judging.runs import PICTURES, Run, page, runs_in
+from regkit.words.phrases import counted
+from regkit.words.progress import Progress
+from regkit.words.quoting import plain
 
 HELP = "check and draw the histories of a folder, and list them on a page, newest first"
 EPILOG = """\
@@ -45,8 +45,8 @@ def is_fresh(picture: pathlib.Path, changed: float) -> bool:
     return picture.exists() and picture.stat().st_mtime >= changed and not shows_unknown(picture)
 
 
-def judged(paths: List[pathlib.Path], pictures: pathlib.Path, bounds: Sequence[str],
-           progress: Progress) -> List[Run]:
+def judged(paths: list[pathlib.Path], pictures: pathlib.Path, bounds: Sequence[str],
+           progress: Progress) -> list[Run]:
     """The runs with their outcomes. A picture that isn't fresh is drawn."""
     judge = Judge(Wishes(1, 1, 0, False, False, None, bounds=bounds), progress)
     runs = []

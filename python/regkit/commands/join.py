@@ -1,15 +1,15 @@
 """`regkit join`: the reports of the parts as the report of the whole history."""
 import argparse
 import sys
-from typing import List, NamedTuple, Sequence
+from typing import NamedTuple, Sequence
 
-from regkit.checker import CHECK, SEARCH
-from regkit.joining import (Answered, Outcome, RefusedPart, Unanswered, command_again, outcomes,
-                            takes_search, verdict_of, write_report)
-from regkit.limits import MAX_EVENTS
-from regkit.parts import Manifest, NotSplit, read_manifest
-from regkit.progress import Progress
-from regkit.statuses import ExitStatus
+from regkit.base.limits import MAX_EVENTS
+from regkit.base.statuses import ExitStatus
+from regkit.checker.programs import CHECK, SEARCH
+from regkit.parts.folder import Manifest, NotSplit, read_manifest
+from regkit.parts.joining import (STATUSES, Answered, Outcome, RefusedPart, Unanswered, command_again,
+                                  outcomes, takes_search, verdict_of, write_report)
+from regkit.words.progress import Progress
 
 HELP = "join the reports of the parts of a split history into the report of the whole"
 EPILOG = """\
@@ -31,7 +31,6 @@ exit status:
      command that runs it again; or output failed
   6  some part is unknown, and no part is known not to be atomic
 """
-STATUSES = {"yes": ExitStatus.ATOMIC, "no": ExitStatus.NOT_ATOMIC, "unknown": ExitStatus.UNKNOWN}
 
 
 def add_arguments(parser: argparse.ArgumentParser) -> None:
@@ -70,7 +69,7 @@ class Again(NamedTuple):
     why: str  # as a person would go on after its name
 
 
-def to_run_again(found: Sequence[Outcome]) -> List[Again]:
+def to_run_again(found: Sequence[Outcome]) -> list[Again]:
     """The parts without an answer; if there are none, those of regcheck if regsearch checked others."""
     unanswered = [Again(each.part, f"has no answer: {each.why}")
                   for each in found if isinstance(each, Unanswered)]
@@ -80,7 +79,7 @@ def to_run_again(found: Sequence[Outcome]) -> List[Again]:
             if not isinstance(each, Unanswered) and each.program == CHECK]
 
 
-def programs_of(found: Sequence[Outcome]) -> List[str]:
+def programs_of(found: Sequence[Outcome]) -> list[str]:
     return [each.program for each in found if not isinstance(each, Unanswered) and each.program is not None]
 
 
@@ -97,7 +96,7 @@ def refuse(directory: str, refused: RefusedPart) -> int:
     return ExitStatus.REFUSED
 
 
-def write(parts: List[Answered], manifest: Manifest, order: str) -> int:
+def write(parts: list[Answered], manifest: Manifest, order: str) -> int:
     by_search = parts[0].program == SEARCH
     if by_search and order == "always":
         print("regkit join: a report of regsearch has no merged order: leave out --order", file=sys.stderr)

@@ -5,17 +5,17 @@ import math
 import re
 import sys
 from fractions import Fraction
-from typing import Iterator, List, Sequence
+from typing import Iterator, Sequence
 
+from regkit.base.garbage import many_objects
+from regkit.base.statuses import ExitStatus
 from regkit.convert.clock import UNITS
 from regkit.convert.summary import too_large
-from regkit.garbage import many_objects
-from regkit.inputs import STANDARD_INPUT, read_input, shown_name
+from regkit.history.inputs import STANDARD_INPUT, read_input, shown_name
 from regkit.merge import Merged, Recorded, Unmergeable, first_again, merged
-from regkit.progress import Progress
-from regkit.quoting import plain
-from regkit.sentences import counted, for_regsearch
-from regkit.statuses import ExitStatus
+from regkit.words.phrases import counted, for_regsearch
+from regkit.words.progress import Progress
+from regkit.words.quoting import plain
 
 HELP = "merge the histories of several recorders of one run, by their times"
 EPILOG = """\
@@ -92,7 +92,7 @@ def read_files(names: Sequence[str], progress: Progress) -> Iterator[Recorded]:
         yield Recorded(shown_name(name), read_input(name, None))
 
 
-def write(lines: List[str], name: str) -> int:
+def write(lines: list[str], name: str) -> int:
     """Writes the merged history, and gives its size in bytes."""
     data = "".join(lines).encode("utf-8")
     with contextlib.ExitStack() as opened:
@@ -108,8 +108,8 @@ def told(files: Sequence[Recorded], found: Merged, clock_error: int) -> Iterator
         yield f"{plain(file.name)}: {counted(len(file.events), 'event')}{numbered(found, file, number)}"
     apart = [plain(file.name) for file in files if is_apart(file, files, clock_error)]
     if apart:
-        yield (f"no other history has times near those of {', '.join(apart)}: were all recorded at once, with "
-               "clocks that agree?")
+        yield (f"no other history has times near those of {', '.join(apart)}: were all recorded at once, "
+               "with clocks that agree?")
     if found.given_up:
         yield (f"the orders of two histories contradict each other within the clock error at "
                f"{counted(found.given_up, 'call')}: there operations of one history overlap")

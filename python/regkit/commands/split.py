@@ -5,17 +5,17 @@ import os
 import stat
 import sys
 from functools import partial
-from typing import BinaryIO, Callable, List, NamedTuple, Optional
+from typing import BinaryIO, Callable, NamedTuple, Optional
 
-from regkit.checker import (CHECK, SEARCH, Answer, NoChecker, find_program, is_for_search, run_checker,
-                            run_search)
-from regkit.inputs import opened
-from regkit.joining import line_map
-from regkit.parts import BLANK, MAP, MAX_PARTS, Manifest, file_of
-from regkit.progress import Progress
-from regkit.refusals import Refusal, read_refusal
-from regkit.splitting import CannotSplit, Plan, split
-from regkit.statuses import ExitStatus
+from regkit.base.statuses import ExitStatus
+from regkit.checker.programs import (CHECK, SEARCH, Answer, NoChecker, find_program, is_for_search,
+                                     run_checker, run_search)
+from regkit.checker.refusals import Refusal, read_refusal
+from regkit.history.inputs import opened
+from regkit.parts.folder import BLANK, MAP, MAX_PARTS, Manifest, file_of
+from regkit.parts.joining import line_map
+from regkit.parts.splitting import CannotSplit, Plan, split
+from regkit.words.progress import Progress
 
 MAP_FROM = 1 << 30  # bytes of a history; some twenty million lines
 NO_SEARCH = ("--steps", "1")  # a refusal comes before any search
@@ -133,7 +133,7 @@ class RefusedPart(NamedTuple):
 def first_refused(directory: str, manifest: Manifest,
                   check: Callable[[bytes], Answer]) -> Optional[RefusedPart]:
     """The first refusal of a program. Raises NoChecker."""
-    found: List[RefusedPart] = []
+    found: list[RefusedPart] = []
     for part in range(manifest.parts):
         history = file_of(directory, part, "jsonl").read_bytes()
         answer = check(history)

@@ -5,8 +5,8 @@ import sys
 from typing import Optional
 
 from regkit import verify
-from regkit.inputs import opened
-from regkit.statuses import ExitStatus
+from regkit.base.statuses import ExitStatus
+from regkit.history.inputs import opened
 
 HELP = "check each claim of a report against its history, by the definitions alone"
 EPILOG = """\
@@ -43,7 +43,8 @@ REFUSALS = (".err", ".refusal")  # what a file with a refusal is called
 
 
 def add_arguments(parser: argparse.ArgumentParser) -> None:
-    parser.add_argument("history", metavar="HISTORY", help="the history, packed by gzip or not; - is standard input")
+    parser.add_argument("history", metavar="HISTORY",
+                        help="the history, packed by gzip or not; - is standard input")
     parser.add_argument("report", metavar="REPORT", nargs="?",
                         help="its report; - is standard input; a file .err or .refusal is a refusal's text")
     parser.add_argument("--refusal", metavar="FILE", help="the text of its refusal, in place of REPORT")
@@ -97,6 +98,8 @@ def content(name: str) -> bytes:
 def in_words(found: verify.Verified) -> str:
     if found.atomic is None:
         return f"the history is refused{' by regsearch' if found.by_search else ''}: {found.refusal}"
+    if not found.registers:
+        return "linearizable, since the history has no operation"
     size = f"{counted(found.operations, 'operation')} on {counted(found.registers, 'register')}"
     if found.early:
         return f"{'linearizable' if found.atomic else 'not linearizable'}, by an early answer: {size}"

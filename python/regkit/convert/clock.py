@@ -2,9 +2,10 @@
 import datetime
 import re
 from decimal import Decimal, InvalidOperation
-from typing import Any, List, NamedTuple, Optional, Tuple
+from typing import Any, NamedTuple, Optional
 
-from regkit.convert.model import GREATEST, Refused, WrongWords
+from regkit.base.limits import GREATEST_VALUE
+from regkit.convert.model import Refused, WrongWords
 
 UNITS = {"ns": 0, "us": 3, "ms": 6, "s": 9}  # by name, how many nanoseconds: the exponent of ten
 _WHOLE = re.compile(r"-?[0-9]+")
@@ -60,7 +61,7 @@ class Clock:
         return Time(digits, places + exponent)
 
     def nanoseconds(self, time: Time, unit: Optional[str]) -> Optional[int]:
-        """A time from 0 to the greatest of 64 bits, if the source's unit is known. A date counts from 1970."""
+        """A time from 0 to the greatest value, if the source's unit is known. A date counts from 1970."""
         own = unit if self.kind == "a number" else "s"
         if own is None:
             return None
@@ -68,9 +69,9 @@ class Clock:
         found = time.digits * 10 ** exponent if exponent >= 0 else time.digits // 10 ** -exponent
         if self.kind != "a number":
             found -= _EPOCH
-        return found if 0 <= found <= GREATEST else None
+        return found if 0 <= found <= GREATEST_VALUE else None
 
-    def scaled(self, times: List[Time]) -> List[int]:
+    def scaled(self, times: list[Time]) -> list[int]:
         """Times in units of the least exponent."""
         least = self.least
         if not least:
@@ -78,13 +79,13 @@ class Clock:
         return [time.digits * 10 ** (time.exponent - least) for time in times]
 
 
-def _digits(number: Decimal) -> Tuple[int, int]:
+def _digits(number: Decimal) -> tuple[int, int]:
     sign, digits, exponent = number.as_tuple()
     value = int("".join(map(str, digits)))
     return (-value if sign else value), int(exponent)
 
 
-def _decimal(value: Any) -> Optional[Tuple[str, Time]]:
+def _decimal(value: Any) -> Optional[tuple[str, Time]]:
     if type(value) not in (str, Decimal):
         return None
     try:
@@ -97,7 +98,7 @@ def _decimal(value: Any) -> Optional[Tuple[str, Time]]:
     return ("a number", time) if abs(time.exponent) <= _MOST_EXPONENT else None
 
 
-def _stamp(value: Any) -> Optional[Tuple[str, Time]]:
+def _stamp(value: Any) -> Optional[tuple[str, Time]]:
     """A date with a time of day, such as 2026-11-23T05:49:42.123Z."""
     found = _STAMP.fullmatch(value.strip()) if type(value) is str else None
     if found is None:
@@ -116,6 +117,6 @@ def _stamp(value: Any) -> Optional[Tuple[str, Time]]:
     return kind, Time(int(f"{seconds}{fraction}"), -len(fraction))
 
 
-def _no_time(value: Any, line: int, what: str) -> Tuple[str, Time]:
+def _no_time(value: Any, line: int, what: str) -> tuple[str, Time]:
     raise Refused(f"{what} is {value!r}, and a number or a date such as 2026-11-23T05:49:42.123Z is expected",
                   line)

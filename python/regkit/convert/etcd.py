@@ -6,7 +6,7 @@
 Op is 0 for a read, 1 for a write of Arg1 and 2 for a cas from Arg1 to Arg2. Ok says whether a cas took place,
 and Exists whether a read found a value. Unknown says that nobody knows what the operation did.
 """
-from typing import Any, Dict, Optional, Tuple
+from typing import Any, Optional
 
 from regkit.convert.model import CAS, KNOWN, READS, Operation, Refused
 from regkit.convert.values import spelled
@@ -14,10 +14,10 @@ from regkit.convert.values import spelled
 _OPS = {"0": "read", "1": "write", "2": CAS}
 _TOLD = ("ok", "exists", "unknown")
 
-Members = Dict[str, Any]
+Members = dict[str, Any]
 
 
-def asked(word: str, given: Members, line: int) -> Tuple[str, Any]:
+def asked(word: str, given: Members, line: int) -> tuple[str, Any]:
     """What an input asks for: its operation, and what it writes."""
     kind = _OPS.get(word, word)
     if kind == CAS:
@@ -30,8 +30,8 @@ def asked(word: str, given: Members, line: int) -> Tuple[str, Any]:
     return kind, None if kind in READS else given.get("arg1")
 
 
-def ended(operation: Operation, told: Members, said: Dict[bool, int],
-          line: int) -> Tuple[Optional[str], Members]:
+def ended(operation: Operation, told: Members, said: dict[bool, int],
+          line: int) -> tuple[Optional[str], Members]:
     """How an operation ended, and what its output says of values.
 
     The model gives Ok to a cas alone, so that Go writes false for the others. That is taken for nothing only

@@ -8,20 +8,21 @@
 Processes and values may be texts, registers any JSON. What else `regcheck` says of a history holds here too.
 """
 import shlex
-from typing import Any, Dict, Iterable, Optional, Tuple
+from typing import Any, Iterable, Optional
 
-from regkit import edn
+from regkit.base.limits import GREATEST_VALUE
+from regkit.convert import edn
 from regkit.convert.json_values import json_values
 from regkit.convert.members import Known, Outcomes
-from regkit.convert.model import (CAS, ENDINGS, GREATEST, READS, WRITES, Choices, Client, Operation, Refused,
-                                  Source, folded)
+from regkit.convert.model import (CAS, ENDINGS, READS, WRITES, Choices, Client, Operation, Refused, Source,
+                                  folded)
 from regkit.convert.pairing import Pairing
 from regkit.convert.rows import client_of
 from regkit.convert.settle import settle
 
 _ENDINGS = ("reply", "fail")
 
-Event = Dict[str, Any]
+Event = dict[str, Any]
 
 
 def from_events(lines: Iterable[str], choices: Choices) -> Source:
@@ -88,7 +89,7 @@ class _Log:
         called = self.pairing.open.get(client)
         return self.cas_known[1] if called is not None and called.kind == CAS else self.known
 
-    def _cas(self, event: Event, line: int) -> Tuple[Any, Any]:
+    def _cas(self, event: Event, line: int) -> tuple[Any, Any]:
         """What a cas asks for and what it writes."""
         if "from" not in event or "to" not in event:
             raise Refused("the call of a cas has from and to: write null in from if it asks for no "
@@ -164,4 +165,4 @@ def _say_who(operation: Operation, event: Event) -> None:
 
 def _time(event: Event) -> Optional[int]:
     time = event.get("time")
-    return time if type(time) is int and 0 <= time <= GREATEST else None
+    return time if type(time) is int and 0 <= time <= GREATEST_VALUE else None

@@ -1,10 +1,10 @@
 """Keys within values, as jepsen.independent puts them: [key value]."""
-from typing import Any, List, Optional, Tuple
+from typing import Any, Optional
 
-from regkit import edn
+from regkit.convert import edn
 from regkit.convert.model import CAS, KNOWN, READS, Choices, Operation, Refused
 
-Pair = Tuple[Any, Any]
+Pair = tuple[Any, Any]
 
 
 def pair_of(value: Any) -> Optional[Pair]:
@@ -26,7 +26,7 @@ def nothing_for(value: Any) -> Any:
     return None if pair is None else (pair[0], None)
 
 
-def are_independent(operations: List[Operation], choices: Choices) -> bool:
+def are_independent(operations: list[Operation], choices: Choices) -> bool:
     """Whether the values are keys with values: if all calls' are, or if any read's is a key with nil.
 
     A plain read is called with nil. A plain cas is called with a pair too, of the old value and the new; its

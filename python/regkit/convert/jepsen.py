@@ -6,16 +6,16 @@ One operation is a map or a record of EDN, an object of JSON with the same membe
     {"process":0,"type":"invoke","f":"write","value":[3,11],"index":0,"time":12}
     INFO  jepsen.util - 0 :invoke :write 11
 
-`:ok` is a reply, `:fail` a failure that certainly had no effect, and `:info` a crash of the client: the outcome
-is unknown and the process does nothing more. A cas has [from to] as its value; if its `:fail` says that the
-store found another value, `--failed-cas missed` says so. Processes that aren't numbers, such as :nemesis, are
-no clients.
+`:ok` is a reply, `:fail` a failure that certainly had no effect, and `:info` a crash of the client: the
+outcome is unknown and the process does nothing more. A cas has [from to] as its value; if its `:fail` says
+that the store found another value, `--failed-cas missed` says so. Processes that aren't numbers, such as
+:nemesis, are no clients.
 """
 import itertools
 from collections import Counter
-from typing import Any, Dict, Iterable, Iterator, List, Optional, Tuple
+from typing import Any, Iterable, Iterator, Optional
 
-from regkit import edn
+from regkit.convert import edn
 from regkit.convert import pairs
 from regkit.convert.independent import are_independent, nothing_for, pair_of, part
 from regkit.convert.jepsen_lines import NO_OPERATION, line_events
@@ -34,8 +34,8 @@ _TYPES = {":ok": "reply", ":fail": "fail", ":info": "crash"}
 _ERRORS = (":error", ":exception")
 _LONGEST = 40  # characters of an error that is shown
 
-Event = Dict[Any, Any]
-Events = Iterable[Tuple[int, Event]]
+Event = dict[Any, Any]
+Events = Iterable[tuple[int, Event]]
 
 
 def from_jepsen(lines: Iterable[str], choices: Choices) -> Source:
@@ -47,7 +47,7 @@ def from_jepsen(lines: Iterable[str], choices: Choices) -> Source:
 def from_edn_or_log(lines: Iterable[str], choices: Choices) -> Source:
     """EDN has a map or record a line, or one vector of all; all else is lines for people."""
     rest = iter(lines)
-    held: List[str] = []
+    held: list[str] = []
     for line in rest:
         held.append(line)
         if line.strip():
@@ -57,7 +57,7 @@ def from_edn_or_log(lines: Iterable[str], choices: Choices) -> Source:
     return _Log(choices).source(_edn_events(everything) if first[:1] in "{[(#;" else line_events(everything))
 
 
-def _edn_events(lines: Iterable[str]) -> Iterator[Tuple[int, Event]]:
+def _edn_events(lines: Iterable[str]) -> Iterator[tuple[int, Event]]:
     for line, value in edn.values(lines, elements=True):
         if type(value) is edn.Tagged:
             value = value.value
@@ -67,7 +67,7 @@ def _edn_events(lines: Iterable[str]) -> Iterator[Tuple[int, Event]]:
         yield line, value
 
 
-def _json_events(lines: Iterable[str]) -> Iterator[Tuple[int, Event]]:
+def _json_events(lines: Iterable[str]) -> Iterator[tuple[int, Event]]:
     """Objects of JSON as EDN would have them."""
     for line, value in json_values(lines):
         if not isinstance(value, dict):
@@ -96,8 +96,8 @@ class _Log:
         self.pairing = Pairing()
         self.known = Known(choices, "jepsen")
         self.outcomes = Outcomes(choices)
-        self.left_out: Dict[str, int] = Counter()
-        self.refused_cas: List[str] = []  # the error of each that may have failed for another reason
+        self.left_out: dict[str, int] = Counter()
+        self.refused_cas: list[str] = []  # the error of each that may have failed for another reason
         self.index = -1  # of the last event that had one
 
     def source(self, events: Events) -> Source:
@@ -125,7 +125,7 @@ class _Log:
         settle(source, self.choices)
         return source
 
-    def _look_at_versions(self, source: Source, operations: List[Operation]) -> None:
+    def _look_at_versions(self, source: Source, operations: list[Operation]) -> None:
         """Takes versions out of the values, if there are any."""
         if not self.choices.drop_versions:
             pairs.refuse_versions(operations, self.choices)

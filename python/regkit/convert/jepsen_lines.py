@@ -6,12 +6,12 @@
 A line has a process, a type, a function, a value and perhaps an error, with tabs or spaces between them.
 """
 import re
-from typing import Any, Dict, Iterable, Iterator, List, Tuple
+from typing import Any, Iterable, Iterator
 
-from regkit import edn
+from regkit.convert import edn
 from regkit.convert.model import Refused
 
-Event = Dict[Any, Any]
+Event = dict[Any, Any]
 
 NO_OPERATION = "of the log that record no operation"
 _TYPES = "invoke|ok|fail|info"
@@ -20,7 +20,7 @@ _BARE = re.compile(rf"\s*(\d+|:?nemesis)\s+({_TYPES})\s+([^\s,:]+)(.*)", re.DOTA
 _LOST = re.compile(r"(?:^|\s):(?:invoke|ok|read|write|cas|txn)\s")  # part of an operation
 
 
-def line_events(lines: Iterable[str]) -> Iterator[Tuple[int, Event]]:
+def line_events(lines: Iterable[str]) -> Iterator[tuple[int, Event]]:
     """The event of each line, and of a line without one who wrote it. Raises Refused."""
     for number, text in enumerate(lines, 1):
         found = _LINE.search(text) or _BARE.fullmatch(text)
@@ -34,14 +34,14 @@ def line_events(lines: Iterable[str]) -> Iterator[Tuple[int, Event]]:
             yield number, {":process": NO_OPERATION}
 
 
-def _event(who: str, kind: str, function: str, values: List[Any]) -> Event:
+def _event(who: str, kind: str, function: str, values: list[Any]) -> Event:
     event: Event = {":process": int(who) if who.isdecimal() else edn.Keyword(who), ":type": ":" + kind,
                     ":f": edn.Keyword(":" + function)}
     event.update(zip((":value", ":error"), values))
     return event
 
 
-def _values(text: str, kind: str, line: int) -> List[Any]:
+def _values(text: str, kind: str, line: int) -> list[Any]:
     """The value and the error behind an operation. A failure or a crash may say anything there."""
     surely = kind in ("invoke", "ok")
     try:

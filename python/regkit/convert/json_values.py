@@ -3,7 +3,7 @@ import itertools
 import json
 import re
 from decimal import Decimal
-from typing import Any, Dict, Iterable, Iterator, List, Tuple
+from typing import Any, Iterable, Iterator
 
 from regkit.convert.model import Refused
 
@@ -12,7 +12,7 @@ def _no_constant(word: str) -> None:
     raise ValueError(f"{word} is no JSON")
 
 
-def _object(members: List[Tuple[str, Any]]) -> Dict[str, Any]:
+def _object(members: list[tuple[str, Any]]) -> dict[str, Any]:
     made = dict(members)
     if len(made) < len(members):
         names = [name for name, _ in members]
@@ -28,7 +28,7 @@ _BEGINS = re.compile(r'\s*(?:\[\s*)?(?:\{\s*(?:"|\}\s*$)|\]\s*$)')
 _UNDECIDED = re.compile(r"\s*(?:\[\s*)?(?:\{\s*)?")
 
 
-def is_json(lines: Iterable[str]) -> Tuple[bool, Iterable[str]]:
+def is_json(lines: Iterable[str]) -> tuple[bool, Iterable[str]]:
     """Whether a source is objects of JSON, by its first lines; and all its lines."""
     rest = iter(lines)
     text, held = "", []
@@ -41,7 +41,7 @@ def is_json(lines: Iterable[str]) -> Tuple[bool, Iterable[str]]:
     return bool(_BEGINS.match(text)), itertools.chain(held, rest)
 
 
-def json_values(lines: Iterable[str]) -> Iterator[Tuple[int, Any]]:
+def json_values(lines: Iterable[str]) -> Iterator[tuple[int, Any]]:
     """Each value with the number of its line. Raises Refused."""
     numbered = enumerate(lines, 1)
     for number, line in numbered:
@@ -60,7 +60,7 @@ def _decoded(text: str, line: int) -> Any:
         raise Refused(f"not JSON: {error}", line) from None
 
 
-def _elements(lines: List[str], line: int) -> Iterator[Tuple[int, Any]]:
+def _elements(lines: list[str], line: int) -> Iterator[tuple[int, Any]]:
     """The elements of an array that begins on a line, and is all that there is."""
     text = "".join(lines)
     seen = at = text.index("[") + 1

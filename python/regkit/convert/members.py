@@ -10,14 +10,14 @@ name, until the command line says what it means:
 """
 import shlex
 from collections import Counter
-from typing import Any, Dict, FrozenSet, Iterable, Iterator, List, Mapping, NamedTuple, Optional, Set, Tuple
+from typing import Any, Iterable, Iterator, Mapping, NamedTuple, Optional
 
-from regkit import edn
+from regkit.convert import edn
 from regkit.convert.model import ENDINGS, Choices, Refused, counted, folded
 from regkit.convert.values import spelled
 
 # By form, and for Porcupine by place, the members that its reader understands.
-UNDERSTOOD: Dict[str, FrozenSet[str]] = {
+UNDERSTOOD: dict[str, frozenset[str]] = {
     "jepsen": frozenset({"process", "type", "f", "value", "key", "error", "exception"}),
     "operation": frozenset({"clientid", "input", "call", "output", "return"}),
     "event": frozenset({"clientid", "kind", "value", "id"}),
@@ -34,7 +34,7 @@ UNDERSTOOD: Dict[str, FrozenSet[str]] = {
     "jsonl's end of a cas": frozenset({"process", "event", "op", "register", "value", "from", "to", "ok"}),
 }
 # By form, members that say who, where and when, and never how an operation ended.
-HARMLESS: Dict[str, FrozenSet[str]] = {
+HARMLESS: dict[str, frozenset[str]] = {
     "jepsen": frozenset({"index", "time", "node", "final?"}),
     "csv": frozenset({"index", "node"}),
     "operations": frozenset({"index", "node"}),
@@ -58,9 +58,9 @@ class Known:
         self.is_input = place == "input"
         self.names = (UNDERSTOOD[place] | HARMLESS.get(place, frozenset()) | choices.ignored
                       | choices.ok_when.keys() | {folded(name) for name in own})
-        self.seen: Set[Tuple[Any, ...]] = set()  # the members of lines that were let through
+        self.seen: set[tuple[Any, ...]] = set()  # the members of lines that were let through
 
-    def refuse(self, members: Mapping[Any, Any], strange: List[Any], line: int) -> None:
+    def refuse(self, members: Mapping[Any, Any], strange: list[Any], line: int) -> None:
         """Raises Refused for members that mean nothing here, if there are any."""
         if strange:
             raise Refused(self._not_understood(members, strange), line)
@@ -77,7 +77,7 @@ class Known:
                           line)
         self.seen.add(names)
 
-    def _not_understood(self, members: Mapping[Any, Any], strange: List[Any]) -> str:
+    def _not_understood(self, members: Mapping[Any, Any], strange: list[Any]) -> str:
         first, *others = (shlex.quote(spelled(name).lstrip(":")) for name in strange)
         more = f"; likewise {', '.join(others)}" if others else ""
         return (f"the {self.what} {first} isn't understood, and it may tell the outcome (here it is "
@@ -117,14 +117,14 @@ class Outcomes:
 
     def __init__(self, choices: Choices) -> None:
         self.choices = choices
-        self.unknown: Dict[Tuple[str, str], int] = Counter()  # by member and its word, how many
+        self.unknown: dict[tuple[str, str], int] = Counter()  # by member and its word, how many
 
     def of(self, members: Mapping[Any, Any], is_read: bool) -> Ended:
         """By its members. What isn't said to be well or to have failed is unknown."""
         if not self.choices.ok_when:
             return _WELL
         members = by_folded_name(members)
-        endings: Set[Optional[str]] = {"reply"}
+        endings: set[Optional[str]] = {"reply"}
         for name, well in self.choices.ok_when.items():
             if is_read and name in _ANSWERS:
                 continue
@@ -164,6 +164,6 @@ def ok_of(told: Any) -> Optional[bool]:
     return told if type(told) is bool else None
 
 
-def by_folded_name(members: Mapping[Any, Any]) -> Dict[str, Any]:
+def by_folded_name(members: Mapping[Any, Any]) -> dict[str, Any]:
     """Members by the names under which options have them."""
     return {folded(spelled(name)): value for name, value in members.items()}

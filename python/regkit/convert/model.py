@@ -1,15 +1,13 @@
 """What every reader gives: the source's operations, in the order in which they were called and ended."""
 from collections import Counter
 from functools import lru_cache
-from typing import Any, Dict, FrozenSet, Iterator, List, NamedTuple, Optional, Set, Tuple, Union
+from typing import Any, Iterator, NamedTuple, Optional, Union
 
 Client = Union[int, str]
 
 # None is null, an int is a whole number of 64 bits, and a text is any other value, as EDN writes it.
 Value = Union[None, int, str]
 
-LEAST, GREATEST = -(2 ** 63), 2 ** 63 - 1
-MOST_PROCESS = 2 ** 32 - 1
 READS = frozenset({"read", "r", "get"})
 WRITES = frozenset({"write", "w", "put", "set"})
 CAS = "cas"
@@ -66,19 +64,19 @@ class Choices(NamedTuple):
     form: str
     register: str = "x"  # the one register of a source without keys
     keys: str = "auto"
-    nulls: FrozenSet[str] = frozenset()
+    nulls: frozenset[str] = frozenset()
     initial: Optional[str] = None
     values: str = "auto"
     cas: str = "keep"
     failed_cas: str = "fail"  # or missed
     versions: Optional[str] = None  # the member by which a put is a cas
     drop_versions: bool = False  # whether each value is [version value]
-    columns: Dict[str, str] = {}
+    columns: dict[str, str] = {}
     delimiter: Optional[str] = None
-    ops: Dict[str, str] = {}  # the source's word for an operation -> read, write, cas or other
-    outcomes: Dict[str, str] = {}  # the source's word for an outcome -> one of ENDINGS
-    ok_when: Dict[str, FrozenSet[str]] = {}  # a member -> the words in it that say that all went well
-    ignored: FrozenSet[str] = frozenset()  # members that mean nothing
+    ops: dict[str, str] = {}  # the source's word for an operation -> read, write, cas or other
+    outcomes: dict[str, str] = {}  # the source's word for an outcome -> one of ENDINGS
+    ok_when: dict[str, frozenset[str]] = {}  # a member -> the words in it that say that all went well
+    ignored: frozenset[str] = frozenset()  # members that mean nothing
     clock_error: Optional[str] = None
     clock_unit: Optional[str] = None
 
@@ -104,15 +102,15 @@ def folded(word: str) -> str:
 class Source:
     """The operations: each stands where it was called and, if anything ended it, again where it ended."""
 
-    def __init__(self, steps: List[Operation]) -> None:
+    def __init__(self, steps: list[Operation]) -> None:
         self.steps = steps
-        self.left_out: Dict[str, int] = Counter()  # which lines were left out -> how many
+        self.left_out: dict[str, int] = Counter()  # which lines were left out -> how many
         self.skipped = ""  # what --cas skip-key left out, in words
-        self.notes: List[str] = []  # what else a person should know
+        self.notes: list[str] = []  # what else a person should know
 
-    def moments(self) -> Iterator[Tuple[Operation, bool]]:
+    def moments(self) -> Iterator[tuple[Operation, bool]]:
         """Each step, and whether it is the operation's call."""
-        called: Set[Operation] = set()
+        called: set[Operation] = set()
         for operation in self.steps:
             if operation in called:
                 called.remove(operation)

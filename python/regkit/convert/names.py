@@ -4,16 +4,16 @@ A key that is a text is its own name. Any other key (a number, a keyword, a vect
 5, :k, [1 2]. If two keys of a source would then have one name, as the number 5 and the text "5" would, every
 text is named with its quotes.
 """
-from typing import Dict, Iterable
+from typing import Iterable
 
+from regkit.base.limits import MAX_NAME
 from regkit.convert.model import Operation, Refused
 from regkit.convert.values import readable
-from regkit.limits import MAX_NAME
 
 
-def names(operations: Iterable[Operation]) -> Dict[str, str]:
+def names(operations: Iterable[Operation]) -> dict[str, str]:
     """The name of each key, in the order in which the keys appear."""
-    first: Dict[str, Operation] = {}
+    first: dict[str, Operation] = {}
     for operation in operations:
         if operation.key not in first:
             first[operation.key] = operation

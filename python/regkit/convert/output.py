@@ -11,12 +11,12 @@ write.
 """
 import itertools
 import json
-from typing import Any, Dict, Iterable, Iterator, List, NamedTuple, TextIO
+from typing import Any, Iterable, Iterator, NamedTuple, TextIO
 
 from regkit.convert.model import CAS, Operation, Source, Value
 from regkit.convert.values import readable
 from regkit.convert.whole import Converted
-from regkit.who import members
+from regkit.history.who import members
 
 _AT_ONCE = 10_000
 
@@ -82,10 +82,10 @@ def write_lines(lines: Iterable[str], out: TextIO) -> Written:
         count, size = count + len(held), size + len(text.encode("utf-8"))
 
 
-def source_map(converted: Converted, name: str) -> Dict[str, Any]:
+def source_map(converted: Converted, name: str) -> dict[str, Any]:
     """The map of a history, for json.dump."""
-    lines: List[int] = []
-    clients: Dict[int, Any] = {}
+    lines: list[int] = []
+    clients: dict[int, Any] = {}
     for step, is_call in converted.source.moments():
         lines.append(step.line if is_call else step.end_line or 0)
         if step.line and step.process != step.client:
@@ -94,9 +94,9 @@ def source_map(converted: Converted, name: str) -> Dict[str, Any]:
             "processes": {str(process): clients[process] for process in sorted(clients)}, "lines": lines}
 
 
-def _shown(converted: Converted) -> Dict[str, Dict[str, str]]:
+def _shown(converted: Converted) -> dict[str, dict[str, str]]:
     """The source's value of each number, by register: a text without its quotes, if that leaves no doubt."""
-    shown: Dict[str, Dict[str, str]] = {}
+    shown: dict[str, dict[str, str]] = {}
     for key, numbers in converted.numbers.items():
         kept = {str(value) for value in _whole_numbers(converted.source, key, numbers)}
         forms = readable(numbers)
@@ -106,7 +106,7 @@ def _shown(converted: Converted) -> Dict[str, Dict[str, str]]:
     return shown
 
 
-def _whole_numbers(source: Source, key: str, numbers: Dict[str, int]) -> Iterator[int]:
+def _whole_numbers(source: Source, key: str, numbers: dict[str, int]) -> Iterator[int]:
     """The whole numbers that a register has itself, beside those that stand for texts."""
     standing = set(numbers.values())
     return (value for operation in source.operations() if operation.key == key

@@ -1,5 +1,5 @@
 """Calls and what ended them, where the source is a log of events in the order of time."""
-from typing import Any, Dict, Hashable, List, Optional
+from typing import Any, Hashable, Optional
 
 from regkit.convert.model import Client, Operation, Refused
 
@@ -8,9 +8,9 @@ class Pairing:
     """Pairs each ending with its call: that of its client, or of an identity that the log gives."""
 
     def __init__(self, ends_with_crash: bool = False) -> None:
-        self.steps: List[Operation] = []
-        self.open: Dict[Hashable, Operation] = {}
-        self.crashed: Optional[Dict[Client, int]] = {} if ends_with_crash else None
+        self.steps: list[Operation] = []
+        self.open: dict[Hashable, Operation] = {}
+        self.crashed: Optional[dict[Client, int]] = {} if ends_with_crash else None
 
     def call(self, operation: Operation, identity: Optional[Hashable] = None) -> None:
         if self.crashed:

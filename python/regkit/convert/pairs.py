@@ -9,7 +9,7 @@ for, and with --drop-versions the versions are left out.
 """
 from typing import Any, Iterable
 
-from regkit import edn
+from regkit.convert import edn
 from regkit.convert.independent import pair_of
 from regkit.convert.model import CAS, KNOWN, READS, Choices, Operation, Refused
 

@@ -14,7 +14,7 @@ A cas has From and To, and Ok in its output. Inputs with Arg1 and Arg2 are those
 in which Op 2 is a cas (etcd).
 """
 from decimal import Decimal
-from typing import Any, Dict, Iterable, Optional, Set, Tuple
+from typing import Any, Iterable, Optional
 
 from regkit.convert import etcd, jepsen, versions
 from regkit.convert.json_values import is_json, json_values
@@ -33,7 +33,7 @@ _KINDS = {"call": True, "callevent": True, "false": True, "0": True,
           "return": False, "returnevent": False, "true": False, "1": False}
 _END_OF_TIME = 2 ** 63 - 1  # math.MaxInt64, which stands for no return
 
-Members = Dict[str, Any]
+Members = dict[str, Any]
 
 
 def from_porcupine(lines: Iterable[str], choices: Choices) -> Source:
@@ -57,8 +57,8 @@ class _Values:
         if choices.versions is not None:
             for place in ("input", "output"):
                 self.known[place] = Known(choices, place, [choices.versions])
-        self.etcd: Set[Operation] = set()  # those of the model of etcd
-        self.etcd_said: Dict[bool, int] = {}
+        self.etcd: set[Operation] = set()  # those of the model of etcd
+        self.etcd_said: dict[bool, int] = {}
 
     def source(self, lines: Iterable[str]) -> Source:
         for line, value in json_values(lines):
@@ -177,7 +177,7 @@ class _Values:
         self.timed.add(operation, members["call"], end, ("Call", "Return"))
 
 
-def _swap(given: Members, line: int) -> Tuple[Any, Any]:
+def _swap(given: Members, line: int) -> tuple[Any, Any]:
     """What a cas asks for and what it writes."""
     if "from" not in given or "to" not in given or not _is_zero(given.get("value")):
         raise Refused("the input of a cas has From and To, and no Value", line)

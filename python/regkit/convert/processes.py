@@ -1,8 +1,9 @@
 """The clients as processes, which have at most one open call each."""
 import heapq
-from typing import Dict, List, NamedTuple, Set
+from typing import NamedTuple
 
-from regkit.convert.model import MOST_PROCESS, Client, Operation, Source
+from regkit.base.limits import MAX_PROCESS
+from regkit.convert.model import Client, Operation, Source
 
 
 class Given(NamedTuple):
@@ -15,11 +16,11 @@ class Given(NamedTuple):
 class _Clients:
     """The processes of each client, and which of them are free."""
 
-    def __init__(self, taken: Set[Client]) -> None:
+    def __init__(self, taken: set[Client]) -> None:
         self.taken = taken  # the clients that are numbers
         self.next = 0
-        self.processes: Dict[Client, List[int]] = {}
-        self.free: Dict[Client, List[int]] = {}  # by client, a heap of places in its list of processes
+        self.processes: dict[Client, list[int]] = {}
+        self.free: dict[Client, list[int]] = {}  # by client, a heap of places in its list of processes
 
     def fresh(self) -> int:
         """The lowest number that nobody has had."""
@@ -39,7 +40,7 @@ class _Clients:
 
 
 def _is_number(client: Client) -> bool:
-    return type(client) is int and 0 <= client <= MOST_PROCESS
+    return type(client) is int and 0 <= client <= MAX_PROCESS
 
 
 def give_processes(source: Source) -> Given:
@@ -49,7 +50,7 @@ def give_processes(source: Source) -> Given:
     crash or an unknown outcome it never is.
     """
     clients = _Clients({step.client for step in source.steps if _is_number(step.client)})
-    places: Dict[Operation, int] = {}
+    places: dict[Operation, int] = {}
     split = 0
     for operation, is_call in source.moments():
         if is_call:

@@ -1,6 +1,6 @@
 """Operations with a start and an end, whether from a table's rows or from JSON objects."""
 import shlex
-from typing import Any, Dict, List, NamedTuple, Optional
+from typing import Any, NamedTuple, Optional
 
 from regkit.convert.members import Known, Outcomes, ok_of
 from regkit.convert.model import CAS, ENDINGS, READS, Choices, Client, Operation, Refused, Source, folded
@@ -13,14 +13,14 @@ ABSENT: Any = object()  # a value that isn't there
 
 _VALUE, _FROM = 5, 7  # places in Row.columns
 
-Members = Dict[str, Any]
+Members = dict[str, Any]
 
 
 class Row(NamedTuple):
     """An operation as its source has it."""
 
     line: int
-    columns: List[Any]  # process, start, end, register, op, value, outcome, from, to, ok; or ABSENT
+    columns: list[Any]  # process, start, end, register, op, value, outcome, from, to, ok; or ABSENT
     members: Members  # all that it has, if the options or a cas may ask for any of these
 
 

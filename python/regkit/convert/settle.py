@@ -1,9 +1,9 @@
 """What is the same for every source: reads, writes and cas are taken, their keys and values in one form."""
 import shlex
 from functools import partial
-from typing import Any, Callable, Dict, List, Optional, Set, Tuple
+from typing import Any, Callable, Optional
 
-from regkit import edn
+from regkit.convert import edn
 from regkit.convert.members import WRITE_ANSWERS
 from regkit.convert.model import (CAS, OTHER, READ_AND_WRITE, READS, WRITES, Choices, Operation, Refused,
                                   Source, Value, counted)
@@ -14,8 +14,8 @@ _OPAQUE = frozenset({"object", "error"})  # tags of values that can't be compare
 
 def settle(source: Source, choices: Choices) -> None:
     """Settles each operation, and leaves out the keys that `--cas skip-key` skips."""
-    keys: Dict[object, str] = {}
-    skipped: Set[str] = set()
+    keys: dict[object, str] = {}
+    skipped: set[str] = set()
     operations = list(source.operations())
     for operation in operations:
         _settle_key(operation, keys, choices.values == "alike")
@@ -35,7 +35,7 @@ def settle(source: Source, choices: Choices) -> None:
                 _settle_value(operation, read_value, choices.form)
 
 
-def _settle_key(operation: Operation, keys: Dict[object, str], alike: bool) -> None:
+def _settle_key(operation: Operation, keys: dict[object, str], alike: bool) -> None:
     """The key as EDN writes it. Texts and whole numbers are looked up, since a source repeats its keys."""
     key = bare(operation.key) if alike else operation.key
     if type(key) is not str and type(key) is not int:
@@ -47,12 +47,12 @@ def _settle_key(operation: Operation, keys: Dict[object, str], alike: bool) -> N
     operation.key = known
 
 
-def _skip(source: Source, operations: List[Operation], skipped: Set[str]) -> None:
+def _skip(source: Source, operations: list[Operation], skipped: set[str]) -> None:
     """Leaves out every operation of some keys, and the crashes that ended such operations."""
     left = sum(operation.key in skipped for operation in operations)
     keys = len({operation.key for operation in operations})
     source.steps = [step for step in source.steps if step.key not in skipped or step.kind == "crash"]
-    named: List[str] = sorted(readable(skipped).values())
+    named: list[str] = sorted(readable(skipped).values())
     names = ", ".join(named[:5]) + (f" and {len(named) - 5} more" if len(named) > 5 else "")
     source.skipped = (f"left out {left:,} of {counted(len(operations), 'operation')}, since something else "
                       f"than reads and writes touches {len(skipped):,} of {counted(keys, 'key')}: {names}")
@@ -124,7 +124,7 @@ def _settle_cas(operation: Operation, read_value: Callable[[Any], Value], form: 
                       "nothing", operation.end_line)
 
 
-def _halves(value: Any) -> Optional[Tuple[Any, Any]]:
+def _halves(value: Any) -> Optional[tuple[Any, Any]]:
     if type(value) is edn.Tagged and value.tag not in _OPAQUE:
         value = value.value
     return (value[0], value[1]) if type(value) is tuple and len(value) == 2 else None

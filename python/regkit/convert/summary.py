@@ -1,11 +1,11 @@
 """What a conversion tells a person: what was read, left out and renamed."""
 from typing import Iterator
 
+from regkit.base.limits import MAX_BYTES, MAX_EVENTS
 from regkit.convert.model import CAS, counted
 from regkit.convert.values import repeats
 from regkit.convert.whole import Converted
-from regkit.limits import MAX_BYTES, MAX_EVENTS
-from regkit.sentences import for_regsearch
+from regkit.words.phrases import for_regsearch
 
 
 def told(converted: Converted, has_map: bool) -> Iterator[str]:

@@ -6,9 +6,9 @@ another kind: a client may write 1 and read "1". To make up a fault is the worst
 a person has to say what such a value is.
 """
 import shlex
-from typing import Any, Dict, Iterator, List, Optional, Set, Tuple
+from typing import Any, Iterator, Optional
 
-from regkit import edn
+from regkit.convert import edn
 from regkit.convert.model import CAS, Choices, Operation, Refused, Source, Value, counted
 from regkit.convert.values import Written, bare, initial_value, shown, spelled
 
@@ -28,8 +28,8 @@ def look_at_reads(source: Source, written: Written, choices: Choices) -> Iterato
     it was found may be misread as well as one that is never written.
     """
     spellings = _Spellings(written, choices.form)
-    nothing: Dict[Value, Operation] = {}
-    begun: Set[Tuple[str, Value]] = set()  # what was written so far, by key
+    nothing: dict[Value, Operation] = {}
+    begun: set[tuple[str, Value]] = set()  # what was written so far, by key
     unwritten = failed = 0
     for each, is_call in source.moments():
         if is_call:
@@ -101,10 +101,10 @@ class _Spellings:
     def __init__(self, written: Written, form: str) -> None:
         self._written = written
         self._form = form
-        self._values: Dict[str, Set[str]] = {}  # by key
-        self._parts: Dict[str, Set[str]] = {}  # by key, of collections too
-        self._keys: Dict[str, List[str]] = {}  # by spelling
-        self._twins: Dict[str, Set[Value]] = {}  # by key, what is written there in two kinds, spelled alike
+        self._values: dict[str, set[str]] = {}  # by key
+        self._parts: dict[str, set[str]] = {}  # by key, of collections too
+        self._keys: dict[str, list[str]] = {}  # by spelling
+        self._twins: dict[str, set[Value]] = {}  # by key, what is written there in two kinds, spelled alike
 
     def has(self, key: str, value: Value) -> bool:
         """Whether a value is written at all."""
@@ -115,7 +115,7 @@ class _Spellings:
         twins = self._twins.get(key)
         if twins is None:
             twins = self._twins[key] = set()
-            known: Dict[str, Value] = {}
+            known: dict[str, Value] = {}
             written = self._written.get(key, {})
             for each in written if any(type(each) is str for each in written) else ():
                 twin = known.setdefault(bare(value_of(each)), each)
@@ -151,14 +151,14 @@ class _Spellings:
                 return f"it is written to {other}, a key of another kind that is spelled alike"
         return None
 
-    def _values_of(self, key: str) -> Set[str]:
+    def _values_of(self, key: str) -> set[str]:
         known = self._values.get(key)
         if known is None:
             values = self._written.get(key, {})
             known = self._values[key] = {bare(value_of(value)) for value in values}
         return known
 
-    def _parts_of(self, key: str) -> Set[str]:
+    def _parts_of(self, key: str) -> set[str]:
         known = self._parts.get(key)
         if known is None:
             values = self._written.get(key, {})
@@ -166,7 +166,7 @@ class _Spellings:
         return known
 
 
-def _parts(value: Any) -> Set[str]:
+def _parts(value: Any) -> set[str]:
     """How what is in a collection is spelled; of any other value, how it is spelled itself."""
     inner = value.values() if type(value) is edn.Map else value if type(value) is tuple else [value]
     return {bare(part) for part in inner if part is not None}

@@ -9,7 +9,7 @@ An empty end, or an outcome of unknown or info, is an unknown outcome: the opera
 """
 import csv
 from itertools import chain
-from typing import Any, Dict, Iterable, Iterator, List, Optional, Tuple
+from typing import Any, Iterable, Iterator, Optional
 
 from regkit.convert.json_values import json_values
 from regkit.convert.members import Known
@@ -23,12 +23,12 @@ OPTIONAL = ("register", "outcome", *CAS_COLUMNS)
 DELIMITERS = ",;\t|"
 
 
-def columns(words: Optional[str]) -> Dict[str, str]:
+def columns(words: Optional[str]) -> dict[str, str]:
     """The source's name of each column, by `--columns process=NAME,..`. Raises WrongWords.
 
     A name that is given to another column is no column of a cas.
     """
-    given: Dict[str, str] = {}
+    given: dict[str, str] = {}
     for word in (words or "").split(",") if words else []:
         column, equals, name = word.partition("=")
         if column not in COLUMNS or not equals or not name:
@@ -72,25 +72,25 @@ def _csv_rows(lines: Iterable[str], choices: Choices) -> Iterator[Row]:
         raise Refused(f"not CSV: {error}", reader.line_num) from None
 
 
-def _delimiter_of(header: str, named: Dict[str, str]) -> str:
+def _delimiter_of(header: str, named: dict[str, str]) -> str:
     """The delimiter by which the header has most of the columns that are looked for, else most names."""
-    def found(delimiter: str) -> Tuple[int, int]:
+    def found(delimiter: str) -> tuple[int, int]:
         names = [name.strip().strip('"') for name in header.split(delimiter)]
         return len(set(names) & set(named.values())), len(names)
 
     return max(DELIMITERS, key=found)
 
 
-def _fields(row: List[str], places: List[Optional[int]], width: int, line: int) -> List[Any]:
+def _fields(row: list[str], places: list[Optional[int]], width: int, line: int) -> list[Any]:
     if len(row) != width:
         raise Refused(f"the row has {counted(len(row), 'field')}, and the header {width}: put a field that "
                       "has the delimiter in double quotes, or say with --delimiter what it is", line)
     return [ABSENT if place is None else row[place] for place in places]
 
 
-def _places(header: List[str], named: Dict[str, str]) -> List[Optional[int]]:
+def _places(header: list[str], named: dict[str, str]) -> list[Optional[int]]:
     """Where each column is. Only register and outcome may be absent, unless --columns names them."""
-    places: List[Optional[int]] = []
+    places: list[Optional[int]] = []
     for column in COLUMNS:
         name = named.get(column)
         if name is not None and header.count(name) > 1:

@@ -8,7 +8,7 @@ of one client, and C end when D starts, of another, all at one time. An order wi
 C's end before D's call has A's end before D's call too, or C's end before B's call, which the source doesn't
 say.
 """
-from typing import Any, List, Optional, Tuple
+from typing import Any, Optional
 
 from regkit.convert.clock import Clock, Time
 from regkit.convert.model import Choices, Operation, Refused, Source, counted
@@ -19,12 +19,12 @@ class Timed:
 
     def __init__(self) -> None:
         self.clock = Clock()
-        self.operations: List[Operation] = []
-        self.starts: List[Time] = []
-        self.ends: List[Time] = []
-        self.ended: List[Operation] = []  # the operations of `ends`
+        self.operations: list[Operation] = []
+        self.starts: list[Time] = []
+        self.ends: list[Time] = []
+        self.ended: list[Operation] = []  # the operations of `ends`
 
-    def add(self, operation: Operation, start: Any, end: Optional[Any], names: Tuple[str, str]) -> None:
+    def add(self, operation: Operation, start: Any, end: Optional[Any], names: tuple[str, str]) -> None:
         """Adds an operation. One that failed at no known time ends as it starts, since it had no effect."""
         began = self.clock.read(start, operation.line, names[0])
         self.operations.append(operation)
@@ -58,7 +58,7 @@ class Timed:
         for operation, time in zip(self.ended, self.ends):
             operation.end_time = self.clock.nanoseconds(time, unit)
 
-    def _refuse_backward(self, starts: List[int], ends: List[int]) -> None:
+    def _refuse_backward(self, starts: list[int], ends: list[int]) -> None:
         start_of = dict(zip(self.operations, starts))
         for operation, end in zip(self.ended, ends):
             if end < start_of[operation]:

@@ -1,7 +1,7 @@
 """Transactions of one read or one write, as Elle's rw-register has them: [[:w 3 1]]."""
-from typing import Any, Iterable, List, Optional
+from typing import Any, Iterable, Optional
 
-from regkit import edn
+from regkit.convert import edn
 from regkit.convert.model import Operation, Refused
 
 
@@ -27,7 +27,7 @@ def take_apart(operation: Operation) -> None:
     operation.kind, operation.key, operation.value = function, key, value
 
 
-def _parts(value: Any) -> List[Any]:
+def _parts(value: Any) -> list[Any]:
     return list(value) if type(value) is tuple else []
 
 
@@ -38,7 +38,7 @@ def _function(part: Any) -> Optional[str]:
     return None
 
 
-def _single(value: Any, line: int) -> List[Any]:
+def _single(value: Any, line: int) -> list[Any]:
     parts = _parts(value)
     if len(parts) == 1 and _function(parts[0]) is not None:
         return [_function(parts[0]), *parts[0][1:]]

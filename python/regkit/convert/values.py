@@ -1,17 +1,18 @@
 """The source's values as whole numbers: whole numbers stay, all else is numbered register by register."""
 import re
-from typing import AbstractSet, Any, Dict, Iterable, Set, Tuple
+from typing import AbstractSet, Any, Iterable
 
-from regkit import edn
-from regkit.convert.model import GREATEST, LEAST, Operation, Refused, Value
+from regkit.base.limits import GREATEST_VALUE, LEAST_VALUE
+from regkit.convert import edn
+from regkit.convert.model import Operation, Refused, Value
 
 ALL_TEXTS = frozenset({"csv", "porcupine"})  # forms in which a text of a whole number is that number
 _WHOLE = re.compile(r"-?[1-9][0-9]{0,18}|0")  # a longer one has more than 64 bits
 
 _QUOTED = re.compile(r"""b?(["'])(.*)\1""", re.DOTALL)  # a text as JSON, EDN or Python shows it, or its bytes
 
-Table = Dict[str, Dict[str, int]]  # by key, the number of each text
-Written = Dict[str, Dict[Value, Operation]]  # by key and value, what wrote it, and didn't fail if any didn't
+Table = dict[str, dict[str, int]]  # by key, the number of each text
+Written = dict[str, dict[Value, Operation]]  # by key and value, what wrote it, and didn't fail if any didn't
 
 
 def spelled(value: Any) -> str:
@@ -39,7 +40,7 @@ def settled(value: Any, nulls: AbstractSet[str], numeric_texts: bool = False, al
         value, numeric_texts = bare(value), True
     if type(value) is str and numeric_texts and _WHOLE.fullmatch(value):
         value = int(value)
-    if type(value) is int and LEAST <= value <= GREATEST:
+    if type(value) is int and LEAST_VALUE <= value <= GREATEST_VALUE:
         return value
     return edn.write(value)
 
@@ -59,7 +60,7 @@ def initial_value(word: str, form: str, alike: bool = False) -> Value:
     return settled(value, frozenset(), True, alike)
 
 
-def readable(texts: Iterable[str]) -> Dict[str, str]:
+def readable(texts: Iterable[str]) -> dict[str, str]:
     """A form for each value that EDN wrote: a text without its quotes, unless two would then be alike.
 
     It serves as a register's name, and as a value in the map. Two values never get one form: if they would,
@@ -79,8 +80,8 @@ class _Numbers:
     """The numbers of one register's texts: by first appearance, and none that the register has itself."""
 
     def __init__(self) -> None:
-        self.taken: Set[int] = set()  # the register's own whole numbers
-        self.texts: Dict[str, int] = {}
+        self.taken: set[int] = set()  # the register's own whole numbers
+        self.texts: dict[str, int] = {}
         self.last = 0
 
     def number(self, text: str) -> int:
@@ -133,7 +134,7 @@ def all_written(operations: Iterable[Operation]) -> Written:
 
 def repeats(operations: Iterable[Operation]) -> bool:
     """Whether some register is written a value twice, be it by a write that failed."""
-    seen: Set[Tuple[str, Value]] = set()
+    seen: set[tuple[str, Value]] = set()
     for operation in operations:
         if operation.kind == "write":
             if (operation.key, operation.value) in seen:

@@ -4,9 +4,10 @@ A put takes place exactly if its key has the version that the put gives, and the
 key that nobody has put has version 0, which is null here. So a register has the versions of its key, and a
 history whose keys are right has right registers too. What the values are isn't looked at.
 """
-from typing import Any, Mapping, Optional, Tuple
+from typing import Any, Mapping, Optional
 
-from regkit.convert.model import GREATEST, Refused
+from regkit.base.limits import GREATEST_VALUE
+from regkit.convert.model import Refused
 from regkit.convert.values import spelled
 
 # A put by version 3, as a form has it that tells of cas only.
@@ -23,7 +24,7 @@ def not_of(form: str) -> str:
             f"cas from its version to the next one, as in {_AS_CAS[form]}")
 
 
-def as_cas(given: Mapping[str, Any], member: str, line: int) -> Tuple[Optional[int], int]:
+def as_cas(given: Mapping[str, Any], member: str, line: int) -> tuple[Optional[int], int]:
     """The version that a put asks for, and the next one."""
     version = _version(given, member, line, "input of a put")
     return version or None, version + 1
@@ -34,7 +35,7 @@ def found(told: Mapping[str, Any], member: str, line: int) -> Optional[int]:
     return _version(told, member, line, "output of a get") or None
 
 
-def agree(told: Mapping[str, Any], member: str, asked: Tuple[Optional[int], int], line: int) -> None:
+def agree(told: Mapping[str, Any], member: str, asked: tuple[Optional[int], int], line: int) -> None:
     """What the output of a put that took place says of a version is nothing, or the one that it gave."""
     version = told.get(member)
     if version not in (None, 0, asked[1]):
@@ -44,7 +45,7 @@ def agree(told: Mapping[str, Any], member: str, asked: Tuple[Optional[int], int]
 
 def _version(members: Mapping[str, Any], member: str, line: int, where: str) -> int:
     version = members.get(member)
-    if type(version) is not int or not 0 <= version < GREATEST:
+    if type(version) is not int or not 0 <= version < GREATEST_VALUE:
         said = "no version" if version is None else f"the version {spelled(version)[:40]}"
         raise Refused(f"the {where} has {said} in {member}, and by --versions a whole number from 0 is "
                       "expected",

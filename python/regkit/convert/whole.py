@@ -1,5 +1,5 @@
 """The whole way from a source's lines to a history that can be written."""
-from typing import Callable, Dict, Iterable, List, NamedTuple
+from typing import Callable, Iterable, NamedTuple
 
 from regkit.convert import events, jepsen, porcupine, tables
 from regkit.convert.model import Choices, Operation, Refused, Source, Value
@@ -8,7 +8,7 @@ from regkit.convert.processes import Given, give_processes
 from regkit.convert.suspects import look_at_reads
 from regkit.convert.values import Table, all_written, initial_value, number_texts
 
-READERS: Dict[str, Callable[[Iterable[str], Choices], Source]] = {
+READERS: dict[str, Callable[[Iterable[str], Choices], Source]] = {
     "jepsen": jepsen.from_jepsen, "porcupine": porcupine.from_porcupine, "csv": tables.from_csv,
     "operations": tables.from_objects, "jsonl": events.from_events}
 
@@ -17,8 +17,8 @@ class Converted(NamedTuple):
     """A source whose operations have processes, and what its keys and values are called."""
 
     source: Source
-    operations: List[Operation]  # each once, without initial writes
-    names: Dict[str, str]  # by key, the register
+    operations: list[Operation]  # each once, without initial writes
+    names: dict[str, str]  # by key, the register
     numbers: Table  # by key, the number of each text; empty while the values are the source's own
     given: Given
 
@@ -50,18 +50,18 @@ def _nothing_left(source: Source, form: str) -> str:
                       *source.notes])
 
 
-def _begin(source: Source, operations: List[Operation], value: Value) -> None:
+def _begin(source: Source, operations: list[Operation], value: Value) -> None:
     """Puts a completed write of a value to each register before all else.
 
     The process that first writes a register later writes its initial value too, so that a single writer stays
     one.
     """
-    first: Dict[str, Operation] = {}
+    first: dict[str, Operation] = {}
     for operation in operations:
         known = first.setdefault(operation.key, operation)
         if known.kind == "read" and operation.kind != "read":
             first[operation.key] = operation
-    steps: List[Operation] = []
+    steps: list[Operation] = []
     for key, operation in first.items():
         write = Operation(0, operation.client, "write", key, value)
         write.ending, write.end_line, write.process = "reply", 0, operation.process

@@ -1,7 +1,7 @@
 """What the options of `regkit convert` say: its parser, and their words as Choices."""
 import argparse
 import re
-from typing import Collection, Dict, FrozenSet, List, Optional
+from typing import Collection, Optional
 
 from regkit.convert import tables, versions, write_back
 from regkit.convert.model import CAS, ENDINGS, OTHER, READ_AND_WRITE, Choices, WrongWords, folded
@@ -58,8 +58,8 @@ def _add_meanings(parser: argparse.ArgumentParser) -> None:
         help="what the source's words for operations mean: read, write, cas, or other, whose keys --cas "
         "skip-key leaves out")
     add("--outcomes", metavar="WORD=OUTCOME,..", action="append", default=[],
-        help="what the source's words for outcomes mean: ok, fail (it certainly had no effect), unknown, or of "
-             "a cas missed (the store found another value)")
+        help="what the source's words for outcomes mean: ok, fail (it certainly had no effect), unknown, or "
+             "of a cas missed (the store found another value)")
     add("--ok-when", metavar="MEMBER=WORD,..", action="append", default=[],
         help="an operation took place only if this member or column has one of these words; any other is an "
         "unknown outcome unless --outcomes has it; the empty word is null too, and no such member")
@@ -93,7 +93,7 @@ def choices_of(arguments: argparse.Namespace) -> Choices:
         clock_unit=arguments.clock_unit)
 
 
-def _nulls(form: str, words: Optional[str]) -> FrozenSet[str]:
+def _nulls(form: str, words: Optional[str]) -> frozenset[str]:
     """The spellings of null; two double quotes are the empty text too, since a shell may keep them."""
     if words is None:
         return frozenset({NULLS[form]} if form in NULLS else ())
@@ -107,10 +107,10 @@ def _delimiter(word: Optional[str]) -> Optional[str]:
     return found
 
 
-def _meanings(option: str, given: List[str], known: Collection[str]) -> Dict[str, str]:
+def _meanings(option: str, given: list[str], known: Collection[str]) -> dict[str, str]:
     """What words of the source mean, each one of those known. A word may have commas and equals signs."""
     one = rf"(.*?)=({'|'.join(known)})(?:,|$)"
-    meanings: Dict[str, str] = {}
+    meanings: dict[str, str] = {}
     for words in given:
         if not re.fullmatch(rf"(?:{one})+", words, re.DOTALL):
             raise WrongWords(f"{option} {words}: WORD=MEANING,.. is expected, with one of {', '.join(known)} "
@@ -124,9 +124,9 @@ def _meanings(option: str, given: List[str], known: Collection[str]) -> Dict[str
     return meanings
 
 
-def _ok_when(given: List[str]) -> Dict[str, FrozenSet[str]]:
+def _ok_when(given: list[str]) -> dict[str, frozenset[str]]:
     """By member, the words that say that all went well: each word, and all of them as one with commas."""
-    well: Dict[str, FrozenSet[str]] = {}
+    well: dict[str, frozenset[str]] = {}
     for word in given:
         member, equals, words = word.partition("=")
         if not equals or not folded(member):

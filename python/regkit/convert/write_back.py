@@ -5,9 +5,9 @@ The forms with times (csv, operations) get the place of each line as its time, s
 import csv
 import io
 import json
-from typing import Any, Callable, Dict, Iterator, List, Tuple
+from typing import Any, Callable, Iterator
 
-from regkit import edn
+from regkit.convert import edn
 from regkit.convert.model import CAS, Operation, Source, Value
 from regkit.convert.tables import COLUMNS, PLAIN_COLUMNS
 
@@ -21,7 +21,7 @@ def _edn_value(value: Value) -> str:
     return "nil" if value is None else str(value)
 
 
-def _events(source: Source, shown: Callable[[Value], str]) -> Iterator[Tuple[Operation, str, str, str]]:
+def _events(source: Source, shown: Callable[[Value], str]) -> Iterator[tuple[Operation, str, str, str]]:
     """Each step with its type in Jepsen's words, its value and perhaps an error. Only a read's call has none.
 
     A cas that missed is a failure, as the tools write it. One that failed has an error beside that, so that
@@ -72,9 +72,9 @@ def _native(value: Value) -> Any:
     return next(edn.values([value]))[1] if type(value) is str else value
 
 
-def _rows(source: Source) -> List[List[Any]]:
+def _rows(source: Source) -> list[list[Any]]:
     """The columns of each operation, in the order of the calls."""
-    rows: Dict[Operation, List[Any]] = {}
+    rows: dict[Operation, list[Any]] = {}
     for place, (step, is_call) in enumerate(source.moments()):
         if step.kind == "crash":
             continue
@@ -115,5 +115,5 @@ def _json_native(value: Value) -> Any:
     return native if native is None or type(native) in (int, str) else edn.write(native)
 
 
-WRITERS: Dict[str, Callable[[Source], Iterator[str]]] = {
+WRITERS: dict[str, Callable[[Source], Iterator[str]]] = {
     "jepsen": to_jepsen, "porcupine": to_porcupine, "csv": to_csv, "operations": to_operations}

@@ -1,7 +1,7 @@
 """Where each line of the history stands on a picture. The axis has a step for each event of the register;
 a step is wider where a label needs the room, so that every label fits into its bar."""
 from bisect import bisect_left, bisect_right
-from typing import Dict, List, NamedTuple, Optional
+from typing import NamedTuple, Optional
 
 from regkit.drawing.bars import Bar
 
@@ -23,9 +23,9 @@ class Axis:
     """Places of lines. It is built from left to right."""
 
     def __init__(self) -> None:
-        self.lines: List[int] = []
-        self.places: Dict[int, float] = {}
-        self.gaps: Dict[int, Gap] = {}  # by how many lines stand before it
+        self.lines: list[int] = []
+        self.places: dict[int, float] = {}
+        self.gaps: dict[int, Gap] = {}  # by how many lines stand before it
         self.right = 0.0
 
     @property
@@ -72,15 +72,15 @@ class Axis:
 class Spreader:
     """Builds an axis: each event as far left as the labels before it allow."""
 
-    def __init__(self, bar_at: Dict[int, Bar], room: Dict[int, float], step: float) -> None:
+    def __init__(self, bar_at: dict[int, Bar], room: dict[int, float], step: float) -> None:
         self.axis = Axis()
         self.bar_at = bar_at  # by the lines of its call and of its end
         self.room = room  # line -> the least way to what follows it
         self.step = step
-        self.open: List[Bar] = []  # those that began in this window
+        self.open: list[Bar] = []  # those that began in this window
         self.next = LIP  # where the next event can stand at the earliest
 
-    def add_window(self, lines: List[int]) -> None:
+    def add_window(self, lines: list[int]) -> None:
         for line in lines:
             bar, place = self.bar_at[line], self.next
             if line != bar.begin:
@@ -112,11 +112,11 @@ class Spreader:
 class Stretch(NamedTuple):
     """How wide the axis is where no label asks for more."""
 
-    room: Dict[int, float]  # line -> the least way to what follows it
+    room: dict[int, float]  # line -> the least way to what follows it
     step: float = STEP
 
 
-def spread(windows: List[List[int]], left_out: List[int], bar_at: Dict[int, Bar], stretch: Stretch) -> Axis:
+def spread(windows: list[list[int]], left_out: list[int], bar_at: dict[int, Bar], stretch: Stretch) -> Axis:
     """The axis of some windows of lines, with the counts of events that are left out between them."""
     spreader = Spreader(bar_at, stretch.room, stretch.step)
     for number, window in enumerate(windows):

@@ -1,15 +1,16 @@
 """What stands in and on a bar: its label, its signs, and the point at which its operation takes effect."""
 import html
-from typing import Callable, Dict, List, NamedTuple, Tuple
+from typing import Callable, NamedTuple
 
 from regkit.drawing import shapes, svg
 from regkit.drawing.axis import Axis
 from regkit.drawing.bars import LETTER, PADDING, SIGN, SMALL_LETTER, Bar
 from regkit.drawing.scene import Scene
 from regkit.drawing.svg import tag
-from regkit.sentences import capital, named
+from regkit.explain.sentences import named
+from regkit.words.phrases import capital
 
-SIGNS: Dict[str, Callable[[float, float], str]] = {
+SIGNS: dict[str, Callable[[float, float], str]] = {
     "unexplained": shapes.exclamation, "contradicted": shapes.exclamation, "stale": shapes.exclamation,
     "fresh": shapes.tick,
     "overlapped": shapes.parallel, "beside": shapes.parallel, "loose": shapes.tilde, "failed": shapes.cross}
@@ -41,7 +42,7 @@ def bar_title(bar: Bar) -> str:
     return "; ".join([capital(named(bar.operation)), *notes]) + "."
 
 
-def ends(bar: Bar, axis: Axis) -> Tuple[bool, str]:
+def ends(bar: Bar, axis: Axis) -> tuple[bool, str]:
     """Whether the bar comes from beyond what is drawn, and how it ends."""
     if bar.end is None:
         return not axis.has(bar.begin), "torn"
@@ -85,11 +86,11 @@ class Spot(NamedTuple):
     y: float
 
 
-def spots_of(bars: List[Bar], scene: Scene, gutter: float, lane_top: Callable[[int], float]) -> List[Spot]:
+def spots_of(bars: list[Bar], scene: Scene, gutter: float, lane_top: Callable[[int], float]) -> list[Spot]:
     """The points of the order. Operations with one point stand one behind the other."""
     register, axis = scene.register, scene.axis
-    spots: List[Spot] = []
-    used: Dict[int, int] = {}
+    spots: list[Spot] = []
+    used: dict[int, int] = {}
     for bar in sorted(bars, key=lambda bar: register.place_of.get(bar.operation.line, 0)):
         point = register.points.get(bar.operation.line)
         if point is None or not axis.has(point):
@@ -101,7 +102,7 @@ def spots_of(bars: List[Bar], scene: Scene, gutter: float, lane_top: Callable[[i
     return spots
 
 
-def thread_of(spots: List[Spot]) -> List[str]:
+def thread_of(spots: list[Spot]) -> list[str]:
     """A thread through the points, in the order."""
     if len(spots) < 2:
         return []
@@ -109,7 +110,7 @@ def thread_of(spots: List[Spot]) -> List[str]:
     return [tag("path", class_="thread", d=shapes.path("M", *places))]
 
 
-def points_of(spots: List[Spot]) -> List[str]:
+def points_of(spots: list[Spot]) -> list[str]:
     parts = []
     for spot in spots:
         words = svg.title(f"Number {spot.place} in the order takes effect here.")

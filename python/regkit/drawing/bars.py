@@ -1,9 +1,9 @@
 """A bar for each call that is drawn: where it begins and ends, and the label that has to fit into it."""
-from typing import List, NamedTuple, Optional
+from typing import NamedTuple, Optional
 
 from regkit.drawing.marks import Marks
-from regkit.history import Operation
-from regkit.sentences import value_of, wanted_of
+from regkit.explain.sentences import value_of, wanted_of
+from regkit.history.operations import Operation
 
 INITIAL_CALL = -1  # where the initial write's bar begins; it ends at line 0
 LETTER = 6.9  # the width of a letter of a label, with a little to spare: fonts differ
@@ -23,7 +23,7 @@ class Bar(NamedTuple):
     process: str  # beside the label, if the lane doesn't say it
     place: str  # in the order, if there is one
     cluster: str
-    signs: List[str]  # the names of its signs, as barmarks.py has them
+    signs: list[str]  # the names of its signs, as barmarks.py has them
     strong: bool  # the contradiction rests on it
 
     @property
@@ -50,7 +50,7 @@ def label_of(operation: Operation) -> str:
     return f"r {shown_value(value_of(operation))}" if operation.completed else "r ?"
 
 
-def signs_of(operation: Operation, marks: Marks) -> List[str]:
+def signs_of(operation: Operation, marks: Marks) -> list[str]:
     signs = []
     if marks.unexplained is not None and operation.line == marks.unexplained.line:
         signs.append("contradicted" if marks.by_search else "unexplained")

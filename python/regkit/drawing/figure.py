@@ -1,5 +1,5 @@
 """One picture as SVG: zones and arrows above, bars in their lanes, and the axis below."""
-from typing import Dict, List, Sequence, Tuple
+from typing import Sequence
 
 from regkit.drawing import shapes, svg
 from regkit.drawing.axis import Gap
@@ -9,8 +9,9 @@ from regkit.drawing.marks import Arrow, Marks, Zone
 from regkit.drawing.ruler import OVERVIEW_LABEL, ruler, ruler_height
 from regkit.drawing.scene import Scene
 from regkit.drawing.svg import tag, text
-from regkit.history import History
-from regkit.sentences import capital, precedence, value_of
+from regkit.explain.sentences import precedence, value_of
+from regkit.history.operations import History
+from regkit.words.phrases import capital
 
 PAGE_WIDTH = 1136.0  # of what the page has room for
 LEAST_GUTTER = 84.0  # for the labels at the left
@@ -41,7 +42,7 @@ def zone_title(zone: Zone) -> str:
             f"line {zone.end}, and one moment in it is enough for them.")
 
 
-def gutter_of(marks: Marks, lane_labels: List[str], details: Sequence[str] = ()) -> float:
+def gutter_of(marks: Marks, lane_labels: list[str], details: Sequence[str] = ()) -> float:
     """The room that the labels at the left need, and the small ones below them."""
     labels = [zone_label(zone) for zone in marks.zones] + lane_labels
     labels += [arrow_label(arrow) for arrow in marks.arrows]
@@ -80,7 +81,7 @@ class Figure:
         return tag("svg", "".join(parts), width=self.width, height=self.height, viewBox=size, role="img",
                    aria_label=label)
 
-    def rules(self) -> List[str]:
+    def rules(self) -> list[str]:
         """A faint line for each process, with its label. Lanes that processes share have none."""
         parts = []
         for lane, (label, detail) in enumerate(zip(self.scene.lanes.labels, self.scene.lanes.details)):
@@ -92,7 +93,7 @@ class Figure:
                 parts.append(text(self.gutter - 12, middle + 11, detail, "gutter detail"))
         return parts
 
-    def zones(self) -> List[str]:
+    def zones(self) -> list[str]:
         """The zones as bands. A forward one has its ends outside, a backward one inside."""
         parts = []
         for row, zone in enumerate(self.scene.marks.zones):
@@ -108,7 +109,7 @@ class Figure:
     def place(self, line: int) -> float:
         return self.gutter + self.scene.axis.end_at(line)
 
-    def feet(self, arrow: Arrow) -> Tuple[float, float]:
+    def feet(self, arrow: Arrow) -> tuple[float, float]:
         """Where an arrow leaves its row: above the end of the one bar and the beginning of the other."""
         end = arrow.before.end_line if arrow.before.line else 0
         return self.place(end or 0) - INSET, self.place(arrow.after.line) + INSET
@@ -119,7 +120,7 @@ class Figure:
     def top_of(self, line: int) -> float:
         return self.lane_top(line if line else -1)
 
-    def arrows(self) -> List[str]:
+    def arrows(self) -> list[str]:
         """The lines of the arrows, with their labels at the left. Their upright parts pass behind the
         bars."""
         parts = []
@@ -132,7 +133,7 @@ class Figure:
             parts += [text(self.gutter - 12, row + 4, arrow_label(arrow), "gutter"), tag("g", line + words)]
         return parts
 
-    def heads(self) -> List[str]:
+    def heads(self) -> list[str]:
         """The numbers, feet and heads of the arrows, above everything else."""
         parts = []
         for arrow in self.scene.marks.arrows:
@@ -144,7 +145,7 @@ class Figure:
                       shapes.badge(left + 16, self.row(arrow), str(arrow.number), arrow.cluster)]
         return parts
 
-    def gaps(self) -> List[str]:
+    def gaps(self) -> list[str]:
         """The paper is torn where events are left out; a dotted line goes on where a bar does."""
         parts = []
         for gap in self.scene.axis.gaps.values():
@@ -164,10 +165,10 @@ class Figure:
         return tag("path", class_=f"through {bar.cluster}".rstrip(),
                    d=shapes.path("M", left + 7, middle, "H", right - 3))
 
-    def crashes(self) -> List[str]:
+    def crashes(self) -> list[str]:
         """The crashes of processes with a lane that had no call open; other crashes are part of their
         bars."""
-        lanes: Dict[str, float] = {label: self.lanes_top + LANE_ROW * (lane + 0.5)
+        lanes: dict[str, float] = {label: self.lanes_top + LANE_ROW * (lane + 0.5)
                                    for lane, label in enumerate(self.scene.lanes.labels)}
         parts = []
         for process, line in self.history.crashes.items():

@@ -1,5 +1,5 @@
 """Which lane each bar lies in: that of its process, as long as they are few; else the first that is free."""
-from typing import Dict, List, NamedTuple, Optional, Tuple
+from typing import NamedTuple, Optional
 
 from regkit.drawing.axis import Axis
 from regkit.drawing.bars import Bar
@@ -7,20 +7,20 @@ from regkit.drawing.bars import Bar
 MOST_PROCESSES = 8  # with a lane each; more share lanes
 MOST_LANES = 24
 SPACE = 5.0  # between two bars of a lane
-Span = Tuple[float, float]
+Span = tuple[float, float]
 
 
 class Lanes(NamedTuple):
     """The lane of each bar that is drawn, by the line of its call."""
 
-    lane_of: Dict[int, int]
+    lane_of: dict[int, int]
     size: int  # how many lanes
-    labels: List[str]  # of the lanes, if they belong to processes
-    details: List[str]  # below the labels: the client and the node
+    labels: list[str]  # of the lanes, if they belong to processes
+    details: list[str]  # below the labels: the client and the node
     crowded_out: int  # bars for which there was no lane
 
 
-def lanes_of_processes(bars: List[Bar], processes: List[int], details: Dict[int, str]) -> Lanes:
+def lanes_of_processes(bars: list[Bar], processes: list[int], details: dict[int, str]) -> Lanes:
     """A lane for each process, by their numbers, below one for the initial write."""
     initial = any(bar.operation.process is None for bar in bars)
     lane = {process: number + initial for number, process in enumerate(sorted(processes))}
@@ -31,7 +31,7 @@ def lanes_of_processes(bars: List[Bar], processes: List[int], details: Dict[int,
     return Lanes(lane_of, len(labels), labels, below, 0)
 
 
-def urgency(bar: Bar, axis: Axis) -> Tuple[int, int]:
+def urgency(bar: Bar, axis: Axis) -> tuple[int, int]:
     """What the picture points at is packed first, so that it lies at the top; then the calls with an event
     in a window; then those that were open through one, and of these last the ones that were never
     answered."""
@@ -46,10 +46,10 @@ def urgency(bar: Bar, axis: Axis) -> Tuple[int, int]:
     return (6 if bar.operation.writes else 7), -bar.begin
 
 
-def packed(bars: List[Bar], axis: Axis) -> Lanes:
+def packed(bars: list[Bar], axis: Axis) -> Lanes:
     """Each bar in the first lane where it overlaps no other."""
-    taken: List[List[Span]] = []
-    lane_of: Dict[int, int] = {}
+    taken: list[list[Span]] = []
+    lane_of: dict[int, int] = {}
     for bar in sorted(bars, key=lambda bar: urgency(bar, axis)):
         lane = free_lane(taken, (axis.begin_at(bar.begin), axis.end_at(bar.end)))
         if lane is not None:
@@ -57,7 +57,7 @@ def packed(bars: List[Bar], axis: Axis) -> Lanes:
     return Lanes(lane_of, len(taken), [], [], len(bars) - len(lane_of))
 
 
-def free_lane(taken: List[List[Span]], span: Span) -> Optional[int]:
+def free_lane(taken: list[list[Span]], span: Span) -> Optional[int]:
     """Takes the first lane that has room, or a new one; None if there are too many."""
     begin, end = span
     for lane, spans in enumerate(taken):

@@ -1,5 +1,5 @@
 """What the signs of a page mean. Only those that are on the page are listed."""
-from typing import Iterable, List, Set
+from typing import Iterable
 
 from regkit.drawing import shapes
 from regkit.drawing.scene import Scene
@@ -18,9 +18,9 @@ def sign_alone(content: str, width: float = 18.0) -> str:
     return tag("svg", content, width=width, height=shapes.HEIGHT, aria_hidden="true")
 
 
-def signs_of(scene: Scene) -> Set[str]:
+def signs_of(scene: Scene) -> set[str]:
     """The signs in one picture."""
-    found: Set[str] = set()
+    found: set[str] = set()
     for bar in scene.bars:
         call = bar.operation
         found.add(call.kind)
@@ -36,7 +36,7 @@ def signs_of(scene: Scene) -> Set[str]:
     return found | ({"arrow"} if scene.marks.arrows else set()) | ({"zone"} if scene.marks.zones else set())
 
 
-def entries(found: Set[str]) -> List[str]:
+def entries(found: set[str]) -> list[str]:
     """The entries of the legend, in a fixed order."""
     middle, center = shapes.HEIGHT / 2 + 1.5, WIDTH / 2
     arrow = (tag("path", class_="arrow first", d="M 1 11 H 32") + shapes.badge(14, 11, "1", "first") +
@@ -64,7 +64,7 @@ def entries(found: Set[str]) -> List[str]:
 
 
 def legend(scenes: Iterable[Scene], crashes: bool) -> str:
-    found: Set[str] = {"crash"} if crashes else set()
+    found: set[str] = {"crash"} if crashes else set()
     for scene in scenes:
         found |= signs_of(scene)
     return tag("ul", "".join(entries(found)), class_="legend") if found else ""

@@ -1,14 +1,14 @@
 """What a picture points at: the two clusters that contradict each other, the precedences between them, the
 first read that can't be explained, the writes that were open beside it, and a stale read and a fresh one."""
-from typing import Any, Dict, List, NamedTuple, Optional, Set, Tuple
+from typing import Any, NamedTuple, Optional
 
-from regkit.causes import StalePair, stale_pair
-from regkit.history import History, Operation
-from regkit.searched import contradicted, is_unwritten, value_after, without_effect
-from regkit.sentences import pairs_of, value_of
-from regkit.unexplained import Unexplained
+from regkit.explain.causes import StalePair, stale_pair
+from regkit.explain.searched import contradicted, is_unwritten, value_after, without_effect
+from regkit.explain.sentences import pairs_of, value_of
+from regkit.explain.unexplained import Unexplained
+from regkit.history.operations import History, Operation
 
-Row = Dict[str, Any]
+Row = dict[str, Any]
 FIRST, SECOND = "first", "second"  # the two clusters, by the numbers of the arrows that leave them
 
 
@@ -35,15 +35,15 @@ class Marks:
     """What one picture points at."""
 
     def __init__(self) -> None:
-        self.clusters: Dict[Optional[int], str] = {}  # value -> cluster
-        self.named: Dict[int, Operation] = {}  # by line, the operations that the contradiction rests on
-        self.arrows: List[Arrow] = []
-        self.zones: List[Zone] = []
+        self.clusters: dict[Optional[int], str] = {}  # value -> cluster
+        self.named: dict[int, Operation] = {}  # by line, the operations that the contradiction rests on
+        self.arrows: list[Arrow] = []
+        self.zones: list[Zone] = []
         self.unexplained: Optional[Operation] = None
         self.pair: Optional[StalePair] = None
-        self.overlapped: List[Operation] = []  # the writes that were open while the unexplained read was
-        self.overlapped_lines: Set[int] = set()
-        self.loose: Set[int] = set()  # the lines of calls whose replies needn't count
+        self.overlapped: list[Operation] = []  # the writes that were open while the unexplained read was
+        self.overlapped_lines: set[int] = set()
+        self.loose: set[int] = set()  # the lines of calls whose replies needn't count
         self.by_search = False  # whether the unexplained reply is one for which a search found no order
 
     def name(self, operation: Operation) -> None:
@@ -56,7 +56,7 @@ class Marks:
             return ""
         return self.clusters.get(operation.value, "")
 
-    def add_pairs(self, pairs: List[Tuple[Operation, Operation]]) -> None:
+    def add_pairs(self, pairs: list[tuple[Operation, Operation]]) -> None:
         for number, (pair, cluster) in enumerate(zip(pairs, (FIRST, SECOND)), 1):
             self.arrows.append(Arrow(pair[0], pair[1], cluster, number))
             for operation in pair:
@@ -69,7 +69,7 @@ class Marks:
             self.name(pair.fresh)
             self.name(pair.stale)
 
-    def add_unexplained(self, read: Operation, calls: List[Operation]) -> None:
+    def add_unexplained(self, read: Operation, calls: list[Operation]) -> None:
         self.unexplained = read
         self.overlapped = overlapped_writes(read, calls)
         self.overlapped_lines = {write.line for write in self.overlapped}
@@ -85,7 +85,7 @@ class Marks:
         return marks
 
 
-    def of(self, calls: List[Operation], loose: Set[int]) -> "Marks":
+    def of(self, calls: list[Operation], loose: set[int]) -> "Marks":
         """The same for a picture of a few of the calls, some of whose replies needn't count."""
         marks = Marks()
         marks.clusters, marks.by_search, marks.loose = self.clusters, self.by_search, loose
@@ -94,13 +94,13 @@ class Marks:
         return marks
 
 
-def overlapped_writes(read: Operation, calls: List[Operation]) -> List[Operation]:
+def overlapped_writes(read: Operation, calls: list[Operation]) -> list[Operation]:
     """The writes that a completed read overlaps, those that were answered first. A pending one is open for
     good."""
     assert read.end_line is not None
     end = read.end_line
-    found = [call for call in calls if call.line < end and call.writes and not call.failed and call is not read
-             and (call.pending or (call.end_line or 0) > read.line)]
+    found = [call for call in calls if call.line < end and call.writes and not call.failed
+             and call is not read and (call.pending or (call.end_line or 0) > read.line)]
     return sorted(found, key=lambda call: call.pending)
 
 
@@ -125,7 +125,7 @@ def marks_of_fault(history: History, row: Row) -> Marks:
     return marks
 
 
-def marks_of_read(found: Unexplained, calls: List[Operation]) -> Marks:
+def marks_of_read(found: Unexplained, calls: list[Operation]) -> Marks:
     """The first read that can't be explained, where the report's fault doesn't name it."""
     marks = Marks()
     if found.write is not None:
@@ -143,7 +143,8 @@ def marks_of_read(found: Unexplained, calls: List[Operation]) -> Marks:
 
 
 def marks_of_search(history: History, row: Row) -> Marks:
-    """The reply for which a search found no order, and what wrote the value that the register may have there."""
+    """The reply for which a search found no order, and what wrote the value that the register may have
+    there."""
     marks = Marks()
     if is_unwritten(row):
         call = history.operation(row["register"], row["fault"]["call"])
@@ -159,7 +160,7 @@ def marks_of_search(history: History, row: Row) -> Marks:
     return marks
 
 
-def zone_of(write: Operation, calls: List[Operation], cluster: str) -> Zone:
+def zone_of(write: Operation, calls: list[Operation], cluster: str) -> Zone:
     """The zone of a write and of the completed reads of its value."""
     reads = [call for call in calls if call.kind == "read" and call.completed and call.value == write.value]
     replies = [each.end_line for each in [write, *reads] if each.completed and each.end_line is not None]

@@ -2,19 +2,19 @@
 import base64
 import hashlib
 import pathlib
-from typing import Dict, List, NamedTuple, Sequence
+from typing import NamedTuple, Sequence
 
+from regkit.base.statuses import ExitStatus
+from regkit.checker.report import Report, Row
 from regkit.drawing.legend import legend
-from regkit.drawing.section import Section, section
+from regkit.drawing.section import section
 from regkit.drawing.style import STYLE
 from regkit.drawing.svg import tag
 from regkit.drawing.text import attribute, name, words
-from regkit.history import History
-from regkit.report import Report, Row
-from regkit.outcome import VERDICTS
-from regkit.sentences import capital, counted
-from regkit.shrinking import Searcher
-from regkit.statuses import ExitStatus
+from regkit.explain.shrinking import Searcher
+from regkit.history.operations import History
+from regkit.words.phrases import capital, counted
+from regkit.words.verdicts import VERDICTS
 
 MOST_LISTED = 12  # names of registers that aren't drawn
 HEAD = 1024  # bytes of a page in which its title begins
@@ -41,11 +41,11 @@ def policy() -> str:
     return f"default-src 'none'; style-src 'sha256-{digest}'; base-uri 'none'; form-action 'none'"
 
 
-def chosen_rows(history: History, report: Report, asked: Asked) -> List[Row]:
+def chosen_rows(history: History, report: Report, asked: Asked) -> list[Row]:
     """The registers that are shown: those asked for, else the faulty ones, else all; the first few of
     them."""
     by_name = {row["register"]: row for row in report.rows}
-    rows: List[Row] = [by_name.get(register, {"register": register}) for register in history.registers]
+    rows: list[Row] = [by_name.get(register, {"register": register}) for register in history.registers]
     if asked.registers:
         for register in asked.registers:
             history.must_have(register)
@@ -112,12 +112,12 @@ def page(history: History, report: Report, title: str, asked: Asked) -> str:
     return document(f"{capital(verdict_word(report))}: {title}", "\n".join(body))
 
 
-def left_out(history: History, report: Report, rows: List[Row]) -> str:
+def left_out(history: History, report: Report, rows: list[Row]) -> str:
     """The registers that aren't shown, the faulty ones first, and then those that a search gave up."""
     state_of = {row["register"]: "unknown" for row in report.unknown}
     state_of.update({row["register"]: "not linearizable" for row in report.faulty})
     shown = {row["register"] for row in rows}
-    hidden: Dict[str, List[str]] = {"not linearizable": [], "unknown": [], "not drawn": []}
+    hidden: dict[str, list[str]] = {"not linearizable": [], "unknown": [], "not drawn": []}
     for register in history.registers:
         if register not in shown:
             hidden[state_of.get(register, "not drawn")].append(register)
@@ -131,7 +131,7 @@ def left_out(history: History, report: Report, rows: List[Row]) -> str:
     return text
 
 
-def listed(names: List[str]) -> str:
+def listed(names: list[str]) -> str:
     """The first few names."""
     more = f", and {len(names) - MOST_LISTED:,} more" if len(names) > MOST_LISTED else ""
     return ", ".join(map(name, names[:MOST_LISTED])) + more

@@ -1,17 +1,18 @@
 """What is enough for a fault that a search found: a few operations that have no order, and which values their
 register can have at each moment."""
-from typing import List, NamedTuple, Optional, Set
+from typing import NamedTuple, Optional
 
-from regkit.checker import NoChecker
+from regkit.checker.programs import NoChecker
 from regkit.drawing.svg import tag
 from regkit.drawing.text import words
-from regkit.history import Operation
-from regkit.reaching import Moment, moments
-from regkit.search_explanation import answered, enough
-from regkit.searched import Contradicted
-from regkit.sentences import capital, change_of, value_of
-from regkit.shrinking import Searcher, asker, shrink, until
-from regkit.who import process_of
+from regkit.explain.reaching import Moment, moments
+from regkit.explain.search_explanation import answered, enough
+from regkit.explain.searched import Contradicted
+from regkit.explain.sentences import change_of, value_of
+from regkit.explain.shrinking import Searcher, asker, shrink, until
+from regkit.history.operations import Operation
+from regkit.history.who import process_of
+from regkit.words.phrases import capital
 
 MOST_CALLS = 20_000  # of a register, so that a page takes seconds
 MOST_VALUES = 8  # in one row
@@ -21,13 +22,13 @@ MOST_MOMENTS = 40  # rows
 class Reduced(NamedTuple):
     """What is left of a register's calls."""
 
-    calls: List[Operation]
-    loose: Set[int]  # the lines of those whose replies needn't count
-    sentences: List[str]
-    moments: List[Moment]  # empty if there are too many orders
+    calls: list[Operation]
+    loose: set[int]  # the lines of those whose replies needn't count
+    sentences: list[str]
+    moments: list[Moment]  # empty if there are too many orders
 
 
-def reduced(calls: List[Operation], told: Contradicted, searcher: Searcher) -> Optional[Reduced]:
+def reduced(calls: list[Operation], told: Contradicted, searcher: Searcher) -> Optional[Reduced]:
     """The same of some calls; None if they are very many, or if regsearch isn't there or takes too long.
     Raises NoFault."""
     if len(until(calls, told.line)) > MOST_CALLS:
@@ -43,7 +44,7 @@ def reduced(calls: List[Operation], told: Contradicted, searcher: Searcher) -> O
     return Reduced([each.call for each in small.kept], loose, enough(small, told, "in the picture"), found)
 
 
-def table(found: List[Moment]) -> str:
+def table(found: list[Moment]) -> str:
     """What the register can have at each moment, or at the last ones."""
     if not found:
         return ""

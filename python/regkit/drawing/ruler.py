@@ -1,23 +1,21 @@
 """The axis below a picture: the numbers of lines, what is left out, and where in the history this is."""
-from typing import List, Tuple
-
 from regkit.drawing import shapes, svg
 from regkit.drawing.axis import DIGIT
 from regkit.drawing.scene import Scene, lines_of
 from regkit.drawing.svg import tag, text
-from regkit.history import History
+from regkit.history.operations import History
 
 NUMBERS, OVERVIEW = 34.0, 26.0  # heights
 OVERVIEW_LABEL = "all lines"
 SPACE = 7.0  # between two numbers
-Extent = Tuple[float, float]
+Extent = tuple[float, float]
 
 
 def ruler_height(scene: Scene) -> float:
     return NUMBERS + (OVERVIEW if scene.left_out else 0.0)
 
 
-def ruler(scene: Scene, history: History, top: float) -> List[str]:
+def ruler(scene: Scene, history: History, top: float) -> list[str]:
     parts = [tag("path", class_="axis", d=baseline(scene, top + 2))]
     parts += left_out(scene, top) + numbers(scene, top)
     if scene.left_out:
@@ -27,13 +25,13 @@ def ruler(scene: Scene, history: History, top: float) -> List[str]:
 
 def baseline(scene: Scene, y: float) -> str:
     """The axis, broken where events are left out."""
-    words: List[object] = ["M", 0.0, y]
+    words: list[object] = ["M", 0.0, y]
     for gap in scene.axis.gaps.values():
         words += ["H", gap.left, "M", gap.right, y]
     return shapes.path(*words, "H", scene.axis.right)
 
 
-def left_out(scene: Scene, top: float) -> List[str]:
+def left_out(scene: Scene, top: float) -> list[str]:
     """How many events are left out in each gap."""
     parts = []
     for gap in scene.axis.gaps.values():
@@ -43,11 +41,11 @@ def left_out(scene: Scene, top: float) -> List[str]:
     return parts
 
 
-def numbers(scene: Scene, top: float) -> List[str]:
+def numbers(scene: Scene, top: float) -> list[str]:
     """The numbers of the lines: first of those that matter, then as many of the others as have room."""
     axis = scene.axis
     strong = set(lines_of(scene.marks.named.values()))
-    taken: List[Extent] = [(gap.left + 2, gap.right - 2) for gap in axis.gaps.values()]
+    taken: list[Extent] = [(gap.left + 2, gap.right - 2) for gap in axis.gaps.values()]
     parts, ticks = [], []
     lines = [line for line in axis.lines if line > 0]
     for line in sorted(lines, key=lambda line: (line not in strong, line)):
@@ -60,7 +58,7 @@ def numbers(scene: Scene, top: float) -> List[str]:
     return [tag("path", class_="axis", d=" ".join(ticks))] + parts
 
 
-def overview(scene: Scene, history: History, top: float) -> List[str]:
+def overview(scene: Scene, history: History, top: float) -> list[str]:
     """A line for the whole history, with the windows and the zones in their places."""
     width, middle = scene.axis.right, top + 10
     scale = width / max(1, history.last_line)

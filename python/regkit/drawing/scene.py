@@ -2,15 +2,15 @@
 lanes."""
 from bisect import bisect_left, bisect_right
 from collections import Counter
-from typing import Dict, Iterable, List, NamedTuple, Optional, Set, Tuple
+from typing import Iterable, NamedTuple
 
 from regkit.drawing.axis import DIGIT, STEP, Axis, Stretch, spread
 from regkit.drawing.bars import INITIAL_CALL, Bar, bar_of
 from regkit.drawing.lanes import MOST_PROCESSES, Lanes, lanes_of_processes, packed
 from regkit.drawing.marks import Marks
 from regkit.drawing.windows import Window, count_left_out, windows_around
-from regkit.history import Operation
-from regkit.who import shared
+from regkit.history.operations import Operation
+from regkit.history.who import shared
 
 MOST_CONTEXT = 30  # events on either side of each that matters, if they fit
 WIDEST_STEP = 36  # between two events, if the page has room
@@ -22,21 +22,21 @@ NEAR = 12  # events
 class Register:
     """The calls of one register, found by the lines of their events."""
 
-    def __init__(self, calls: List[Operation], order: List[int], points: List[int]) -> None:
+    def __init__(self, calls: list[Operation], order: list[int], points: list[int]) -> None:
         self.calls = calls
-        self.call_at: Dict[int, Operation] = {call.line: call for call in calls}
+        self.call_at: dict[int, Operation] = {call.line: call for call in calls}
         self.call_at.update({call.end_line: call for call in calls if call.end_line is not None})
         self.events = sorted(self.call_at)
-        self.processes: Set[int] = {call.process for call in calls if call.process is not None}
+        self.processes: set[int] = {call.process for call in calls if call.process is not None}
         self.details = details_of(calls)
         self.place_of = {line: place for place, line in enumerate(order, 1)}
         self.points = dict(zip(order, points))
         self.effects = Counter(points)  # line -> how many operations take effect there
 
-    def lines(self, window: Window) -> List[int]:
+    def lines(self, window: Window) -> list[int]:
         return self.events[window[0]:window[1]]
 
-    def open_at(self, lines: Iterable[int]) -> List[Operation]:
+    def open_at(self, lines: Iterable[int]) -> list[Operation]:
         """The calls that were open at one of some lines, other than their own."""
         wanted = sorted(set(lines))
         found = []
@@ -51,9 +51,9 @@ class Register:
         return found
 
 
-def details_of(calls: List[Operation]) -> Dict[int, str]:
+def details_of(calls: list[Operation]) -> dict[int, str]:
     """What all calls of a process have in common of their client and their node, by process."""
-    found: Dict[int, List[Operation]] = {}
+    found: dict[int, list[Operation]] = {}
     for call in calls:
         if call.process is not None:
             found.setdefault(call.process, []).append(call)
@@ -65,20 +65,20 @@ class Scene(NamedTuple):
 
     register: Register
     marks: Marks
-    windows: List[Window]
-    bars: List[Bar]
+    windows: list[Window]
+    bars: list[Bar]
     axis: Axis
     lanes: Lanes
     left_out: int  # events of the register
 
 
-def lines_of(operations: Iterable[Operation]) -> List[int]:
+def lines_of(operations: Iterable[Operation]) -> list[int]:
     """The lines of the calls and of their ends."""
     calls = [call for call in operations if call.line]
     return [line for call in calls for line in (call.line, call.end_line) if line is not None]
 
 
-def near_lines(marks: Marks, register: Register) -> List[int]:
+def near_lines(marks: Marks, register: Register) -> list[int]:
     """The lines of the writes beside the unexplained read, if they are near its own. Farther ones are drawn
     anyway, as bars that come from beyond the window."""
     if marks.unexplained is None:
@@ -89,7 +89,7 @@ def near_lines(marks: Marks, register: Register) -> List[int]:
     return [line for line in lines_of(marks.overlapped) if line in near]
 
 
-def lines_that_matter(marks: Marks, register: Register) -> List[List[int]]:
+def lines_that_matter(marks: Marks, register: Register) -> list[list[int]]:
     """The lines that windows are drawn around: all that are of interest; then fewer, if the page has no
     room."""
     arrows = [line for arrow in marks.arrows for line in (arrow.before.end_line, arrow.after.line) if line]
@@ -99,7 +99,7 @@ def lines_that_matter(marks: Marks, register: Register) -> List[List[int]]:
     return [lines for lines in (named + near_lines(marks, register), named, calls, least) if lines]
 
 
-def room_of(marks: Marks, register: Register, windows: List[Window]) -> Dict[int, float]:
+def room_of(marks: Marks, register: Register, windows: list[Window]) -> dict[int, float]:
     """The least way behind some lines: for the number of a line that matters, an arrow, and the points."""
     room = {line: DIGIT * len(str(line)) + 8 for line in lines_of(marks.named.values())}
     for arrow in marks.arrows:
@@ -111,7 +111,7 @@ def room_of(marks: Marks, register: Register, windows: List[Window]) -> Dict[int
     return room
 
 
-def lane_processes(operations: List[Operation], register: Register) -> List[int]:
+def lane_processes(operations: list[Operation], register: Register) -> list[int]:
     """The processes that have a lane each: all of the register, so that all its pictures are alike, or
     else all that are in the picture. None if they are too many."""
     drawn = {call.process for call in operations if call.process is not None}
@@ -121,7 +121,7 @@ def lane_processes(operations: List[Operation], register: Register) -> List[int]
     return []
 
 
-def bars_of(operations: List[Operation], marks: Marks, register: Register) -> List[Bar]:
+def bars_of(operations: list[Operation], marks: Marks, register: Register) -> list[Bar]:
     """The bars, with their processes if there are too many for a lane each."""
     own_lanes = lane_processes(operations, register)
     bars = []
@@ -131,7 +131,7 @@ def bars_of(operations: List[Operation], marks: Marks, register: Register) -> Li
     return bars
 
 
-def seen(register: Register, windows: List[Window], candidates: List[Operation]) -> List[Operation]:
+def seen(register: Register, windows: list[Window], candidates: list[Operation]) -> list[Operation]:
     """The calls with an event in a window, and those of the candidates that were open through one."""
     found = {register.call_at[line].line: register.call_at[line]
              for window in windows for line in register.lines(window)}
@@ -144,13 +144,13 @@ def seen(register: Register, windows: List[Window], candidates: List[Operation])
     return [found[line] for line in sorted(found)]
 
 
-def scene_of(register: Register, marks: Marks, windows: List[Window], candidates: List[Operation],
+def scene_of(register: Register, marks: Marks, windows: list[Window], candidates: list[Operation],
              step: float = STEP) -> Scene:
     """The picture of some windows."""
     operations = seen(register, windows, candidates)
     initial = marks.named.get(0)
     bars = bars_of(([initial] if initial else []) + operations, marks, register)
-    bar_at: Dict[int, Bar] = {}
+    bar_at: dict[int, Bar] = {}
     for bar in bars:
         for line in (bar.begin, bar.operation.end_line):
             if line is not None:
@@ -164,8 +164,8 @@ def scene_of(register: Register, marks: Marks, windows: List[Window], candidates
                  count_left_out(windows, len(register.events)))
 
 
-def with_initial(lines: List[List[int]], left_out: List[int],
-                 before: int) -> Tuple[List[List[int]], List[int]]:
+def with_initial(lines: list[list[int]], left_out: list[int],
+                 before: int) -> tuple[list[list[int]], list[int]]:
     """The same with the initial write in front, behind a gap if events before the first window are left
     out."""
     if before == 0:
@@ -173,7 +173,7 @@ def with_initial(lines: List[List[int]], left_out: List[int],
     return [[INITIAL_CALL, 0], *lines], [before, *left_out]
 
 
-def lanes_of(bars: List[Bar], axis: Axis, register: Register) -> Lanes:
+def lanes_of(bars: list[Bar], axis: Axis, register: Register) -> Lanes:
     processes = lane_processes([bar.operation for bar in bars], register)
     if processes:
         return lanes_of_processes(bars, processes, register.details)
@@ -196,7 +196,7 @@ def fitted(register: Register, marks: Marks, width: float) -> Scene:
     return widened(best, candidates, width)
 
 
-def widened(scene: Scene, candidates: List[Operation], width: float) -> Scene:
+def widened(scene: Scene, candidates: list[Operation], width: float) -> Scene:
     """The same picture with longer steps, if the page has room for them."""
     for step in range(WIDEST_STEP, int(STEP), -3):
         wider = scene_of(scene.register, scene.marks, scene.windows, candidates, float(step))
@@ -205,9 +205,9 @@ def widened(scene: Scene, candidates: List[Operation], width: float) -> Scene:
     return scene
 
 
-def strips(register: Register, marks: Marks, events: int, width: float) -> List[Scene]:
+def strips(register: Register, marks: Marks, events: int, width: float) -> list[Scene]:
     """The first events of a register as pictures below each other, each as wide as the page allows."""
-    found: List[Scene] = []
+    found: list[Scene] = []
     begin, last = 0, min(events, len(register.events))
     while begin < last:
         scene = longest_strip(register, marks, begin, last, width)

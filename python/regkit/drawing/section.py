@@ -1,7 +1,7 @@
 """What the page says and shows of one register."""
-from typing import List, NamedTuple, Optional
+from typing import NamedTuple, Optional
 
-from regkit import causes, sentences
+from regkit.checker.report import Row
 from regkit.drawing import shapes
 from regkit.drawing.figure import PAGE_WIDTH, RIGHT, Figure, gutter_of
 from regkit.drawing.marks import FIRST, SECOND, Marks, marks_of_fault, marks_of_read, marks_of_search
@@ -9,12 +9,13 @@ from regkit.drawing.reduced import Reduced, reduced, table
 from regkit.drawing.scene import Register, Scene, fitted, strips
 from regkit.drawing.svg import tag
 from regkit.drawing.text import name, with_code, words
-from regkit.history import History, Operation
-from regkit.report import Row
-from regkit.searched import contradicted, is_unwritten, sentences_of, what_to_do
-from regkit.sentences import capital, counted, named
-from regkit.shrinking import Searcher
-from regkit.unexplained import Unexplained, find_unexplained
+from regkit.explain import causes, sentences
+from regkit.explain.searched import contradicted, is_unwritten, sentences_of, what_to_do
+from regkit.explain.sentences import named
+from regkit.explain.shrinking import Searcher
+from regkit.explain.unexplained import Unexplained, find_unexplained
+from regkit.history.operations import History, Operation
+from regkit.words.phrases import capital, counted
 
 WHOLE = 600  # events; a register of no more is drawn whole, below its fault
 FIRST_EVENTS = 400  # of a register that is atomic, so many are drawn
@@ -26,20 +27,20 @@ class Section(NamedTuple):
 
     heading: str
     pictures: str
-    scenes: List[Scene]
+    scenes: list[Scene]
 
 
 class Author:
     """Writes the section of one register."""
 
     def __init__(self, history: History, row: Row, searcher: Searcher,
-                 calls: Optional[List[Operation]] = None) -> None:
+                 calls: Optional[list[Operation]] = None) -> None:
         self.history = history
         self.row = row
         self.searcher = searcher
         self.calls = history.registers[row["register"]] if calls is None else calls
         self.register = Register(self.calls, row.get("order", []), row.get("points", []))
-        self.scenes: List[Scene] = []
+        self.scenes: list[Scene] = []
 
     def write(self) -> Section:
         heading = tag("h2", "Register " + name(self.row["register"])) + facts(self.row)
@@ -125,7 +126,7 @@ class Author:
             why += tag("p", words(capital(marks.pair.in_words()) + "."))
         return title + why + self.windows(marks, "the first read that can't be explained")
 
-    def reasons_of(self, found: Unexplained) -> List[str]:
+    def reasons_of(self, found: Unexplained) -> list[str]:
         """Why a read can't be explained, in sentences."""
         if found.write is None:
             return sentences.unwritten(self.history, found.read)
@@ -186,7 +187,7 @@ def facts(row: Row) -> str:
     return tag("p", " &#183; ".join(parts), class_="facts") if parts else ""
 
 
-def reasons(told: List[str], numbered: bool) -> str:
+def reasons(told: list[str], numbered: bool) -> str:
     """Sentences, each behind the number of its arrow or the sign of a read that can't be explained."""
     items = []
     for number, sentence in enumerate(told, 1):
@@ -198,7 +199,7 @@ def reasons(told: List[str], numbered: bool) -> str:
     return tag("ol", "".join(items), class_="reasons") if items else ""
 
 
-def listed(writes: List[Operation]) -> str:
+def listed(writes: list[Operation]) -> str:
     """The first few writes, and how many more there are."""
     shown = [named(write) for write in writes[:MOST_NAMED]]
     if len(writes) > MOST_NAMED:
@@ -207,7 +208,7 @@ def listed(writes: List[Operation]) -> str:
     return before + shown[-1]
 
 
-def unexplained_words(found: Unexplained, count: int, overlapped: List[Operation]) -> str:
+def unexplained_words(found: Unexplained, count: int, overlapped: list[Operation]) -> str:
     """The first read that can't be explained, how many there are, and the writes that were open beside it."""
     text = f"The first read that can't be explained is {named(found.read)}."
     if count > 1:

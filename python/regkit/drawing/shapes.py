@@ -1,6 +1,4 @@
 """The outlines of bars and the small signs in them."""
-from typing import List, Tuple
-
 from regkit.drawing.svg import number, tag
 
 HEIGHT = 22.0  # of a bar
@@ -87,20 +85,20 @@ def zone_ends(left: float, right: float, top: float, height: float, forward: boo
     backward one."""
     reach = 5.0 if forward else -5.0
     half = height / 2 + 2
-    words: List[object] = []
+    words: list[object] = []
     for x in (left, right):
         words += ["M", x - reach / 2, top - 2, "l", reach, half, -reach, half]
     return path(*words)
 
 
-def torn_edge(x: float, top: float, bottom: float) -> List[str]:
+def torn_edge(x: float, top: float, bottom: float) -> list[str]:
     """The corners of a torn edge, from top to bottom."""
     count = max(2, round((bottom - top) / 12)) * 2
     step = (bottom - top) / count
     return [path(x + (4.0 if index % 2 else 0.0), top + step * index) for index in range(count + 1)]
 
 
-def torn_strip(left: float, right: float, top: float, bottom: float) -> Tuple[str, str]:
+def torn_strip(left: float, right: float, top: float, bottom: float) -> tuple[str, str]:
     """A strip of nothing between two torn edges: its face, and its edges."""
     one, other = torn_edge(left, top, bottom), torn_edge(right - 4, top, bottom)
     return f"M {' '.join(one + other[::-1])} Z", f"M {' '.join(one)} M {' '.join(other)}"

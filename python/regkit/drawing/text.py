@@ -3,9 +3,8 @@ text beside them around; none of that may reach the reader as anything but itsel
 import html
 import re
 import unicodedata
-from typing import List
 
-from regkit.quoting import escaped, plain, shortened
+from regkit.words.quoting import escaped, plain, shortened
 
 LONGEST = 96  # characters of a name that are shown; the middle of a longer one is left out
 MOST_MARKS = 2  # combining marks on one letter; more of them would climb over the lines above
@@ -30,7 +29,7 @@ def with_code(text: str) -> str:
 def name(text: str) -> str:
     """A register's or a file's name, isolated from what stands around it. Escapes look different from a
     name's own letters, so that a backslash in the name isn't taken for one."""
-    pieces: List[str] = []
+    pieces: list[str] = []
     marks = MOST_MARKS  # so that a mark without a letter before it is an escape
     for character in shortened(text, LONGEST):
         is_mark = unicodedata.category(character).startswith("M")

@@ -1,14 +1,14 @@
 """Which events of a register are drawn: of a long history, windows around what the picture points at."""
 from bisect import bisect_left
-from typing import Iterable, List, Tuple
+from typing import Iterable
 
 SHORT_GAP = 3  # events; so few are drawn, since a gap would take as much room
-Window = Tuple[int, int]  # places of events: the first, and one behind the last
+Window = tuple[int, int]  # places of events: the first, and one behind the last
 
 
-def windows_around(events: List[int], lines: Iterable[int], context: int) -> List[Window]:
+def windows_around(events: list[int], lines: Iterable[int], context: int) -> list[Window]:
     """The events at the given lines, each with so many before and after it."""
-    found: List[Window] = []
+    found: list[Window] = []
     for line in sorted(set(lines)):
         place = bisect_left(events, line)
         begin, end = max(0, place - context), min(len(events), place + context + 1)
@@ -23,6 +23,6 @@ def windows_around(events: List[int], lines: Iterable[int], context: int) -> Lis
     return found
 
 
-def count_left_out(windows: List[Window], events: int) -> int:
+def count_left_out(windows: list[Window], events: int) -> int:
     """How many events are in no window."""
     return events - sum(end - begin for begin, end in windows)

@@ -6,7 +6,7 @@ Values may repeat, within a history and among several, and cas stay: such a hist
 - `order.py`: which event comes next, so that no precedence is added.
 - `numbers.py`: the process numbers, so that no two histories share one.
 """
-from typing import Iterable, List, NamedTuple, Sequence, Tuple
+from typing import Iterable, NamedTuple, Sequence
 
 from regkit.merge.numbers import Numbers
 from regkit.merge.order import in_order
@@ -18,7 +18,7 @@ __all__ = ["Merged", "Recorded", "Unmergeable", "first_again", "merge", "merged"
 class Merged(NamedTuple):
     """A merged history."""
 
-    lines: List[str]
+    lines: list[str]
     numbers: Numbers
     given_up: int  # calls that come before replies of their own file, where two files contradict each other
 
@@ -34,7 +34,7 @@ def merged(files: Sequence[Recorded], clock_error: int) -> Merged:
     return Merged(lines, numbers, given_up)
 
 
-def merge(histories: Iterable[Tuple[str, bytes]], clock_error: int = 0) -> bytes:
+def merge(histories: Iterable[tuple[str, bytes]], clock_error: int = 0) -> bytes:
     """One history of several, each with the name by which a person knows it. `clock_error` is the largest
     difference between two of their clocks at any one moment, in nanoseconds. Raises Unmergeable."""
     files = [Recorded(name, data) for name, data in histories]

@@ -6,7 +6,7 @@ earlier such call of the process which is free again, or a new one.
 """
 import heapq
 from collections import deque
-from typing import Deque, Dict, List, Sequence, Tuple
+from typing import Deque, Sequence
 
 from regkit.merge.recorded import Event, Recorded
 
@@ -16,7 +16,7 @@ class Process:
 
     def __init__(self, own: int) -> None:
         self.own = own
-        self.free: List[int] = [own]  # a heap
+        self.free: list[int] = [own]  # a heap
         self.open: Deque[int] = deque()  # of its open calls, in the order in which they end
 
 
@@ -24,7 +24,7 @@ class Numbers:
     """Gives each event its process number."""
 
     def __init__(self, files: Sequence[Recorded]) -> None:
-        self.processes: Dict[Tuple[int, int], Process] = {}
+        self.processes: dict[tuple[int, int], Process] = {}
         for number, file in enumerate(files):
             for process in file.processes:
                 self.processes[number, process] = Process(len(self.processes) + 1)

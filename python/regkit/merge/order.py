@@ -27,7 +27,7 @@ events far apart, nothing is given up, and each file keeps its order.
 
 A fail and a crash aren't answers, so no precedence begins with them, and they wait for no other file.
 """
-from typing import Iterator, List, NamedTuple, Optional, Sequence
+from typing import Iterator, NamedTuple, Optional, Sequence
 
 from regkit.merge.recorded import Event
 
@@ -47,7 +47,7 @@ class Track:
 
     __slots__ = ("file", "events", "call", "call_time", "end", "end_time")
 
-    def __init__(self, file: int, events: List[Event]) -> None:
+    def __init__(self, file: int, events: list[Event]) -> None:
         self.file = file
         self.events = events
         self.call = self.end = -1  # the places of the next call and of the next ending
@@ -78,14 +78,14 @@ class Track:
         return self.end_time + error < other_call or self.events[self.end].what != "reply"
 
 
-def following(events: List[Event], place: int, is_call: bool) -> int:
+def following(events: list[Event], place: int, is_call: bool) -> int:
     """The next place that has a call, or that has none; behind the last one if there is no such place."""
     while place < len(events) and (events[place].what == "call") != is_call:
         place += 1
     return place
 
 
-def least_of_others(own: float, times: List[float]) -> float:
+def least_of_others(own: float, times: list[float]) -> float:
     """The least of some times, in order, without one file's own."""
     return times[1] if own == times[0] else times[0]
 
@@ -103,7 +103,7 @@ def first_ready(tracks: Sequence[Track], error: int) -> Optional[Track]:
     return found
 
 
-def in_order(files: Sequence[List[Event]], error: int) -> Iterator[Step]:
+def in_order(files: Sequence[list[Event]], error: int) -> Iterator[Step]:
     """The events of all files in the order of the merged history."""
     tracks = [Track(number, events) for number, events in enumerate(files)]
     while tracks:

@@ -1,10 +1,10 @@
 """The events of one recorder's history with their times, or the reason why it can't be merged."""
 import json
-from typing import Any, Dict, List, NamedTuple, Optional, Sequence, Tuple
+from typing import Any, NamedTuple, Optional, Sequence
 
-from regkit.lines import numbered_lines
-from regkit.quoting import quoted
+from regkit.history.lines import numbered_lines
 from regkit.verify.operations import FOREVER, History, Refused, event_of
+from regkit.words.quoting import quoted
 
 NO_TIME = ("has no `time` in whole nanoseconds: record with a clock, as in "
            "Recorder(\"history.jsonl\", clock=time.monotonic_ns)")
@@ -45,8 +45,8 @@ class Recorded:
 
     def __init__(self, name: str, data: bytes) -> None:
         self.name = name
-        self.events: List[Event] = []
-        self.writes: List[Write] = []
+        self.events: list[Event] = []
+        self.writes: list[Write] = []
         self.has_cas = False
         history = History(FOREVER, search=True)
         try:
@@ -57,7 +57,7 @@ class Recorded:
         except Refused as refused:
             raise Unmergeable(f"{name}: {refused.text}: `regkit check` says what to do about it") from None
 
-    def _add(self, number: int, event: Dict[str, Any]) -> None:
+    def _add(self, number: int, event: dict[str, Any]) -> None:
         """Adds the event of a line. Raises Unmergeable."""
         time, process = event.get("time"), event.pop("process")
         if type(time) is not int:
@@ -72,7 +72,7 @@ class Recorded:
         self.events.append(Event(time, process, event["event"], _ENCODER.encode(event)[1:]))
 
     @property
-    def processes(self) -> List[int]:
+    def processes(self) -> list[int]:
         return sorted({event.process for event in self.events})
 
 
@@ -86,11 +86,11 @@ def refuse_twice(files: Sequence[Recorded]) -> None:
                                   "clients")
 
 
-def first_again(files: Sequence[Recorded]) -> Optional[Tuple[Write, Write]]:
+def first_again(files: Sequence[Recorded]) -> Optional[tuple[Write, Write]]:
     """The first write of a value that was written to its register already, and the earlier write; of writes
     in two files, if there are any."""
-    writers: Dict[Tuple[str, int], Tuple[int, Write]] = {}
-    within: Optional[Tuple[Write, Write]] = None
+    writers: dict[tuple[str, int], tuple[int, Write]] = {}
+    within: Optional[tuple[Write, Write]] = None
     for place, file in enumerate(files):
         for write in file.writes:
             other, first = writers.setdefault((write.register, write.value), (place, write))

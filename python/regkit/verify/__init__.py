@@ -1,10 +1,14 @@
 """Checks each claim of a report of regcheck or regsearch against its history, by the definitions alone.
 
 Read this package if you trust neither the proof, nor the compiler, nor the toolchain. It is plain code, and
-shares none with the rest of regkit but `regkit/lines.py`, which splits a history into lines and reads JSON.
+shares little with the rest of regkit: `regkit/history/lines.py`, which splits a history into lines and reads
+JSON, the numbers of `regkit/base/limits.py`, and the guard of `regkit/base/garbage.py`, which saves time.
 
 - `operations.py`: the format of a history, from its bytes to its operations, or the reason to refuse it.
-- `claims.py`: what each key of a report of regcheck claims, and how it is checked.
+- `rows.py`: the lines of a report.
+- `register.py`: the operations of one register, and its levels.
+- `orders.py`, `faults.py`: what a yes claims of a register, and what a no does.
+- `claims.py`: the whole report of regcheck: what each key claims, and how it is checked.
 - `searches.py`: the same of regsearch. A no is searched again, up to a bound.
 
 Time is counted in lines. An operation lasts from the line of its call to the line of its reply; one precedes
@@ -16,12 +20,12 @@ What isn't checked:
 - the layout: the order of the keys, the spaces between them, and how a name is escaped;
 - the recording: whether the lines stand in the order in which things happened.
 """
-import gc
-from contextlib import contextmanager
-from typing import Iterator, List, NamedTuple, Optional
+from typing import NamedTuple, Optional
 
-from regkit.verify.claims import Row, Unreadable, Wrong, check_report, read_rows
+from regkit.base.garbage import many_objects
+from regkit.verify.claims import check_report
 from regkit.verify.operations import History, Refused, read_history
+from regkit.verify.rows import Row, Unreadable, Wrong, read_rows
 from regkit.verify.searches import Nos, check_search_report
 
 __all__ = ["Nos", "Unreadable", "Verified", "Wrong", "verify", "verify_refusal"]
@@ -50,7 +54,7 @@ def verify(history: bytes, report: bytes, joined: bool = False) -> Verified:
     A report of `regkit join` is `joined`: the limits on input and events hold for each part and not for the
     whole, and the summary may lack `order`; the merged order is then built here.
     """
-    with _no_search_for_cycles():
+    with many_objects():
         rows = read_rows(report)
         if any("cas" in row for row in rows[:-1]):
             return _verify_search(history, rows, joined)
@@ -60,25 +64,14 @@ def verify(history: bytes, report: bytes, joined: bool = False) -> Verified:
     return Verified(faulty == 0, rows[-1]["operations"], len(read.registers), faulty, early=early)
 
 
-def _verify_search(history: bytes, rows: List[Row], joined: bool) -> Verified:
+def _verify_search(history: bytes, rows: list[Row], joined: bool) -> Verified:
     """The same of a report of regsearch."""
     read = _accepted(history, limits=not joined, search=True)
     nos = check_search_report(read, rows)
     unknown = sum(row["atomic"] == "unknown" for row in rows[:-1])
     faulty = sum(row["atomic"] == "no" for row in rows[:-1])
-    return Verified(faulty == unknown == 0, rows[-1]["operations"], len(read.registers), faulty, unknown, nos, True)
-
-
-@contextmanager
-def _no_search_for_cycles() -> Iterator[None]:
-    """Nothing here refers back to itself. Python would look for that again and again, a third of the time."""
-    was_on = gc.isenabled()
-    gc.disable()
-    try:
-        yield
-    finally:
-        if was_on:
-            gc.enable()
+    return Verified(faulty == unknown == 0, rows[-1]["operations"], len(read.registers), faulty, unknown, nos,
+                    by_search=True)
 
 
 def _accepted(history: bytes, limits: bool, search: bool = False) -> History:

@@ -2,18 +2,13 @@
 
 docs/format.md has the rules: those of regcheck, and those of regsearch, with values that repeat and cas.
 """
-from typing import Any, Dict, List, Optional, Tuple
+from typing import Any, Optional
 
-from regkit.lines import NotJson, json_of, numbered_lines
+from regkit.base.limits import (GREATEST_VALUE, LEAST_VALUE, MAX_BYTES, MAX_EVENTS, MAX_LINE, MAX_NAME,
+                                MAX_PROCESS)
+from regkit.history.lines import NotJson, json_of, numbered_lines
 
 FOREVER = float("inf")  # the line of a reply that never came: it is after every line
-
-MAX_INPUT = 67_108_864
-MAX_LINE = 65_536
-MAX_EVENTS = 1_048_576
-MAX_NAME = 255
-MAX_PROCESS = 4_294_967_295
-LEAST_VALUE, GREATEST_VALUE = -(2**63), 2**63 - 1
 
 EVENTS = ("call", "reply", "fail", "crash")
 OPS = ("read", "write")
@@ -21,21 +16,21 @@ SEARCH_OPS = (*OPS, "cas")
 
 BAD_OP_OF_SEARCH = -6  # 6 has another text there
 REASONS = {
-    1: "line is longer than 65536 bytes",
+    1: f"line is longer than {MAX_LINE} bytes",
     2: "not JSON",
     3: "not an object",
-    4: "process is not a whole number from 0 to 4294967295",
+    4: f"process is not a whole number from 0 to {MAX_PROCESS}",
     5: "event is not call, reply, fail or crash",
     6: "op is neither read nor write",
-    7: "register is not a text of 1 to 255 bytes",
+    7: f"register is not a text of 1 to {MAX_NAME} bytes",
     8: "value does not fit the event",
     9: "the process has an open call at line {}",
     10: "reply without an open call",
     11: "reply disagrees with its call",
     12: "a read's reply has no value",
     13: "value already written to this register at line {}",
-    14: "more than 1048576 events",
-    15: "input is longer than 67108864 bytes",
+    14: f"more than {MAX_EVENTS} events",
+    15: f"input is longer than {MAX_BYTES} bytes",
     19: "the process crashed at line {}",
     20: "from or to does not fit the event",
     21: "a cas's reply has no ok, true or false",
@@ -55,7 +50,8 @@ class Refused(Exception):
 class Operation:
     """A read or a write, identified by the line of its call. A register's initial write of null has 0."""
 
-    __slots__ = ("line", "end", "process", "register", "is_write", "value", "failed", "is_cas", "asked", "took")
+    __slots__ = ("line", "end", "process", "register", "is_write", "value", "failed", "is_cas", "asked",
+                 "took")
 
     def __init__(self, line: int, register: str, is_write: bool, value: Optional[int]) -> None:
         self.line = line
@@ -87,12 +83,12 @@ class History:
         self.limit = limit  # how many events it may take
         self.search = search  # by the rules of regsearch
         self.events = 0
-        self.registers: Dict[str, List[Operation]] = {}
-        self.written: Dict[str, Dict[int, int]] = {}  # register -> value -> the line of its write's call
-        self.open_calls: Dict[int, Operation] = {}
-        self.crashes: Dict[int, int] = {}
+        self.registers: dict[str, list[Operation]] = {}
+        self.written: dict[str, dict[int, int]] = {}  # register -> value -> the line of its write's call
+        self.open_calls: dict[int, Operation] = {}
+        self.crashes: dict[int, int] = {}
 
-    def take(self, line: int, event: Dict[str, Any]) -> None:
+    def take(self, line: int, event: dict[str, Any]) -> None:
         """Takes the event of a line. Raises Refused with the lowest of 9 to 14 and 19 that applies."""
         what, process = event["event"], event["process"]
         if what == "call":
@@ -114,7 +110,7 @@ class History:
         else:
             self.end(line, event)
 
-    def check_call(self, line: int, event: Dict[str, Any]) -> None:
+    def check_call(self, line: int, event: dict[str, Any]) -> None:
         open_call = self.open_calls.get(event["process"])
         if open_call is not None:
             raise Refused(9, line, open_call.line)
@@ -123,7 +119,7 @@ class History:
             if earlier is not None:
                 raise Refused(13, line, earlier)
 
-    def check_end(self, line: int, event: Dict[str, Any]) -> None:
+    def check_end(self, line: int, event: dict[str, Any]) -> None:
         """Of a reply or a fail."""
         call = self.open_calls.get(event["process"])
         if call is None:
@@ -135,7 +131,7 @@ class History:
         if event["event"] == "reply" and is_read(call) and "value" not in event:
             raise Refused(12, line)
 
-    def begin(self, line: int, event: Dict[str, Any]) -> None:
+    def begin(self, line: int, event: dict[str, Any]) -> None:
         process, register, is_write = event["process"], event["register"], event["op"] == "write"
         call = Operation(line, register, is_write, event.get("value"))
         call.process = process
@@ -146,7 +142,7 @@ class History:
         if is_write:
             self.written.setdefault(register, {})[event["value"]] = line
 
-    def end(self, line: int, event: Dict[str, Any]) -> None:
+    def end(self, line: int, event: dict[str, Any]) -> None:
         call = self.open_calls.pop(event["process"])
         if event["event"] == "fail":
             call.failed = True
@@ -163,7 +159,7 @@ class History:
             self.registers[name] = [call for call in calls if not call.failed]
 
 
-def agrees(event: Dict[str, Any], call: Operation) -> bool:
+def agrees(event: dict[str, Any], call: Operation) -> bool:
     """Each thing that a reply or a fail says is as in its call."""
     op = "write" if call.is_write else "cas" if call.is_cas else "read"
     if event.get("op", op) != op or event.get("register", call.register) != call.register:
@@ -181,7 +177,7 @@ def is_read(call: Operation) -> bool:
 def read_history(history: bytes, limits: bool, search: bool = False) -> History:
     """Raises Refused for the first faulty line. The limits are those on the input and on its events. With
     `search` the rules are those of regsearch."""
-    if limits and len(history) > MAX_INPUT:
+    if limits and len(history) > MAX_BYTES:
         raise Refused(15)
     taken = History(MAX_EVENTS if limits else FOREVER, search)
     for number, line in numbered_lines(history):
@@ -190,7 +186,7 @@ def read_history(history: bytes, limits: bool, search: bool = False) -> History:
     return taken
 
 
-def event_of(number: int, line: bytes, search: bool = False) -> Dict[str, Any]:
+def event_of(number: int, line: bytes, search: bool = False) -> dict[str, Any]:
     """The event of a line. Raises Refused with the lowest of 1 to 8 and 20 that applies."""
     if len(line) > MAX_LINE:
         raise Refused(1, number)
@@ -213,7 +209,7 @@ def event_of(number: int, line: bytes, search: bool = False) -> Dict[str, Any]:
     return event
 
 
-def call_fault(event: Dict[str, Any], ops: Tuple[str, ...]) -> int:
+def call_fault(event: dict[str, Any], ops: tuple[str, ...]) -> int:
     op, value = event.get("op"), event.get("value")
     if op not in ops:
         return 6
@@ -225,12 +221,12 @@ def call_fault(event: Dict[str, Any], ops: Tuple[str, ...]) -> int:
     return 20 if op == "cas" and not is_change(event) else 0
 
 
-def is_change(cas: Dict[str, Any]) -> bool:
+def is_change(cas: dict[str, Any]) -> bool:
     """Whether the two values of a cas are there and of their form."""
     return "from" in cas and (cas["from"] is None or is_value(cas["from"])) and is_value(cas.get("to"))
 
 
-def end_fault(event: Dict[str, Any], ops: Tuple[str, ...]) -> int:
+def end_fault(event: dict[str, Any], ops: tuple[str, ...]) -> int:
     """Of a reply or a fail, which may leave out its op, its register and its value."""
     if "op" in event and event["op"] not in ops:
         return 6

@@ -5,8 +5,8 @@ there is none with the reply is searched again, in a plain way and up to a bound
 """
 from typing import Any, Dict, FrozenSet, Iterator, List, NamedTuple, Optional, Sequence, Set, Tuple
 
-from regkit.verify.claims import Lines, Row, is_number, lines_of, need, with_name
 from regkit.verify.operations import FOREVER, History, Operation, is_read
+from regkit.verify.rows import Lines, Row, is_number, lines_of, need, with_name
 
 MOST_STEPS = 1_000_000  # of one search: how often it may look at an open call
 BOUNDS = ("steps", "configurations")

@@ -1,0 +1,205 @@
+"""Asks the checker: the program `regcheck`, or for a small history the library, where it is installed.
+
+`regcheck` decides whatever it accepts. If it refuses a history for a repeated value or a cas, `regsearch`
+decides it, if it is there."""
+import io
+import os
+import pathlib
+import shutil
+import subprocess
+import sys
+from itertools import islice
+from types import TracebackType
+from typing import Any, BinaryIO, NamedTuple, Optional, Sequence, Union
+
+from regkit.base.statuses import ExitStatus
+from regkit.checker.refusals import BAD_OP, REPEATED, read_refusal
+from regkit.history.lines import NotJson, json_of
+
+LIBRARY_BYTES = 1_048_576  # the program has several workers: it is as quick with a longer history
+NOT_FOUND = "regcheck was not found: put it on PATH, or set REGCHECK to its path"
+CHECK, SEARCH = "regcheck", "regsearch"
+VARIABLES = {CHECK: "REGCHECK", SEARCH: "REGSEARCH"}  # with the paths of the programs
+WOULD_DECIDE = ("regsearch would decide it, since it takes repeated values and cas: put it beside regcheck "
+                "or on PATH, or set REGSEARCH to its path")
+
+
+class NoChecker(Exception):
+    """The program `regcheck` wasn't found, or couldn't be started."""
+
+    def __init__(self, words: str = NOT_FOUND) -> None:
+        super().__init__(words)
+
+
+class Answer(NamedTuple):
+    """What one run of a program gave."""
+
+    status: int  # one of ExitStatus, or below 0 the signal that ended it
+    report: bytes  # standard output; empty unless it decided
+    refusal: str  # standard error, without its line feed
+    program: str = CHECK
+
+    @property
+    def decided(self) -> bool:
+        """Whether there is a report."""
+        return self.status in (ExitStatus.ATOMIC, ExitStatus.NOT_ATOMIC, ExitStatus.UNKNOWN)
+
+    @property
+    def by_search(self) -> bool:
+        return self.program == SEARCH
+
+
+def beside(program: str = CHECK) -> list[pathlib.Path]:
+    """Where the program may be: beside the command, in bin/ of the repository, or where pip puts commands."""
+    places = []
+    started = pathlib.Path(sys.argv[0])
+    if started.is_file():
+        places += [started.parent / program, started.resolve().parent / program]
+    package = pathlib.Path(__file__).resolve().parents[1]
+    if (package.parent / "pyproject.toml").is_file():
+        places.append(package.parent.parent / "bin" / program)
+    if package.parent.name in ("site-packages", "dist-packages"):
+        places.append(package.parents[3] / "bin" / program)
+    return places
+
+
+def find_program(program: str) -> Optional[str]:
+    """The path in its variable, or the program beside this one, or the one on PATH, if there is any."""
+    named = os.environ.get(VARIABLES[program])
+    if named:
+        return named
+    for path in beside(program):
+        if os.access(path, os.X_OK) and path.is_file():
+            return str(path)
+    return shutil.which(program)
+
+
+def find_checker() -> str:
+    """The path of `regcheck`. Raises NoChecker."""
+    found = find_program(CHECK)
+    if found is None:
+        raise NoChecker
+    return found
+
+
+def held(history: bytes) -> BinaryIO:
+    """The bytes as a file of no name, which another process reads while this one is at work."""
+    if hasattr(os, "memfd_create"):
+        stream: Any = open(os.memfd_create("history"), "w+b", buffering=0)
+    else:
+        from tempfile import TemporaryFile  # only other systems than Linux wait for this
+
+        stream = TemporaryFile(buffering=0)
+    left = memoryview(history)
+    while left:
+        left = left[stream.write(left):]
+    stream.seek(0)
+    return stream  # type: ignore[no-any-return]
+
+
+class Run:
+    """A run of the program that has begun. Whoever began it may work until it asks for the answer."""
+
+    def __init__(self, history: bytes, options: Sequence[str] = (), program: Optional[str] = None,
+                 name: str = CHECK) -> None:
+        """Raises NoChecker if the program can't be started."""
+        path, self.name = program or find_checker(), name
+        with held(history) as stream:
+            try:
+                self.process = subprocess.Popen([path, *options], stdin=stream, stdout=subprocess.PIPE,
+                                                stderr=subprocess.PIPE)
+            except OSError as error:
+                words = f"{path} could not be started: {error.strerror}. Is {VARIABLES[name]} right?"
+                raise NoChecker(words) from error
+
+    def answer(self) -> Answer:
+        report, words = self.process.communicate()
+        told = words.decode("utf-8", "replace").rstrip("\n")
+        return Answer(self.process.returncode, report, told, self.name)
+
+    def __enter__(self) -> "Run":
+        return self
+
+    def __exit__(self, kind: Optional[type[BaseException]], error: Optional[BaseException],
+                 trace: Optional[TracebackType]) -> None:
+        """Ends the program if nobody waited for it."""
+        if self.process.poll() is None:
+            self.process.kill()
+            self.process.communicate()
+
+
+class Told:
+    """An answer that was there at once, in the place of a run."""
+
+    def __init__(self, answer: Answer) -> None:
+        self._answer = answer
+
+    def answer(self) -> Answer:
+        return self._answer
+
+    def __enter__(self) -> "Told":
+        return self
+
+    def __exit__(self, *_: object) -> None:
+        pass
+
+
+def run_checker(history: bytes, options: Sequence[str] = (), program: Optional[str] = None) -> Answer:
+    """Runs the checker on a history. Raises NoChecker if it can't be started."""
+    with Run(history, options, program) as run:
+        return run.answer()
+
+
+def run_search(history: bytes, options: Sequence[str], program: str) -> Answer:
+    """Runs `regsearch`, at a path, on a history. Raises NoChecker if it can't be started."""
+    with Run(history, options, program, SEARCH) as run:
+        return run.answer()
+
+
+def begin(history: bytes, options: Sequence[str] = ()) -> Union[Run, Told]:
+    """Begins to judge a history: by the library if the history is small and there are no options, else by the
+    program. Their answers are the same."""
+    if options or len(history) > LIBRARY_BYTES:
+        return Run(history, options)
+    from regkit.checker.library import NoLibrary, find_library  # a long history doesn't wait for this
+
+    try:
+        library = find_library()
+    except NoLibrary as error:
+        raise NoChecker(str(error)) from error
+    if library is None:
+        return Run(history)
+    told = library.check(history)
+    return Told(Answer(told.status, told.report, told.refusal))
+
+
+def judge(history: bytes, options: Sequence[str] = ()) -> Answer:
+    """The answer to a history, when it is there."""
+    with begin(history, options) as run:
+        return run.answer()
+
+
+def is_for_search(history: bytes, answer: Answer) -> bool:
+    """Whether regcheck refused the history for a value that was written already, or at the line of a cas."""
+    if answer.status != ExitStatus.REFUSED or answer.by_search:
+        return False
+    refusal = read_refusal(answer.refusal, lambda line: line)
+    if refusal is None or refusal.number != BAD_OP:
+        return refusal is not None and refusal.number == REPEATED
+    try:
+        event = json_of(next(islice(io.BytesIO(history), refusal.line - 1, None)).rstrip(b"\n"))
+    except (NotJson, StopIteration):
+        return False
+    return isinstance(event, dict) and event.get("op") == "cas"
+
+
+def searched(history: bytes, answer: Answer, options: Sequence[str] = ()) -> Answer:
+    """The answer of regsearch where that takes what regcheck refused, and is there; else the same answer.
+    Raises NoChecker if it can't be started."""
+    path = find_program(SEARCH) if is_for_search(history, answer) else None
+    return answer if path is None else run_search(history, options, path)
+
+
+def decide(history: bytes, options: Sequence[str] = ()) -> Answer:
+    """The answer of whichever program takes the history. The options are those of regsearch."""
+    return searched(history, judge(history), options)

@@ -1,0 +1,59 @@
+"""The refusals of the parts of a history, and the one that a run over the whole history would give."""
+import re
+from typing import Callable, NamedTuple, Optional
+
+from regkit.base.limits import MAX_LINE, MAX_NAME, MAX_PROCESS
+
+BAD_OP, REPEATED = 6, 13  # the numbers of the refusals of a cas and of a repeated value
+
+# The texts of the refusals of a line, by their numbers in docs/format.md. On one line the lowest counts.
+TEXTS = {
+    1: f"line is longer than {MAX_LINE} bytes",
+    2: "not JSON",
+    3: "not an object",
+    4: f"process is not a whole number from 0 to {MAX_PROCESS}",
+    5: "event is not call, reply, fail or crash",
+    BAD_OP: "op is neither read nor write",
+    7: f"register is not a text of 1 to {MAX_NAME} bytes",
+    8: "value does not fit the event",
+    9: "the process has an open call",
+    10: "reply without an open call",
+    11: "reply disagrees with its call",
+    12: "a read's reply has no value",
+    REPEATED: "value already written to this register",
+    19: "the process crashed",
+}
+# Those of `regsearch` that differ.
+SEARCH_TEXTS = {
+    BAD_OP: "op is neither read, write nor cas",
+    20: "from or to does not fit the event",
+    21: "a cas's reply has no ok, true or false",
+}
+NUMBERS = {text: number for texts in (TEXTS, SEARCH_TEXTS) for number, text in texts.items()}
+WORDS = re.compile(r"line (\d+): (.+?)(?: at line (\d+))?")
+
+
+class Refusal(NamedTuple):
+    """Refusals compare as one run orders them: the first line, and on it the lowest number."""
+
+    line: int
+    number: int
+    text: str
+    other: Optional[int]  # the line of the event that the refused one contradicts
+
+    @property
+    def rank(self) -> tuple[int, int]:
+        """By which one run names the lowest."""
+        return self.line, self.number
+
+    def __str__(self) -> str:
+        return f"line {self.line}: {self.text}" + ("" if self.other is None else f" at line {self.other}")
+
+
+def read_refusal(words: str, line_of: Callable[[int], int]) -> Optional[Refusal]:
+    """The refusal of a part, with the lines of the whole. None if it is about the size of the part."""
+    found = WORDS.fullmatch(words)
+    if found is None or found[2] not in NUMBERS:
+        return None
+    other = None if found[3] is None else line_of(int(found[3]))
+    return Refusal(line_of(int(found[1])), NUMBERS[found[2]], found[2], other)

@@ -1,0 +1,35 @@
+"""What a yes rests on. A history without a completed read says nothing of a store, however atomic it is."""
+from bisect import bisect_left
+from typing import NamedTuple
+
+from regkit.history.operations import History, Operation
+
+
+class Evidence(NamedTuple):
+    """The counts of a history. Failed calls are no operations and count nowhere."""
+
+    operations: int
+    registers: int
+    completed_reads: int  # a cas that was answered is one too, since it tells what the value was
+    overlapping_reads: int  # of the completed reads, those that overlap a write of their register
+
+
+def count_overlapping(calls: list[Operation]) -> int:
+    """How many completed reads of one register overlap a write. A pending write never ends. A cas that was
+    answered counts as a read, and one that may have taken place as a write too."""
+    writes = [call for call in calls if call.writes and not call.failed]
+    begun = [write.line for write in writes]
+    ended = sorted(write.end_line for write in writes if write.completed and write.end_line is not None)
+    count = 0
+    for read in calls:
+        if read.kind != "write" and read.completed and read.end_line is not None:
+            # The writes that ended before the read are among those that began before its end.
+            count += bisect_left(begun, read.end_line) > bisect_left(ended, read.line) + read.writes
+    return count
+
+
+def count_evidence(history: History) -> Evidence:
+    completed = sum(call.kind != "write" and call.completed for call in history.calls)
+    overlapping = sum(count_overlapping(calls) for calls in history.registers.values())
+    operations = sum(not call.failed for call in history.calls)
+    return Evidence(operations, len(history.registers), completed, overlapping)

@@ -1,0 +1,175 @@
+"""An accepted history as its operations, for everything that explains or draws."""
+from typing import Callable, Iterable, Optional
+
+from regkit.history import lines
+from regkit.words.quoting import quoted
+
+TELL_EVERY = 8192  # events between two calls of a watcher
+
+
+class NotAHistory(ValueError):
+    """The bytes aren't a history that the checker accepts."""
+
+
+class NoRegister(ValueError):
+    """A register was asked for that the history doesn't have."""
+
+    def __init__(self, name: str) -> None:
+        super().__init__(f"no register has the name {quoted(name)}")
+
+
+class Operation:
+    """A call with what ended it. `line` is the line of the call, 0 for a register's initial write of null."""
+
+    __slots__ = ("line", "process", "register", "kind", "value", "asked", "took", "ending", "end_line",
+                 "client", "node", "time")
+
+    def __init__(self, line: int, process: Optional[int], register: str, kind: str,
+                 value: Optional[int]) -> None:
+        self.line = line
+        self.process = process
+        self.register = register
+        self.kind = kind  # "read", "write" or "cas"
+        self.value = value  # written, or read; None is null, and also what a read that isn't completed gave
+        self.asked: Optional[int] = None  # of a cas, the value that it asks for; `value` is the one it writes
+        self.took: Optional[bool] = None  # of a completed cas, whether it took place
+        self.ending: Optional[str] = None  # "reply", "fail", "crash", or None if nothing ended it
+        self.end_line: Optional[int] = None  # the line of that ending
+        self.client: Optional[str] = None  # who called, of which server, and when, as far as the lines say it
+        self.node: Optional[str] = None
+        self.time: Optional[int] = None  # in nanoseconds, from the history's first call on
+
+    @property
+    def completed(self) -> bool:
+        return self.ending == "reply"
+
+    @property
+    def failed(self) -> bool:
+        """A call that certainly had no effect: it is no operation of the history."""
+        return self.ending == "fail"
+
+    @property
+    def missed(self) -> bool:
+        """A cas that found another value than it asked for, and changed nothing."""
+        return self.took is False
+
+    @property
+    def writes(self) -> bool:
+        """Whether it may have changed the value: a write, or a cas that didn't miss."""
+        return self.kind != "read" and not self.missed
+
+    @property
+    def pending(self) -> bool:
+        """A call without a reply: its outcome is unknown. A crash leaves its process's open call so."""
+        return not self.completed and not self.failed
+
+
+def initial_write(register: str) -> Operation:
+    """The write of null that comes before everything else. It is completed, at line 0."""
+    write = Operation(0, None, register, "write", None)
+    write.ending, write.end_line = "reply", 0
+    return write
+
+
+class History:
+    """All calls of a history, failed ones too, in the order of their lines."""
+
+    def __init__(self, calls: list[Operation], events: int, last_line: int, crashes: dict[int, int]) -> None:
+        self.calls = calls
+        self.events = events
+        self.last_line = last_line
+        self.crashes = crashes  # process -> the line of its crash
+        self.by_line: dict[int, Operation] = {call.line: call for call in calls}
+        self.registers: dict[str, list[Operation]] = {}  # in the order of their first calls
+        for call in calls:
+            self.registers.setdefault(call.register, []).append(call)
+
+    def operation(self, register: str, line: int) -> Operation:
+        """The operation of a line that a report names; 0 is the register's initial write."""
+        return self.by_line[line] if line else initial_write(register)
+
+    def must_have(self, register: str) -> None:
+        """Raises NoRegister if no call is of the register."""
+        if register not in self.registers:
+            raise NoRegister(register)
+
+
+def read_history(data: bytes, watch: Optional[Callable[[int], None]] = None) -> History:
+    """The history in some bytes that `regcheck` or `regsearch` accepted. What it would refuse is not looked
+    for here, and may raise NotAHistory. `watch` is told the number of the line from time to time."""
+    return history_of(lines.events(data), watch)
+
+
+def history_of(events: Iterable[tuple[int, lines.Event]],
+               watch: Optional[Callable[[int], None]] = None) -> History:
+    """The history of some events, each with the number of its line. Raises NotAHistory."""
+    calls: list[Operation] = []
+    open_calls: dict[int, Operation] = {}
+    crashes: dict[int, int] = {}
+    count = line = 0
+    try:
+        for line, event in events:
+            count += 1
+            if watch is not None and count % TELL_EVERY == 0:
+                watch(line)
+            if event["event"] == "call":
+                call = call_of(line, event)
+                calls.append(call)
+                open_calls[call.process] = call  # type: ignore[index]
+                note_who(call, event)
+                continue
+            end_call(open_calls, crashes, line, event)
+    except (KeyError, TypeError, AttributeError, lines.NotJson) as error:
+        raise NotAHistory(f"line {line}: no event that regcheck accepts") from error
+    count_from_first(calls)
+    return History(calls, count, line, crashes)
+
+
+def call_of(line: int, event: lines.Event) -> Operation:
+    call = Operation(line, event["process"], event["register"], event["op"], event.get("value"))
+    if call.kind == "cas":
+        call.value, call.asked = event["to"], event["from"]
+    return call
+
+
+def note_who(call: Operation, event: lines.Event) -> None:
+    """Notes who calls and when, if the line says so in the recorder's form. The checker takes any form."""
+    call.client, call.node = text_in(event, "client"), text_in(event, "node")
+    time = event.get("time")
+    call.time = time if type(time) is int else None
+
+
+def text_in(event: lines.Event, name: str) -> Optional[str]:
+    """A member that is a text, and not the empty one."""
+    said = event.get(name)
+    return said if type(said) is str and said else None
+
+
+def count_from_first(calls: list[Operation]) -> None:
+    """Lets the times begin with the first call that has one."""
+    first = min((call.time for call in calls if call.time is not None), default=0)
+    for call in calls:
+        if call.time is not None:
+            call.time -= first
+
+
+def end_call(open_calls: dict[int, Operation], crashes: dict[int, int], line: int,
+             event: lines.Event) -> None:
+    """Notes a reply, a fail or a crash on the open call of its process."""
+    process, what = event["process"], event["event"]
+    if what == "crash":
+        crashes[process] = line
+    ended = open_calls.pop(process, None)
+    if ended is None:
+        return
+    ended.ending, ended.end_line = what, line
+    ended.node = text_in(event, "node") or ended.node  # an answer may tell which server gave it
+    if what == "reply" and ended.kind == "read":
+        ended.value = event["value"]
+    if what == "reply" and ended.kind == "cas":
+        ended.took = event["ok"]
+
+
+def operations(calls: Iterable[Operation]) -> list[Operation]:
+    """The calls that are operations: all but those that failed."""
+    return [call for call in calls if not call.failed]

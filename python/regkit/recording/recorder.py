@@ -1,0 +1,63 @@
+"""The recorder of a test."""
+import pathlib
+from typing import Optional
+
+from regkit.recording.calls import Cas, Read, Write
+from regkit.recording.client import Client
+from regkit.recording.journal import Clock, Failures, Journal, Output, RecordingError
+
+
+class Recorder:
+    """A history in the making. `output` is a path, a stream such as sys.stdout, or None to keep it in memory.
+
+    - `failures`: an exception of these that leaves the block of a call says that it certainly had no effect.
+    - `prefix`: each register's name begins with it. `call.register` is the whole name, for the store.
+    - `values_after`: the values of a register's writes are this number plus 1, 2, 3, and so on.
+    - `clock`: gives the time of each line, in whole nanoseconds, such as time.monotonic_ns."""
+
+    def __init__(self, output: Output = None, failures: Failures = (), *, prefix: str = "",
+                 values_after: int = 0, clock: Optional[Clock] = None) -> None:
+        self._journal = Journal(output, failures, prefix, values_after, clock)
+        self.checked = False  # whether a test has looked at the verdict
+
+    def client(self, name: str = "", node: str = "") -> Client:
+        """A client for one thread or task. Its first call takes a process number.
+
+        Its lines have its name, and the node (the server of the store) that it asks, if they are given."""
+        return Client(self._journal, name, node)
+
+    def write(self, register: str, value: Optional[int] = None) -> Write:
+        """A write under any free process number. Take a client where one thread makes several calls."""
+        return Write(Client(self._journal), register, value, alone=True)
+
+    def read(self, register: str) -> Read:
+        """A read under any free process number. Take a client where one thread makes several calls."""
+        return Read(Client(self._journal), register, alone=True)
+
+    def cas(self, register: str, from_: Optional[int], to: int) -> Cas:
+        """A cas under any free process number. Take a client where one thread makes several calls."""
+        return Cas(Client(self._journal), register, from_, to, alone=True)
+
+    @property
+    def path(self) -> Optional[pathlib.Path]:
+        """Where the history is, if it goes to a path."""
+        return self._journal.path
+
+    @property
+    def mistakes(self) -> list[RecordingError]:
+        """Each wrong use so far, also one that was raised in a thread that nobody looked at."""
+        return list(self._journal.mistakes)
+
+    def history(self) -> bytes:
+        """The lines so far, which are a history at any moment: what is open is pending."""
+        return self._journal.content()
+
+    def close(self) -> None:
+        """Ends the history. Open calls stay pending, and a later call raises RecordingError."""
+        self._journal.close()
+
+    def __enter__(self) -> "Recorder":
+        return self
+
+    def __exit__(self, *_: object) -> None:
+        self.close()
