@@ -44,10 +44,10 @@ const STAGES: [(Form, usize, usize); 10] = [
     (Form::DepthFirst, 1, 1),
     (Form::Exact, 1_024, 1_024),
     (Form::Eased, 4_096, 4_096),
-    (Form::Exact, 8, MOST),
     (Form::Thrifty, 32, MOST),
-    (Form::Exact, 32, MOST),
     (Form::Thrifty, 128, MOST),
+    (Form::Exact, 32, MOST),
+    (Form::Thrifty, 512, MOST),
     (Form::Exact, 128, MOST),
     (Form::Exact, MOST, MOST),
 ];
