@@ -19,7 +19,7 @@ use Rattle.configurations.specs.Tables.{IsGiven, IsReleased, IsTable, IsToCome, 
 use Rattle.configurations.specs.Configs.{AreHeld, AreOff, IsAble, IsAnyAble, IsHeld, IsOver, free_of, lacking, owed_by}
 use Rattle.configurations.proofs.Lists.{In-without, without-In}
 use Rattle.configurations.proofs.Members.{member_of_slot, slot_of_member}
-use Rattle.configurations.proofs.Unseen.{IsIdle, as_free, settled_free}
+use Rattle.configurations.proofs.Unseen.{IsIdle, as_free, counted, settled_by}
 use Rattle.configurations.proofs.Standing.{looking_is_idle}
 use Rattle.configurations.proofs.Replying.{same_slot}
 
@@ -121,10 +121,10 @@ module _ {W : ℕ} where
   pub with_all : (t : Table W) (slot : ℕ) (before now : Configs W) (n : ℕ) → length now.list.items ≤ n → IsCalledTo t slot before now n → AreHeld (has t.used) now
   with_all t slot before now n le o at d g = o.fresh at d (omega (arith, slice_get_within now.list.items at d g, le)) g
 
-  pub with_any : (t : Table W) (slot : ℕ) (before now : Configs W) (n : ℕ) → length now.list.items ≤ n → now.done ≡ before.done → IsCalledTo t slot before now n → (es : List Moment) → IsAnyAble t before (Call (call_at t slot) ∷ es) → IsAnyAble t now es
-  with_any t slot before now n le same o es a = elim (cases_lt a.0 n) [
-    | inl lt ↦ let r = o.live a.0 a.1 lt a.3 in (a.0, r.0, subst (λ x. x ≤ a.0) (sym same) a.2, r.1, r.2 es a.4)
-    | inr ge ↦ let g : slice_get now.list.items a.0 ≡ Some a.1 = o.rest a.0 ge ∙ a.3 in absurd (omega (arith, slice_get_within now.list.items a.0 a.1 g, ge, le))
+  pub with_any : (t : Table W) (slot : ℕ) (before now : Configs W) (n : ℕ) → length now.list.items ≤ n → IsCalledTo t slot before now n → (es : List Moment) → IsAnyAble t before (Call (call_at t slot) ∷ es) → IsAnyAble t now es
+  with_any t slot before now n le o es a = elim (cases_lt a.0 n) [
+    | inl lt ↦ let r = o.live a.0 a.1 lt a.2 in (a.0, r.0, r.1, r.2 es a.3)
+    | inr ge ↦ let g : slice_get now.list.items a.0 ≡ Some a.1 = o.rest a.0 ge ∙ a.2 in absurd (omega (arith, slice_get_within now.list.items a.0 a.1 g, ge, le))
   ]
 
   -- ---- slots are given and taken back
@@ -139,17 +139,16 @@ module _ {W : ℕ} where
   pub able_same : (t u : Table W) (slot : ℕ) (cs : Configs W) (es : List Moment) → u.ops.items ≡ t.ops.items → ((q : ℕ) → q ≢ slot → slice_get u.calls.items q ≡ slice_get t.calls.items q) → AreOff slot cs → IsAnyAble t cs es → IsAnyAble u cs es
   able_same t u slot cs es ops same off a =
       let c = a.1 in
-      let o = off a.0 c a.3 in
+      let o = off a.0 c a.2 in
       let back : (q : ℕ) → q ≢ slot → slice_get t.calls.items q ≡ slice_get u.calls.items q = λ q n. sym (same q n) in (
         a.0,
         c,
         a.2,
-        a.3,
         subst (λ x. AliveFree x c.value (owed_by u c) (free_of u c) es) (sym ops) (as_free t.ops.items es c.value c.value (owed_by t c) (free_of t c) (owed_by u c) (free_of u c) refl (record {
           owes = λ j i. same_members u t c.owed slot j back o.0 i;
           keeps = λ j i. inl (inl (same_members t u c.owed slot j same o.0 i));
           has = λ j i. inl (same_members t u c.free slot j same o.1 i);
-        }) a.4),
+        }) a.3),
       )
 
   pub off_unused : (used : ℕ → Bool) (slot : ℕ) (cs : Configs W) → used slot ≡ false → AreHeld used cs → AreOff slot cs
@@ -229,7 +228,7 @@ module _ {W : ℕ} where
 
   -- a configuration without the call goes over its reply
   pub replied_able : (t : Table W) (c : Config W) (k : ℕ) (es : List Moment) → IsHeld (has t.used) c → ((q : ℕ) → has t.used q ≡ true → call_at t q ≡ k → ⊥) → IsToCome t (Reply k ∷ es) → IsAble t c (Reply k ∷ es) → IsAble t c es
-  replied_able t c k es held away to_come l = elim (settled_free t.ops.items es c.value (owed_by t c) (free_of t c) k (λ h. absent c.owed held.0 h) uncalled l) [
+  replied_able t c k es held away to_come l = elim (let n = counted t.ops.items es c.value (owed_by t c) (free_of t c) k l in settled_by t.ops.items es k n.0 c.value (owed_by t c) (free_of t c) (λ h. absent c.owed held.0 h) uncalled n.1) [
     | inl r ↦ as_free t.ops.items es c.value c.value (owed_by t c) (without k (free_of t c)) (owed_by t c) (free_of t c) refl (record {
       owes = λ j h. h;
       keeps = λ j h. inl (inl h);
@@ -250,25 +249,23 @@ module _ {W : ℕ} where
   -- ---- the step over a call
 
   -- a call that changes nothing needs no slot
-  pub no_call_over : (t : Table W) (cs : Configs W) (k : ℕ) → IsTable t → AreHeld (has t.used) cs → cs.done ≡ 0 → IsIdle t.ops.items k → IsOver true t cs (Call k) t cs
-  no_call_over t cs k i held start idle = record {
+  pub no_call_over : (t : Table W) (cs : Configs W) (k : ℕ) → IsTable t → AreHeld (has t.used) cs → IsIdle t.ops.items k → IsOver true t cs (Call k) t cs
+  no_call_over t cs k i held idle = record {
     ops = refl;
     table = i;
     held = held;
-    start = start;
-    step = λ _ es c. (to_come_called t k es c, λ a. (a.0, a.1, a.2, a.3, idle_run t.ops.items a.1.value k (owed_by t a.1) (free_of t a.1) es idle a.4));
+    step = λ _ es c. (to_come_called t k es c, λ a. (a.0, a.1, a.2, idle_run t.ops.items a.1.value k (owed_by t a.1) (free_of t a.1) es idle a.3));
   }
 
   -- a call has got a slot, and is open in each configuration
-  pub call_over : (t u : Table W) (before after : Configs W) (slot k : ℕ) → IsTable u → AreHeld (has t.used) before → before.done ≡ 0 → IsGiven t u slot k → AreHeld (has u.used) after → after.done ≡ before.done
+  pub call_over : (t u : Table W) (before after : Configs W) (slot k : ℕ) → IsTable u → AreHeld (has t.used) before → IsGiven t u slot k → AreHeld (has u.used) after
       → ((es : List Moment) → IsAnyAble u before (Call (call_at u slot) ∷ es) → IsAnyAble u after es) → IsOver true t before (Call k) u after
-  call_over t u before after slot k i held start g held' done able =
+  call_over t u before after slot k i held g held' able =
       let same : call_at u slot ≡ k = get_or_from_slice_get u.calls.items slot k 0 g.call in
       record {
         ops = g.ops;
         table = i;
         held = held';
-        start = done ∙ start;
         step = λ _ es c. (
           to_come_given t u slot k es g c,
           λ a. able es (subst (λ x. IsAnyAble u before (Call x ∷ es)) (sym same) (able_same t u slot before (Call k ∷ es) g.ops g.calls (off_unused (has t.used) slot before g.free held) a)),
@@ -278,33 +275,28 @@ module _ {W : ℕ} where
   -- ---- the step over a reply
 
   -- a call without a slot took effect at once
-  pub no_reply_over : (t : Table W) (cs : Configs W) (k : ℕ) → IsTable t → AreHeld (has t.used) cs → cs.done ≡ 0 → ((q : ℕ) → has t.used q ≡ true → call_at t q ≡ k → ⊥) → IsOver true t cs (Reply k) t cs
-  no_reply_over t cs k i held start away = record {
+  pub no_reply_over : (t : Table W) (cs : Configs W) (k : ℕ) → IsTable t → AreHeld (has t.used) cs → ((q : ℕ) → has t.used q ≡ true → call_at t q ≡ k → ⊥) → IsOver true t cs (Reply k) t cs
+  no_reply_over t cs k i held away = record {
     ops = refl;
     table = i;
     held = held;
-    start = start;
-    step = λ _ es c. (to_come_replied t k es away c, λ a. (a.0, a.1, a.2, a.3, replied_able t a.1 k es (held a.0 a.1 a.3) away c a.4));
+    step = λ _ es c. (to_come_replied t k es away c, λ a. (a.0, a.1, a.2, replied_able t a.1 k es (held a.0 a.1 a.2) away c a.3));
   }
 
   able_released : (t u : Table W) (c : Config W) (es : List Moment) {slot : ℕ} → IsReleased t u slot → IsAble t c es → IsAble u c es
   able_released t u c es r a = subst (λ x. AliveFree x c.value (owed_by u c) (free_of u c) es) (sym r.ops) (subst (λ ks. AliveFree t.ops.items c.value (members ks c.owed) (members ks c.free) es) (sym r.calls) a)
 
-  pub reply_over : (whole : Bool) (t u : Table W) (before work after : Configs W) (slot k : ℕ) → IsTable t → IsTable u → has t.used slot ≡ true → call_at t slot ≡ k → IsReleased t u slot → AreHeld (lacking (has t.used) slot) after → after.done ≡ 0
-      → (IsTrue whole → (es : List Moment) → IsAnyAble t before es → IsAnyAble t work es)
-      → (IsTrue whole → (es : List Moment) → IsToCome t (Reply (call_at t slot) ∷ es) → IsAnyAble t work (Reply (call_at t slot) ∷ es) → IsAnyAble t after es) → IsOver whole t before (Reply k) u after
-  reply_over whole t u before work after slot k i j used is r held start thinned goes = record {
+  pub reply_over : (whole : Bool) (t u : Table W) (before after : Configs W) (slot k : ℕ) → IsTable t → IsTable u → has t.used slot ≡ true → call_at t slot ≡ k → IsReleased t u slot → AreHeld (lacking (has t.used) slot) after
+      → (IsTrue whole → (es : List Moment) → IsToCome t (Reply (call_at t slot) ∷ es) → IsAnyAble t before (Reply (call_at t slot) ∷ es) → IsAnyAble t after es) → IsOver whole t before (Reply k) u after
+  reply_over whole t u before after slot k i j used is r held goes = record {
     ops = r.ops;
     table = j;
     held = held_within (lacking (has t.used) slot) (has u.used) after (released_within t u slot r) held;
-    start = start;
     step = λ all es c. (
       to_come_released t u slot k es i used is r c,
       λ a.
           let came = subst (λ x. IsToCome t (Reply x ∷ es)) (sym is) c in
-          let before_reply = subst (λ x. IsAnyAble t before (Reply x ∷ es)) (sym is) a in
-          let b = goes all es came (thinned all (Reply (call_at t slot) ∷ es) before_reply) in
-          let calls = r.calls in
-          (b.0, b.1, b.2, b.3, able_released t u b.1 es r b.4),
+          let b = goes all es came (subst (λ x. IsAnyAble t before (Reply x ∷ es)) (sym is) a) in
+          (b.0, b.1, b.2, able_released t u b.1 es r b.3),
     );
   }

@@ -44,7 +44,6 @@ module _ {W : ℕ} where
     λ l. (
       0,
       f.config,
-      subst (λ x. x ≤ 0) (sym f.done) (omega arith),
       ap (λ x. slice_get x 0) f.only,
       as_free t.ops.items es 0 f.config.value [] [] (owed_by t f.config) (free_of t f.config) (sym f.value) (record {
         owes = λ j h. let r = slot_of_member t.calls.items f.config.owed j h in absurd (false≢true (sym (f.nothing_owed r.0) ∙ r.2));
@@ -68,7 +67,7 @@ module _ {W : ℕ} where
       let same : take (suc n) events ≡ take (n + 1) events ++ [] = ap (λ n. take n events) (sym (add-one n)) ∙ sym (append-nil (take (n + 1) events)) in
       let r = c [] (subst (AreInOrder ops []) same (in_order-take ops [] (suc n) events o)) in
       let a = r.1 (subst (AliveFree ops 0 [] []) same l) in
-      let here : slice_get [] a.0 ≡ Some a.1 = subst (λ x. slice_get x a.0 ≡ Some a.1) none a.3 in
+      let here : slice_get [] a.0 ≡ Some a.1 = subst (λ x. slice_get x a.0 ≡ Some a.1) none a.2 in
       absurd (cc)
 
   -- the first configuration has no slots

@@ -8,10 +8,10 @@ use Rattle.configurations.specs.declared.op.Op.{Op}
 use Rattle.configurations.specs.declared.moment.Moment.{Moment}
 use Rattle.configurations.specs.declared.moment.Moment.TheVariants.{Call, Reply}
 use Rattle.configurations.specs.Ops.{fits_at, left_at, rank_at, writes_at}
-use Rattle.configurations.specs.Runs.{AliveFree, AreInOrder, without}
+use Rattle.configurations.specs.Runs.{AliveBy, AreInOrder, without}
 use Rattle.configurations.specs.Use.{AreAlike, IsSooner, free_after, freed, kept, open_after, stays}
 use Rattle.configurations.proofs.Lists.{In-without, same_or, without-In}
-use Rattle.configurations.proofs.Unseen.{exchange, exchange_free}
+use Rattle.configurations.proofs.Unseen.{exchange_by, exchange_free_by}
 
 -- ---- who replies first
 
@@ -58,7 +58,7 @@ pub record MayLead (p f : List ℕ) (i j : ℕ) : Type 0 where
   pub there : In j p ⊎ In j f
   pub opened : (In i p × (In i f → ⊥)) ⊎ (In i f × (In i p → ⊥) × (In j p → ⊥))
 
-module _ (ops : List Op) (k i j : ℕ) (p f : List ℕ) (es : List Moment) (m : MayLead p f i j) where
+module _ (ops : List Op) (k i j : ℕ) (p f : List ℕ) (es : List Moment) (steps : ℕ) (m : MayLead p f i j) where
   others_kept : (x : ℕ) → In x (kept ops k (without i p)) → In x p × (x ≡ i → ⊥) × (stays ops k x ≡ true)
   others_kept x a =
       let b = filter-In (stays ops k) x (without i p) a in
@@ -107,11 +107,11 @@ module _ (ops : List Op) (k i j : ℕ) (p f : List ℕ) (es : List Moment) (m : 
 
     -- the leader is the call that replies
     writes_lead_owed : i ≡ k → (s t : ℕ) → s ≡ t → ((v : ℕ) → fits_at ops i v ≡ fits_at ops j v) → ((v : ℕ) → left_at ops i v ≡ left_at ops j v) → IsSooner i j (Reply k ∷ es) → (In (Call i) (Reply k ∷ es) → ⊥) → (In (Call j) (Reply k ∷ es) → ⊥)
-        → AliveFree ops s (kept ops k (without j p)) (freed ops k (without j p) ++ without j f) (Reply k ∷ es) → AliveFree ops t (kept ops k (without i p)) (freed ops k (without i p) ++ without i f) (Reply k ∷ es)
+        → AliveBy ops k es steps s (kept ops k (without j p)) (freed ops k (without j p) ++ without j f) → AliveBy ops k es steps t (kept ops k (without i p)) (freed ops k (without i p) ++ without i f)
     writes_lead_owed e s t same fit leave so ci cj r =
         let here : In i p = subst (λ x. In x p) (sym e) k_in in
         let unfree : In i f → ⊥ = λ h. elim m.opened [ inl o ↦ o.1 h | inr o ↦ o.1 here ] in
-        exchange ops i j fit leave (Reply k ∷ es) s t (kept ops k (without j p)) (freed ops k (without j p) ++ without j f) (kept ops k (without i p)) (freed ops k (without i p) ++ without i f) same so ci cj (record {
+        exchange_by ops i j fit leave es k steps s t (kept ops k (without j p)) (freed ops k (without j p) ++ without j f) (kept ops k (without i p)) (freed ops k (without i p) ++ without i f) same so (λ h. ci (inr h)) (λ h. cj (inr h)) (record {
           apart = m.apart;
           owed = kept_others j i here m.apart (stays_true ops k i (inl e));
           other = inr spared;
@@ -129,11 +129,11 @@ module _ (ops : List Op) (k i j : ℕ) (p f : List ℕ) (es : List Moment) (m : 
 
     -- it is another one
     writes_lead_free : (i ≡ k → ⊥) → (s t : ℕ) → s ≡ t → ((v : ℕ) → fits_at ops i v ≡ fits_at ops j v) → ((v : ℕ) → left_at ops i v ≡ left_at ops j v) → IsSooner i j (Reply k ∷ es) → (In (Call i) (Reply k ∷ es) → ⊥) → (In (Call j) (Reply k ∷ es) → ⊥)
-        → AliveFree ops s (kept ops k (without j p)) (freed ops k (without j p) ++ without j f) (Reply k ∷ es) → AliveFree ops t (kept ops k (without i p)) (freed ops k (without i p) ++ without i f) (Reply k ∷ es)
+        → AliveBy ops k es steps s (kept ops k (without j p)) (freed ops k (without j p) ++ without j f) → AliveBy ops k es steps t (kept ops k (without i p)) (freed ops k (without i p) ++ without i f)
     writes_lead_free n s t same fit leave so ci cj r =
         let leaves : stays ops k i ≡ false = stays_not ops k i n write_i in
         let differs : (x : ℕ) → stays ops k x ≡ true → x ≡ i → ⊥ = λ x a y. false≢true (sym leaves ∙ subst (λ z. stays ops k z ≡ true) y a) in
-        exchange_free ops i j fit leave (Reply k ∷ es) s t (kept ops k (without j p)) (freed ops k (without j p) ++ without j f) (kept ops k (without i p)) (freed ops k (without i p) ++ without i f) same so ci cj (record {
+        exchange_free_by ops i j fit leave es k steps s t (kept ops k (without j p)) (freed ops k (without j p) ++ without j f) (kept ops k (without i p)) (freed ops k (without i p) ++ without i f) same so (λ h. ci (inr h)) (λ h. cj (inr h)) (record {
           free = freed_others j i (elim m.opened [ inl o ↦ inl (o.0, leaves) | inr o ↦ inr o.0 ]) m.apart;
           not_owed = λ a. differs i (kept_there i a).1 refl;
           other = spared;
@@ -147,9 +147,9 @@ module _ (ops : List Op) (k i j : ℕ) (p f : List ℕ) (es : List Moment) (m : 
   -- ---- neither is a write
 
   others_lead : (s t : ℕ) → s ≡ t → ((v : ℕ) → fits_at ops i v ≡ fits_at ops j v) → ((v : ℕ) → left_at ops i v ≡ left_at ops j v) → IsSooner i j (Reply k ∷ es) → (In (Call i) (Reply k ∷ es) → ⊥) → (In (Call j) (Reply k ∷ es) → ⊥)
-      → AliveFree ops s (without j p) (without j f) (Reply k ∷ es) → AliveFree ops t (without i p) (without i f) (Reply k ∷ es)
+      → AliveBy ops k es steps s (without j p) (without j f) → AliveBy ops k es steps t (without i p) (without i f)
   others_lead s t same fit leave so ci cj r = elim m.opened [
-    | inl o ↦ exchange ops i j fit leave (Reply k ∷ es) s t (without j p) (without j f) (without i p) (without i f) same so ci cj (record {
+    | inl o ↦ exchange_by ops i j fit leave es k steps s t (without j p) (without j f) (without i p) (without i f) same so (λ h. ci (inr h)) (λ h. cj (inr h)) (record {
       apart = m.apart;
       owed = In-without j i p o.0 m.apart;
       other = elim m.there [ inl h ↦ inl (In-without i j p h (λ e. m.apart (sym e))) | inr h ↦ inr (In-without i j f h (λ e. m.apart (sym e))) ];
@@ -159,7 +159,7 @@ module _ (ops : List Op) (k i j : ℕ) (p f : List ℕ) (es : List Moment) (m : 
       keeps = λ x a n. inl (inl (In-without i x p (without-In j x p a).0 n));
       has = λ x a. let b = without-In j x f a in inl (In-without i x f b.0 (λ e. o.1 (subst (λ y. In y f) e b.0)));
     }) r
-    | inr o ↦ exchange_free ops i j fit leave (Reply k ∷ es) s t (without j p) (without j f) (without i p) (without i f) same so ci cj (record {
+    | inr o ↦ exchange_free_by ops i j fit leave es k steps s t (without j p) (without j f) (without i p) (without i f) same so (λ h. ci (inr h)) (λ h. cj (inr h)) (record {
       free = In-without j i f o.0 m.apart;
       not_owed = λ a. o.1 (without-In j i p a).0;
       other = elim m.there [ inl h ↦ absurd (o.2 h) | inr h ↦ In-without i j f h (λ e. m.apart (sym e)) ];
@@ -173,11 +173,11 @@ module _ (ops : List Op) (k i j : ℕ) (p f : List ℕ) (es : List Moment) (m : 
 
   -- what can be explained once j has taken effect can be once i has
   pub leads : AreAlike ops i j → In k p → (j ≡ k → ⊥) → IsSooner i j (Reply k ∷ es) → (In (Call i) (Reply k ∷ es) → ⊥) → (In (Call j) (Reply k ∷ es) → ⊥) → (v : ℕ)
-      → AliveFree ops (left_at ops j v) (open_after ops k j p) (free_after ops k j p f) (Reply k ∷ es) → AliveFree ops (left_at ops i v) (open_after ops k i p) (free_after ops k i p f) (Reply k ∷ es)
+      → AliveBy ops k es steps (left_at ops j v) (open_after ops k j p) (free_after ops k j p f) → AliveBy ops k es steps (left_at ops i v) (open_after ops k i p) (free_after ops k i p f)
   leads a k_in not_k so ci cj v r = go (writes_at ops j) (writes_at ops i) refl a.write r
     where
-      go : (b c : Bool) → writes_at ops j ≡ b → c ≡ writes_at ops j → AliveFree ops (left_at ops j v) (cond b (kept ops k (without j p)) (without j p)) (cond b (freed ops k (without j p) ++ without j f) (without j f)) (Reply k ∷ es)
-          → AliveFree ops (left_at ops i v) (cond c (kept ops k (without i p)) (without i p)) (cond c (freed ops k (without i p) ++ without i f) (without i f)) (Reply k ∷ es)
+      go : (b c : Bool) → writes_at ops j ≡ b → c ≡ writes_at ops j → AliveBy ops k es steps (left_at ops j v) (cond b (kept ops k (without j p)) (without j p)) (cond b (freed ops k (without j p) ++ without j f) (without j f))
+          → AliveBy ops k es steps (left_at ops i v) (cond c (kept ops k (without i p)) (without i p)) (cond c (freed ops k (without i p) ++ without i f) (without i f))
       go true true e d r = elim (same_or i k) [
         | inl y ↦ writes_lead_owed (a.write ∙ e) e k_in not_k y (left_at ops j v) (left_at ops i v) (sym (a.leave v)) a.fit a.leave so ci cj r
         | inr n ↦ writes_lead_free (a.write ∙ e) e k_in not_k n (left_at ops j v) (left_at ops i v) (sym (a.leave v)) a.fit a.leave so ci cj r

@@ -1,10 +1,10 @@
 -- The step over a reply, by slots.
-use Rattle.std.proofs.Common.{◌≡◌, ◌≢◌, ℕ, zero, suc, ◌+◌, ◌<◌, ◌≤◌, ◌==◌, ◌&&◌, ◌||◌, not, cond, Bool, true, false, List, ◌∷◌, ◌++◌, ◌⊎◌, length, slice_get, Some, inl, inr, refl, sym, ap, subst, ◌∙◌, arith}
+use Rattle.std.proofs.Common.{◌≡◌, ◌≢◌, ℕ, zero, suc, ◌+◌, ◌<◌, ◌≤◌, ◌==◌, ◌&&◌, ◌||◌, not, cond, Bool, true, false, List, [], ◌∷◌, ◌++◌, ◌⊎◌, length, slice_get, Some, inl, inr, refl, sym, ap, subst, ◌∙◌, arith}
 use Rattle.std.proofs.lemmas.Bool.{false≢true, cases_Bool, cases_eq}
 use Rattle.std.proofs.lemmas.Bool.Decides.{nat_tests}
 use Rattle.std.proofs.lemmas.Option.{get_or_from_slice_get, slice_get_within}
 use Rattle.history_model.specs.Lists.{In}
-use Rattle.history_model.proofs.Lists.{In-filter, filter-In, append-In}
+use Rattle.history_model.proofs.Lists.{In-filter, filter-In, append-In, slice_get_inside}
 use Rattle.slot_sets.specs.Sets.{has}
 use Rattle.configurations.specs.declared.op.Op.{Op}
 use Rattle.configurations.specs.declared.moment.Moment.{Moment}
@@ -13,13 +13,13 @@ use Rattle.configurations.specs.declared.table.Table.{Table}
 use Rattle.configurations.specs.declared.config.Config.{Config}
 use Rattle.configurations.specs.declared.config.Configs.{Configs}
 use Rattle.configurations.specs.Ops.{asks_at, fits_at, left_at, option_writes, rank_at, writes_at}
-use Rattle.configurations.specs.Runs.{AliveFree, without}
+use Rattle.configurations.specs.Runs.{AliveBy, AliveFree, without}
 use Rattle.configurations.specs.Use.{IsAsked, IsOfUse, free_after, freed, kept, open_after, stays}
 use Rattle.configurations.specs.Tables.{IsBefore, IsTable, IsToCome, IsWithin, call_at, members}
-use Rattle.configurations.specs.Configs.{AreKept, GoesOver, IsAble, IsAnyAble, IsHeld, IsLed, IsTried, free_of, lacking, owed_by}
+use Rattle.configurations.specs.Configs.{AreApart, AreKept, AreStill, GoesBy, IsAble, IsAbleBy, IsAnyAble, IsAnyAbleBy, IsBegun, IsGoneOver, IsHeld, IsLed, IsTried, free_of, lacking, owed_by}
 use Rattle.configurations.proofs.Lists.{In-without, without-In}
 use Rattle.configurations.proofs.Members.{member_at, member_of_slot, slot_of_member}
-use Rattle.configurations.proofs.Unseen.{IsUseful, as_free, useful_step}
+use Rattle.configurations.proofs.Unseen.{IsUseful, as_free, as_free_by, counted, useful_step}
 use Rattle.configurations.proofs.Leading.{leads, sooner, stays_false, stays_true}
 use Rattle.configurations.proofs.Standing.{look_is_idle}
 
@@ -117,17 +117,17 @@ module _ {W : ℕ} where
     differs : (q x r : ℕ) → has t.used q ≡ true → has t.used r ≡ true → slice_get t.calls.items q ≡ Some x → q ≢ r → x ≡ call_at t r → ⊥
     differs q x r u v e n z = n (same_slot t i q r u v (get_or_from_slice_get t.calls.items q x 0 e ∙ z))
 
-    pub offspring_able : (v : ℕ) (es : List Moment) → d.value ≡ left_at t.ops.items (call_at t slot) v
-        → AliveFree t.ops.items (left_at t.ops.items (call_at t slot) v) (open_after t.ops.items (call_at t reply) (call_at t slot) (owed_by t c)) (free_after t.ops.items (call_at t reply) (call_at t slot) (owed_by t c) (free_of t c)) es
-        → IsAble t d es
-    offspring_able v es e l =
+    pub offspring_able : (v : ℕ) (es : List Moment) (n : ℕ) → d.value ≡ left_at t.ops.items (call_at t slot) v
+        → AliveBy t.ops.items (call_at t reply) es n (left_at t.ops.items (call_at t slot) v) (open_after t.ops.items (call_at t reply) (call_at t slot) (owed_by t c)) (free_after t.ops.items (call_at t reply) (call_at t slot) (owed_by t c) (free_of t c))
+        → IsAbleBy t (call_at t reply) es n d
+    offspring_able v es n e l =
         let ops = t.ops.items in
         let ks = t.calls.items in
         let j = call_at t slot in
         let k = call_at t reply in
         let p = owed_by t c in
         let f = free_of t c in
-        as_free ops es (left_at ops j v) d.value (open_after ops k j p) (free_after ops k j p f) (owed_by t d) (free_of t d) (sym e) (record {
+        as_free_by ops es k n (left_at ops j v) d.value (open_after ops k j p) (free_after ops k j p f) (owed_by t d) (free_of t d) (sym e) (record {
           owes = λ x a.
               let r = slot_of_member ks d.owed x a in
               let q = r.0 in
@@ -193,14 +193,14 @@ module _ {W : ℕ} where
     }) l
 
     -- it must take effect now
-    pub owing_able : (c d : Config W) (es : List Moment) → d.value ≡ c.value → has c.owed reply ≡ false → has d.owed reply ≡ true → ((q : ℕ) → q ≢ reply → has d.owed q ≡ has c.owed q) → ((q : ℕ) → q ≢ reply → has d.free q ≡ has c.free q)
-        → AliveFree t.ops.items c.value (call_at t reply ∷ owed_by t c) (without (call_at t reply) (free_of t c)) es → IsAble t d es
-    owing_able c d es v none one other same l = as_free t.ops.items es c.value d.value (call_at t reply ∷ owed_by t c) (without (call_at t reply) (free_of t c)) (owed_by t d) (free_of t d) (sym v) (record {
+    pub owing_able : (c d : Config W) (es : List Moment) (n : ℕ) → d.value ≡ c.value → has c.owed reply ≡ false → has d.owed reply ≡ true → ((q : ℕ) → q ≢ reply → has d.owed q ≡ has c.owed q) → ((q : ℕ) → q ≢ reply → has d.free q ≡ has c.free q)
+        → AliveBy t.ops.items (call_at t reply) es n c.value (call_at t reply ∷ owed_by t c) (without (call_at t reply) (free_of t c)) → IsAbleBy t (call_at t reply) es n d
+    owing_able c d es n v none one other same l = as_free_by t.ops.items es (call_at t reply) n c.value d.value (call_at t reply ∷ owed_by t c) (without (call_at t reply) (free_of t c)) (owed_by t d) (free_of t d) (sym v) (record {
       owes = λ x a.
           let r = slot_of_member t.calls.items d.owed x a in
           elim (cases_eq r.0 reply) [
             | inl z ↦ inl (sym (get_or_from_slice_get t.calls.items r.0 x 0 r.1) ∙ ap (call_at t) z)
-            | inr n ↦ inr (member_of_slot t.calls.items c.owed x r.0 r.1 (sym (other r.0 n) ∙ r.2))
+            | inr m ↦ inr (member_of_slot t.calls.items c.owed x r.0 r.1 (sym (other r.0 m) ∙ r.2))
           ];
       keeps = λ x a. inl (inl (elim a [
         | inl e ↦ subst (λ y. In y (owed_by t d)) (sym e) (call_member t i d.owed reply reply_used one)
@@ -279,7 +279,7 @@ module _ {W : ℕ} where
     no_lower : (q : ℕ) (l : IsLed t c q) → rank l.leader ≤ rank q
     no_lower q l = elim l.sooner [ inl a ↦ omega (arith, a) | inr a ↦ omega (arith, a.0) ]
 
-    module _ (es : List Moment) (to_come : IsToCome t (Reply k ∷ es)) where
+    module _ (es : List Moment) (by : ℕ) (to_come : IsToCome t (Reply k ∷ es)) where
       -- none goes before the call that replies
       not_reply : (q : ℕ) → has t.used q ≡ true → IsLed t c q → call_at t q ≡ k → ⊥
       not_reply q u l e = elim (to_come.ordered.0 (call_at t l.leader) (to_come.there l.leader (used_open l.leader (open_led q l)))) [
@@ -291,10 +291,10 @@ module _ {W : ℕ} where
       ]
 
       abbrev Result : Type 0
-      Result = IsAnyAble t work (Reply k ∷ es) ⊎ IsAnyAble t next es
+      Result = IsAnyAbleBy t k es by work ⊎ IsAnyAble t next es
 
       abbrev CanGo : ℕ → Type 0
-      CanGo q = AliveFree t.ops.items (left_at t.ops.items (call_at t q) c.value) (open_after t.ops.items k (call_at t q) (owed_by t c)) (free_after t.ops.items k (call_at t q) (owed_by t c) (free_of t c)) (Reply k ∷ es)
+      CanGo q = AliveBy t.ops.items k es by (left_at t.ops.items (call_at t q) c.value) (open_after t.ops.items k (call_at t q) (owed_by t c)) (free_after t.ops.items k (call_at t q) (owed_by t c) (free_of t c))
 
       -- what is known of a call that may be tried
       record Candidate (q : ℕ) : Type 0 where
@@ -327,7 +327,7 @@ module _ {W : ℕ} where
             opened = open_led q l;
             fits = l.alike.fit c.value ∙ a.fits;
             of_use = leader_of_use q u l a.of_use;
-            goes = leads t.ops.items k (call_at t l.leader) (call_at t q) (owed_by t c) (free_of t c) es (record {
+            goes = leads t.ops.items k (call_at t l.leader) (call_at t q) (owed_by t c) (free_of t c) es by (record {
               apart = n;
               there = elim a.opened [ inl x ↦ inl (call_member t i c.owed q u x) | inr x ↦ inr (call_member t i c.free q u x) ];
               opened = elim l.opened [
@@ -337,70 +337,107 @@ module _ {W : ℕ} where
             }) l.alike owes (not_reply q u l) (sooner t.ops.items (call_at t l.leader) (call_at t q) to_come.opened (Reply k ∷ es) (to_come.there l.leader v) n (no_lower q l) to_come.ordered) (to_come.uncalled l.leader v) (to_come.uncalled q u) c.value a.goes;
           }
 
-      -- by induction over the slots among calls of one rank, where those of lower ranks are had
-      by_slot : In k (owed_by t c) → ((q : ℕ) → IsOpen q → fits_at t.ops.items (call_at t q) c.value ≡ true → IsTried t c q reply work next) → (n : ℕ) → ((q : ℕ) → rank q < n → Candidate q → Result) → (m : ℕ) (q : ℕ) → q < m → rank q < suc n → Candidate q → Result
-      by_slot owes tried n lower zero q below lt a = absurd (omega (arith, below))
-      by_slot owes tried n lower (suc m) q below lt a = elim (tried q a.opened a.fits a.of_use) [
-        | inr goes ↦ goes es to_come a.goes
+      -- by induction over the calls of one rank, where those of lower ranks are had
+      by_call : In k (owed_by t c) → ((q : ℕ) → IsOpen q → fits_at t.ops.items (call_at t q) c.value ≡ true → IsTried t c q reply work next) → (n : ℕ) → ((q : ℕ) → rank q < n → Candidate q → Result) → (m : ℕ) (q : ℕ) → call_at t q < m → rank q < suc n → Candidate q → Result
+      by_call owes tried n lower zero q below lt a = absurd (omega (arith, below))
+      by_call owes tried n lower (suc m) q below lt a = elim (tried q a.opened a.fits a.of_use) [
+        | inr goes ↦ goes es by to_come a.goes
         | inl l ↦ elim l.sooner [
           | inl less ↦ lower l.leader (omega (arith, less, lt)) (leader_goes owes q l a)
-          | inr same ↦ by_slot owes tried n lower m l.leader (omega (arith, same.1, below)) (omega (arith, same.0, lt)) (leader_goes owes q l a)
+          | inr same ↦ by_call owes tried n lower m l.leader (omega (arith, same.1, below)) (omega (arith, same.0, lt)) (leader_goes owes q l a)
         ]
       ]
 
       -- and over the ranks
       first_goes : In k (owed_by t c) → ((q : ℕ) → IsOpen q → fits_at t.ops.items (call_at t q) c.value ≡ true → IsTried t c q reply work next) → (n : ℕ) (q : ℕ) → rank q < n → Candidate q → Result
       first_goes owes tried zero q lt a = absurd (omega (arith, lt))
-      first_goes owes tried (suc n) q lt a = by_slot owes tried n (λ q lt a. first_goes owes tried n q lt a) (suc q) q (omega arith) lt a
+      first_goes owes tried (suc n) q lt a = by_call owes tried n (λ q lt a. first_goes owes tried n q lt a) (suc (call_at t q)) q (omega arith) lt a
 
-    pub goes_over : In k (owed_by t c) → ((q : ℕ) → IsOpen q → fits_at t.ops.items (call_at t q) c.value ≡ true → IsTried t c q reply work next) → GoesOver t k work next c.value (owed_by t c) (free_of t c)
-    goes_over owes tried es to_come l =
-        let u = useful_step t.ops.items es c.value (owed_by t c) (free_of t c) k owes l in
-        elim u.there [
+    pub gone_over : In k (owed_by t c) → ((q : ℕ) → IsOpen q → fits_at t.ops.items (call_at t q) c.value ≡ true → IsTried t c q reply work next) → IsGoneOver t k work next c
+    gone_over owes tried es n to_come l =
+        let u = useful_step t.ops.items es k n c.value (owed_by t c) (free_of t c) owes l in
+        let less : u.fewer < n = omega (arith, u.one_less) in
+        let went : IsAnyAbleBy t k es u.fewer work ⊎ IsAnyAble t next es = elim u.there [
           | inl h ↦ let r = slot_of_member t.calls.items c.owed u.j h in at u r.0 (inl r.2) (sym (get_or_from_slice_get t.calls.items r.0 u.j 0 r.1))
           | inr h ↦ let r = slot_of_member t.calls.items c.free u.j h in at u r.0 (inr r.2) (sym (get_or_from_slice_get t.calls.items r.0 u.j 0 r.1))
-        ]
+        ] in
+        elim went [ inl x ↦ inl (u.fewer, less, x) | inr x ↦ inr x ]
       where
-        at : (u : IsUseful t.ops.items es c.value (owed_by t c) (free_of t c) k) (q : ℕ) → IsOpen q → u.j ≡ call_at t q → IsAnyAble t work (Reply k ∷ es) ⊎ IsAnyAble t next es
-        at u q o e = first_goes es to_come owes tried (suc (rank q)) q (omega arith) (record {
+        at : (u : IsUseful t.ops.items es n c.value (owed_by t c) (free_of t c) k) (q : ℕ) → IsOpen q → u.j ≡ call_at t q → IsAnyAbleBy t k es u.fewer work ⊎ IsAnyAble t next es
+        at u q o e = first_goes es u.fewer to_come owes tried (suc (rank q)) q (omega arith) (record {
           opened = o;
           fits = subst (λ x. fits_at t.ops.items x c.value ≡ true) e u.suits;
           of_use = subst (λ x. IsOfUse t.ops.items (owed_by t c) (free_of t c) k x c.value) e u.of_use;
-          goes = subst (λ x. AliveFree t.ops.items (left_at t.ops.items x c.value) (open_after t.ops.items k x (owed_by t c)) (free_after t.ops.items k x (owed_by t c) (free_of t c)) (Reply k ∷ es)) e u.rest;
+          goes = subst (λ x. AliveBy t.ops.items k es u.fewer (left_at t.ops.items x c.value) (open_after t.ops.items k x (owed_by t c)) (free_after t.ops.items k x (owed_by t c) (free_of t c))) e u.rest;
         })
 
   -- ---- lists that keep what they can explain
 
-  pub still_over : (t : Table W) (k : ℕ) (work next work' next' : Configs W) (v : ℕ) (p f : List ℕ) → AreKept t work next work' next' → GoesOver t k work next v p f → GoesOver t k work' next' v p f
-  still_over t k work next work' next' v p f kept g es to_come l = elim (g es to_come l) [ inl x ↦ inl (kept.work_kept (Reply k ∷ es) x) | inr x ↦ inr (kept.next_kept es x) ]
+  pub still_able : (t : Table W) (es : List Moment) (a b : Configs W) → AreStill a b → IsAnyAble t a es → IsAnyAble t b es
+  still_able t es a b still x = (x.0, x.1, still x.0 x.1 x.2, x.3)
 
-  pub kept_both : (t : Table W) (a b a' b' a'' b'' : Configs W) → AreKept t a b a' b' → AreKept t a' b' a'' b'' → AreKept t a b a'' b''
-  kept_both t a b a' b' a'' b'' x y = record {
-    done = y.done ∙ x.done;
-    work_kept = λ es h. y.work_kept es (x.work_kept es h);
-    next_kept = λ es h. y.next_kept es (x.next_kept es h);
+  pub still_able_by : (t : Table W) (k : ℕ) (es : List Moment) (n : ℕ) (a b : Configs W) → AreStill a b → IsAnyAbleBy t k es n a → IsAnyAbleBy t k es n b
+  still_able_by t k es n a b still x = (x.0, x.1, still x.0 x.1 x.2, x.3)
+
+  -- one that is at a place that was there before was there before
+  pub still_back : (a b : Configs W) (at : ℕ) (x : Config W) → AreStill a b → at < length a.list.items → slice_get b.list.items at ≡ Some x → slice_get a.list.items at ≡ Some x
+  still_back a b at x still lt e =
+      let y = slice_get_inside a.list.items at lt in
+      let there : slice_get b.list.items at ≡ Some y.0 = still at y.0 y.1 in
+      let same : y.0 ≡ x = cc (there, e) in
+      subst (λ z. slice_get a.list.items at ≡ Some z) same y.1
+
+  pub kept_both : (a b a' b' a'' b'' : Configs W) → AreKept a b a' b' → AreKept a' b' a'' b'' → AreKept a b a'' b''
+  kept_both a b a' b' a'' b'' x y = record {
+    work_kept = λ at c g. y.work_kept at c (x.work_kept at c g);
+    next_kept = λ at c g. y.next_kept at c (x.next_kept at c g);
   }
 
-  pub kept_all : (t : Table W) (a b : Configs W) → AreKept t a b a b
-  kept_all t a b = record { done = refl; work_kept = λ es h. h; next_kept = λ es h. h }
+  pub kept_all : (a b : Configs W) → AreKept a b a b
+  kept_all a b = record { work_kept = λ at c g. g; next_kept = λ at c g. g }
 
-  pub still_tried : (t : Table W) (c : Config W) (q reply : ℕ) (work next work' next' : Configs W) → AreKept t work next work' next' → IsTried t c q reply work next → IsTried t c q reply work' next'
+  pub still_goes : (t : Table W) (k : ℕ) (work next work' next' : Configs W) (v : ℕ) (p f : List ℕ) → AreKept work next work' next' → GoesBy t k work next v p f → GoesBy t k work' next' v p f
+  still_goes t k work next work' next' v p f kept goes es n to_come l = elim (goes es n to_come l) [
+    | inl x ↦ inl (still_able_by t k es n work work' kept.work_kept x)
+    | inr x ↦ inr (still_able t es next next' kept.next_kept x)
+  ]
+
+  pub still_tried : (t : Table W) (c : Config W) (q reply : ℕ) (work next work' next' : Configs W) → AreKept work next work' next' → IsTried t c q reply work next → IsTried t c q reply work' next'
   still_tried t c q reply work next work' next' kept tried of_use = elim (tried of_use) [
     | inl l ↦ inl l
-    | inr goes ↦ inr (still_over t (call_at t reply) work next work' next' _ _ _ kept goes)
+    | inr goes ↦ inr (still_goes t (call_at t reply) work next work' next' _ _ _ kept goes)
   ]
 
-  -- one of `work` has been gone over: `rest` is `work` without it
-  pub more_over : (t : Table W) (k : ℕ) (work rest next work' next' : Configs W) (c : Config W) (es : List Moment) → IsToCome t (Reply k ∷ es) → rest.list.items ≡ work.list.items → rest.done ≡ work.done + 1 → slice_get work.list.items work.done ≡ Some c → AreKept t rest next work' next'
-      → GoesOver t k work' next' c.value (owed_by t c) (free_of t c) → IsAnyAble t work (Reply k ∷ es) ⊎ IsAnyAble t next es → IsAnyAble t work' (Reply k ∷ es) ⊎ IsAnyAble t next' es
-  more_over t k work rest next work' next' c es to_come same done here kept goes (inr x) = inr (kept.next_kept es x)
-  more_over t k work rest next work' next' c es to_come same done here kept goes (inl x) = elim (cases_eq x.0 work.done) [
-    | inl e ↦
-        let there : slice_get work.list.items work.done ≡ Some x.1 = subst (λ y. slice_get work.list.items y ≡ Some x.1) e x.3 in
-        let both : x.1 ≡ c = cc in
-        goes es to_come (subst (λ y. IsAble t y (Reply k ∷ es)) both x.4)
-    | inr n ↦ inl (kept.work_kept (Reply k ∷ es) (x.0, x.1, omega (arith, x.2, n, done), ap (λ xs. slice_get xs x.0) same ∙ x.3, x.4))
+  pub still_gone_over : (t : Table W) (k : ℕ) (c : Config W) (work next work' next' : Configs W) → AreKept work next work' next' → IsGoneOver t k work next c → IsGoneOver t k work' next' c
+  still_gone_over t k c work next work' next' kept gone es n to_come l = elim (gone es n to_come l) [
+    | inl x ↦ inl (x.0, x.1, still_able_by t k es x.0 work work' kept.work_kept x.2)
+    | inr x ↦ inr (still_able t es next next' kept.next_kept x)
   ]
 
-  pub none_to_do : (t : Table W) (work : Configs W) (es : List Moment) → length work.list.items ≤ work.done → IsAnyAble t work es → ⊥
-  none_to_do t work es le x = omega (arith, x.2, slice_get_within work.list.items x.0 x.1 x.3, le)
+  -- all of `work` have been gone over, so one of `next` can explain what comes: by induction over the calls before the reply
+  pub all_gone_over : (t : Table W) (k : ℕ) (work next : Configs W) (es : List Moment) → IsToCome t (Reply k ∷ es) → ((at : ℕ) (c : Config W) → slice_get work.list.items at ≡ Some c → IsGoneOver t k work next c) → (n : ℕ) → IsAnyAbleBy t k es n work → IsAnyAble t next es
+  all_gone_over t k work next es to_come gone n x = go (suc n) n (omega arith) x
+    where
+      go : (most n : ℕ) → n < most → IsAnyAbleBy t k es n work → IsAnyAble t next es
+      go zero n lt x = absurd (omega (arith, lt))
+      go (suc most) n lt x = elim (gone x.0 x.1 x.2 es n to_come x.3) [
+        | inl y ↦ go most y.0 (omega (arith, lt, y.1)) y.2
+        | inr y ↦ y
+      ]
+
+  -- one before the reply, once each of them goes over it
+  pub begun_able : (t : Table W) (now : Configs W) (slot : ℕ) (work next : Configs W) (es : List Moment) → IsBegun t now slot work next → IsToCome t (Reply (call_at t slot) ∷ es) → IsAnyAble t now (Reply (call_at t slot) ∷ es) → ((n : ℕ) × IsAnyAbleBy t (call_at t slot) es n work) ⊎ IsAnyAble t next es
+  begun_able t now slot work next es begun to_come a =
+      let l = counted t.ops.items es a.1.value (owed_by t a.1) (free_of t a.1) (call_at t slot) a.3 in
+      elim (begun a.0 a.1 a.2 es l.0 to_come l.1) [ inl x ↦ inl (l.0, x) | inr x ↦ inr x ]
+
+  -- two empty lists
+  pub none_apart : (t : Table W) (slot : ℕ) (work next : Configs W) → work.list.items ≡ [] → next.list.items ≡ [] → AreApart t slot work next
+  none_apart t slot work next none none' = record {
+    work_held = λ at c e. absurd (nobody at c (subst (λ x. slice_get x at ≡ Some c) none e));
+    work_owe = λ at c e. absurd (nobody at c (subst (λ x. slice_get x at ≡ Some c) none e));
+    next_held = λ at c e. absurd (nobody at c (subst (λ x. slice_get x at ≡ Some c) none' e));
+  }
+    where
+      nobody : (at : ℕ) (c : Config W) → slice_get [] at ≡ Some c → ⊥
+      nobody at c e = absurd (cc)

@@ -1,5 +1,5 @@
 -- Writes that nobody sees: a call that is free may stay out of sight, and only changes that somebody asks for need to be tried.
-use Rattle.std.proofs.Common.{◌≡◌, ℕ, ◌==◌, ◌&&◌, not, cond, Bool, true, false, List, [], ◌∷◌, ◌++◌, ◌⊎◌, inl, inr, refl, sym, ap, subst, ◌∙◌, slice_get, Option, Some, None, arith}
+use Rattle.std.proofs.Common.{◌≡◌, ℕ, suc, ◌==◌, ◌&&◌, not, cond, Bool, true, false, List, [], ◌∷◌, ◌++◌, ◌⊎◌, inl, inr, refl, sym, ap, subst, ◌∙◌, slice_get, Option, Some, None, arith}
 use Rattle.std.proofs.lemmas.Bool.{false≢true, cases_Bool}
 use Rattle.std.proofs.lemmas.Bool.Decides.{nat_tests}
 use Rattle.configurations.specs.declared.op.Op.{Op}
@@ -9,7 +9,7 @@ use Rattle.configurations.specs.declared.moment.Moment.{Moment}
 use Rattle.configurations.specs.declared.moment.Moment.TheVariants.{Call, Reply}
 use Rattle.history_model.specs.Lists.{In}
 use Rattle.configurations.specs.Ops.{fits_at, left_at, option_fits, option_left_by, kind_fits, kind_leaves, writes_at, option_writes, kind_writes, asks_at}
-use Rattle.configurations.specs.Runs.{AliveFree, over_free, called_free, replied_free, uses, without}
+use Rattle.configurations.specs.Runs.{AliveBy, AliveFree, at_once, by_one, over_free, called_free, replied_free, uses, without}
 use Rattle.configurations.specs.Use.{IsOfUse, IsAsked, open_after, free_after, stays, kept, freed, IsSooner}
 use Rattle.history_model.proofs.Lists.{In-filter, filter-In, In-left, In-right, append-In}
 use Rattle.configurations.proofs.Lists.{without-In, In-without, In-or, same_or}
@@ -61,6 +61,40 @@ module _ (ops : List Op) where
         }) r
   ]
 
+  -- ---- by how many calls before the reply
+
+  pub counted : (es : List Moment) (s : ℕ) (p f : List ℕ) (k : ℕ) → AliveFree ops s p f (Reply k ∷ es) → (n : ℕ) × AliveBy ops k es n s p f
+  counted es s p f k (replied_free n r) = (0, at_once n r)
+  counted es s p f k (uses j i z r) = let c = counted es (left_at ops j s) (without j p) (without j f) k r in (suc c.0, by_one j i z c.1)
+
+  pub by_more : (es : List Moment) (k n s : ℕ) (p f : List ℕ) → AliveBy ops k es n s p f → AliveBy ops k es (suc n) s p f
+  by_more es k n s p f (at_once m r) = at_once m r
+  by_more es k (suc n) s p f (by_one j i z r) = by_one j i z (by_more es k n (left_at ops j s) (without j p) (without j f) r)
+
+  pub as_free_by : (es : List Moment) (k n s t : ℕ) (p f q g : List ℕ) → s ≡ t → IsAsFree ops p f q g → AliveBy ops k es n s p f → AliveBy ops k es n t q g
+  as_free_by es k n s t p f q g e w (at_once m r) = at_once (λ i. m (w.owes k i)) (as_free es s t p (without k f) q (without k g) e (record {
+    owes = w.owes;
+    keeps = λ j i. elim (w.keeps j i) [ inl b ↦ elim b [ inl c ↦ inl (inl c) | inr c ↦ inl (inr (In-without k j g c (λ z. m (subst (λ x. In x p) z i)))) ] | inr b ↦ inr b ];
+    has = λ j i. let a = without-In k j f i in elim (w.has j a.0) [ inl b ↦ inl (In-without k j g b a.1) | inr b ↦ inr b ];
+  }) r)
+  as_free_by es k (suc n) s t p f q g e w (by_one j i z r) = elim (place_or j q g) [
+    | inl h ↦ by_one j h (subst (λ x. fits_at ops j x ≡ true) e z) (as_free_by es k n (left_at ops j s) (left_at ops j t) (without j p) (without j f) (without j q) (without j g) (ap (λ x. left_at ops j x) e) (record {
+      owes = λ x a. let b = without-In j x q a in In-without j x p (w.owes x b.0) b.1;
+      keeps = λ x a. let b = without-In j x p a in elim (w.keeps x b.0) [ inl c ↦ elim c [ inl d ↦ inl (inl (In-without j x q d b.1)) | inr d ↦ inl (inr (In-without j x g d b.1)) ] | inr c ↦ inr c ];
+      has = λ x a. let b = without-In j x f a in elim (w.has x b.0) [ inl c ↦ inl (In-without j x g c b.1) | inr c ↦ inr c ];
+    }) r)
+    | inr m ↦
+        let idle : IsIdle ops j = elim i [
+          | inl a ↦ elim (w.keeps j a) [ inl b ↦ absurd (m b) | inr b ↦ b ]
+          | inr a ↦ elim (w.has j a) [ inl b ↦ absurd (m (inr b)) | inr b ↦ b ]
+        ] in
+        by_more es k n t q g (as_free_by es k n (left_at ops j s) t (without j p) (without j f) q g (idle s ∙ e) (record {
+          owes = λ x a. In-without j x p (w.owes x a) (λ y. m (inl (subst (λ u. In u q) y a)));
+          keeps = λ x a. w.keeps x (without-In j x p a).0;
+          has = λ x a. w.has x (without-In j x f a).0;
+        }) r)
+  ]
+
   -- ---- a call may take effect later
 
   delay_free : (es : List Moment) (s : ℕ) (p f : List ℕ) (j : ℕ) → In j p ⊎ In j f → fits_at ops j s ≡ true → (In (Call j) es → ⊥) → AliveFree ops (left_at ops j s) (without j p) (without j f) es → AliveFree ops s p f es
@@ -76,14 +110,14 @@ module _ (ops : List Op) where
   delay_free (Reply k ∷ es) s p f j i z n r = uses j i z r
 
   -- at the reply of a call that isn't owed, it is dropped, or it must take effect before
-  pub settled_free : (es : List Moment) (s : ℕ) (p f : List ℕ) (k : ℕ) → (In k p → ⊥) → ((x : ℕ) → In x p ⊎ In x f → In (Call x) es → ⊥) → AliveFree ops s p f (Reply k ∷ es) → AliveFree ops s p (without k f) es ⊎ (In k f × AliveFree ops s (k ∷ p) (without k f) (Reply k ∷ es))
-  settled_free es s p f k n ahead (replied_free m r) = inl r
-  settled_free es s p f k n ahead (uses i h z r) = elim (same_or i k) [
+  pub settled_by : (es : List Moment) (k n s : ℕ) (p f : List ℕ) → (In k p → ⊥) → ((x : ℕ) → In x p ⊎ In x f → In (Call x) es → ⊥) → AliveBy ops k es n s p f → AliveFree ops s p (without k f) es ⊎ (In k f × AliveBy ops k es n s (k ∷ p) (without k f))
+  settled_by es k n s p f not_owed ahead (at_once m r) = inl r
+  settled_by es k (suc n) s p f not_owed ahead (by_one i h z r) = elim (same_or i k) [
     | inl e ↦
-        let kf : In k f = elim h [ inl a ↦ absurd (n (subst (λ x. In x p) e a)) | inr a ↦ subst (λ x. In x f) e a ] in
+        let kf : In k f = elim h [ inl a ↦ absurd (not_owed (subst (λ x. In x p) e a)) | inr a ↦ subst (λ x. In x f) e a ] in
         inr (
           kf,
-          uses i (inl (inl e)) z (as_free (Reply k ∷ es) (left_at ops i s) (left_at ops i s) (without i p) (without i f) (without i (k ∷ p)) (without i (without k f)) refl (record {
+          by_one i (inl (inl e)) z (as_free_by es k n (left_at ops i s) (left_at ops i s) (without i p) (without i f) (without i (k ∷ p)) (without i (without k f)) refl (record {
             owes = λ x a. let b = without-In i x (k ∷ p) a in elim b.0 [ inl y ↦ absurd (b.1 (y ∙ sym e)) | inr y ↦ In-without i x p y b.1 ];
             keeps = λ x a. let b = without-In i x p a in inl (inl (In-without i x (k ∷ p) (inr b.0) b.1));
             has = λ x a. let b = without-In i x f a in inl (In-without i x (without k f) (In-without k x f b.0 (λ y. b.1 (y ∙ sym e))) b.1);
@@ -92,7 +126,7 @@ module _ (ops : List Op) where
     | inr m ↦
         let place : In i p ⊎ In i (without k f) = elim h [ inl a ↦ inl a | inr a ↦ inr (In-without k i f a m) ] in
         let owed : In i (k ∷ p) ⊎ In i (without k f) = elim place [ inl b ↦ inl (inr b) | inr b ↦ inr b ] in
-        elim (settled_free es (left_at ops i s) (without i p) (without i f) k (λ a. n (without-In i k p a).0) (λ x a. ahead x (elim a [ inl b ↦ inl (without-In i x p b).0 | inr b ↦ inr (without-In i x f b).0 ])) r) [
+        elim (settled_by es k n (left_at ops i s) (without i p) (without i f) (λ a. not_owed (without-In i k p a).0) (λ x a. ahead x (elim a [ inl b ↦ inl (without-In i x p b).0 | inr b ↦ inr (without-In i x f b).0 ])) r) [
           | inl a ↦ inl (delay_free es s p (without k f) i place z (ahead i h) (as_free es (left_at ops i s) (left_at ops i s) (without i p) (without k (without i f)) (without i p) (without i (without k f)) refl (record {
             owes = λ x a. a;
             keeps = λ x a. inl (inl a);
@@ -100,7 +134,7 @@ module _ (ops : List Op) where
           }) a))
           | inr a ↦ inr (
             (without-In i k f a.0).0,
-            uses i owed z (as_free (Reply k ∷ es) (left_at ops i s) (left_at ops i s) (k ∷ without i p) (without k (without i f)) (without i (k ∷ p)) (without i (without k f)) refl (record {
+            by_one i owed z (as_free_by es k n (left_at ops i s) (left_at ops i s) (k ∷ without i p) (without k (without i f)) (without i (k ∷ p)) (without i (without k f)) refl (record {
               owes = λ x a. let b = without-In i x (k ∷ p) a in elim b.0 [ inl y ↦ inl y | inr y ↦ inr (In-without i x p y b.1) ];
               keeps = λ x a. elim a [ inl y ↦ inl (inl (In-without i x (k ∷ p) (inl y) (λ u. m (sym u ∙ y)))) | inr y ↦ let b = without-In i x p y in inl (inl (In-without i x (k ∷ p) (inr b.0) b.1)) ];
               has = λ x a. let b = without-In k x (without i f) a in let c = without-In i x f b.0 in inl (In-without i x (without k f) (In-without k x f c.0 b.1) c.1);
@@ -184,11 +218,11 @@ module _ (ops : List Op) where
 
   -- ---- what a call leaves
 
-  after_any : (es : List Moment) (p f : List ℕ) (k s j : ℕ) → AliveFree ops s (without j p) (without j f) (Reply k ∷ es) → AliveFree ops s (open_after ops k j p) (free_after ops k j p f) (Reply k ∷ es)
-  after_any es p f k s j r = go (writes_at ops j)
+  after_any : (es : List Moment) (n : ℕ) (p f : List ℕ) (k s j : ℕ) → AliveBy ops k es n s (without j p) (without j f) → AliveBy ops k es n s (open_after ops k j p) (free_after ops k j p f)
+  after_any es n p f k s j r = go (writes_at ops j)
     where
-      go : (b : Bool) → AliveFree ops s (cond b (kept ops k (without j p)) (without j p)) (cond b (freed ops k (without j p) ++ without j f) (without j f)) (Reply k ∷ es)
-      go true = as_free (Reply k ∷ es) s s (without j p) (without j f) (kept ops k (without j p)) (freed ops k (without j p) ++ without j f) refl (record {
+      go : (b : Bool) → AliveBy ops k es n s (cond b (kept ops k (without j p)) (without j p)) (cond b (freed ops k (without j p) ++ without j f) (without j f))
+      go true = as_free_by es k n s s (without j p) (without j f) (kept ops k (without j p)) (freed ops k (without j p) ++ without j f) refl (record {
         owes = λ x a. (filter-In (stays ops k) x (without j p) a).0;
         keeps = λ x a. inl (elim (cases_Bool (stays ops k x)) [
           | inl t ↦ inl (In-filter (stays ops k) x (without j p) a t)
@@ -199,12 +233,12 @@ module _ (ops : List Op) where
       go false = r
 
   -- a write that takes effect with one call fewer, which would be free then, does so with it
-  after_more : (es : List Moment) (p f : List ℕ) (k s t i j : ℕ) → writes_at ops j ≡ true → (In i p → stays ops k i ≡ false) → s ≡ t → AliveFree ops s (open_after ops k j (without i p)) (free_after ops k j (without i p) (without i f)) (Reply k ∷ es) → AliveFree ops t (open_after ops k j p) (free_after ops k j p f) (Reply k ∷ es)
-  after_more es p f k s t i j b st e r = go (writes_at ops j) b r
+  after_more : (es : List Moment) (n : ℕ) (p f : List ℕ) (k s t i j : ℕ) → writes_at ops j ≡ true → (In i p → stays ops k i ≡ false) → s ≡ t → AliveBy ops k es n s (open_after ops k j (without i p)) (free_after ops k j (without i p) (without i f)) → AliveBy ops k es n t (open_after ops k j p) (free_after ops k j p f)
+  after_more es n p f k s t i j b st e r = go (writes_at ops j) b r
     where
-      go : (b : Bool) → b ≡ true → AliveFree ops s (cond b (kept ops k (without j (without i p))) (without j (without i p))) (cond b (freed ops k (without j (without i p)) ++ without j (without i f)) (without j (without i f))) (Reply k ∷ es) → AliveFree ops t (cond b (kept ops k (without j p)) (without j p)) (cond b (freed ops k (without j p) ++ without j f) (without j f)) (Reply k ∷ es)
+      go : (b : Bool) → b ≡ true → AliveBy ops k es n s (cond b (kept ops k (without j (without i p))) (without j (without i p))) (cond b (freed ops k (without j (without i p)) ++ without j (without i f)) (without j (without i f))) → AliveBy ops k es n t (cond b (kept ops k (without j p)) (without j p)) (cond b (freed ops k (without j p) ++ without j f) (without j f))
       go false c r = absurd (false≢true c)
-      go true c r = as_free (Reply k ∷ es) s t (kept ops k (without j (without i p))) (freed ops k (without j (without i p)) ++ without j (without i f)) (kept ops k (without j p)) (freed ops k (without j p) ++ without j f) e (record {
+      go true c r = as_free_by es k n s t (kept ops k (without j (without i p))) (freed ops k (without j (without i p)) ++ without j (without i f)) (kept ops k (without j p)) (freed ops k (without j p) ++ without j f) e (record {
         owes = λ x a.
             let b = filter-In (stays ops k) x (without j p) a in
             let c = without-In j x p b.0 in
@@ -224,22 +258,26 @@ module _ (ops : List Op) where
 
   -- ---- the step: before the reply of an open call, only what is of use needs to take effect
 
-  pub record IsUseful (es : List Moment) (s : ℕ) (p f : List ℕ) (k : ℕ) : Type 0 where
+  pub record IsUseful (es : List Moment) (n s : ℕ) (p f : List ℕ) (k : ℕ) : Type 0 where
+    pub fewer : ℕ
+    pub one_less : n ≡ suc fewer
     pub j : ℕ
     pub there : In j p ⊎ In j f
     pub suits : fits_at ops j s ≡ true
     pub of_use : IsOfUse ops p f k j s
-    pub rest : AliveFree ops (left_at ops j s) (open_after ops k j p) (free_after ops k j p f) (Reply k ∷ es)
+    pub rest : AliveBy ops k es fewer (left_at ops j s) (open_after ops k j p) (free_after ops k j p f)
 
   -- a call of no use may be left out, since what takes effect after it is a write
-  skipped : (es : List Moment) (s : ℕ) (p f : List ℕ) (k i : ℕ) → (IsOfUse ops p f k i s → ⊥) → IsUseful es (left_at ops i s) (without i p) (without i f) k → IsUseful es s p f k
-  skipped es s p f k i useless u =
+  skipped : (es : List Moment) (n s : ℕ) (p f : List ℕ) (k i : ℕ) → (IsOfUse ops p f k i s → ⊥) → IsUseful es n (left_at ops i s) (without i p) (without i f) k → IsUseful es (suc n) s p f k
+  skipped es n s p f k i useless u =
       let place : In u.j p ⊎ In u.j f = elim u.there [ inl h ↦ inl (without-In i u.j p h).0 | inr h ↦ inr (without-In i u.j f h).0 ] in
       let not_k : i ≡ k → ⊥ = λ e. useless (inl e) in
       let staying : In i p → stays ops k i ≡ false = λ h. elim (cases_Bool (writes_at ops i)) [ inl t ↦ not_staying k i not_k t | inr t ↦ absurd (useless (inr (inl (t, h)))) ] in
       let write_j : writes_at ops u.j ≡ true = elim (cases_Bool (writes_at ops u.j)) [ inl t ↦ t | inr t ↦ absurd (useless (inr (inr (u.j, place, asks u.j (left_at ops i s) t u.suits)))) ] in
       let same = write-left u.j (left_at ops i s) s write_j in
       record {
+        fewer = suc u.fewer;
+        one_less = ap suc u.one_less;
         j = u.j;
         there = place;
         suits = write-fits u.j s write_j;
@@ -250,14 +288,14 @@ module _ (ops : List Op) where
             | inr a ↦ inr (inr (a.0, elim a.1 [ inl h ↦ inl (without-In i a.0 p h).0 | inr h ↦ inr (without-In i a.0 f h).0 ], subst (λ x. asks_at ops a.0 x ≡ true) same a.2))
           ]
         ];
-        rest = after_more es p f k (left_at ops u.j (left_at ops i s)) (left_at ops u.j s) i u.j write_j staying same u.rest;
+        rest = by_more es k u.fewer (left_at ops u.j s) (open_after ops k u.j p) (free_after ops k u.j p f) (after_more es u.fewer p f k (left_at ops u.j (left_at ops i s)) (left_at ops u.j s) i u.j write_j staying same u.rest);
       }
 
-  pub useful_step : (es : List Moment) (s : ℕ) (p f : List ℕ) (k : ℕ) → In k p → AliveFree ops s p f (Reply k ∷ es) → IsUseful es s p f k
-  useful_step es s p f k o (replied_free n r) = absurd (n o)
-  useful_step es s p f k o (uses i h z r) = elim (use_or p f k i s) [
-    | inl u ↦ record { j = i; there = h; suits = z; of_use = u; rest = after_any es p f k (left_at ops i s) i r }
-    | inr n ↦ skipped es s p f k i n (useful_step es (left_at ops i s) (without i p) (without i f) k (In-without i k p o (λ e. n (inl (sym e)))) r)
+  pub useful_step : (es : List Moment) (k n s : ℕ) (p f : List ℕ) → In k p → AliveBy ops k es n s p f → IsUseful es n s p f k
+  useful_step es k n s p f o (at_once m r) = absurd (m o)
+  useful_step es k (suc n) s p f o (by_one i h z r) = elim (use_or p f k i s) [
+    | inl u ↦ record { fewer = n; one_less = refl; j = i; there = h; suits = z; of_use = u; rest = after_any es n p f k (left_at ops i s) i r }
+    | inr m ↦ skipped es n s p f k i m (useful_step es k n (left_at ops i s) (without i p) (without i f) (In-without i k p o (λ e. m (inl (sym e)))) r)
   ]
 
   -- ---- alike changes: of two, the one that replies first goes first
@@ -333,6 +371,58 @@ module _ (ops : List Op) where
                   keeps = λ x a m. w.keeps x (without-In l x p a).0 m;
                   has = λ x a. w.has x (without-In l x f a).0;
                 }) r
+          ]
+    ]
+
+    -- the same, by no more calls before the reply of k
+    pub exchange_by : (es : List Moment) (k n s t : ℕ) (p f q g : List ℕ) → s ≡ t → IsSooner i j (Reply k ∷ es) → (In (Call i) es → ⊥) → (In (Call j) es → ⊥) → IsExchange i j p f q g → AliveBy ops k es n s p f → AliveBy ops k es n t q g
+    exchange_by es k n s t p f q g e so ci cj w (at_once m r) =
+        let differs : (x : ℕ) → In x p → x ≡ k → ⊥ = λ x a y. m (subst (λ u. In u p) y a) in
+        let later : (k ≡ j → ⊥) × IsSooner i j es = elim so [ inl y ↦ absurd (differs i w.owed (sym y)) | inr y ↦ y ] in
+        at_once (λ a. elim (w.owes k a) [ inl u ↦ m u.0 | inr u ↦ later.0 u ]) (exchange es s t p (without k f) q (without k g) e later.1 ci cj (record {
+          apart = w.apart;
+          owed = w.owed;
+          other = elim w.other [ inl a ↦ inl a | inr a ↦ inr (In-without k j g a (λ y. later.0 (sym y))) ];
+          gone_p = w.gone_p;
+          gone_f = λ a. w.gone_f (without-In k j f a).0;
+          owes = w.owes;
+          keeps = λ x a b. elim (w.keeps x a b) [ inl b ↦ elim b [ inl c ↦ inl (inl c) | inr c ↦ inl (inr (In-without k x g c (differs x a))) ] | inr b ↦ inr b ];
+          has = λ x a. let b = without-In k x f a in elim (w.has x b.0) [ inl c ↦ inl (In-without k x g c b.1) | inr c ↦ inr c ];
+        }) r)
+    exchange_by es k (suc n) s t p f q g e so ci cj w (by_one l h z r) = elim (same_or l i) [
+      | inl y ↦ by_one j w.other (subst (λ x. fits_at ops j x ≡ true) e (sym (same_fits s) ∙ subst (λ u. fits_at ops u s ≡ true) y z)) (as_free_by es k n (left_at ops l s) (left_at ops j t) (without l p) (without l f) (without j q) (without j g) (ap (λ u. left_at ops u s) y ∙ (same_left s ∙ ap (λ x. left_at ops j x) e)) (record {
+        owes = λ x a. let b = without-In j x q a in elim (w.owes x b.0) [ inl c ↦ In-without l x p c.0 (λ u. c.1 (u ∙ y)) | inr c ↦ absurd (b.1 c) ];
+        keeps = λ x a. let b = without-In l x p a in let m : x ≡ j → ⊥ = λ u. w.gone_p (subst (λ v. In v p) u b.0) in elim (w.keeps x b.0 (λ u. b.1 (u ∙ sym y))) [ inl c ↦ elim c [ inl d ↦ inl (inl (In-without j x q d m)) | inr d ↦ inl (inr (In-without j x g d m)) ] | inr c ↦ inr c ];
+        has = λ x a. let b = without-In l x f a in elim (w.has x b.0) [ inl c ↦ inl (In-without j x g c (λ u. w.gone_f (subst (λ v. In v f) u b.0))) | inr c ↦ inr c ];
+      }) r)
+      | inr o ↦
+          let not_j : l ≡ j → ⊥ = λ u. elim h [ inl a ↦ w.gone_p (subst (λ v. In v p) u a) | inr a ↦ w.gone_f (subst (λ v. In v f) u a) ] in
+          elim (place_or l q g) [
+            | inl here ↦ by_one l here (subst (λ x. fits_at ops l x ≡ true) e z) (exchange_by es k n (left_at ops l s) (left_at ops l t) (without l p) (without l f) (without l q) (without l g) (ap (λ x. left_at ops l x) e) so ci cj (record {
+              apart = w.apart;
+              owed = In-without l i p w.owed (λ u. o (sym u));
+              other = elim w.other [ inl a ↦ inl (In-without l j q a (λ u. not_j (sym u))) | inr a ↦ inr (In-without l j g a (λ u. not_j (sym u))) ];
+              gone_p = λ a. w.gone_p (without-In l j p a).0;
+              gone_f = λ a. w.gone_f (without-In l j f a).0;
+              owes = λ x a. let b = without-In l x q a in elim (w.owes x b.0) [ inl c ↦ inl (In-without l x p c.0 b.1, c.1) | inr c ↦ inr c ];
+              keeps = λ x a m. let b = without-In l x p a in elim (w.keeps x b.0 m) [ inl c ↦ elim c [ inl d ↦ inl (inl (In-without l x q d b.1)) | inr d ↦ inl (inr (In-without l x g d b.1)) ] | inr c ↦ inr c ];
+              has = λ x a. let b = without-In l x f a in elim (w.has x b.0) [ inl c ↦ inl (In-without l x g c b.1) | inr c ↦ inr c ];
+            }) r)
+            | inr gone ↦
+                let idle : IsIdle ops l = elim h [
+                  | inl a ↦ elim (w.keeps l a o) [ inl b ↦ absurd (gone b) | inr b ↦ b ]
+                  | inr a ↦ elim (w.has l a) [ inl b ↦ absurd (gone (inr b)) | inr b ↦ b ]
+                ] in
+                by_more es k n t q g (exchange_by es k n (left_at ops l s) t (without l p) (without l f) q g (idle s ∙ e) so ci cj (record {
+                  apart = w.apart;
+                  owed = In-without l i p w.owed (λ u. o (sym u));
+                  other = w.other;
+                  gone_p = λ a. w.gone_p (without-In l j p a).0;
+                  gone_f = λ a. w.gone_f (without-In l j f a).0;
+                  owes = λ x a. elim (w.owes x a) [ inl c ↦ inl (In-without l x p c.0 (λ u. gone (inl (subst (λ v. In v q) u a))), c.1) | inr c ↦ inr c ];
+                  keeps = λ x a m. w.keeps x (without-In l x p a).0 m;
+                  has = λ x a. w.has x (without-In l x f a).0;
+                }) r)
           ]
     ]
 
@@ -417,5 +507,67 @@ module _ (ops : List Op) where
                   keeps = λ x a. w.keeps x (without-In l x p a).0;
                   has = λ x a m. w.has x (without-In l x f a).0 m;
                 }) r
+          ]
+    ]
+
+    -- the same, by no more calls before the reply of k
+    pub exchange_free_by : (es : List Moment) (k n s t : ℕ) (p f q g : List ℕ) → s ≡ t → IsSooner i j (Reply k ∷ es) → (In (Call i) es → ⊥) → (In (Call j) es → ⊥) → IsFreeExchange i j p f q g → AliveBy ops k es n s p f → AliveBy ops k es n t q g
+    exchange_free_by es k n s t p f q g e so ci cj w (at_once m r) =
+        let differs : (x : ℕ) → In x p → x ≡ k → ⊥ = λ x a y. m (subst (λ u. In u p) y a) in
+        let keeps_still : (x : ℕ) → In x p → (In x q ⊎ In x (without k g)) ⊎ IsIdle ops x = λ x a. elim (w.keeps x a) [ inl b ↦ elim b [ inl c ↦ inl (inl c) | inr c ↦ inl (inr (In-without k x g c (differs x a))) ] | inr b ↦ inr b ] in
+        let rest : AliveFree ops t q (without k g) es = elim (same_or k i) [
+          | inl y ↦ as_free es s t p (without k f) q (without k g) e (record {
+            owes = w.owes;
+            keeps = keeps_still;
+            has = λ x a. let b = without-In k x f a in elim (w.has x b.0 (λ u. b.1 (u ∙ sym y))) [ inl c ↦ inl (In-without k x g c b.1) | inr c ↦ inr c ];
+          }) r
+          | inr o ↦
+              let later : (k ≡ j → ⊥) × IsSooner i j es = elim so [ inl y ↦ absurd (o y) | inr y ↦ y ] in
+              exchange_free es s t p (without k f) q (without k g) e later.1 ci cj (record {
+                free = In-without k i f w.free (λ u. o (sym u));
+                not_owed = w.not_owed;
+                other = In-without k j g w.other (λ u. later.0 (sym u));
+                gone_p = w.gone_p;
+                gone_f = λ a. w.gone_f (without-In k j f a).0;
+                owes = w.owes;
+                keeps = keeps_still;
+                has = λ x a u. let b = without-In k x f a in elim (w.has x b.0 u) [ inl c ↦ inl (In-without k x g c b.1) | inr c ↦ inr c ];
+              }) r
+        ] in
+        at_once (λ a. m (w.owes k a)) rest
+    exchange_free_by es k (suc n) s t p f q g e so ci cj w (by_one l h z r) = elim (same_or l i) [
+      | inl y ↦ by_one j (inr w.other) (subst (λ x. fits_at ops j x ≡ true) e (sym (same_fits s) ∙ subst (λ u. fits_at ops u s ≡ true) y z)) (as_free_by es k n (left_at ops l s) (left_at ops j t) (without l p) (without l f) (without j q) (without j g) (ap (λ u. left_at ops u s) y ∙ (same_left s ∙ ap (λ x. left_at ops j x) e)) (record {
+        owes = λ x a. let b = without-In j x q a in let c = w.owes x b.0 in In-without l x p c (λ u. w.not_owed (subst (λ v. In v p) (u ∙ y) c));
+        keeps = λ x a. let b = without-In l x p a in let m : x ≡ j → ⊥ = λ u. w.gone_p (subst (λ v. In v p) u b.0) in elim (w.keeps x b.0) [ inl c ↦ elim c [ inl d ↦ inl (inl (In-without j x q d m)) | inr d ↦ inl (inr (In-without j x g d m)) ] | inr c ↦ inr c ];
+        has = λ x a. let b = without-In l x f a in elim (w.has x b.0 (λ u. b.1 (u ∙ sym y))) [ inl c ↦ inl (In-without j x g c (λ u. w.gone_f (subst (λ v. In v f) u b.0))) | inr c ↦ inr c ];
+      }) r)
+      | inr o ↦
+          let not_j : l ≡ j → ⊥ = λ u. elim h [ inl a ↦ w.gone_p (subst (λ v. In v p) u a) | inr a ↦ w.gone_f (subst (λ v. In v f) u a) ] in
+          elim (place_or l q g) [
+            | inl here ↦ by_one l here (subst (λ x. fits_at ops l x ≡ true) e z) (exchange_free_by es k n (left_at ops l s) (left_at ops l t) (without l p) (without l f) (without l q) (without l g) (ap (λ x. left_at ops l x) e) so ci cj (record {
+              free = In-without l i f w.free (λ u. o (sym u));
+              not_owed = λ a. w.not_owed (without-In l i p a).0;
+              other = In-without l j g w.other (λ u. not_j (sym u));
+              gone_p = λ a. w.gone_p (without-In l j p a).0;
+              gone_f = λ a. w.gone_f (without-In l j f a).0;
+              owes = λ x a. let b = without-In l x q a in In-without l x p (w.owes x b.0) b.1;
+              keeps = λ x a. let b = without-In l x p a in elim (w.keeps x b.0) [ inl c ↦ elim c [ inl d ↦ inl (inl (In-without l x q d b.1)) | inr d ↦ inl (inr (In-without l x g d b.1)) ] | inr c ↦ inr c ];
+              has = λ x a m. let b = without-In l x f a in elim (w.has x b.0 m) [ inl c ↦ inl (In-without l x g c b.1) | inr c ↦ inr c ];
+            }) r)
+            | inr gone ↦
+                let idle : IsIdle ops l = elim h [
+                  | inl a ↦ elim (w.keeps l a) [ inl b ↦ absurd (gone b) | inr b ↦ b ]
+                  | inr a ↦ elim (w.has l a o) [ inl b ↦ absurd (gone (inr b)) | inr b ↦ b ]
+                ] in
+                by_more es k n t q g (exchange_free_by es k n (left_at ops l s) t (without l p) (without l f) q g (idle s ∙ e) so ci cj (record {
+                  free = In-without l i f w.free (λ u. o (sym u));
+                  not_owed = λ a. w.not_owed (without-In l i p a).0;
+                  other = w.other;
+                  gone_p = λ a. w.gone_p (without-In l j p a).0;
+                  gone_f = λ a. w.gone_f (without-In l j f a).0;
+                  owes = λ x a. In-without l x p (w.owes x a) (λ u. gone (inl (subst (λ v. In v q) u a)));
+                  keeps = λ x a. w.keeps x (without-In l x p a).0;
+                  has = λ x a m. w.has x (without-In l x f a).0 m;
+                }) r)
           ]
     ]

@@ -1,5 +1,5 @@
 -- What can still be explained.
-use Rattle.std.specs.Prelude.{ℕ, ◌==◌, ◌≡◌, ◌<◌, not, true, List, [], ◌∷◌, ◌⊎◌}
+use Rattle.std.specs.Prelude.{ℕ, suc, ◌==◌, ◌≡◌, ◌<◌, not, true, List, [], ◌∷◌, ◌⊎◌}
 use Rattle.std.specs.List.{filter}
 use Rattle.history_model.specs.Lists.{In}
 use Rattle.configurations.specs.declared.op.Op.{Op}
@@ -16,6 +16,11 @@ pub data AliveFree (ops : List Op) : ℕ → List ℕ → List ℕ → List Mome
   called_free : {v : ℕ} {p f : List ℕ} {k : ℕ} {es : List Moment} → AliveFree ops v (k ∷ p) f es → AliveFree ops v p f (Call k ∷ es)
   replied_free : {v : ℕ} {p f : List ℕ} {k : ℕ} {es : List Moment} → (In k p → ⊥) → AliveFree ops v p (without k f) es → AliveFree ops v p f (Reply k ∷ es)
   uses : {v : ℕ} {p f : List ℕ} {k : ℕ} {es : List Moment} (j : ℕ) → In j p ⊎ In j f → fits_at ops j v ≡ true → AliveFree ops (left_at ops j v) (without j p) (without j f) (Reply k ∷ es) → AliveFree ops v p f (Reply k ∷ es)
+
+-- The same just before the reply of k, by at most n calls that take effect before it.
+pub data AliveBy (ops : List Op) (k : ℕ) (es : List Moment) : ℕ → ℕ → List ℕ → List ℕ → Type 0 where
+  at_once : {n v : ℕ} {p f : List ℕ} → (In k p → ⊥) → AliveFree ops v p (without k f) es → AliveBy ops k es n v p f
+  by_one : {n v : ℕ} {p f : List ℕ} (j : ℕ) → In j p ⊎ In j f → fits_at ops j v ≡ true → AliveBy ops k es n (left_at ops j v) (without j p) (without j f) → AliveBy ops k es (suc n) v p f
 
 -- Each operation is called once; and where one replies, all others that are open have a higher rank, or `NEVER`.
 abbrev pub AreInOrder : List Op → List ℕ → List Moment → Type 0

@@ -70,7 +70,6 @@ fn with_calls<const W: usize>(table: &Table<W>, configs: &mut Configs<W>, slot: 
     requires op { slice_get table.now.ops.items (call_at table.now slot) ≡ Some op.now }
     requires held { AreHeld (has table.now.used) configs.old }
     requires off { AreOff slot configs.old }
-    ensures done { configs.new.done ≡ configs.old.done }
     ensures held { AreHeld (has table.now.used) configs.new }
     ensures able { (es : List AMoment) → IsAnyAble table.now configs.old (ACall (call_at table.now slot) ∷ es) → IsAnyAble table.now configs.new es }
 {
@@ -87,7 +86,6 @@ pub(crate) fn over_call<const W: usize>(
 ) -> Result<(), Stop>
     requires table { IsTable table.old }
     requires held { AreHeld (has table.old.used) configs.old }
-    requires start { configs.old.done ≡ 0 }
     ensures { IfOk result (λ _. IsOver true table.old configs.old (ACall number) table.new configs.new) }
 {
     let Some(op) = table.op_of(number) else {

@@ -1,9 +1,8 @@
 //! Configurations: a value, and the calls that are open and have not taken effect.
-ghost use Rattle.std.specs.Prelude.{◌≡◌, ◌≤◌, ◌++◌, ◌∷◌, [], IsTrue, IfOk, List, Bool, vec_len, ℕ};
-ghost use Rattle.configurations.specs.Configs.{AreHeld, IsAble, IsAnyAble, IsHeld, IsKept};
+ghost use Rattle.std.specs.Prelude.{◌≡◌, ◌++◌, ◌∷◌, [], true, IsTrue, IfOk, Bool, ℕ};
+ghost use Rattle.configurations.specs.Configs.{AreHeld, AreOwing, AreStill, CanAll, IsHeld, IsStoodFor};
 ghost use Rattle.configurations.specs.Tables.{IsTable};
 ghost use Rattle.slot_sets.specs.Sets.{has};
-ghost use Rattle.configurations.specs.declared.moment.Moment.{Moment as AMoment};
 
 use crate::bounds::Bound;
 use crate::table::Table;
@@ -29,8 +28,6 @@ pub(crate) struct Config<const W: usize> {
 #[derive(Drop)]
 pub(crate) struct Configs<const W: usize> {
     pub list: Vec<Config<W>>,
-    /// How many, the first ones, are done with: they stand for no other.
-    pub done: usize,
     next: Vec<u32>,
     head: Vec<u32>,
 }
@@ -38,11 +35,10 @@ pub(crate) struct Configs<const W: usize> {
 impl<const W: usize> Configs<W> {
     /// None.
     pub(crate) fn new(alloc: Global, values: usize) -> Result<Self, AllocError>
-        ensures { IfOk result (λ s. (s.list.items ≡ []) × (s.done ≡ 0)) }
+        ensures { IfOk result (λ s. s.list.items ≡ []) }
     {
         Ok(Configs {
             list: Vec::new(alloc),
-            done: 0,
             next: Vec::new(alloc),
             head: vec![in alloc; NONE; values]?,
         })
@@ -50,7 +46,7 @@ impl<const W: usize> Configs<W> {
 
     /// Takes all out.
     pub(crate) fn clear(&mut self)
-        ensures { (self.new.list.items ≡ []) × (self.new.done ≡ 0) }
+        ensures { self.new.list.items ≡ [] }
     {
         for config in &self.list {
             if let Some(head) = self.head.get_mut(config.value as usize) {
@@ -59,13 +55,12 @@ impl<const W: usize> Configs<W> {
         }
         self.next.clear();
         self.list.clear();
-        self.done = 0;
     }
 
     /// Puts a configuration behind the others.
     #[inline(always)]
     pub(crate) fn push(&mut self, config: &Config<W>) -> Result<(), AllocError>
-        ensures { IfOk result (λ _. (self.new.list.items ≡ self.old.list.items ++ (config.now ∷ [])) × (self.new.done ≡ self.old.done)) }
+        ensures { IfOk result (λ _. self.new.list.items ≡ self.old.list.items ++ (config.now ∷ [])) }
     {
         let place = self.list.len();
         let mut before = NONE;
@@ -89,7 +84,7 @@ impl<const W: usize> Configs<W> {
 fn stands_for<const W: usize>(table: &Table<W>, first: &Config<W>, second: &Config<W>) -> bool
     requires table { IsTable table.now }
     requires held { IsHeld (has table.now.used) second.now }
-    ensures { IsTrue result → (es : List AMoment) → IsAble table.now second.now es → IsAble table.now first.now es }
+    ensures { IsTrue result → CanAll table.now first.now second.now }
 {
     if first.value == second.value {
         if first.owed.is_within(&second.owed) && second.free.is_within(&first.free) {
@@ -101,7 +96,7 @@ fn stands_for<const W: usize>(table: &Table<W>, first: &Config<W>, second: &Conf
     false
 }
 
-/// Whether one of them that isn't done with can explain whatever this one can.
+/// Whether one of them can explain whatever this one can.
 fn is_stood_for<const W: usize>(
     table: &Table<W>,
     set: &Configs<W>,
@@ -110,13 +105,13 @@ fn is_stood_for<const W: usize>(
 ) -> Result<bool, Stop>
     requires table { IsTable table.now }
     requires held { IsHeld (has table.now.used) config.now }
-    ensures { IfOk result (λ found. IsTrue found → (es : List AMoment) → IsAble table.now config.now es → IsAnyAble table.now set.now es) }
+    ensures { IfOk result (λ found. IsTrue found → IsStoodFor table.now set.now config.now) }
 {
     let Some(head) = set.head.get(config.value as usize) else {
         return Ok(false);
     };
     let mut place = *head as usize;
-    while set.done <= place && place < set.list.len() && place < set.next.len() {
+    while place < set.list.len() && place < set.next.len() {
         work.spend(W as u64)?;
         if stands_for(table, &set.list[place], config) {
             return Ok(true);
@@ -130,8 +125,8 @@ fn is_stood_for<const W: usize>(
     Ok(false)
 }
 
-/// Puts a configuration in, unless one that isn't done with can explain whatever it can. If the call of a number took effect to
-/// make it, that is remembered.
+/// Puts a configuration in, unless one of them can explain whatever it can. If the call of a number took effect to make it, that
+/// is remembered.
 #[inline(always)]
 pub(crate) fn admit<const W: usize>(
     table: &Table<W>,
@@ -142,11 +137,10 @@ pub(crate) fn admit<const W: usize>(
 ) -> Result<(), Stop>
     requires table { IsTable table.now }
     requires held { IsHeld (has table.now.used) config.now }
-    requires done { set.old.done ≤ vec_len set.old.list }
-    ensures done { IfOk result (λ _. (set.new.done ≡ set.old.done) × (set.new.done ≤ vec_len set.new.list)) }
     ensures all { IfOk result (λ _. (w : ℕ → Bool) → IsHeld w config.now → AreHeld w set.old → AreHeld w set.new) }
-    ensures kept { IfOk result (λ _. IsKept table.now set.old set.new) }
-    ensures there { IfOk result (λ _. (es : List AMoment) → IsAble table.now config.now es → IsAnyAble table.now set.new es) }
+    ensures owing { IfOk result (λ _. (q : ℕ) → has config.now.owed q ≡ true → AreOwing q set.old → AreOwing q set.new) }
+    ensures kept { IfOk result (λ _. AreStill set.old set.new) }
+    ensures there { IfOk result (λ _. IsStoodFor table.now set.new config.now) }
 {
     if is_stood_for(table, set, config, work)? {
         return Ok(());

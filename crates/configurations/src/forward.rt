@@ -37,6 +37,7 @@ pub fn go_forward(
         steps: bounds.steps,
         configurations: bounds.configurations,
         beam: bounds.configurations,
+        is_thrifty: false,
     };
     match words {
         1 => in_stages::<1>(alloc, ops, events, limits),

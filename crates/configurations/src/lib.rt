@@ -12,21 +12,24 @@
 //! `stands_for`, `is_of_use` with `freeing`, `is_led`, and the looks in `offspring` and `with_call`.
 //!
 //! Read it in this order: `op` and `moment`; `bounds` and `work`; `table`, the open calls; `config`; `call` and `reply`, one event;
-//! `forward`, all of them.
+//! `run`, all of them; `thrift`, `eased` and `depth_first` (with `links`), other ways to go; `stages` and `forward`.
 #![tactic(auto)]
 
 mod bounds;
 mod call;
 mod config;
+mod depth_first;
 mod eased;
 mod forward;
 mod found;
+mod links;
 mod moment;
 mod op;
 mod reply;
 mod run;
 mod stages;
 mod table;
+mod thrift;
 mod work;
 
 pub use bounds::{Bound, Bounds, MAX_CONFIGURATIONS, MAX_STEPS};

@@ -1,10 +1,10 @@
 //! The step over a reply: where the call has not taken effect, others do before it.
-ghost use Rattle.std.specs.Prelude.{◌≡◌, ◌≢◌, ◌∷◌, ◌&&◌, not, true, false, IsTrue, IfOk, List, ℕ};
-ghost use Rattle.configurations.specs.Configs.{AreApart, AreKept, GoesOver, IsAble, IsAnyAble, IsHeld, IsLed, IsTried, free_of, owed_by};
+ghost use Rattle.std.specs.Prelude.{◌≡◌, ◌≢◌, ◌∷◌, ◌&&◌, ◌||◌, not, true, false, IsTrue, IfOk, List, ℕ};
+ghost use Rattle.configurations.specs.Configs.{AreApart, AreKept, AreStill, GoesBy, IsAbleBy, IsAnyAble, IsAnyAbleBy, IsGoneOver, IsHeld, IsLed, IsTried, free_of, owed_by};
 ghost use Rattle.slot_sets.specs.Sets.{has};
-ghost use Rattle.configurations.specs.Ops.{left_at};
-ghost use Rattle.configurations.specs.Runs.{AliveFree};
-ghost use Rattle.configurations.specs.Tables.{IsTable, IsToCome, call_at};
+ghost use Rattle.configurations.specs.Ops.{fits_at, left_at};
+ghost use Rattle.configurations.specs.Runs.{AliveBy};
+ghost use Rattle.configurations.specs.Tables.{IsTable, IsToCome, IsWithin, call_at};
 ghost use Rattle.configurations.specs.Use.{IsAsked, IsOfUse, free_after, open_after};
 ghost use Rattle.configurations.specs.declared.moment.Moment.{Moment as AMoment};
 ghost use Rattle.configurations.specs.declared.moment.Moment.TheVariants.{Reply as AReply};
@@ -114,7 +114,7 @@ fn offspring<const W: usize>(
     requires slot { has table.now.used slot ≡ true }
     requires reply { has table.now.used reply ≡ true }
     ensures held { IsHeld (has table.now.used) result }
-    ensures able { (es : List AMoment) → AliveFree table.now.ops.items (left_at table.now.ops.items (call_at table.now slot) config.now.value) (open_after table.now.ops.items (call_at table.now reply) (call_at table.now slot) (owed_by table.now config.now)) (free_after table.now.ops.items (call_at table.now reply) (call_at table.now slot) (owed_by table.now config.now) (free_of table.now config.now)) es → IsAble table.now result es }
+    ensures able { (es : List AMoment) (n : ℕ) → AliveBy table.now.ops.items (call_at table.now reply) es n (left_at table.now.ops.items (call_at table.now slot) config.now.value) (open_after table.now.ops.items (call_at table.now reply) (call_at table.now slot) (owed_by table.now config.now)) (free_after table.now.ops.items (call_at table.now reply) (call_at table.now slot) (owed_by table.now config.now) (free_of table.now config.now)) → IsAbleBy table.now (call_at table.now reply) es n result }
 {
     let value = table.left(slot, config.value);
     let content = table.fitting(value).common(&table.looks);
@@ -132,10 +132,10 @@ fn offspring<const W: usize>(
     }
 }
 
-/// A configuration goes on: if the call that replies must still take effect, in `work`, else in `next`. If that call is free, it
-/// is dropped, or must take effect now.
+/// A configuration goes on: if the call that replies must still take effect to `work`, else to `next`. If that call is free, it is
+/// dropped, or must take effect now.
 #[inline(always)]
-fn put_down<const W: usize>(
+pub(crate) fn put_down<const W: usize>(
     table: &Table<W>,
     lists: &mut Lists<W>,
     config: &Config<W>,
@@ -147,8 +147,8 @@ fn put_down<const W: usize>(
     requires reply { has table.now.used reply ≡ true }
     requires apart { AreApart table.now reply lists.old.work lists.old.next }
     ensures apart { IfOk result (λ _. AreApart table.now reply lists.new.work lists.new.next) }
-    ensures kept { IfOk result (λ _. AreKept table.now lists.old.work lists.old.next lists.new.work lists.new.next) }
-    ensures goes { IfOk result (λ _. GoesOver table.now (call_at table.now reply) lists.new.work lists.new.next config.now.value (owed_by table.now config.now) (free_of table.now config.now)) }
+    ensures kept { IfOk result (λ _. AreKept lists.old.work lists.old.next lists.new.work lists.new.next) }
+    ensures goes { IfOk result (λ _. GoesBy table.now (call_at table.now reply) lists.new.work lists.new.next config.now.value (owed_by table.now config.now) (free_of table.now config.now)) }
 {
     if config.owed.has(reply) {
         admit(table, &mut lists.work, config, taken, &mut lists.spent)?;
@@ -177,10 +177,10 @@ fn try_slot<const W: usize>(
     requires table { IsTable table.now }
     requires held { IsHeld (has table.now.used) config.now }
     requires slot { has table.now.used slot ≡ true }
-    requires reply { has table.now.used reply ≡ true }
+    requires reply { (has table.now.used reply ≡ true) × (has config.now.owed reply ≡ true) }
     requires apart { AreApart table.now reply lists.old.work lists.old.next }
     ensures apart { IfOk result (λ _. AreApart table.now reply lists.new.work lists.new.next) }
-    ensures kept { IfOk result (λ _. AreKept table.now lists.old.work lists.old.next lists.new.work lists.new.next) }
+    ensures kept { IfOk result (λ _. AreKept lists.old.work lists.old.next lists.new.work lists.new.next) }
     ensures goes { IfOk result (λ _. IsTried table.now config.now slot reply lists.new.work lists.new.next) }
 {
     if is_of_use(table, config, slot, reply) {
@@ -192,6 +192,33 @@ fn try_slot<const W: usize>(
     } else {
         Ok(())
     }
+}
+
+/// Lets each call of some slots take effect that is of use.
+#[inline(always)]
+pub(crate) fn try_each<const W: usize>(
+    table: &Table<W>,
+    lists: &mut Lists<W>,
+    config: &Config<W>,
+    slots: &Slots<W>,
+    reply: u32,
+) -> Result<(), Stop>
+    requires table { IsTable table.now }
+    requires held { IsHeld (has table.now.used) config.now }
+    requires slots { IsWithin (has slots.now) (has table.now.used) }
+    requires reply { (has table.now.used reply ≡ true) × (has config.now.owed reply ≡ true) }
+    requires apart { AreApart table.now reply lists.old.work lists.old.next }
+    ensures apart { IfOk result (λ _. AreApart table.now reply lists.new.work lists.new.next) }
+    ensures kept { IfOk result (λ _. AreKept lists.old.work lists.old.next lists.new.work lists.new.next) }
+    ensures goes { IfOk result (λ _. (q : ℕ) → has slots.now q ≡ true → IsTried table.now config.now q reply lists.new.work lists.new.next) }
+{
+    let mut at = 0;
+    while let Some(slot) = slots.first_from(at) {
+        lists.spent.spend(W as u64)?;
+        try_slot(table, lists, config, slot, reply)?;
+        at = slot + 1;
+    }
+    Ok(())
 }
 
 /// Lets each call of use take effect.
@@ -207,48 +234,30 @@ fn try_all<const W: usize>(
     requires reply { (has table.now.used reply ≡ true) × (has config.now.owed reply ≡ true) }
     requires apart { AreApart table.now reply lists.old.work lists.old.next }
     ensures apart { IfOk result (λ _. AreApart table.now reply lists.new.work lists.new.next) }
-    ensures kept { IfOk result (λ _. AreKept table.now lists.old.work lists.old.next lists.new.work lists.new.next) }
-    ensures goes { IfOk result (λ _. GoesOver table.now (call_at table.now reply) lists.new.work lists.new.next config.now.value (owed_by table.now config.now) (free_of table.now config.now)) }
+    ensures kept { IfOk result (λ _. AreKept lists.old.work lists.old.next lists.new.work lists.new.next) }
+    ensures goes { IfOk result (λ _. IsGoneOver table.now (call_at table.now reply) lists.new.work lists.new.next config.now) }
 {
-    let fitting = config
-        .owed
-        .union(&config.free)
-        .common(&table.fitting(config.value));
-    let mut at = 0;
-    while let Some(slot) = fitting.first_from(at) {
-        lists.spent.spend(W as u64)?;
-        try_slot(table, lists, config, slot, reply)?;
-        at = slot + 1;
-    }
+    let fitting = fitting(table, config);
+    try_each(table, lists, config, &fitting, reply)?;
     Ok(())
 }
 
-/// One configuration over the reply.
+/// The slots of the calls of a configuration that may meet its value.
 #[inline(always)]
-fn pass<const W: usize>(
-    table: &Table<W>,
-    lists: &mut Lists<W>,
-    config: &Config<W>,
-    reply: u32,
-) -> Result<(), Stop>
+pub(crate) fn fitting<const W: usize>(table: &Table<W>, config: &Config<W>) -> Slots<W>
     requires table { IsTable table.now }
     requires held { IsHeld (has table.now.used) config.now }
-    requires reply { has table.now.used reply ≡ true }
-    requires apart { AreApart table.now reply lists.old.work lists.old.next }
-    ensures apart { IfOk result (λ _. AreApart table.now reply lists.new.work lists.new.next) }
-    ensures kept { IfOk result (λ _. AreKept table.now lists.old.work lists.old.next lists.new.work lists.new.next) }
-    ensures goes { IfOk result (λ _. GoesOver table.now (call_at table.now reply) lists.new.work lists.new.next config.now.value (owed_by table.now config.now) (free_of table.now config.now)) }
+    ensures used { IsWithin (has result) (has table.now.used) }
+    ensures all { (q : ℕ) → (has config.now.owed q || has config.now.free q) ≡ true → fits_at table.now.ops.items (call_at table.now q) config.now.value ≡ true → has result q ≡ true }
 {
-    if config.owed.has(reply) {
-        try_all(table, lists, config, reply)
-    } else {
-        put_down(table, lists, config, None, reply)
-    }
+    config
+        .owed
+        .union(&config.free)
+        .common(&table.fitting(config.value))
 }
 
-/// The step over the reply of the call at a slot; true if all of `work` were gone over. Each is gone over once, and what comes of
-/// it stands behind the others, so those in which fewer calls take effect come first. A list holds no more than its bound, so one
-/// round more finds none left.
+/// The step over the reply of the call at a slot; true if all of `work` were gone over. What comes of one stands behind the others,
+/// so those in which fewer calls take effect come first. A list holds no more than its bound, so one round more finds none left.
 pub(crate) fn pass_all<const W: usize>(
     table: &Table<W>,
     lists: &mut Lists<W>,
@@ -258,10 +267,10 @@ pub(crate) fn pass_all<const W: usize>(
     requires reply { has table.now.used reply ≡ true }
     requires apart { AreApart table.now reply lists.old.work lists.old.next }
     ensures apart { IfOk result (λ _. AreApart table.now reply lists.new.work lists.new.next) }
-    ensures goes { IfOk result (λ all. IsTrue all → (es : List AMoment) → IsToCome table.now (AReply (call_at table.now reply) ∷ es) → IsAnyAble table.now lists.old.work (AReply (call_at table.now reply) ∷ es) → IsAnyAble table.now lists.new.next es) }
+    ensures kept { IfOk result (λ _. AreStill lists.old.next lists.new.next) }
+    ensures goes { IfOk result (λ all. IsTrue all → (es : List AMoment) (n : ℕ) → IsToCome table.now (AReply (call_at table.now reply) ∷ es) → IsAnyAbleBy table.now (call_at table.now reply) es n lists.old.work → IsAnyAble table.now lists.new.next es) }
 {
-    for _ in 0..lists.spent.most().saturating_add(1) {
-        let at = lists.work.done;
+    for at in 0..lists.spent.most().saturating_add(1) {
         if at >= lists.work.list.len() {
             return Ok(true);
         }
@@ -269,8 +278,7 @@ pub(crate) fn pass_all<const W: usize>(
             return Ok(false);
         }
         let config = lists.work.list[at];
-        lists.work.done = at + 1;
-        pass(table, lists, &config, reply)?;
+        try_all(table, lists, &config, reply)?;
     }
     Err(Stop::Bound(Bound::Configurations))
 }

@@ -1,21 +1,21 @@
 //! One run over all events.
-ghost use Rattle.std.specs.Prelude.{◌≡◌, ◌<◌, ◌*◌, ◌^◌, ◌∷◌, [], true, false, IsTrue, IfOk, List, ℕ};
-ghost use Rattle.configurations.specs.Configs.{AreHeld, IsAnyAble, IsFirst, IsOver};
+ghost use Rattle.std.specs.Prelude.{◌≡◌, ◌<◌, ◌*◌, ◌^◌, ◌∷◌, [], true, false, IsTrue, IfOk, ℕ};
+ghost use Rattle.configurations.specs.Configs.{AreApart, AreHeld, IsBegun, IsFirst, IsOver};
 ghost use Rattle.configurations.specs.Found.{IsFound};
 ghost use Rattle.configurations.specs.Runs.{AreInOrder};
 ghost use Rattle.configurations.specs.Tables.{IsTable};
-ghost use Rattle.configurations.specs.declared.moment.Moment.{Moment as AMoment};
 ghost use Rattle.configurations.specs.declared.moment.Moment.TheVariants.{Reply as AReply};
 ghost use Rattle.slot_sets.specs.Sets.{has};
 
 use crate::bounds::Bound;
 use crate::call::over_call;
-use crate::config::{Config, Configs, admit};
+use crate::config::{Config, Configs};
 use crate::found::Found;
 use crate::moment::Moment;
 use crate::op::Op;
-use crate::reply::{Lists, pass_all};
+use crate::reply::{Lists, put_down};
 use crate::table::Table;
+use crate::thrift::pass_by_stage;
 use crate::work::{Limits, NO_MOVE, Stop, Work};
 use slot_sets::Slots;
 use std::alloc::{AllocError, Global};
@@ -124,7 +124,6 @@ fn over<const W: usize>(
 ) -> Result<bool, Stop>
     requires table { IsTable table.old }
     requires held { AreHeld (has table.old.used) now.old }
-    requires start { now.old.done ≡ 0 }
     ensures { IfOk result (λ whole. IsOver whole table.old now.old event table.new now.new) }
 {
     match event {
@@ -145,7 +144,6 @@ fn over_reply<const W: usize>(
 ) -> Result<bool, Stop>
     requires table { IsTable table.old }
     requires held { AreHeld (has table.old.used) now.old }
-    requires start { now.old.done ≡ 0 }
     ensures { IfOk result (λ whole. IsOver whole table.old now.old (AReply number) table.new now.new) }
 {
     let Some(slot) = table.slot_of(number) else {
@@ -153,71 +151,73 @@ fn over_reply<const W: usize>(
     };
     lists.next.clear();
     lists.work.clear();
-    let whole = begin(table, now, lists)?;
-    let whole = are_both(whole, pass_all(table, lists, slot)?);
+    let whole = begin(table, now, lists, slot)?;
+    let whole = are_both(whole, pass_by_stage(table, lists, slot)?);
     mem::swap(now, &mut lists.next);
     table.release(slot);
     Ok(whole)
 }
 
-/// Puts those in `work` that go on; true if that are all.
+/// Puts those that go on in `work`, or in `next` if they have no call that must take effect; true if that are all.
 fn begin<const W: usize>(
     table: &Table<W>,
     now: &Configs<W>,
     lists: &mut Lists<W>,
+    reply: u32,
 ) -> Result<bool, Stop>
     requires table { IsTable table.now }
     requires held { AreHeld (has table.now.used) now.now }
-    requires empty { (lists.old.work.list.items ≡ []) × (lists.old.work.done ≡ 0) }
-    ensures next { lists.new.next ≡ lists.old.next }
-    ensures held { IfOk result (λ _. AreHeld (has table.now.used) lists.new.work × (lists.new.work.done ≡ 0)) }
-    ensures able { IfOk result (λ whole. IsTrue whole → (es : List AMoment) → now.now.done ≡ 0 → IsAnyAble table.now now.now es → IsAnyAble table.now lists.new.work es) }
+    requires reply { has table.now.used reply ≡ true }
+    requires empty { (lists.old.work.list.items ≡ []) × (lists.old.next.list.items ≡ []) }
+    ensures apart { IfOk result (λ _. AreApart table.now reply lists.new.work lists.new.next) }
+    ensures goes { IfOk result (λ whole. IsTrue whole → IsBegun table.now now.now reply lists.new.work lists.new.next) }
 {
     if now.list.len() <= lists.spent.beam() {
-        thin(table, now, lists)?;
+        thin(table, now, lists, reply)?;
         Ok(true)
     } else {
-        narrow(table, now, lists)?;
+        narrow(table, now, lists, reply)?;
         Ok(false)
     }
 }
 
-/// Puts those in `work` in which the fewest changes took effect that never reply, as many as the beam holds.
+/// Puts down those in which the fewest changes took effect that never reply, as many as the beam holds.
 fn narrow<const W: usize>(
     table: &Table<W>,
     now: &Configs<W>,
     lists: &mut Lists<W>,
+    reply: u32,
 ) -> Result<(), Stop>
     requires table { IsTable table.now }
     requires held { AreHeld (has table.now.used) now.now }
-    requires empty { (lists.old.work.list.items ≡ []) × (lists.old.work.done ≡ 0) }
-    ensures next { lists.new.next ≡ lists.old.next }
-    ensures held { IfOk result (λ _. AreHeld (has table.now.used) lists.new.work × (lists.new.work.done ≡ 0)) }
+    requires reply { has table.now.used reply ≡ true }
+    requires empty { (lists.old.work.list.items ≡ []) × (lists.old.next.list.items ≡ []) }
+    ensures { IfOk result (λ _. AreApart table.now reply lists.new.work lists.new.next) }
 {
     let best = best_of(lists.spent.alloc(), &now.list, lists.spent.beam())?;
     for at in &best {
-        admit_at(table, now, lists, *at)?;
+        put_down_at(table, now, lists, *at, reply)?;
     }
     Ok(())
 }
 
-/// Puts the one at a place in `work`.
-fn admit_at<const W: usize>(
+/// Puts down the one at a place.
+fn put_down_at<const W: usize>(
     table: &Table<W>,
     now: &Configs<W>,
     lists: &mut Lists<W>,
     at: usize,
+    reply: u32,
 ) -> Result<(), Stop>
     requires table { IsTable table.now }
     requires held { AreHeld (has table.now.used) now.now }
-    requires work { AreHeld (has table.now.used) lists.old.work × (lists.old.work.done ≡ 0) }
-    ensures next { lists.new.next ≡ lists.old.next }
-    ensures work { IfOk result (λ _. AreHeld (has table.now.used) lists.new.work × (lists.new.work.done ≡ 0)) }
+    requires reply { has table.now.used reply ≡ true }
+    requires apart { AreApart table.now reply lists.old.work lists.old.next }
+    ensures { IfOk result (λ _. AreApart table.now reply lists.new.work lists.new.next) }
 {
     if at < now.list.len() {
         let config = now.list[at];
-        admit(table, &mut lists.work, &config, None, &mut lists.spent)?;
-        Ok(())
+        put_down(table, lists, &config, None, reply)
     } else {
         Ok(())
     }
@@ -238,23 +238,24 @@ fn best_of<const W: usize>(
     ranked.iter().map(|one| one.1).collect(alloc)
 }
 
-/// Puts those in `work` that no later one stands for.
+/// Puts all down, the last one first.
 fn thin<const W: usize>(
     table: &Table<W>,
     now: &Configs<W>,
     lists: &mut Lists<W>,
+    reply: u32,
 ) -> Result<(), Stop>
     requires table { IsTable table.now }
     requires held { AreHeld (has table.now.used) now.now }
-    requires empty { (lists.old.work.list.items ≡ []) × (lists.old.work.done ≡ 0) }
-    ensures next { lists.new.next ≡ lists.old.next }
-    ensures held { IfOk result (λ _. AreHeld (has table.now.used) lists.new.work × (lists.new.work.done ≡ 0)) }
-    ensures able { IfOk result (λ _. (es : List AMoment) → now.now.done ≡ 0 → IsAnyAble table.now now.now es → IsAnyAble table.now lists.new.work es) }
+    requires reply { has table.now.used reply ≡ true }
+    requires empty { (lists.old.work.list.items ≡ []) × (lists.old.next.list.items ≡ []) }
+    ensures apart { IfOk result (λ _. AreApart table.now reply lists.new.work lists.new.next) }
+    ensures goes { IfOk result (λ _. IsBegun table.now now.now reply lists.new.work lists.new.next) }
 {
     let len = now.list.len();
     for i in 0..len {
         let config = now.list[len - 1 - i];
-        admit(table, &mut lists.work, &config, None, &mut lists.spent)?;
+        put_down(table, lists, &config, None, reply)?;
     }
     Ok(())
 }

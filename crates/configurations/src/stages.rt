@@ -4,6 +4,7 @@ ghost use Rattle.configurations.specs.Found.{IsFound};
 ghost use Rattle.configurations.specs.Runs.{AreInOrder};
 
 use crate::bounds::Bound;
+use crate::depth_first::depth_first;
 use crate::eased::eased_run;
 use crate::found::Found;
 use crate::moment::Moment;
@@ -12,13 +13,17 @@ use crate::run::run;
 use crate::work::Limits;
 use std::alloc::{AllocError, Global};
 
-/// Which operations a stage goes over.
-#[derive(Clone, Copy)]
+/// How a stage goes, and what its answer may be used for.
+#[derive(Clone, Copy, PartialEq, Eq)]
 enum Form {
-    /// Those of the register. A yes counts; a no does if no configuration was let go.
+    /// Over the operations of the register. A yes counts; a no does if no configuration was let go.
     Exact,
-    /// The same, but that a cas without a reply may take effect at any value: only a no counts.
+    /// The same, but that calls that never reply take effect only where nothing else explains a reply: only a yes counts.
+    Thrifty,
+    /// The same as exact, but that a cas without a reply may take effect at any value: only a no counts.
     Eased,
+    /// One order at a time: only a yes counts.
+    DepthFirst,
 }
 
 /// A stage: so many configurations go on from one reply to the next, and a list holds so many.
@@ -29,49 +34,32 @@ struct Stage {
     configurations: usize,
 }
 
-/// If some changes have no reply: first those that are quick where they suffice. The last is as wide as the bounds allow.
-const STAGES: [Stage; 6] = [
-    Stage {
-        form: Form::Exact,
-        beam: 8,
-        configurations: 4_096,
-    },
-    Stage {
-        form: Form::Exact,
-        beam: 1_024,
-        configurations: 1_024,
-    },
-    Stage {
-        form: Form::Eased,
-        beam: 1_024,
-        configurations: 1_024,
-    },
-    Stage {
-        form: Form::Exact,
-        beam: 64,
-        configurations: 16_384,
-    },
-    Stage {
-        form: Form::Exact,
-        beam: 512,
-        configurations: usize::MAX,
-    },
-    Stage {
-        form: Form::Exact,
-        beam: usize::MAX,
-        configurations: usize::MAX,
-    },
+/// As many as the bounds allow.
+const MOST: usize = usize::MAX;
+
+/// The form, the beam and the configurations of each stage, if some changes have no reply: first those that are quick where they
+/// suffice. The last is as wide as the bounds allow.
+const STAGES: [(Form, usize, usize); 10] = [
+    (Form::Thrifty, 8, MOST),
+    (Form::DepthFirst, 1, 1),
+    (Form::Exact, 1_024, 1_024),
+    (Form::Eased, 4_096, 4_096),
+    (Form::Thrifty, 32, MOST),
+    (Form::Thrifty, 128, MOST),
+    (Form::Exact, 32, MOST),
+    (Form::Thrifty, 512, MOST),
+    (Form::Exact, 128, MOST),
+    (Form::Exact, MOST, MOST),
 ];
 
-/// As wide as the bounds allow.
+/// The only stage if each change has a reply: few configurations are left anyway.
 const WIDEST: Stage = Stage {
     form: Form::Exact,
-    beam: usize::MAX,
-    configurations: usize::MAX,
+    beam: MOST,
+    configurations: MOST,
 };
 
-/// Goes through the stages until one answers. If each change has a reply, few configurations are left anyway, and the last stage
-/// is the only one.
+/// Goes through the stages until one answers.
 pub(crate) fn in_stages<const W: usize>(
     alloc: Global,
     ops: &[Op],
@@ -86,7 +74,12 @@ pub(crate) fn in_stages<const W: usize>(
         return run_stage::<W>(alloc, ops, events, WIDEST, &mut limits);
     }
     let mut bound = Bound::Steps;
-    for stage in STAGES {
+    for (form, beam, configurations) in STAGES {
+        let stage = Stage {
+            form,
+            beam,
+            configurations,
+        };
         match run_stage::<W>(alloc, ops, events, stage, &mut limits)? {
             Found::Stopped(met) => bound = met,
             found => return Ok(found),
@@ -114,11 +107,14 @@ fn run_stage<const W: usize>(
     let mut own = Limits {
         configurations: limits.configurations.min(stage.configurations),
         beam: stage.beam,
+        is_thrifty: stage.form == Form::Thrifty,
         ..*limits
     };
     let found = match stage.form {
         Form::Exact => run::<W>(alloc, ops, events, &mut own)?,
+        Form::Thrifty => run::<W>(alloc, ops, events, &mut own)?,
         Form::Eased => eased_run::<W>(alloc, ops, events, &mut own)?,
+        Form::DepthFirst => depth_first(alloc, ops, events, &mut own)?,
     };
     limits.steps = own.steps;
     Ok(found)

@@ -25,6 +25,8 @@ pub(crate) struct Table<const W: usize> {
     pub looks: Slots<W>,
     pub writes: Slots<W>,
     pub misses: Slots<W>,
+    /// The slots of calls that never reply. Nothing rests on them.
+    pub unanswered: Slots<W>,
     /// By value, the slots of the calls whose `from` it is.
     pub asks: Vec<Slots<W>>,
 }
@@ -45,6 +47,7 @@ impl<const W: usize> Table<W> {
             looks: Slots::none(),
             writes: Slots::none(),
             misses: Slots::none(),
+            unanswered: Slots::none(),
             asks: nothing_asked(alloc, values)?,
         })
     }
@@ -150,8 +153,8 @@ impl<const W: usize> Table<W> {
         }
     }
 
-    /// Whether the call of the first slot changes as that of the second does, and replies sooner; of calls that never reply, that
-    /// of the lower slot goes first.
+    /// Whether the call of the first slot changes as that of the second does, and replies sooner. Of calls that never reply, the
+    /// earlier one goes first, so that those of one kind that took effect differ in their number alone.
     #[inline(always)]
     pub(crate) fn goes_before(&self, first: u32, second: u32) -> bool
         ensures { IsTrue result → AreAlike self.now.ops.items (call_at self.now first) (call_at self.now second) × IsBefore self.now first second }
@@ -160,7 +163,8 @@ impl<const W: usize> Table<W> {
             return false;
         };
         is_alike(&one, &other)
-            && (one.rank < other.rank || (one.rank == other.rank && first < second))
+            && (one.rank < other.rank
+                || (one.rank == other.rank && self.call(first) < self.call(second)))
     }
 
     /// Gives a slot to a call that has had none, if one is left.
@@ -186,6 +190,7 @@ impl<const W: usize> Table<W> {
         mark(&mut self.looks, slot, looks(&op));
         mark(&mut self.writes, slot, writes(&op));
         mark(&mut self.misses, slot, misses(&op));
+        mark(&mut self.unanswered, slot, op.rank >= NEVER);
         self.asks[from].insert(slot);
         Some(slot)
     }

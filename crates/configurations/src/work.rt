@@ -20,6 +20,8 @@ pub(crate) struct Limits {
     pub configurations: usize,
     /// How many go on from one reply to the next.
     pub beam: usize,
+    /// Whether calls that never reply take effect only where nothing else explains a reply.
+    pub is_thrifty: bool,
 }
 
 /// Why a search stopped before its end.
@@ -60,6 +62,7 @@ pub(crate) struct Work {
     steps: u64,
     configurations: usize,
     beam: usize,
+    is_thrifty: bool,
     moves: Vec<Move>,
     /// The place of the event that is gone over.
     place: u32,
@@ -72,6 +75,7 @@ impl Work {
             steps: limits.steps,
             configurations: limits.configurations,
             beam: limits.beam,
+            is_thrifty: limits.is_thrifty,
             moves: Vec::new(alloc),
             place: 0,
         }
@@ -98,6 +102,11 @@ impl Work {
     /// How many configurations go on from one reply to the next.
     pub(crate) fn beam(&self) -> usize {
         self.beam
+    }
+
+    /// Whether calls that never reply take effect only where nothing else explains a reply.
+    pub(crate) fn is_thrifty(&self) -> bool {
+        self.is_thrifty
     }
 
     /// The steps that are left.

@@ -7,10 +7,10 @@ use Rattle.slot_sets.specs.Sets.{has}
 use Rattle.configurations.proofs.call.over_call.Goals as goal
 
 pub returns-in_default : goal.returns-in_default
-returns-in_default g c = no_call_over c.args.table.now c.args.configs.now c.args.number c.requires.table c.requires.held c.requires.start (missing_is_idle c.args.table.now.ops.items c.args.number (sym c.op_of.ensures ∙ c.in_default.is))
+returns-in_default g c = no_call_over c.args.table.now c.args.configs.now c.args.number c.requires.table c.requires.held (missing_is_idle c.args.table.now.ops.items c.args.number (sym c.op_of.ensures ∙ c.in_default.is))
 
 pub returns-then-is_content_in_all : goal.returns-then-is_content_in_all
-returns-then-is_content_in_all g c = no_call_over c.args.table.now c.args.configs.now c.args.number c.requires.table c.requires.held c.requires.start (looking_is_idle c.args.table.now.ops.items c.args.number c.in-Some.op (sym c.op_of.ensures ∙ c.in-Some.is) (c.is_content_in_all.ensures c.if-is_content_in_all.true))
+returns-then-is_content_in_all g c = no_call_over c.args.table.now c.args.configs.now c.args.number c.requires.table c.requires.held (looking_is_idle c.args.table.now.ops.items c.args.number c.in-Some.op (sym c.op_of.ensures ∙ c.in-Some.is) (c.is_content_in_all.ensures c.if-is_content_in_all.true))
 
 pub with_calls-requires : goal.with_calls-requires
 with_calls-requires g c =
@@ -25,4 +25,4 @@ with_calls-requires g c =
 pub returns : goal.returns
 returns g c =
     let given = c.in-Some-give.ensures in
-    call_over c.args.table.now c.give.new.self c.args.configs.now c.with_calls.new.configs c.in-Some-give.slot c.args.number given.0 c.requires.held c.requires.start given.1 c.with_calls.ensures.held c.with_calls.ensures.done c.with_calls.ensures.able
+    call_over c.args.table.now c.give.new.self c.args.configs.now c.with_calls.new.configs c.in-Some-give.slot c.args.number given.0 c.requires.held given.1 c.with_calls.ensures.held c.with_calls.ensures.able

@@ -4,7 +4,7 @@ use Rattle.configurations.proofs.Calling.{with_all, with_any, with_more, with_no
 use Rattle.configurations.proofs.call.with_calls.Goals as goal
 
 pub loop-at-init : goal.loop-at-init
-loop-at-init g c = record { called = with_none c.args.table.now c.args.slot c.args.configs.now; long = refl; done = refl }
+loop-at-init g c = record { called = with_none c.args.table.now c.args.slot c.args.configs.now; long = refl }
 
 pub loop-at-preserved : goal.loop-at-preserved
 loop-at-preserved g c =
@@ -18,14 +18,12 @@ loop-at-preserved g c =
           (λ es l. c.with_call.ensures.able es off.0 off.1 l)
           c.loop-at.invariant.called;
       long = length-set items c.loop-at.at c.with_call.result ∙ c.loop-at.invariant.long;
-      done = c.loop-at.invariant.done;
     }
 
 pub returns : goal.returns
 returns g c =
     let all : length c.loop-at.configs.list.items ≤ c.loop-at.at = omega (arith, c.loop-at.invariant.long, c.len-at-end.ensures, c.loop-at-test.false) in
     record {
-      done = c.loop-at.invariant.done;
       held = with_all c.args.table.now c.args.slot c.args.configs.now c.loop-at.configs c.loop-at.at all c.loop-at.invariant.called;
-      able = with_any c.args.table.now c.args.slot c.args.configs.now c.loop-at.configs c.loop-at.at all c.loop-at.invariant.done c.loop-at.invariant.called;
+      able = with_any c.args.table.now c.args.slot c.args.configs.now c.loop-at.configs c.loop-at.at all c.loop-at.invariant.called;
     }

@@ -6,5 +6,4 @@ abbrev pub invariant-loop-at : goal.invariant-loop-at
 invariant-loop-at g l = record {
   called : IsCalledTo l.table l.slot l.fn.configs l.configs l.at;
   long : length l.configs.list.items ≡ length l.fn.configs.list.items;
-  done : l.configs.done ≡ l.fn.configs.done;
 }

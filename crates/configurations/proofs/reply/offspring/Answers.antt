@@ -43,5 +43,5 @@ returns g c =
     } in
     record {
       held = offspring_held t c.requires.table before after slot c.args.reply moved c.requires.held c.requires.slot o;
-      able = λ es l. offspring_able t c.requires.table before after slot c.args.reply moved c.requires.held c.requires.slot o before.value es c.left-value.ensures l;
+      able = λ es n l. offspring_able t c.requires.table before after slot c.args.reply moved c.requires.held c.requires.slot o before.value es n c.left-value.ensures l;
     }

@@ -1,55 +1,45 @@
-use Rattle.std.proofs.Common.{◌*◌, ◌+◌, ◌<◌, ◌^◌, arith, inl, inr, length, refl}
-use Rattle.std.proofs.lemmas.Option.{slice_get_read}
-use Rattle.configurations.specs.declared.config.Configs.{Configs}
+use Rattle.std.proofs.Common.{◌≡◌, ◌∙◌, ◌<◌, ℕ, arith, inl, inr, length, refl, slice_get, Some, subst, sym}
+use Rattle.std.proofs.lemmas.Bool.{cases_eq}
+use Rattle.std.proofs.lemmas.Option.{slice_get_read, slice_get_within}
+use Rattle.configurations.specs.Configs.{IsGoneOver}
 use Rattle.configurations.specs.Tables.{call_at}
-use Rattle.configurations.proofs.Replying.{more_over, none_to_do}
+use Rattle.configurations.proofs.Replying.{all_gone_over, kept_all, kept_both, still_able_by, still_back, still_gone_over}
 use Rattle.configurations.proofs.reply.pass_all.Goals as goal
 
+pub loop-at-init : goal.loop-at-init
+loop-at-init g c = record {
+  apart = c.requires.apart;
+  kept = kept_all c.args.lists.now.work c.args.lists.now.next;
+  gone = λ at x lt e. absurd (omega (arith, lt));
+}
+
 pub returns-then-at-len-clause-goes : goal.returns-then-at-len-clause-goes
-returns-then-at-len-clause-goes g c = λ _ es to_come a. elim (c.loop.invariant.goes es to_come a) [
-  | inl x ↦ absurd (none_to_do c.args.table.now c.loop.lists.work _ (omega (arith, c.len.ensures, c.if-at-len.true)) x)
-  | inr x ↦ x
-]
-
-pub pass-requires : goal.pass-requires
-pass-requires g c =
-    let room : 64 * g.row.W < 2 ^ 32 = c.requires.table.room in
-    let items = c.loop.lists.work.list.items in
-    let below : c.loop.lists.work.done < length items = omega (arith, c.len.ensures, c.if-at-len.false) in
-    let held = c.loop.invariant.apart.work_held c.loop.lists.work.done c.index.result.now (slice_get_read items (length items) c.loop.lists.work.done c.index.result.now refl below c.index.ensures) in (
-      omega (arith, room),
-      (
-        omega arith,
-        (
-          omega (arith, room),
-          (
-            c.requires.table,
-            (
-              held,
-              (
-                c.requires.reply,
-                record {
-                  done = omega (arith, c.len.ensures, c.if-at-len.false);
-                  work_held = c.loop.invariant.apart.work_held;
-                  start = c.loop.invariant.apart.start;
-                  next_held = c.loop.invariant.apart.next_held;
-                },
-              ),
-            ),
-          ),
-        ),
-      ),
-    )
-
-pub loop-preserved : goal.loop-preserved
-loop-preserved g c =
+returns-then-at-len-clause-goes g c = λ _ es n to_come a.
     let t = c.args.table.now in
-    let work = c.loop.lists.work in
-    let items = work.list.items in
-    let below : work.done < length items = omega (arith, c.len.ensures, c.if-at-len.false) in
-    let rest : Configs g.row.W = record { list = work.list; done = work.done + 1; next = work.next; head = work.head } in
-    let after = c.pass.new.lists in
+    let k = call_at t c.args.reply in
+    let work = c.loop-at.lists.work in
+    all_gone_over t k work c.loop-at.lists.next es to_come (λ at x e. c.loop-at.invariant.gone at x (omega (arith, slice_get_within work.list.items at x e, c.len.ensures, c.if-at-len.true)) e) n (still_able_by t k es n c.args.lists.now.work work c.loop-at.invariant.kept.work_kept a)
+
+pub loop-at-preserved : goal.loop-at-preserved
+loop-at-preserved g c =
+    let t = c.args.table.now in
+    let k = call_at t c.args.reply in
+    let now = c.loop-at.lists in
+    let after = c.try_all.new.lists in
+    let items = now.work.list.items in
+    let tried = c.in_ok-try_all.ensures in
+    let below : c.loop-at.at < length items = omega (arith, c.len.ensures, c.if-at-len.false) in
+    let here : slice_get items c.loop-at.at ≡ Some c.index.result.now = slice_get_read items (length items) c.loop-at.at c.index.result.now refl below c.index.ensures in
     record {
-      apart = c.in_ok-pass.ensures.apart;
-      goes = λ es to_come a. more_over t (call_at t c.args.reply) work rest c.loop.lists.next after.work after.next c.index.result.now es to_come refl refl (slice_get_read items (length items) work.done c.index.result.now refl below c.index.ensures) c.in_ok-pass.ensures.kept c.in_ok-pass.ensures.goes (c.loop.invariant.goes es to_come a);
+      apart = tried.apart;
+      kept = kept_both c.args.lists.now.work c.args.lists.now.next now.work now.next after.work after.next c.loop-at.invariant.kept tried.kept;
+      gone = λ at x lt e. elim (cases_eq at c.loop-at.at) [
+        | inl same ↦
+            let there : slice_get after.work.list.items at ≡ Some c.index.result.now = tried.kept.work_kept at c.index.result.now (subst (λ y. slice_get items y ≡ Some c.index.result.now) (sym same) here) in
+            let both : c.index.result.now ≡ x = cc (there, e) in
+            subst (λ y. IsGoneOver t k after.work after.next y) both tried.goes
+        | inr apart ↦
+            let lower : at < c.loop-at.at = omega (arith, lt, apart) in
+            still_gone_over t k x now.work now.next after.work after.next tried.kept (c.loop-at.invariant.gone at x lower (still_back now.work after.work at x tried.kept.work_kept (omega (arith, lower, below)) e))
+      ];
     }

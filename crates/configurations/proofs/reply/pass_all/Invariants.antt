@@ -1,13 +1,12 @@
-use Rattle.std.proofs.Common.{List, ◌∷◌, ◌⊎◌}
-use Rattle.configurations.specs.declared.moment.Moment.{Moment}
-use Rattle.configurations.specs.declared.moment.Moment.TheVariants.{Reply}
-use Rattle.configurations.specs.Configs.{AreApart, IsAnyAble}
-use Rattle.configurations.specs.Tables.{IsToCome, call_at}
+use Rattle.std.proofs.Common.{ℕ, ◌≡◌, ◌<◌, slice_get, Some}
+use Rattle.configurations.specs.declared.config.Config.{Config}
+use Rattle.configurations.specs.Configs.{AreApart, AreKept, IsGoneOver}
+use Rattle.configurations.specs.Tables.{call_at}
 use Rattle.configurations.proofs.reply.pass_all.Given as goal
 
-abbrev pub invariant-loop : goal.invariant-loop
-invariant-loop g l = record {
+abbrev pub invariant-loop-at : goal.invariant-loop-at
+invariant-loop-at g l = record {
   apart : AreApart l.table l.reply l.lists.work l.lists.next;
-  goes : (es : List Moment) → IsToCome l.table (Reply (call_at l.table l.reply) ∷ es) → IsAnyAble l.table l.fn.lists.work (Reply (call_at l.table l.reply) ∷ es)
-      → IsAnyAble l.table l.lists.work (Reply (call_at l.table l.reply) ∷ es) ⊎ IsAnyAble l.table l.lists.next es;
+  kept : AreKept l.fn.lists.work l.fn.lists.next l.lists.work l.lists.next;
+  gone : (at : ℕ) (c : Config g.row.W) → at < l.at → slice_get l.lists.work.list.items at ≡ Some c → IsGoneOver l.table (call_at l.table l.reply) l.lists.work l.lists.next c;
 }

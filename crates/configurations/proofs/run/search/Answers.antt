@@ -6,7 +6,6 @@ pub loop-place-init : goal.loop-place-init
 loop-place-init g c = record {
   table = c.requires.table;
   held = first_held c.args.now.now c.requires.first;
-  start = c.requires.first.done;
   ops = refl;
   covers = λ _. first_covers c.args.table.now.ops.items c.args.events.now c.args.table.now c.args.now.now refl c.requires.none c.requires.first;
 }
@@ -17,7 +16,6 @@ loop-place-preserved g c =
     record {
       table = after.table;
       held = after.held;
-      start = after.start;
       ops = after.ops ∙ c.loop-place.invariant.ops;
       covers = λ whole.
           let all = c.are_both-whole.ensures whole in

@@ -10,7 +10,6 @@ abbrev pub invariant-loop-place : goal.invariant-loop-place
 invariant-loop-place g l = record {
   table : IsTable l.table;
   held : AreHeld (has l.table.used) l.now;
-  start : l.now.done ≡ 0;
   ops : l.table.ops.items ≡ l.fn.table.ops.items;
   covers : IsTrue l.whole → Covers l.fn.table.ops.items l.fn.events l.place l.table l.now;
 }

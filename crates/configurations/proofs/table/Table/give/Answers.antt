@@ -26,6 +26,7 @@ returns g c =
       looks = c.mark.new.slots;
       writes = c.mark-2.new.slots;
       misses = c.mark-3.new.slots;
+      unanswered = c.mark-4.new.slots;
       asks = with_item t.asks op.from c.insert-2.new.self;
     } in
     let giving : IsGiving t u slot c.args.number op c.insert-2.new.self = record {

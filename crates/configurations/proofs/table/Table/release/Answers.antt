@@ -25,6 +25,7 @@ returns-then-from-len-clause-table g c =
       looks = t.looks;
       writes = t.writes;
       misses = t.misses;
+      unanswered = t.unanswered;
       asks = with_item t.asks op.from c.remove-then-from-len.new.self;
     } in
     let taking : IsTaking t u c.args.slot s.op.from c.remove-then-from-len.new.self = record {
