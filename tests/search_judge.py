@@ -154,13 +154,23 @@ def counts(name: str, operations: Sequence[Operation]) -> Row:
     return {"register": name, "pending": sum(a.pending() for a in operations), **kinds}
 
 
+def open_calls(operations: Sequence[Operation], reply: int) -> List[int]:
+    """The lines of the calls before a reply that no earlier reply answers."""
+    return sorted(a.line for a in operations if a.line < reply <= a.reply)
+
+
+def search_fault(operations: Sequence[Operation], reply: int) -> Row:
+    """What is determined of the fault of a reply."""
+    return {"asks": open_calls(operations, reply), "kind": "search", "reply": reply}
+
+
 def fault_of(operations: Sequence[Operation]) -> Optional[Row]:
     """What is determined of a register's fault, if it has one."""
     line = first_unwritten(operations)
     if line is not None:
         return {"call": line, "kind": "unwritten"}
     reply = first_hopeless_reply(operations)
-    return None if reply is None else {"kind": "search", "reply": reply}
+    return None if reply is None else search_fault(operations, reply)
 
 
 def row_of(name: str, operations: Sequence[Operation]) -> Row:
@@ -236,7 +246,8 @@ def determined_fault(fault: Row, operations: Sequence[Operation]) -> Optional[Ro
     if len(operations) <= SEARCHED or first_unwritten(operations) is not None:
         return fault_of(operations)
     replies = [a.reply for a in operations if not a.pending()]
-    return {"kind": "search", "reply": next((line for line in replies if line == fault.get("reply")), None)}
+    reply = next((line for line in replies if line == fault.get("reply")), None)
+    return None if reply is None else search_fault(operations, reply)
 
 
 def judge_fault(fault: Any, operations: Sequence[Operation]) -> None:

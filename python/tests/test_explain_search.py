@@ -1,4 +1,5 @@
 """`regkit explain` of a no by `regsearch`: the fault is made small, and told."""
+import json
 import random
 import unittest
 from itertools import permutations
@@ -13,7 +14,7 @@ from regkit.history.operations import Operation, read_history
 
 from .events import Line, cas, crash, fail, gave, read, reply, run, text, took, write
 from .test_search import FINE, NULL_TWICE, STALE, TWO_WINNERS, Files
-from .test_verify_search import random_events
+from .test_verify_search import random_events, report
 
 
 def calls_of(events: List[Line]) -> List[Operation]:
@@ -307,6 +308,21 @@ class Told(Files):
             ran = run("explain", str(history), str(written))
             self.assertEqual((ran.status, ran.out), (2, ""), events)
             self.assertIn("the report isn't of this history", ran.err)
+
+    def test_open_calls(self) -> None:
+        """The report lists them. The first reports didn't, so of these the history tells them."""
+        events = [*STALE[:6], write(3, 7), crash(3), *STALE[6:]]
+        history, written = self.folder / "h", self.folder / "r"
+        history.write_bytes(text(*events))
+        row, summary = map(json.loads, decide(text(*events)).report.splitlines())
+        without = {key: row["fault"][key] for key in ("before", "kind", "reply")}
+        told = []
+        for fault in (row["fault"], without, {**without, "asks": [2]}):
+            written.write_bytes(report({**row, "fault": fault}, summary))
+            told.append(run("explain", str(history), str(written)))
+        self.assertEqual(told[0], told[1])
+        self.assertIn("Open then: the write of 7 by process 3", " ".join(told[0].out.split()))
+        self.assertIn("the report isn't of this history", told[2].err)
 
     def test_yes_and_unknown(self) -> None:
         ran = run("explain", "-", given=text(*FINE))

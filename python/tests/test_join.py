@@ -124,7 +124,7 @@ def searched(register: str, atomic: str, **told: object) -> Row:
 
 
 FOUND = searched("x", "yes", order=[1], points=[1])
-NO = searched("y", "no", fault={"before": [1, 3], "kind": "search", "reply": 4})
+NO = searched("y", "no", fault={"asks": [2, 3], "before": [1, 3], "kind": "search", "reply": 4})
 GAVE_UP = searched("z", "unknown", gave_up={"bound": "steps"})
 
 
@@ -151,7 +151,7 @@ class Searched(HandMade):
         self.part(0, "1", [FOUND, NO, GAVE_UP, unwritten, summary("no", 4, 4)])
         rows: List[Row] = [
             {**FOUND, "order": [10], "points": [10]},
-            {**NO, "fault": {"before": [10, 30], "kind": "search", "reply": 40}}, GAVE_UP,
+            {**NO, "fault": {"asks": [20, 30], "before": [10, 30], "kind": "search", "reply": 40}}, GAVE_UP,
             {**unwritten, "fault": {"call": 50, "kind": "unwritten"}}, summary("no", 4, 4)]
         self.assertEqual((1, b"".join(map(line_of, rows)), ""), self.join())
 

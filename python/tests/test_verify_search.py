@@ -104,7 +104,7 @@ class Honest(unittest.TestCase):
     def test_what_it_says(self) -> None:
         table = [(FINE, (), 0, "holds: linearizable: 4 operations on 1 register\n"),
                  (TWO_WINNERS, (), 0, "holds: not linearizable: 3 operations on 1 register, 1 of which is not "
-                  "linearizable; 1 no searched again, in all orders\n"),
+                  "linearizable; 1 no searched again, in all orders; the open calls of 1 no are those listed\n"),
                  ([cas(1, 7, 5), took(1, True)], (), 0, "holds: not linearizable: 1 operation on 1 register, 1 of "
                   "which is not linearizable; 1 no by a value that nobody wrote\n"),
                  (NULL_TWICE, ("--steps", "1"), 0, "holds: unknown: 3 operations on 1 register, 1 of which the "
@@ -171,7 +171,11 @@ class Changed(unittest.TestCase):
         table: List[Any] = [
             ("line 7 is no reply", {"reply": 7}), ("line 4 is no reply", {"reply": 4}),
             ("line True is no reply", {"reply": True}),
-            ("what was called before line 5 has a legal order", {"reply": 5, "before": [1, 3]}),
+            ("what was called before line 5 has a legal order", {"reply": 5, "asks": [3, 4], "before": [1, 3]}),
+            ("`asks` lacks line 4, a call that is open at line 6", {"asks": []}),
+            ("`asks` has line 3, which is no call that is open at line 6", {"asks": [3, 4]}),
+            ("`asks` has line 6, which", {"asks": [4, 6]}), ("or has one twice", {"asks": [4, 4]}),
+            ("not a list of lines", {"asks": 4}), ("not a list of lines", {"asks": [True]}),
             ("an order lacks line 1", {"before": [3]}), ("doesn't fit the value", {"before": [1, 3, 4]}),
             ("no fault is of that kind", {"kind": "zones"}), ("the keys of the fault", {"read": 3}),
         ]
@@ -180,6 +184,24 @@ class Changed(unittest.TestCase):
                 self.wrong(TWO_WINNERS, words, {**row, "fault": {**row["fault"], **said}}, summary)
         self.wrong(TWO_WINNERS, "no call that found", {**row, "fault": {"call": 3, "kind": "unwritten"}}, summary)
         self.wrong(TWO_WINNERS, "not an object", {**row, "fault": 3}, summary)
+
+    def test_open_calls(self) -> None:
+        """Pending ones, what is answered later, and the call that the reply answers; none that failed."""
+        events = [*STALE[:6], write(3, 7), crash(3), read(4), write(5, 8), read(2, "y"), read(6), fail(5), gave(6, 6),
+                  gave(4, 7), write(7, 9)]
+        row, *others = answered(events)
+        self.assertEqual(row["fault"]["asks"], [7, 9, 12])
+        for words, asks in [("lacks line 7", [9, 12]), ("lacks line 9", [7, 12]), ("has line 10", [7, 9, 10, 12]),
+                            ("has line 11", [7, 9, 11, 12]), ("has line 5", [5, 7, 9, 12]),
+                            ("isn't in the order of the calls", [12, 9, 7])]:
+            with self.subTest(words):
+                self.wrong(events, words, {**row, "fault": {**row["fault"], "asks": asks}}, *others)
+
+    def test_a_report_without_open_calls(self) -> None:
+        """The first ones had none."""
+        row, summary = answered(TWO_WINNERS)
+        del row["fault"]["asks"]
+        self.assertEqual(verify.verify(text(*TWO_WINNERS), report(row, summary)).nos, verify.Nos(searched=1))
 
     def test_an_unwritten_value(self) -> None:
         events = [cas(1, None, 7), fail(1), cas(2, 5, 6), took(2, False), read(3), gave(3, 6), read(4), gave(4, None)]

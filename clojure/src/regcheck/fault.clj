@@ -34,24 +34,15 @@
       :write value
       :cas (if (= :fail (:type op)) held (second value)))))
 
-(defn- open-calls
-  "The lines of the calls that are open just before a line."
-  [events line]
-  (vals (reduce (fn [open [line {:keys [op]}]]
-                  (if (= :invoke (:type op)) (assoc open (:process op) line) (dissoc open (:process op))))
-                {}
-                (map vector (range 1 line) events))))
-
 (defn paths
   "Knossos' :final-paths and :configs, of a fault that has an order of what was known until its reply: the end of that order
   with the values of the register, and what there was then."
-  [operations events {{:keys [before reply]} :fault}]
+  [operations events {{:keys [asks before reply]} :fault}]
   (when before
     (let [op (operations reply)
           path (map operations before)
           values (reductions after nil path)
           steps (map (fn [op value] {:op op :model {:value value}}) path (rest values))
-          open (remove (set before) (open-calls events reply))
-          pending (filter #(same-register? op %) (map #(:op (nth events (dec %))) open))]
+          pending (mapv #(:op (nth events (dec %))) (remove (set before) asks))]
       {:final-paths [(conj (vec (take-last most-steps steps)) {:op op :model {:msg "no order gives this answer"}})]
-       :configs [{:model {:value (last values)} :last-op (last path) :pending (vec pending)}]})))
+       :configs [{:model {:value (last values)} :last-op (last path) :pending pending}]})))

@@ -106,8 +106,9 @@
 (deftest a-fault-of-a-search
   (let [{:keys [valid? op previous-ok faults configs final-paths words] :as result} (judged (contended :ok))]
     (is (= [false 5 4] [valid? (:index op) (:index previous-ok)]))
-    (is (= [[:search 5 [1 4]]]
-           (map (fn [fault] [(:kind fault) (:index (:reply fault)) (mapv :index (:before fault))]) faults)))
+    (is (= [[:search 5 [1 4] [5]]]
+           (map (fn [fault] [(:kind fault) (:index (:reply fault)) (mapv :index (:before fault)) (mapv :index (:asks fault))])
+                faults)))
     (is (= [[[1 {:value 0}] [4 {:value 1}] [5 {:msg "no order gives this answer"}]]]
            (map (fn [path] (map (fn [{:keys [op model]}] [(:index op) model]) path)) final-paths)))
     (is (= [[{:value 1} 4 [3]]]
@@ -139,7 +140,7 @@
       (let [{:keys [valid? registers op configs] :as result} (judged (concat (keyed 1 right) (keyed 2 (contended :ok))))]
         (is (= [false 2 [2 [0 1]]] [valid? registers (:value op)]))
         (is (= [{:value 1}] (map :model configs)))
-        (is (str/includes? (::report result) "\"cas\":2,\"fault\":{\"before\":[3,5],\"kind\":\"search\",\"reply\":8}"))))
+        (is (str/includes? (::report result) "\"cas\":2,\"fault\":{\"asks\":[6],\"before\":[3,5],\"kind\":\"search\",\"reply\":8}"))))
     (testing "an operation without a key among those with one"
       (is (str/includes? (:cause (judged (concat (keyed 1 right) stale))) "has no key")))))
 

@@ -19,7 +19,7 @@ use Rattle.search_text.specs.declared.report.Atomicity.{Atomicity}
 use Rattle.search_text.specs.declared.report.Atomicity.TheVariants.{Yes, No}
 use Rattle.search_text.specs.declared.report.Fault.TheVariants.{Search, Unwritten}
 use Rattle.search_report.specs.Meaning.{IsAtomicity, IsOrderBefore, line_at, lines_of}
-use Rattle.search_report.specs.Registers.{AreLinesBefore, IsReplyLine}
+use Rattle.search_report.specs.Registers.{AreLinesBefore, AreOpenLines, IsReplyLine}
 use Rattle.search_report.proofs.Placing.{known-lines}
 
 pub are-calls : (r : ℕ) (ops : List Operation) → AreTimedCalls r ops → AreCalls r ops
@@ -70,9 +70,10 @@ module _ (lines : List ℕ) (r : ℕ) (ops : List Operation) where
       ) in
       subst (λ o. IfSome o (λ order. IsOrderBefore time r ops order.items)) (sym is.1) (subst (λ t. IsOrderBefore t r ops is.0.items) same_time order)
 
-  pub no-told : AreTimedCalls r ops → IsFirstUnwritten ops None → (k line : ℕ) (before shown : Option (Vec ℕ Global)) → IsReplyLine lines ops k line → AreLinesBefore ops before shown
-      → IsRefuted r ops k → IfSome before (λ places. IsBefore r ops k places.items) → IsAtomicity lines r ops (No (Search shown line))
-  no-told timed first k line before shown is_line is refuted legal =
+  pub no-told : AreTimedCalls r ops → IsFirstUnwritten ops None → (k line : ℕ) (asks : Vec ℕ Global) (before shown : Option (Vec ℕ Global))
+      → IsReplyLine lines ops k line → AreOpenLines ops k asks.items → AreLinesBefore ops before shown
+      → IsRefuted r ops k → IfSome before (λ places. IsBefore r ops k places.items) → IsAtomicity lines r ops (No (Search asks shown line))
+  no-told timed first k line asks before shown is_line are_open is refuted legal =
       let a = refuted.replies.0 in (
         refuted.whole,
         (
@@ -84,6 +85,7 @@ module _ (lines : List ℕ) (r : ℕ) (ops : List Operation) where
             replies = refuted.replies.2;
             line = is_line a refuted.time refuted.replies.1 refuted.replies.2;
             none = refuted.beginning;
+            asks_are = are_open a refuted.time refuted.replies.1 refuted.replies.2;
             order = before_told timed k refuted.time a refuted.replies.1 refuted.replies.2 before shown is legal;
           },
         ),

@@ -1,7 +1,7 @@
 -- What a report of a history with cas says.
 use Rattle.std.specs.Global.{Global}
-use Rattle.std.specs.List.{list_any}
-use Rattle.std.specs.Prelude.{◌≡◌, ◌<◌, ◌-◌, ℕ, Vec, Option, if◌then◌else◌, List, ◌∷◌, length, map, get_or, count_by, slice_get, Bool, true, false, is_none, Some, None, IfSome}
+use Rattle.std.specs.List.{filter, list_any}
+use Rattle.std.specs.Prelude.{◌≡◌, ◌<◌, ◌-◌, ◌&&◌, nat_lt, nat_le, ℕ, Vec, Option, if◌then◌else◌, List, ◌∷◌, length, map, get_or, count_by, slice_get, Bool, true, false, is_none, Some, None, IfSome}
 use Rattle.history_model.specs.Lists.{In}
 use Rattle.cas_text.specs.declared.event.CasEvent.{CasEvent}
 use Rattle.cas_model.specs.declared.act.Act.{Act}
@@ -69,6 +69,17 @@ lines_of order = map (λ a. a.line) order
 abbrev pub points_of : List ℕ → List Operation → List ℕ
 points_of lines order = map (λ x. line_at lines x.point) (placed order)
 
+-- ---- open calls
+
+-- no reply comes before time t
+abbrev pub is_unanswered : ℕ → Option ℕ → Bool
+is_unanswered t None = true
+is_unanswered t (Some s) = nat_le t s
+
+-- The operation is open at time t: its call comes before that time, and no reply of it does. So one that is pending is open from its call on, and one that replies at time t still is.
+abbrev pub is_open_at : ℕ → Operation → Bool
+is_open_at t a = nat_lt a.call t && is_unanswered t a.reply
+
 -- ---- a register: events have these lines, register r has the calls `ops`
 
 -- a legal order of the register's operations, its initial write left out, and its points, each of which comes before the operation's reply (Herlihy and Wing, Linearizability: A Correctness Condition for Concurrent Objects, 1990)
@@ -91,20 +102,21 @@ pub record IsUnwrittenShown (ops : List Operation) (call : ℕ) : Type 0 where
 abbrev pub IsOrderBefore : ℕ → ℕ → List Operation → List ℕ → Type 0
 IsOrderBefore t r ops before = (order : List Operation) × IsLegal (initial_write r ∷ cut_at (t - 1) ops) (initial_write r ∷ order) × (before ≡ lines_of order)
 
--- the reply of some call, by its line: what is known at its time has no legal order, and the order of what was known before it, if there is one, is legal
-pub record IsHopelessShown (lines : List ℕ) (r : ℕ) (ops : List Operation) (before : Option (Vec ℕ Global)) (reply : ℕ) : Type 0 where
+-- the reply of some call, by its line: what is known at its time has no legal order, these calls are open then, in their order, and the order of what was known before it, if there is one, is legal
+pub record IsHopelessShown (lines : List ℕ) (r : ℕ) (ops : List Operation) (asks : List ℕ) (before : Option (Vec ℕ Global)) (reply : ℕ) : Type 0 where
   pub operation : Operation
   pub time : ℕ
   pub within : In operation ops
   pub replies : operation.reply ≡ Some time
   pub line : reply ≡ line_at lines time
   pub none : IsAtomic (cut_at time (initial_write r ∷ ops)) → ⊥
+  pub asks_are : asks ≡ lines_of (filter (is_open_at time) ops)
   pub order : IfSome before (λ order. IsOrderBefore time r ops order.items)
 
 -- why a register isn't atomic
 abbrev pub IsFaultShown : List ℕ → ℕ → List Operation → Fault → Type 0
 IsFaultShown lines r ops (Unwritten call) = IsUnwrittenShown ops call
-IsFaultShown lines r ops (Search before reply) = IsFirstUnwritten ops None × IsHopelessShown lines r ops before reply
+IsFaultShown lines r ops (Search asks before reply) = IsFirstUnwritten ops None × IsHopelessShown lines r ops asks.items before reply
 
 -- A yes has a legal order, and after a no there is none. The search is asked only if no value is unwritten; if it gave up, no more is said.
 abbrev pub IsAtomicity : List ℕ → ℕ → List Operation → Atomicity → Type 0

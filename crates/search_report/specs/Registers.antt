@@ -1,18 +1,22 @@
 -- What is found of registers, one by one.
 use Rattle.std.specs.Global.{Global}
 use Rattle.std.specs.Prelude.{◌≡◌, ℕ, Vec, count_by, length, slice_get, List, Option, Some, None}
-use Rattle.std.specs.List.{AllZip}
+use Rattle.std.specs.List.{AllZip, filter}
 use Rattle.cas_model.specs.declared.operation.Operation.{Operation}
 use Rattle.cas_search.specs.Timeline.{operations_at}
 use Rattle.cas_history.specs.Timed.{AreTimedCalls}
 use Rattle.cas_history.specs.declared.history.History.{History}
-use Rattle.search_report.specs.Meaning.{is_cas, is_pending, is_read, is_write, line_at, lines_of, IsAtomicity}
+use Rattle.search_report.specs.Meaning.{is_cas, is_open_at, is_pending, is_read, is_write, line_at, lines_of, IsAtomicity}
 use Rattle.search_report.specs.declared.register.Finding.{Finding}
 use Rattle.search_text.specs.declared.report.RegisterReport.{RegisterReport}
 
 -- the line of the reply to the operation at this place, if there is one
 abbrev pub IsReplyLine : List ℕ → List Operation → ℕ → ℕ → Type 0
 IsReplyLine lines ops place line = (a : Operation) (t : ℕ) → slice_get ops place ≡ Some a → a.reply ≡ Some t → line ≡ line_at lines t
+
+-- the lines of the operations that are open at the reply to the one at this place, if there is one
+abbrev pub AreOpenLines : List Operation → ℕ → List ℕ → Type 0
+AreOpenLines ops place lines = (a : Operation) (t : ℕ) → slice_get ops place ≡ Some a → a.reply ≡ Some t → lines ≡ lines_of (filter (is_open_at t) ops)
 
 -- the lines of the operations at these places, if there are any
 abbrev pub AreLinesBefore : List Operation → Option (Vec ℕ Global) → Option (Vec ℕ Global) → Type 0

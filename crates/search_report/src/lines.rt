@@ -1,7 +1,8 @@
 //! Operations and times by lines.
 ghost use Rattle.std.specs.Prelude.{◌≡◌, ◌++◌, ◌∷◌, [], map, IfOk, OnOk};
+ghost use Rattle.std.specs.List.{filter};
 ghost use Rattle.cas_search.specs.Timeline.{operations_at};
-ghost use Rattle.search_report.specs.Meaning.{line_at, lines_of};
+ghost use Rattle.search_report.specs.Meaning.{is_open_at, is_unanswered, line_at, lines_of};
 
 use cas_model::Operation;
 use std::alloc::{AllocError, Global};
@@ -43,6 +44,37 @@ pub(crate) fn lines_of_places(
         add_line(&mut lines, ops, *place)?;
     }
     Ok(lines)
+}
+
+/// The lines of the calls that are open at a time, in their order.
+pub(crate) fn lines_of_open(
+    alloc: Global,
+    ops: &[Operation],
+    time: u32,
+) -> Result<Vec<u32>, AllocError>
+    ensures { IfOk result (λ v. v.items ≡ lines_of (filter (is_open_at time) ops.now)) }
+{
+    ops.iter()
+        .filter(|op| is_open(op, time))
+        .map(|op| op.line)
+        .collect(alloc)
+}
+
+/// Whether an operation was called before a time, and has no reply before it.
+fn is_open(op: &Operation, time: u32) -> bool
+    ensures { result ≡ is_open_at time op.now }
+{
+    op.call < time && is_awaited(op.reply, time)
+}
+
+/// Whether no reply comes before a time.
+fn is_awaited(reply: Option<u32>, time: u32) -> bool
+    ensures { result ≡ is_unanswered time reply }
+{
+    match reply {
+        Some(at) => time <= at,
+        None => true,
+    }
 }
 
 /// Adds the line of the call of one more operation.

@@ -2,12 +2,12 @@
 ghost use Rattle.std.specs.Prelude.{◌≡◌, ℕ, None, IfOk};
 ghost use Rattle.cas_history.specs.Timed.{AreTimedCalls};
 ghost use Rattle.search_report.specs.Meaning.{IsAtomicity, IsFaultShown};
-ghost use Rattle.search_report.specs.Registers.{AreLinesBefore, IsFinding, IsReplyLine};
+ghost use Rattle.search_report.specs.Registers.{AreLinesBefore, AreOpenLines, IsFinding, IsReplyLine};
 ghost use Rattle.cas_search.specs.Unwritten.{IsFirstUnwritten};
 ghost use Rattle.cas_search.specs.Verdicts.{IsVerdict};
 
 use crate::counts;
-use crate::lines::{line_of_time, lines_of_places, lines_of_times};
+use crate::lines::{line_of_time, lines_of_open, lines_of_places, lines_of_times};
 use cas_model::Operation;
 use cas_search::{Bounds, Verdict, decide, first_unwritten, timeline};
 use search_text::{Atomicity, Fault};
@@ -30,6 +30,16 @@ fn reply_line(lines: &[u32], ops: &[Operation], place: u32) -> u32
     match ops.get(place as usize).and_then(|op| op.reply) {
         Some(time) => line_of_time(lines, time),
         None => 0,
+    }
+}
+
+/// The lines of the calls that are open at the reply to the operation at this place.
+fn open_lines(alloc: Global, ops: &[Operation], place: u32) -> Result<Vec<u32>, AllocError>
+    ensures { IfOk result (λ v. AreOpenLines ops.now place v.items) }
+{
+    match ops.get(place as usize).and_then(|op| op.reply) {
+        Some(time) => lines_of_open(alloc, ops, time),
+        None => Ok(Vec::new(alloc)),
     }
 }
 
@@ -63,6 +73,7 @@ fn told(
             points: lines_of_times(alloc, lines, &points)?,
         }),
         Verdict::No { reply, before } => Ok(Atomicity::No(Fault::Search {
+            asks: open_lines(alloc, ops, reply)?,
             before: lines_before(alloc, ops, before)?,
             reply: reply_line(lines, ops, reply),
         })),

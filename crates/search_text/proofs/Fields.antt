@@ -89,11 +89,14 @@ plain_answer answer.Unknown = refl
 
 plain_fault : (fault : Fault) → has_float (object_json (fault_parts fault)) ≡ false
 plain_fault (Unwritten call) = refl
-plain_fault (Search before reply) = plain_parts (fault_parts (Search before reply)) (
-  plain_shown (codes "before") (λ lines. numbers_json lines.items) before (λ lines. plain_numbers lines.items),
+plain_fault (Search asks before reply) = plain_parts (fault_parts (Search asks before reply)) (
+  plain_always (codes "asks") (numbers_json asks.items) (plain_numbers asks.items),
   (
-    plain_always (codes "kind") (string (codes "search")) refl,
-    (plain_always (codes "reply") (number_json reply) refl, tt),
+    plain_shown (codes "before") (λ lines. numbers_json lines.items) before (λ lines. plain_numbers lines.items),
+    (
+      plain_always (codes "kind") (string (codes "search")) refl,
+      (plain_always (codes "reply") (number_json reply) refl, tt),
+    ),
   ),
 )
 

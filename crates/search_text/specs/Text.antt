@@ -51,7 +51,12 @@ object_json parts = object (members_of (fields_of parts))
 
 abbrev pub fault_parts : Fault → List (List Field)
 fault_parts (Unwritten call) = always (codes "call") (number_json call) ∷ always (codes "kind") (string (codes "unwritten")) ∷ []
-fault_parts (Search before reply) = shown (codes "before") (λ lines. numbers_json lines.items) before ∷ always (codes "kind") (string (codes "search")) ∷ always (codes "reply") (number_json reply) ∷ []
+fault_parts (Search asks before reply) =
+    always (codes "asks") (numbers_json asks.items)
+    ∷ shown (codes "before") (λ lines. numbers_json lines.items) before
+    ∷ always (codes "kind") (string (codes "search"))
+    ∷ always (codes "reply") (number_json reply)
+    ∷ []
 
 abbrev pub bound_json : Bound → Data
 bound_json Configurations = string (codes "configurations")

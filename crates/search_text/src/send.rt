@@ -77,11 +77,11 @@ fn fault_len(fault: &Fault) -> usize
 {
     match fault {
         Fault::Unwritten { .. } => 2,
-        Fault::Search { before: None, .. } => 2,
+        Fault::Search { before: None, .. } => 3,
         Fault::Search {
             before: Some(_),
             ..
-        } => 3,
+        } => 4,
     }
 }
 
@@ -94,11 +94,13 @@ fn send_unwritten<S: Serializer>(out: &mut S, call: u32) -> Result<(), S::Error>
 
 fn send_search<S: Serializer>(
     out: &mut S,
+    asks: &Vec<u32>,
     before: &Option<Vec<u32>>,
     reply: u32,
 ) -> Result<(), S::Error>
-    ensures { OnOk result (SendsParts (fault_parts (Fault.Search before.now reply)) (S.written out.old) (S.written out.new)) }
+    ensures { OnOk result (SendsParts (fault_parts (Fault.Search asks.now before.now reply)) (S.written out.old) (S.written out.new)) }
 {
+    send_numbers(out, "asks", asks.as_slice())?;
     show_numbers(out, "before", before)?;
     send_text(out, "kind", "search")?;
     send_number(out, "reply", u64::from(reply))
@@ -109,7 +111,11 @@ fn send_fault_parts<S: Serializer>(out: &mut S, fault: &Fault) -> Result<(), S::
 {
     match fault {
         Fault::Unwritten { call } => send_unwritten(out, *call),
-        Fault::Search { before, reply } => send_search(out, before, *reply),
+        Fault::Search {
+            asks,
+            before,
+            reply,
+        } => send_search(out, asks, before, *reply),
     }
 }
 

@@ -22,7 +22,7 @@ operations that it names. Safe and regular are decided again for each read, and 
 format.
 
 Of a report of regsearch a no is searched again, in a plain way that shares nothing with regsearch. If that would
-take too long, the line says so, and the status is 6.
+take too long, the line says so, and the status is 6. Which calls were open at the reply is looked up (`asks`).
 
 The report may be an early answer (regcheck --first). It gives no order of the registers before the one that
 it names, so orders are built here, and replayed.
@@ -122,6 +122,8 @@ def nos_in_words(nos: verify.Nos) -> str:
         said.append(f"{counted(nos.searched, 'no')} searched again, in all orders")
     if nos.unsearched:
         said.append(f"{counted(nos.unsearched, 'no')} not searched again, which would take too long")
+    if nos.listed:
+        said.append(f"the open calls of {counted(nos.listed, 'no')} are those listed")
     return "".join(f"; {each}" for each in said)
 
 

@@ -32,8 +32,9 @@ def contradicted(history: History, row: Row) -> Contradicted:
     if found is None:
         raise KeyError(line)
     before = [by_line[each] for each in fault["before"]] if "before" in fault else None
-    opened = [call for call in calls if is_open(call, line) and call is not found]
-    return Contradicted(found, line, before, opened)
+    opened = [by_line[each] for each in fault["asks"]] if "asks" in fault else [
+        call for call in calls if is_open(call, line)]
+    return Contradicted(found, line, before, [call for call in opened if call is not found])
 
 
 def is_open(call: Operation, line: int) -> bool:

@@ -1,7 +1,8 @@
 """What each key of a report of regsearch claims, and how it is checked.
 
-A yes is replayed along its order. Of a no, the order of what was known before the reply is replayed, and that
-there is none with the reply is searched again, in a plain way and up to a bound.
+A yes is replayed along its order. Of a no, the order of what was known before the reply is replayed, the calls
+that were open at the reply are looked up, and that there is no order with the reply is searched again, in a plain
+way and up to a bound.
 """
 from typing import Any, Dict, FrozenSet, Iterator, List, NamedTuple, Optional, Sequence, Set, Tuple
 
@@ -22,6 +23,7 @@ class Nos(NamedTuple):
     by_definition: int = 0  # a value that nobody wrote
     searched: int = 0  # again, and there is no order
     unsearched: int = 0  # it would have taken too long
+    listed: int = 0  # of all, those that list the calls which were open, and these were
 
 
 def check_search_report(history: History, rows: Sequence[Row]) -> Nos:
@@ -59,6 +61,7 @@ def check_line(operations: List[Operation], line: Row, kinds: List[str]) -> None
     need(set(line) == due, f"its keys are not {', '.join(sorted(due))}")
     if atomic == "no":
         kinds.append(check_fault(operations, line["fault"]))
+        kinds += ["listed"] if "asks" in line["fault"] else []
         return
     for found in unwritten_calls(operations):
         need(False, f"line {found.line} found a value that nobody wrote")
@@ -126,14 +129,26 @@ def check_fault(operations: List[Operation], fault: Any) -> str:
              f"line {fault['call']} is no call that found a value that nobody wrote")
         return "by_definition"
     need(fault.get("kind") == "search", "no fault is of that kind")
-    need(set(fault) | {"before"} == {"before", "kind", "reply"}, "the keys of the fault are not before, kind, reply")
+    need(set(fault) | {"asks", "before"} == {"asks", "before", "kind", "reply"},
+         "the keys of the fault are not asks, before, kind, reply")
     reply = fault["reply"]
     need(any(is_number(reply, int(a.end)) for a in operations if a.completed), f"line {reply} is no reply")
+    if "asks" in fault:  # the first reports of regsearch lacked it
+        check_open(operations, lines_of(fault, "asks"), reply)
     if "before" in fault:
         check_order(operations, lines_of(fault, "before"), reply)
     found = has_order(operations, reply)
     need(found is not True, f"what was called before line {reply} has a legal order")
     return "unsearched" if found is None else "searched"
+
+
+def check_open(operations: List[Operation], asks: Lines, reply: int) -> None:
+    """The calls that are open at a reply came before it, and have no earlier one."""
+    due = [a.line for a in operations if a.line < reply <= a.end]
+    lacking, others = set(due) - set(asks), set(asks) - set(due)
+    need(not lacking, f"`asks` lacks line {min(lacking, default=0)}, a call that is open at line {reply}")
+    need(not others, f"`asks` has line {min(others, default=0)}, which is no call that is open at line {reply}")
+    need(asks == due, "`asks` isn't in the order of the calls, or has one twice")
 
 
 def unwritten_calls(operations: List[Operation]) -> Iterator[Operation]:
