@@ -4,8 +4,9 @@
 //! What the floor above may rely on: [`decide`] answers yes only with a legal order; no only if there is
 //! none, not even of what was known at the reply that it names; and otherwise gives up. [`check_order`] is
 //! what a yes rests on: it gives the points of an order only if that is legal by the definitions, whoever
-//! made it. [`timeline`] puts the calls and the replies in order. [`first_unwritten`] finds a value that
-//! nobody gave the register.
+//! made it; [`legal_before`] gives an order back only if it is one of what was known just before a reply, and
+//! [`reply_time`] the time of a reply. [`timeline`] puts the calls and the replies in order.
+//! [`first_unwritten`] finds a value that nobody gave the register.
 //!
 //! The search is that of `configurations`, the floor below, which knows operations by numbers alone. It
 //! gives the changes that took effect, and this crate makes an order of all operations from them: of all
@@ -34,4 +35,4 @@ pub use check::check_order;
 pub use configurations::{Bound, Bounds, MAX_CONFIGURATIONS, MAX_STEPS, Moment};
 pub use times::timeline;
 pub use unwritten::first_unwritten;
-pub use verdict::{Verdict, decide};
+pub use verdict::{Verdict, decide, legal_before, reply_time};

@@ -68,8 +68,9 @@ fn refuted(
     Ok(Verdict::No { reply, before })
 }
 
-/// The order, if it is a legal order of what was known just before the reply of the operation at a place.
-fn legal_before(
+/// The order, if it is a legal order of what was known just before the reply of the operation at a place. It has the operations
+/// by their places, whoever made it, without the initial write.
+pub fn legal_before(
     alloc: Global,
     ops: &[Operation],
     reply: u32,
@@ -88,7 +89,7 @@ fn legal_before(
 }
 
 /// The time of the reply of the operation at a place.
-fn reply_time(ops: &[Operation], place: u32) -> Option<u32>
+pub fn reply_time(ops: &[Operation], place: u32) -> Option<u32>
     ensures { IfSome result (λ t. RepliesAt ops.now place t) }
 {
     match ops.get(place as usize) {
