@@ -6,7 +6,8 @@
 
 Lines are read and refused as in tests/reference.py; nothing else is shared with it. An operation's times are
 the lines of its call and its reply. Only registers of up to 12 operations are searched: those have to be
-decided, and of larger ones only what the report itself shows is looked at. `-` is standard input.
+decided, and of larger ones only what the report itself shows is looked at. A register without cas whose written
+values are distinct has to be decided in any case. `-` is standard input.
 """
 import argparse
 import json
@@ -262,8 +263,14 @@ def judge_fault(fault: Any, operations: Sequence[Operation]) -> None:
         wrong("before:", why)
 
 
+def is_distinct(operations: Sequence[Operation]) -> bool:
+    """Whether there is no cas among them, and no value is written twice."""
+    written = [a.given for a in operations if a.op == "write"]
+    return all(a.op != "cas" for a in operations) and len(set(written)) == len(written)
+
+
 def judge_row(row: Row, name: str, operations: Sequence[Operation], decided: bool) -> None:
-    """`decided` says that the bounds let the program decide each small register."""
+    """`decided` says that the bounds let the program decide each small register, whatever its values."""
     wanted = counts(name, operations)
     compare("a line without its verdict", {key: row.get(key) for key in wanted}, wanted)
     atomic = row.get("atomic")
@@ -275,6 +282,8 @@ def judge_row(row: Row, name: str, operations: Sequence[Operation], decided: boo
         judge_fault(row["fault"], operations)
     elif row["gave_up"] not in [{"bound": bound} for bound in BOUNDS]:
         wrong("gave_up is", row["gave_up"])
+    elif is_distinct(operations):
+        wrong("not decided, with distinct values")
     elif decided and len(operations) <= SEARCHED:
         wrong("not decided, with", len(operations), "operations")
     if atomic != "no" and first_unwritten(operations) is not None:

@@ -1,8 +1,10 @@
-//! Tests of `cas_search` by its public calls alone.
+//! Tests of `cas_search` and `distinct_values` by their public calls alone.
 //!
-//! They are a crate of their own, so that it isn't proved once more with them.
+//! They are a crate of their own, so that those aren't proved once more with them.
 #![tactic(auto)]
 
+#[cfg(test)]
+mod distinct;
 #[cfg(test)]
 mod registers;
 #[cfg(test)]

@@ -10,17 +10,17 @@ pub(crate) const ONE: Val = Val::Int(1);
 
 pub(crate) const TWO: Val = Val::Int(2);
 
-const THREE: Val = Val::Int(3);
+pub(crate) const THREE: Val = Val::Int(3);
 
-fn write(call: u32, reply: Option<u32>, value: Val) -> Operation {
+pub(crate) fn write(call: u32, reply: Option<u32>, value: Val) -> Operation {
     operation(call, reply, Act::Write(value))
 }
 
-fn read(call: u32, reply: u32, value: Val) -> Operation {
+pub(crate) fn read(call: u32, reply: u32, value: Val) -> Operation {
     operation(call, Some(reply), Act::Read(Some(value)))
 }
 
-fn cas(call: u32, reply: Option<u32>, from: Val, to: i64) -> Operation {
+pub(crate) fn cas(call: u32, reply: Option<u32>, from: Val, to: i64) -> Operation {
     operation(call, reply, Act::Cas { from, to })
 }
 
@@ -51,7 +51,12 @@ pub(crate) fn verdict(
 
 /// `yes` if the search finds an order, `no` with the place of the operation whose reply is hopeless, or the bound that it met.
 fn answer(alloc: Global, ops: &[Operation], bounds: Bounds) -> Result<String, AllocError> {
-    match verdict(alloc, ops, bounds)? {
+    text_of(alloc, verdict(alloc, ops, bounds)?)
+}
+
+/// A verdict in words.
+pub(crate) fn text_of(alloc: Global, verdict: Verdict) -> Result<String, AllocError> {
+    match verdict {
         Verdict::Yes { .. } => String::from_str(alloc, "yes"),
         Verdict::No { reply, .. } => format!(in alloc; "no at {reply}"),
         Verdict::Unknown(Bound::Steps) => String::from_str(alloc, "steps"),

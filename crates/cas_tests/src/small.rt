@@ -1,4 +1,5 @@
-//! All registers of three operations with a few acts and times: the search against each order of them.
+//! All registers of three operations with a few acts and times: the search, and zones, against each order of them.
+use crate::distinct;
 use crate::registers::{ONE, TWO, operation, verdict};
 use cas_model::{Act, Operation};
 use cas_search::{Bounds, Verdict, check_order};
@@ -52,9 +53,9 @@ fn known(alloc: Global, ops: &[Operation], time: u32) -> Result<Vec<Operation>, 
     Ok(known)
 }
 
-/// Whether the search says what the orders say: yes if one is legal; else no at a reply at which none is, with one before it.
-fn agrees(alloc: Global, ops: &[Operation]) -> Result<bool, AllocError> {
-    match verdict(alloc, ops, Bounds::DEFAULT)? {
+/// Whether a verdict says what the orders say: yes if one is legal; else no at a reply at which none is, with one before it.
+fn agrees(alloc: Global, ops: &[Operation], verdict: Verdict) -> Result<bool, AllocError> {
+    match verdict {
         Verdict::Yes { .. } => has_order(alloc, ops),
         Verdict::No { reply, before } => {
             let Some(time) = ops.get(reply as usize).and_then(|op| op.reply) else {
@@ -64,6 +65,40 @@ fn agrees(alloc: Global, ops: &[Operation]) -> Result<bool, AllocError> {
             Ok(before.is_some() && !has_order(alloc, &at_reply)? && !has_order(alloc, ops)?)
         }
         Verdict::Unknown(_) => Ok(false),
+    }
+}
+
+/// Whether a bound may keep the operations from being decided: there is a cas, or a value is written twice.
+fn may_give_up(ops: &[Operation]) -> bool {
+    for (place, op) in ops.iter().enumerate() {
+        if is_cas(op.act) || is_written_again(&ops[..place], op.act) {
+            return true;
+        }
+    }
+    false
+}
+
+/// Whether an act is a cas, be it that it missed.
+fn is_cas(act: Act) -> bool {
+    match act {
+        Act::Read(_) | Act::Write(_) => false,
+        Act::Cas { .. } | Act::Miss { .. } => true,
+    }
+}
+
+/// Whether an act is a write of what was written before.
+fn is_written_again(before: &[Operation], act: Act) -> bool {
+    match act {
+        Act::Write(_) => before.iter().any(|op| op.act == act),
+        _ => false,
+    }
+}
+
+/// Whether zones say what the orders say, with bounds that let the search say nothing.
+fn agrees_by_zones(alloc: Global, ops: &[Operation]) -> Result<bool, AllocError> {
+    match distinct::verdict(alloc, ops)? {
+        Verdict::Unknown(_) => Ok(may_give_up(ops)),
+        verdict => agrees(alloc, ops, verdict),
     }
 }
 
@@ -96,7 +131,12 @@ fn three_operations(rt: HostRuntime) -> Result<(), Fail> {
                 operation(second.0, second.1, act(code / ACTS)),
                 operation(third.0, third.1, act(code / ACTS / ACTS)),
             ];
-            assert!(rt; agrees(rt.alloc(), &ops)?, "{name}: {ops:?}");
+            let searched = verdict(rt.alloc(), &ops, Bounds::DEFAULT)?;
+            assert!(rt; agrees(rt.alloc(), &ops, searched)?, "{name}: {ops:?}");
+            assert!(rt;
+                agrees_by_zones(rt.alloc(), &ops)?,
+                "{name}, by zones: {ops:?}"
+            );
         }
     }
     Ok(())

@@ -9,7 +9,8 @@ ghost use Rattle.cas_search.specs.Verdicts.{IsVerdict};
 use crate::counts;
 use crate::lines::{line_of_time, lines_of_open, lines_of_places, lines_of_times};
 use cas_model::Operation;
-use cas_search::{Bounds, Verdict, decide, first_unwritten, timeline};
+use cas_search::{Bounds, Verdict, first_unwritten, timeline};
+use distinct_values::decide;
 use search_text::{Atomicity, Fault};
 use std::alloc::{AllocError, Global};
 

@@ -1,0 +1,4 @@
+pub mod SomeOperations
+pub mod Hopeless
+pub mod Times
+pub mod Verdicts

@@ -1,0 +1,2 @@
+pub mod SomeOperations
+pub mod Hopeless
