@@ -1,8 +1,7 @@
 -- Operations have no order if some of them have none: the writes of some values, null among them, with some of their reads.
-use Rattle.std.proofs.Common.{◌≡◌, ℕ, Bool, true, List, ◌∷◌, slice_get, Some, inl, inr, sym, ap, subst, ◌∙◌}
+use Rattle.std.proofs.Common.{◌≡◌, ℕ, Bool, List, ◌∷◌, Some, inl, inr, sym, ap, subst, ◌∙◌}
 use Rattle.std.specs.List.{filter}
 use Rattle.history_text.specs.declared.event.Val.{Val}
-use Rattle.history_model.specs.Lists.{In}
 use Rattle.history_model.proofs.Lists.{map-In, filter-In}
 use Rattle.cas_model.specs.declared.operation.Operation.{Operation}
 use Rattle.cas_model.specs.Cut.{known_at, is_called_by, cut_at}

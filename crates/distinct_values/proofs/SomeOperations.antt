@@ -4,7 +4,6 @@ use Rattle.std.specs.Prelude.{IsSomeAnd}
 use Rattle.std.specs.List.{filter}
 use Rattle.std.proofs.lemmas.Bool.{false≢true, cases_Bool}
 use Rattle.history_text.specs.declared.event.Val.{Val}
-use Rattle.history_model.specs.Lists.{In, Before}
 use Rattle.history_model.proofs.Lists.{In-filter, filter-In, Before-filter, filter-Before, Before-first}
 use Rattle.cas_model.specs.declared.act.Act.{Act}
 use Rattle.cas_model.specs.declared.act.Act.TheVariants.{Read, Write, Cas, Miss}
