@@ -1,5 +1,5 @@
 //! The step over a call: it is open in each configuration.
-ghost use Rattle.std.specs.Prelude.{◌≡◌, ◌∷◌, true, false, IsTrue, IfOk, List, Some, slice_get, ℕ};
+ghost use Rattle.std.specs.Prelude.{◌≡◌, ◌∷◌, true, false, IsTrue, IfOk, List, Some, slice_get};
 ghost use Rattle.configurations.specs.Configs.{AreHeld, AreOff, IsAble, IsAnyAble, IsHeld, IsOver};
 ghost use Rattle.configurations.specs.Ops.{is_content as is_content_at, kind_looks};
 ghost use Rattle.configurations.specs.Tables.{IsTable, call_at};

@@ -1,5 +1,5 @@
 //! One run over all events.
-ghost use Rattle.std.specs.Prelude.{◌≡◌, ◌<◌, ◌*◌, ◌^◌, ◌∷◌, [], true, false, IsTrue, IfOk, ℕ};
+ghost use Rattle.std.specs.Prelude.{◌≡◌, ◌<◌, ◌*◌, ◌^◌, [], true, false, IsTrue, IfOk, ℕ};
 ghost use Rattle.configurations.specs.Configs.{AreApart, AreHeld, IsBegun, IsFirst, IsOver};
 ghost use Rattle.configurations.specs.Found.{IsFound};
 ghost use Rattle.configurations.specs.Runs.{AreInOrder};

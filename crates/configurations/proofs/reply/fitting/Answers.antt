@@ -1,4 +1,4 @@
-use Rattle.std.proofs.Common.{◌≡◌, ◌∙◌, ◌||◌, inl, inr, sym, true, ℕ}
+use Rattle.std.proofs.Common.{◌≡◌, ◌∙◌, inl, inr, sym, true, ℕ}
 use Rattle.slot_sets.specs.Sets.{has}
 use Rattle.configurations.proofs.Replying.{both, both_parts}
 use Rattle.configurations.proofs.Standing.{either_or}

@@ -1,4 +1,4 @@
-use Rattle.std.proofs.Common.{◌≡◌, ◌∙◌, ◌<◌, ℕ, arith, inl, inr, length, refl, slice_get, Some, subst, sym}
+use Rattle.std.proofs.Common.{◌≡◌, ◌<◌, arith, inl, inr, length, refl, slice_get, Some, subst, sym}
 use Rattle.std.proofs.lemmas.Bool.{cases_eq}
 use Rattle.std.proofs.lemmas.Option.{slice_get_read, slice_get_within}
 use Rattle.configurations.specs.Configs.{IsGoneOver}

@@ -1,6 +1,5 @@
-use Rattle.std.proofs.Common.{◌≡◌, ◌∙◌, arith, inl, inr, subst, sym, true}
+use Rattle.std.proofs.Common.{◌∙◌, arith, inl, inr, subst, sym, true}
 use Rattle.std.proofs.lemmas.Bool.{cases_eq, cases_lt, false≢true}
-use Rattle.slot_sets.specs.Sets.{has}
 use Rattle.configurations.specs.Configs.{IsTried}
 use Rattle.configurations.proofs.Replying.{kept_both, still_tried}
 use Rattle.configurations.proofs.reply.try_each.Goals as goal

@@ -1,4 +1,4 @@
-use Rattle.std.proofs.Common.{◌∙◌, inl, inr, sym, subst}
+use Rattle.std.proofs.Common.{inl, inr, sym, subst}
 use Rattle.slot_sets.specs.Sets.{has}
 use Rattle.configurations.specs.Configs.{AreHeld, IsAnyAble, lacking}
 use Rattle.configurations.specs.declared.config.Configs.{Configs}
