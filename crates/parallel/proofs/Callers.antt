@@ -2,7 +2,8 @@
 use Rattle.std.proofs.Common.{◌≡◌, ℕ, zero, suc, slice_get, Some, List, [], ◌∷◌, ◌++◌, Result, Ok, ap, sym, subst, ◌∙◌, arith}
 use Rattle.std.proofs.lemmas.Option.{slice_get_within}
 use Rattle.std.specs.Prelude.{flat_map}
-use Rattle.std.specs.List.{AllZip}
+use Rattle.std.specs.List.{All, AllZip}
+use Rattle.std.proofs.lemmas.List.Elements.{All-cons, All-head, All-nil, All-tail}
 use Rattle.parallel.specs.Parts.{GivesEach, GivesParts, IsPartOf}
 use denote.Ref.{Bor}
 use denote.Param.Members.{Shared}
@@ -58,3 +59,19 @@ module _ {X : Type 0} where
   part-at xs part inside i x at =
       let there = behind inside.0 (part ++ inside.1) i x (front part inside.1 i x at) in
       (there.0, subst (λ l. slice_get l there.0 ≡ Some x) (sym inside.2) there.1)
+
+module _ {X : Type 0} (P : X → Type 0) where
+  all-behind : (before xs : List X) → All P (before ++ xs) → All P xs
+  all-behind [] xs all = all
+  all-behind (b ∷ before) xs all = all-behind before xs (All-tail P b (before ++ xs) all)
+
+  all-front : (part after : List X) → All P (part ++ after) → All P part
+  all-front [] after all = All-nil P
+  all-front (x ∷ part) after all =
+      All-cons P x part (All-head P x (part ++ after) all)
+      (all-front part after (All-tail P x (part ++ after) all))
+
+  -- what holds of each item of the list holds of each item of a part
+  pub part-all : (xs part : List X) → IsPartOf xs part → All P xs → All P part
+  part-all xs part inside all =
+      all-front part inside.1 (all-behind inside.0 (part ++ inside.1) (subst (All P) inside.2 all))
