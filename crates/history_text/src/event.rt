@@ -1,4 +1,5 @@
-//! What a line of a history says: one event.
+//! What a line of a history says: one event, or why it has none.
+use crate::fault::LineFault;
 use crate::name::Name;
 use crate::optional_name::OptionalName;
 
@@ -69,3 +70,6 @@ pub struct LineEvent {
     /// What happened.
     pub kind: Kind,
 }
+
+/// What one line says: its event, or its lowest-numbered fault.
+pub type Line = Result<LineEvent, LineFault>;

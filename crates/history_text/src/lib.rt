@@ -27,7 +27,7 @@ mod read;
 mod refused;
 mod scan;
 
-pub use event::{Kind, LineEvent, OpKind, ReplyParts, Val};
+pub use event::{Kind, Line, LineEvent, OpKind, ReplyParts, Val};
 pub use fault::{LineFault, LineKind};
 pub use limits::{MAX_EVENTS, MAX_INPUT, MAX_LINE, MAX_NAME};
 pub use line::{LineError, read_line};

@@ -3,28 +3,26 @@ ghost use Rattle.std.specs.Prelude.{All, ◌≡◌, ◌≤◌, flat_map, length,
 ghost use Rattle.history_text.specs.Lines.{IsWithin};
 ghost use Rattle.history_text.specs.Reading.{reading_of, history_lines, IsAscending};
 
-use crate::event::LineEvent;
-use crate::fault::LineFault;
+use crate::event::Line;
 use crate::limits::MAX_INPUT;
 use crate::line::{LineError, read_line};
 use crate::lines::{Span, lines_of};
-use rayon::prelude::*;
+use parallel::{FEWEST_LINES, LINES, map_parts, share_size};
 use std::alloc::{AllocError, Global};
 use std::sync::atomic::{AtomicBool, Ordering};
 use std::thread::Threads;
 
-/// How many lines one thread reads into one list: so many that a block has only a few lists, and so few that several threads share a block.
-const PART: usize = 8_192;
-
-/// The event of each line that is not blank, or its lowest-numbered fault, in order. Their line numbers ascend.
+/// What each line that is not blank says, in order. Their line numbers ascend.
 ///
-/// Many lines are read by several threads, as many as serve the processors. The error is the want of
-/// memory; nothing is kept then.
+/// Several threads read many lines.
+///
+/// # Errors
+/// Out of memory; nothing is kept.
 pub fn read_lines(
     rt: &(impl Threads + Sync),
     alloc: Global,
     bytes: &[u8],
-) -> Result<Vec<Result<LineEvent, LineFault>>, AllocError>
+) -> Result<Vec<Line>, AllocError>
     requires { length bytes.now ≤ MAX_INPUT }
     ensures lines { IfOk result (λ v. v.items ≡ history_lines bytes.now) }
     ensures ascending { IfOk result (λ v. IsAscending v.items) }
@@ -38,39 +36,40 @@ pub fn read_lines(
     Ok(lines)
 }
 
-/// What the lines at some spans of the bytes say, in order: for each its event, or its lowest-numbered fault. They come in
-/// parts, one behind the other, and none is copied.
+/// What the lines at some spans of the bytes say, in order and in parts, so that none is copied.
 ///
-/// Many spans are read by several threads, as many as serve the processors. The error is the want of memory; nothing is
-/// kept then.
+/// Several threads read many lines, as many threads as leave one processor free.
+///
+/// # Errors
+/// Out of memory; nothing is kept.
 pub fn read_spans(
     rt: &(impl Threads + Sync),
     alloc: Global,
     bytes: &[u8],
     spans: &[Span],
-) -> Result<Vec<Vec<Result<LineEvent, LineFault>>>, AllocError>
+) -> Result<Vec<Vec<Line>>, AllocError>
     requires { All (IsWithin bytes.now) spans.now }
     ensures { IfOk result (λ v. flat_map (λ part. part.items) v.items ≡ map (reading_of bytes.now) spans.now) }
 {
     let refused = AtomicBool::new(false);
-    spans
-        .par_chunks(PART)
-        .map(
-            |part: &[Span]| -> Result<Vec<Result<LineEvent, LineFault>>, AllocError>
-                requires { All (IsWithin bytes.now) part.now }
-                ensures { IfOk result (λ v. v.items ≡ map (reading_of bytes.entry.now) part.now) }
-            { read_part(alloc, bytes, part, &refused) },
-        )
-        .collect::<Result<Vec<Vec<Result<LineEvent, LineFault>>>, AllocError>>(rt, alloc)?
+    let size = share_size(rt, spans.len(), FEWEST_LINES).min(LINES);
+    map_parts(
+        rt,
+        alloc,
+        spans,
+        size,
+        |part: &[Span]| -> Result<Vec<Line>, AllocError>
+            requires { All (IsWithin bytes.now) part.now }
+            ensures { IfOk result (λ v. v.items ≡ map (reading_of bytes.entry.now) part.now) }
+        { read_part(alloc, bytes, part, &refused) },
+    )
 }
 
 /// The lines that [`read_lines`] gives, read by the calling thread alone: it takes no right to start threads.
 ///
-/// The error is the want of memory; nothing is kept then.
-pub fn read_lines_alone(
-    alloc: Global,
-    bytes: &[u8],
-) -> Result<Vec<Result<LineEvent, LineFault>>, AllocError>
+/// # Errors
+/// Out of memory; nothing is kept.
+pub fn read_lines_alone(alloc: Global, bytes: &[u8]) -> Result<Vec<Line>, AllocError>
     requires { length bytes.now ≤ MAX_INPUT }
     ensures lines { IfOk result (λ v. v.items ≡ history_lines bytes.now) }
     ensures ascending { IfOk result (λ v. IsAscending v.items) }
@@ -79,13 +78,13 @@ pub fn read_lines_alone(
     read_in_order(alloc, bytes, &spans)
 }
 
-// Once memory was refused to one part no thread begins another: each would be refused in its turn, slowly.
+// Once memory ran out for one part, no thread begins another: each would fail in its turn, slowly.
 fn read_part(
     alloc: Global,
     bytes: &[u8],
     part: &[Span],
     refused: &AtomicBool,
-) -> Result<Vec<Result<LineEvent, LineFault>>, AllocError>
+) -> Result<Vec<Line>, AllocError>
     requires { All (IsWithin bytes.now) part.now }
     ensures { IfOk result (λ v. v.items ≡ map (reading_of bytes.now) part.now) }
 {
@@ -100,11 +99,7 @@ fn read_part(
 }
 
 // What the lines at some spans say, in order.
-fn read_in_order(
-    alloc: Global,
-    bytes: &[u8],
-    spans: &[Span],
-) -> Result<Vec<Result<LineEvent, LineFault>>, AllocError>
+fn read_in_order(alloc: Global, bytes: &[u8], spans: &[Span]) -> Result<Vec<Line>, AllocError>
     requires { All (IsWithin bytes.now) spans.now }
     ensures { IfOk result (λ v. v.items ≡ map (reading_of bytes.now) spans.now) }
 {
@@ -115,11 +110,7 @@ fn read_in_order(
     Ok(lines)
 }
 
-fn read_span(
-    alloc: Global,
-    bytes: &[u8],
-    span: Span,
-) -> Result<Result<LineEvent, LineFault>, AllocError>
+fn read_span(alloc: Global, bytes: &[u8], span: Span) -> Result<Line, AllocError>
     requires { IsWithin bytes.now span }
     ensures { IfOk result (λ r. r ≡ reading_of bytes.now span) }
 {
