@@ -19,7 +19,7 @@ use Rattle.history_model.specs.Operations.{is_a_call, is_a_fail}
 use Rattle.history_model.specs.declared.ids.RegId.{RegId}
 use Rattle.history_model.specs.declared.event.What.{What}
 use Rattle.history_model.specs.declared.event.What.TheVariants.{Call, Reply, Fail, Crash}
-use Rattle.reg_arena.specs.declared.standing.Open.{Open}
+use Rattle.reg_arena.specs.declared.process_standing.Open.{Open}
 use Rattle.history_text.specs.declared.event.Kind.{Kind}
 use Rattle.history_text.specs.declared.event.Kind.TheVariants.{CallRead, CallWrite, Reply as AReply, Fail as AFail, Crash as ACrash}
 use Rattle.history_model.specs.Walking.{key_at, by_process, by_register, by_value}

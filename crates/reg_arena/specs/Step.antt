@@ -7,9 +7,9 @@ use Rattle.history_text.specs.declared.event.LineEvent.{LineEvent}
 use Rattle.history_model.specs.declared.ids.EvId.{EvId}
 use Rattle.history_model.specs.declared.event.Event.{Event}
 use Rattle.history_model.specs.declared.event.What.TheVariants.{Call, Crash}
-use Rattle.reg_arena.specs.declared.standing.Open.{Open}
-use Rattle.reg_arena.specs.declared.standing.Standing.{Standing}
-use Rattle.reg_arena.specs.declared.standing.Standing.TheVariants.{Opened, Crashed, Free}
+use Rattle.reg_arena.specs.declared.process_standing.Open.{Open}
+use Rattle.reg_arena.specs.declared.process_standing.Standing.{Standing}
+use Rattle.reg_arena.specs.declared.process_standing.Standing.TheVariants.{Opened, Crashed, Free}
 use Rattle.history_model.specs.declared.refusal.LineRefusal.{LineRefusal}
 use Rattle.history_model.specs.declared.refusal.BuildError.{BuildError}
 use Rattle.history_model.specs.declared.refusal.BuildError.TheVariants.{Refused, Memory}
