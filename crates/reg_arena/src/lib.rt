@@ -9,10 +9,12 @@
 //!
 //! Read it in this order: `hash_key` and `hasher`, which make the hashes; `options`, `packing` and `rows`, which keep the events; `ascent` and `pairs`,
 //! which number the pairs of a register and a value; `list_ends`, `processes`, `joins`, `event_lists` and `entries`, the lists that run through the events;
-//! `numbering`, which numbers the registers of lines, and `names`; `arena`, `operation` and `value_times`, which answer; `agreement`, `process_standing` and `build`.
+//! `numbering`, which numbers the registers of lines, and `names`; `arena`, `operation` and `value_times`, which answer; `process_standing`, `agreement` and
+//! `refusals`, which refuse an event; `appends`, which takes one in; and `build`.
 #![tactic(auto)]
 
 mod agreement;
+mod appends;
 mod arena;
 mod ascent;
 mod build;
@@ -30,6 +32,7 @@ mod packing;
 mod pairs;
 mod process_standing;
 mod processes;
+mod refusals;
 mod rows;
 mod value_times;
 
