@@ -1,12 +1,13 @@
 -- The entry of an event's register and value, by the number beside the event or beside another of the same.
 use Rattle.std.proofs.Common.{◌≡◌, ℕ, ◌<◌, nat_eq, false, length, slice_get, Option, Some, None, inl, inr, refl, ap, ◌∙◌, ◌||◌, Bool, true, is_some, arith, option_and_then, option_map, unwrap_or, sym, subst, List}
-use Rattle.std.proofs.lemmas.Option.{slice_get_past}
 use Rattle.std.proofs.lemmas.Bool.{cases_order, eq-eqb, ne_eqb, false≢true, or_parts}
 use Rattle.history_text.specs.declared.event.Val.{Val}
 use Rattle.history_model.specs.declared.event.Event.{Event}
 use Rattle.history_model.specs.declared.event.What.{What}
 use Rattle.history_model.specs.declared.event.What.TheVariants.{Call, Reply, Fail, Crash}
 use Rattle.reg_arena.specs.declared.list_ends.Entry.{Entry}
+use Rattle.history_model.specs.History.{History, IsRecorded}
+use Rattle.history_model.proofs.Named.{event-register}
 use Rattle.history_model.proofs.Recorded.{reply-no_call}
 use Rattle.history_model.proofs.Walking.{begins-call}
 use Rattle.reg_arena.specs.declared.list_ends.Write.{Write}
@@ -15,7 +16,10 @@ use Rattle.history_model.specs.Operations.{is_a_call, is_a_reply}
 use Rattle.reg_arena.specs.declared.event_lists.EventLists.{EventLists}
 use Rattle.history_model.specs.Walking.{IsFirstOf, key_at, by_value}
 use Rattle.history_model.specs.Naming.{begins_at, belongs_at}
-use Rattle.reg_arena.specs.Step.{IsLastWith}
+use Rattle.std.specs.Option.{option_and}
+use Rattle.history_text.specs.declared.event.LineEvent.{LineEvent}
+use Rattle.reg_arena.specs.declared.process_standing.Open.{Open}
+use Rattle.reg_arena.specs.Step.{IsLastWith, IsOpenCall}
 use Rattle.history_model.specs.declared.ids.EvId.{EvId}
 use Rattle.history_model.specs.declared.ids.RegId.{RegId}
 use Rattle.reg_arena.specs.EventLists.{AreEventLists, IsAlike, IsCallAt, IsCallOf, IsKeptWrite, IsLastOf, by_write, event_number, value_entry, value_number, write_called, write_kept}
@@ -80,22 +84,30 @@ pub alike-none : (es : List Event) (e : Event) → e.value ≡ None → IsAlike 
 alike-none es e q = λ k x. absurd (let z = key-none e q in cc (x, z))
 
 -- so is the last event with what a call asks for; a new register has no event
-pub alike-call : (t : EventLists) → AreEventLists t → (e : Event) (r : RegId) (number : Option ℕ) (o : Option EvId) → e.register ≡ Some r → r.0 ≡ unwrap_or number (length t.registers.items) → IsLastWith t.rows.events number e.value o → IsAlike t.rows.events e o
-alike-call t a e r None o reg q h = subst (IsAlike t.rows.events e) (sym h) (λ k x i y. a.registers.none k.0 (slice_get_past t.registers.items k.0 (let z = number-of_key k x in omega (arith, z, q))) i (key-register t.rows.events i k y))
+pub alike-call : (h : History) → IsRecorded h → (e : Event) (r : RegId) (number : Option ℕ) (o : Option EvId) → e.register ≡ Some r → r.0 ≡ unwrap_or number (length h.names) → IsLastWith h.events number e.value o → IsAlike h.events e o
+alike-call h rec e r None o reg q l = subst (IsAlike h.events e) (sym l) (λ k x i y. let known = event-register h rec i k.0 (key-register h.events i k y) in omega (arith, number-of_key k x, q, known))
   where
     number-of_key : (k : ℕ × Val) → by_value e ≡ Some k → r.0 ≡ k.0
     number-of_key k x = let p = (key-parts e k x).0 in let w = ap (option_map {U = ℕ} (λ (r : RegId). r.0)) reg in let z : Some r.0 ≡ Some k.0 = sym w ∙ p in cc (z)
-alike-call t a e r (Some n) o reg q h = alike-last t.rows.events e r o reg (λ v z. some v z h) (λ z. none z h)
+alike-call h rec e r (Some n) o reg q l = alike-last h.events e r o reg (λ v z. some v z l) (λ z. none z l)
   where
-    some : (v : Val) → e.value ≡ Some v → IsLastWith t.rows.events (Some n) e.value o → IsLastOf by_value t.rows.events (r.0, v) o
-    some v z h = subst (λ m. IsLastOf by_value t.rows.events (m, v) o) (sym q) (subst (λ w. IsLastWith t.rows.events (Some n) w o) z h)
+    some : (v : Val) → e.value ≡ Some v → IsLastWith h.events (Some n) e.value o → IsLastOf by_value h.events (r.0, v) o
+    some v z l = subst (λ m. IsLastOf by_value h.events (m, v) o) (sym q) (subst (λ w. IsLastWith h.events (Some n) w o) z l)
 
-    none : e.value ≡ None → IsLastWith t.rows.events (Some n) e.value o → o ≡ None
-    none z h = subst (λ w. IsLastWith t.rows.events (Some n) w o) z h
+    none : e.value ≡ None → IsLastWith h.events (Some n) e.value o → o ≡ None
+    none z l = subst (λ w. IsLastWith h.events (Some n) w o) z l
 
 -- an event of the same register and value
 pub alike-same : (es : List Event) (e f : Event) (j : EvId) (r : RegId) (v : Val) → slice_get es j.0 ≡ Some f → f.register ≡ Some r → f.value ≡ Some v → e.register ≡ Some r → e.value ≡ Some v → IsAlike es e (Some j)
 alike-same es e f j r v at reg has register value = ((r.0, v), key-by e r v register value, ap (option_and_then by_value) at ∙ key-by f r v reg has)
+
+-- a fail is like its call
+pub fail-alike : (es : List Event) (e : LineEvent) (o : Open) → IsOpenCall es e.process o → IsAlike es (record { line = e.line; process = e.process; register = Some o.register; what = Fail o.kind; value = o.value }) (option_and o.value (Some o.call))
+fail-alike es e o h = go o.value refl
+  where
+    go : (v : Option Val) → o.value ≡ v → IsAlike es (record { line = e.line; process = e.process; register = Some o.register; what = Fail o.kind; value = o.value }) (option_and v (Some o.call))
+    go None q = alike-none es (record { line = e.line; process = e.process; register = Some o.register; what = Fail o.kind; value = o.value }) q
+    go (Some v) q = alike-same es (record { line = e.line; process = e.process; register = Some o.register; what = Fail o.kind; value = o.value }) h.event o.call o.register v h.there h.register (h.value ∙ q) refl q
 
 -- ---- the write that didn't fail
 

@@ -22,8 +22,8 @@ use Rattle.history_model.specs.History.{history_of, event_after, register_names,
 use Rattle.history_model.specs.Walking.{key_at, by_process, by_value}
 use Rattle.reg_arena.specs.EventLists.{IsLastOf, by_write}
 use Rattle.reg_arena.specs.Step.{IsOpenCall, IsStanding, IsNumber, IsWritten}
-use Rattle.reg_arena.specs.declared.standing.Open.{Open}
-use Rattle.reg_arena.specs.declared.standing.Standing.TheVariants.{Crashed, Free}
+use Rattle.reg_arena.specs.declared.process_standing.Open.{Open}
+use Rattle.reg_arena.specs.declared.process_standing.Standing.TheVariants.{Crashed, Free}
 use Rattle.history_model.specs.Operations.{is_a_call, kind_in, number_in}
 use Rattle.history_model.specs.declared.ids.RegId.{RegId}
 use Rattle.history_model.specs.declared.event.What.TheVariants.{Call, Crash as Crashes}

@@ -17,9 +17,9 @@ use Rattle.history_model.specs.History.{history_of, events_after, register_names
 use Rattle.reg_arena.specs.Step.{IsOpenCall, IsStanding, IsNumber, IsWritten}
 use Rattle.history_model.specs.declared.ids.EvId.{EvId}
 use Rattle.history_model.specs.declared.event.Event.{Event}
-use Rattle.reg_arena.specs.declared.standing.Open.{Open}
-use Rattle.reg_arena.specs.declared.standing.Standing.{Standing}
-use Rattle.reg_arena.specs.declared.standing.Standing.TheVariants.{Opened, Crashed, Free}
+use Rattle.reg_arena.specs.declared.process_standing.Open.{Open}
+use Rattle.reg_arena.specs.declared.process_standing.Standing.{Standing}
+use Rattle.reg_arena.specs.declared.process_standing.Standing.TheVariants.{Opened, Crashed, Free}
 use Rattle.history_model.specs.declared.refusal.LineRefusal.{LineRefusal}
 use Rattle.history_model.specs.declared.refusal.Reason.{Reason}
 use Rattle.reg_arena.specs.EventLists.{by_write}

@@ -1,4 +1,4 @@
-pub mod Optional
+pub mod Options
 pub mod Rows
 pub mod Tables
 pub mod Pairs

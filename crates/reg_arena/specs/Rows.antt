@@ -4,9 +4,9 @@ use Rattle.history_text.specs.declared.event.Val.{Val}
 use Rattle.history_text.specs.declared.event.Val.TheVariants.{Null, Int}
 use Rattle.history_model.specs.declared.ids.EvId.{EvId}
 use Rattle.history_model.specs.declared.event.Event.{Event}
-use Rattle.reg_arena.specs.declared.packed_event.Holds.{Holds}
-use Rattle.reg_arena.specs.declared.packed_event.Holds.TheVariants.{Nothing, Initial, Number}
-use Rattle.reg_arena.specs.declared.packed_event.PackedEvent.{PackedEvent}
+use Rattle.reg_arena.specs.declared.packing.Holds.{Holds}
+use Rattle.reg_arena.specs.declared.packing.Holds.TheVariants.{Nothing, Initial, Number}
+use Rattle.reg_arena.specs.declared.packing.PackedEvent.{PackedEvent}
 use Rattle.reg_arena.specs.declared.rows.Row.{Row}
 
 -- the value of this kind, with its number if it is one

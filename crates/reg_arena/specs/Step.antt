@@ -7,15 +7,14 @@ use Rattle.history_text.specs.declared.event.LineEvent.{LineEvent}
 use Rattle.history_model.specs.declared.ids.EvId.{EvId}
 use Rattle.history_model.specs.declared.event.Event.{Event}
 use Rattle.history_model.specs.declared.event.What.TheVariants.{Call, Crash}
-use Rattle.reg_arena.specs.declared.standing.Open.{Open}
-use Rattle.reg_arena.specs.declared.standing.Standing.{Standing}
-use Rattle.reg_arena.specs.declared.standing.Standing.TheVariants.{Opened, Crashed, Free}
-use Rattle.history_model.specs.declared.refusal.LineRefusal.{LineRefusal}
+use Rattle.reg_arena.specs.declared.process_standing.Open.{Open}
+use Rattle.reg_arena.specs.declared.process_standing.Standing.{Standing}
+use Rattle.reg_arena.specs.declared.process_standing.Standing.TheVariants.{Opened, Crashed, Free}
 use Rattle.history_model.specs.declared.refusal.BuildError.{BuildError}
 use Rattle.history_model.specs.declared.refusal.BuildError.TheVariants.{Refused, Memory}
 use Rattle.history_model.specs.Walking.{IsFirstOf, by_process, by_value}
 use Rattle.reg_arena.specs.EventLists.{IsCall, IsLastOf, by_write}
-use Rattle.history_model.specs.History.{History, history_of}
+use Rattle.history_model.specs.History.{History, IsRecorded, history_of}
 use Rattle.history_model.specs.Refusals.{AreAccepted, event_refusal}
 
 -- the number of a name, where it has one
@@ -53,12 +52,24 @@ IsWritten events None v o = o ≡ None
 IsWritten events (Some r) None o = o ≡ None
 IsWritten events (Some r) (Some v) o = IsFirstOf by_write events (r, v) o
 
--- the event e isn't refused after the events of h
+-- the event e isn't refused, whatever accepted events gave the history
 pub record IsTaken (h : History) (e : LineEvent) : Type 0 where
-  pub before : List LineEvent
-  pub accepted : AreAccepted before
-  pub is : h ≡ history_of before
-  pub free : event_refusal before e ≡ None
+  pub recorded : IsRecorded h
+  pub free : (before : List LineEvent) → AreAccepted before → h ≡ history_of before → event_refusal before e ≡ None
+
+-- the name that a call adds: none, where its register has a number
+abbrev pub name_added : Option ℕ → List ℕ → Option (List ℕ)
+name_added None name = Some name
+name_added (Some r) name = None
+
+-- the names with one more, if there is one
+abbrev pub names_and : List (List ℕ) → Option (List ℕ) → List (List ℕ)
+names_and names None = names
+names_and names (Some name) = names ++ name ∷ []
+
+-- the history with one event more, and one name more if there is one
+abbrev pub with_event : History → Option (List ℕ) → Event → History
+with_event h name e = record { names = names_and h.names name; events = h.events ++ e ∷ [] }
 
 -- what a step gave: the history after it, or its error
 abbrev pub step_result : {E : Type 0} → History → Result (Unit {0}) E → Result History E
@@ -70,12 +81,12 @@ abbrev pub OnOkAfter : History → LineEvent → Result History AllocError → T
 OnOkAfter h e (Ok g) = (before : List LineEvent) → AreAccepted before → h ≡ history_of before → g ≡ history_of (before ++ e ∷ [])
 OnOkAfter h e (Err x) = Unit {0}
 
--- the refusal of the event, whatever accepted events gave the history
-abbrev pub IsRefusedAfter : History → LineEvent → LineRefusal → Type 0
-IsRefusedAfter h e r = (before : List LineEvent) → AreAccepted before → h ≡ history_of before → event_refusal before e ≡ Some r
-
 -- the refusal of the event after those before it, or the history with it
 abbrev pub IsStep : List LineEvent → LineEvent → Result History BuildError → Type 0
 IsStep before e (Ok h) = (event_refusal before e ≡ None) × (h ≡ history_of (before ++ e ∷ []))
 IsStep before e (Err (Refused r)) = event_refusal before e ≡ Some r
 IsStep before e (Err Memory) = Unit {0}
+
+-- the error of the event, whatever accepted events gave the history
+abbrev pub IsStopped : History → LineEvent → BuildError → Type 0
+IsStopped h e error = (before : List LineEvent) → AreAccepted before → h ≡ history_of before → IsStep before e (Err error)

@@ -5,14 +5,14 @@ ghost use Rattle.reg_arena.specs.EventLists.{AreEventLists, IsAlike, IsAppendabl
 ghost use Rattle.history_model.specs.Operations.{is_a_fail, number_in};
 ghost use Rattle.history_model.specs.declared.event.What.TheVariants.{Crash};
 ghost use Rattle.reg_arena.specs.Rows.{with_calls};
-ghost use Rattle.reg_arena.specs.declared.optional.TheConstants.{NO_NUMBER};
+ghost use Rattle.reg_arena.specs.declared.options.TheConstants.{NO_NUMBER};
 
+use crate::hasher::Seeded;
 use crate::joins::{Joined, join_process, join_register, join_value};
 use crate::list_ends::{Ends, Entry};
 use crate::pairs::Pairs;
 use crate::processes::Processes;
 use crate::rows::Rows;
-use crate::seeded::Seeded;
 use history_model::{EvId, Event, What};
 use std::alloc::{AllocError, Global};
 

@@ -6,7 +6,7 @@ ghost use Rattle.reg_arena.specs.Tables.{item_at};
 ghost use Rattle.history_model.specs.Operations.{number_in};
 ghost use Rattle.history_model.specs.Walking.{by_value};
 ghost use Rattle.reg_arena.specs.Rows.{with_in_process, with_in_register, with_in_value};
-ghost use Rattle.reg_arena.specs.declared.optional.TheConstants.{NO_NUMBER};
+ghost use Rattle.reg_arena.specs.declared.options.TheConstants.{NO_NUMBER};
 ghost use Rattle.reg_arena.specs.declared.list_ends.Ends.{Ends};
 
 use crate::list_ends::{Ends, Entry};

@@ -7,31 +7,34 @@
 //! `history_model`, whose laws say what holds of them. All calls but these take no memory and always answer. No floor above calls [`Arena::first_of_process`],
 //! [`Arena::first_with_value`], [`Arena::next_with_value`] or [`Arena::write_of`].
 //!
-//! Read it in this order: `hash_key` and `seeded`, which make the hashes; `optional`, `packed_event` and `rows`, which keep the events; `ascent` and `pairs`,
+//! Read it in this order: `hash_key` and `hasher`, which make the hashes; `options`, `packing` and `rows`, which keep the events; `ascent` and `pairs`,
 //! which number the pairs of a register and a value; `list_ends`, `processes`, `joins`, `event_lists` and `entries`, the lists that run through the events;
-//! `numbering`, which numbers the registers of lines, and `names`; `arena`, `called` and `of_value`, which answer; `agrees`, `standing` and `build`.
+//! `numbering`, which numbers the registers of lines, and `names`; `arena`, `operation` and `value_times`, which answer; `process_standing`, `agreement` and
+//! `refusals`, which refuse an event; `appends`, which takes one in; and `build`.
 #![tactic(auto)]
 
-mod agrees;
+mod agreement;
+mod appends;
 mod arena;
 mod ascent;
 mod build;
-mod called;
 mod entries;
 mod event_lists;
 mod hash_key;
+mod hasher;
 mod joins;
 mod list_ends;
 mod names;
 mod numbering;
-mod of_value;
-mod optional;
-mod packed_event;
+mod operation;
+mod options;
+mod packing;
 mod pairs;
+mod process_standing;
 mod processes;
+mod refusals;
 mod rows;
-mod seeded;
-mod standing;
+mod value_times;
 
 pub use arena::Arena;
 pub use hash_key::HashKey;

@@ -1,5 +1,6 @@
 //! The names of the registers, in the order of their first calls.
-ghost use Rattle.std.specs.Prelude.{◌≡◌, ◌<◌, ◌++◌, ◌∷◌, [], length, slice_get, Some, OnOk};
+ghost use Rattle.std.specs.Prelude.{◌≡◌, ◌<◌, [], length, slice_get, Some, OnErr, OnOk};
+ghost use Rattle.reg_arena.specs.Step.{names_and};
 ghost use Rattle.history_text.specs.Limits.{IsName};
 
 use history_text::Name;
@@ -45,11 +46,14 @@ impl Names {
         self.names[number as usize].as_str()
     }
 
-    /// Adds a name behind the others. If memory is refused, they stay as they are.
-    pub(crate) fn push(&mut self, alloc: Global, name: &Name) -> Result<(), AllocError>
-        ensures { OnOk result (self.new ≡ self.old ++ name.now ∷ []) }
+    /// Adds a name behind the others, if there is one. If memory is refused, they stay as they are.
+    pub(crate) fn add(&mut self, name: Option<Name>) -> Result<(), AllocError>
+        ensures ok { OnOk result (self.new ≡ names_and self.old name) }
+        ensures err { OnErr result (self.new ≡ self.old) }
     {
-        self.names.push(Name::new(alloc, name.as_str())?)?;
+        if let Some(name) = name {
+            self.names.push(name)?;
+        }
         Ok(())
     }
 

@@ -8,8 +8,8 @@ ghost use Rattle.reg_arena.specs.Pairs.{key_eq, ArePairs, IsAscending, IsFitting
 ghost use Rattle.reg_arena.specs.declared.ascent.Pair.{Pair as APair};
 
 use crate::ascent::{Pair, find};
+use crate::hasher::Seeded;
 use crate::processes::set_in_table;
-use crate::seeded::Seeded;
 use indexmap::IndexMap;
 use std::alloc::{AllocError, Global};
 use std::marker::Model;

@@ -3,8 +3,8 @@ ghost use Rattle.std.specs.Prelude.{◌≡◌, ◌<◌, ◌^◌, ℕ, None, OnOk
 ghost use Rattle.reg_arena.specs.EventLists.{process_ends};
 ghost use Rattle.reg_arena.specs.Tables.{IsSetAt, item_at};
 
+use crate::hasher::Seeded;
 use crate::list_ends::Ends;
-use crate::seeded::Seeded;
 use indexmap::IndexMap;
 use std::alloc::{AllocError, Global};
 

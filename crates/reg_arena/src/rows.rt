@@ -4,10 +4,10 @@
 ghost use Rattle.std.specs.Prelude.{◌≡◌, ◌<◌, length, set, slice_get, Some, None, IfSome, IfOk, OnOk};
 ghost use Rattle.history_model.specs.declared.ids.EvId.{EvId as AnEvId};
 ghost use Rattle.reg_arena.specs.Rows.{no_columns, with_calls, with_event, with_in_process, with_in_register, with_in_value};
-ghost use Rattle.reg_arena.specs.declared.optional.TheConstants.{NO_NUMBER};
+ghost use Rattle.reg_arena.specs.declared.options.TheConstants.{NO_NUMBER};
 
-use crate::optional::{OptionalEvent, OptionalNumber};
-use crate::packed_event::PackedEvent;
+use crate::options::{OptionalEvent, OptionalNumber};
+use crate::packing::PackedEvent;
 use history_model::{EvId, Event};
 use std::alloc::{AllocError, Global};
 use std::marker::Model;

@@ -1,57 +1,35 @@
 -- The history with one fail more is the definition's.
-use Rattle.std.proofs.Common.{◌++◌, ◌∷◌, [], length, Some, refl, sym, ap, subst, ◌∙◌, arith}
-use Rattle.history_model.specs.History.{History, IsRecorded}
-use Rattle.reg_arena.specs.Step.{IsOpenCall}
+use Rattle.std.proofs.Common.{None, Some, arith, refl, subst, sym}
 use Rattle.history_model.specs.declared.event.Event.{Event}
 use Rattle.history_model.specs.declared.event.What.TheVariants.{Fail}
-use Rattle.history_model.proofs.Accepted.{fail-ends}
-use Rattle.reg_arena.proofs.Step.{accepted-push, room-of, next-history, event_by, fail-event_is, open-named, names-of_end, fail-call}
-use Rattle.reg_arena.proofs.ByEvent.{alike-none, alike-same}
+use Rattle.reg_arena.specs.EventLists.{IsAlike}
+use Rattle.reg_arena.specs.Step.{with_event}
+use Rattle.reg_arena.proofs.Step.{appended, event_by, fail-call, fail-next, next-recorded, open-named, taken-room}
+use Rattle.reg_arena.proofs.ByEvent.{fail-alike}
 use Rattle.reg_arena.proofs.arena.Arena.add_fail.Goals as goal
-use Rattle.reg_arena.proofs.arena.Arena.add_fail.Goals.{in-Some, in-None}
 
-pub append-requires-clause-register : goal.append-requires-clause-register
-append-requires-clause-register c =
-    let r = open-named c.args.self.now (subst IsRecorded c.self.view_is c.self.invariant.2) c.args.event.now.process c.args.opened c.requires.opened in
-    let n = ap (λ (h : History). length h.names) c.self.view_is in
-    omega (arith, r, n, c.self.invariant.1)
+pub append-requires-clause-registers : goal.append-requires-clause-registers
+append-requires-clause-registers c = omega (arith, open-named c.args.self.now c.requires.taken.recorded c.args.event.now.process c.args.opened c.requires.opened)
 
 pub append-requires-clause-room : goal.append-requires-clause-room
-append-requires-clause-room c =
-    let t = c.requires.taken in
-    let e = ap (λ (h : History). length h.events) (c.self.view_is ∙ t.is) in
-    omega (arith, room-of t.before c.args.event.now t.free, e)
+append-requires-clause-room c = taken-room c.args.self.now c.args.event.now c.requires.taken
 
 pub append-requires-clause-call : goal.append-requires-clause-call
 append-requires-clause-call c =
     let ev : Event = event_by c.args.event.now (Some c.args.opened.register) (Fail c.args.opened.kind) c.args.opened.value in
-    fail-call c.self.inside.lists.rows.events ev c.args.opened c.args.opened.kind refl refl refl (subst (λ (h : History). IsOpenCall h.events c.args.event.now.process c.args.opened) (sym c.self.view_is) c.requires.opened)
+    fail-call c.args.self.now.events ev c.args.opened c.args.opened.kind refl refl refl c.requires.opened
 
 pub append-requires-clause-alike : goal.append-requires-clause-alike
 append-requires-clause-alike c =
-    let here = subst (λ (h : History). IsOpenCall h.events c.args.event.now.process c.args.opened) (sym c.self.view_is) c.requires.opened in
     let ev : Event = event_by c.args.event.now (Some c.args.opened.register) (Fail c.args.opened.kind) c.args.opened.value in
-    elim c.match-opened.branch [
-      | in-Some w ↦ rw w.alike-is (alike-same c.self.inside.lists.rows.events ev here.event c.args.opened.call c.args.opened.register w.in-Some.field-0 here.there here.register (here.value ∙ w.in-Some.is) refl w.in-Some.is)
-      | in-None w ↦ rw w.alike-is (alike-none c.self.inside.lists.rows.events ev w.in-None.is)
-    ]
+    subst (IsAlike c.args.self.now.events ev) (sym c.and-alike.ensures) (fail-alike c.args.self.now.events c.args.event.now c.args.opened c.requires.opened)
 
-pub returns-in-Ok : goal.returns-in-Ok
-returns-in-Ok c = λ before acc q.
-    let h = c.self.view_is ∙ q in
-    let o = subst (λ (h : History). IsOpenCall h.events c.args.event.now.process c.args.opened) q c.requires.opened in
-    next-history before c.args.event.now _ _ (event_by c.args.event.now (Some c.args.opened.register) (Fail c.args.opened.kind) c.args.opened.value)
-    (ap (λ (h : History). h.names) h ∙ names-of_end before acc c.args.event.now c.args.opened o c.requires.fail.0 (fail-ends c.args.event.now.kind c.requires.fail.0 c.requires.fail.1))
-    (c.in-Ok.ensures.events ∙ ap (λ (h : History). h.events ++ event_by c.args.event.now (Some c.args.opened.register) (Fail c.args.opened.kind) c.args.opened.value ∷ []) h)
-    (fail-event_is before acc c.args.event.now c.args.opened o c.requires.fail.0 c.requires.fail.1)
+pub append-requires-clause-recorded : goal.append-requires-clause-recorded
+append-requires-clause-recorded c =
+    let next = with_event c.args.self.now None (event_by c.args.event.now (Some c.args.opened.register) (Fail c.args.opened.kind) c.args.opened.value) in
+    next-recorded c.args.self.now next c.args.event.now c.requires.taken (fail-next c.args.self.now c.args.event.now c.args.opened c.requires.opened c.requires.fail.0 c.requires.fail.1)
 
-pub invariant_of-self : goal.invariant_of-self
-invariant_of-self c =
-    let t = c.requires.taken in
-    let i = c.self.invariant in
-    let r = open-named c.args.self.now (subst IsRecorded c.self.view_is i.2) c.args.event.now.process c.args.opened c.requires.opened in
-    let n = ap (λ (h : History). length h.names) c.self.view_is in (
-      c.in-Ok.ensures.lists,
-      omega (arith, c.in-Ok.ensures.registers, i.1, r, n),
-      record { events = t.before ++ c.args.event.now ∷ []; accepted = accepted-push t.before c.args.event.now t.accepted t.free; is = returns-in-Ok c t.before t.accepted t.is },
-    )
+pub returns : goal.returns
+returns c =
+    let next = with_event c.args.self.now None (event_by c.args.event.now (Some c.args.opened.register) (Fail c.args.opened.kind) c.args.opened.value) in
+    appended c.args.self.now c.append.new.self next c.args.event.now c.append.result c.append.ensures (fail-next c.args.self.now c.args.event.now c.args.opened c.requires.opened c.requires.fail.0 c.requires.fail.1)

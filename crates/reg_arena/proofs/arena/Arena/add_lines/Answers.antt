@@ -60,9 +60,8 @@ loop-place-preserved c =
     let at = subst (λ (xs : List Line). slice_get xs n ≡ Some (Ok c.in-Ok.event)) c.deref-line-items.ensures.value read in
     let next : suc n ≡ n + 1 = omega arith in
     let left = (numbered-at names lines numbers n (Ok c.in-Ok.event) at so_far.numbered).3 in
-    let recorded = c.self.invariant.2 in
-    let is = sym c.self.view_is ∙ recorded.is in
-    let one_more = ap (λ (h : History). h.names) (c.in_ok-step-in-Ok.ensures recorded.events recorded.accepted is).1 ∙ (names-step recorded.events c.in-Ok.event ∙ ap (λ (h : History). with_name h.names (name_called (Ok c.in-Ok.event))) (sym is)) in
+    let recorded = c.stays_recorded.ensures in
+    let one_more = ap (λ (h : History). h.names) (c.in_ok-step-in-Ok.ensures recorded.events recorded.accepted recorded.is).1 ∙ (names-step recorded.events c.in-Ok.event ∙ ap (λ (h : History). with_name h.names (name_called (Ok c.in-Ok.event))) (sym recorded.is)) in
     record {
       built = λ before built. let front = so_far.built before built in part-more before lines n c.loop-place.self front c.in-Ok.event c.step.new.self at (c.in_ok-step-in-Ok.ensures _ front.accepted front.is);
       numbered = subst (λ m. AreNumbered c.step.new.self.names (drop m lines) (drop m numbers)) next (subst (λ ns. AreNumbered ns (drop (suc n) lines) (drop (suc n) numbers)) (sym one_more) left);

@@ -4,7 +4,7 @@ use Rattle.history_text.specs.declared.limits.TheConstants.{MAX_EVENTS}
 use Rattle.history_model.specs.Refusals.{refused}
 use Rattle.history_model.specs.History.{History}
 use Rattle.reg_arena.specs.Step.{IsStanding}
-use Rattle.reg_arena.specs.declared.standing.Standing.TheVariants.{Crashed}
+use Rattle.reg_arena.specs.declared.process_standing.Standing.TheVariants.{Crashed}
 use Rattle.reg_arena.proofs.Refused.{late-full, late-crashed}
 use Rattle.reg_arena.proofs.arena.Arena.crash_refusal.Goals as goal
 use Rattle.history_model.specs.declared.refusal.Reason.TheVariants.{TooMany}

@@ -1,7 +1,7 @@
 use Rattle.std.proofs.Common.{Some, sym, ap, subst, ◌∙◌}
 use Rattle.history_model.specs.History.{History}
 use Rattle.reg_arena.specs.Step.{IsStanding}
-use Rattle.reg_arena.specs.declared.standing.Standing.TheVariants.{Crashed, Free}
+use Rattle.reg_arena.specs.declared.process_standing.Standing.TheVariants.{Crashed, Free}
 use Rattle.reg_arena.proofs.Refused.{end-closed, end-crashed}
 use Rattle.reg_arena.proofs.arena.Arena.ended_call.Goals as goal
 

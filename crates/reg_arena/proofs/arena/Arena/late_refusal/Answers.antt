@@ -3,7 +3,7 @@ use Rattle.history_text.specs.declared.limits.TheConstants.{MAX_EVENTS}
 use Rattle.history_model.specs.Refusals.{refused}
 use Rattle.history_model.specs.History.{History}
 use Rattle.reg_arena.specs.Step.{IsStanding}
-use Rattle.reg_arena.specs.declared.standing.Standing.TheVariants.{Opened, Free}
+use Rattle.reg_arena.specs.declared.process_standing.Standing.TheVariants.{Opened, Free}
 use Rattle.reg_arena.proofs.Open.{open-some, free-none}
 use Rattle.reg_arena.proofs.Refused.{late-alive}
 use Rattle.reg_arena.proofs.arena.Arena.late_refusal.Goals as goal

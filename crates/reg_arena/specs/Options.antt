@@ -3,7 +3,7 @@ use Rattle.std.specs.Prelude.{◌≡◌, ℕ, nat_eq, cond, Bool, true, false, O
 use Rattle.std.proofs.Common.{sym}
 use Rattle.std.proofs.lemmas.Bool.{eqb-true}
 use Rattle.history_model.specs.declared.ids.EvId.{EvId}
-use Rattle.reg_arena.specs.declared.optional.TheConstants.{NO_NUMBER}
+use Rattle.reg_arena.specs.declared.options.TheConstants.{NO_NUMBER}
 
 -- the number that a word stands for
 abbrev pub number_of : ℕ → Option ℕ

@@ -4,7 +4,7 @@ ghost use Rattle.history_text.specs.Values.{kind_eq};
 ghost use Rattle.history_model.specs.Events.{agrees, fail_agrees, failed_value_agrees, reply_agrees, value_agrees};
 
 use crate::names::Names;
-use crate::standing::Open;
+use crate::process_standing::Open;
 use history_model::RegId;
 use history_text::{OpKind, ReplyParts, Val};
 

@@ -1,6 +1,6 @@
 //! A number or an event that may be missing, in 32 bits; an `Option` of either takes 64.
 ghost use Rattle.std.specs.Prelude.{◌≡◌, ◌<◌, IfSome};
-ghost use Rattle.reg_arena.specs.declared.optional.TheConstants.{NO_NUMBER};
+ghost use Rattle.reg_arena.specs.declared.options.TheConstants.{NO_NUMBER};
 
 use history_model::EvId;
 use std::marker::Model;
@@ -16,7 +16,7 @@ pub(crate) struct OptionalNumber {
 
 impl Model for OptionalNumber {
     ghost use Rattle.std.specs.Prelude.{ℕ, Option};
-    ghost use Rattle.reg_arena.specs.Optional.{number_of, word_of, word_of-number_of};
+    ghost use Rattle.reg_arena.specs.Options.{number_of, word_of, word_of-number_of};
 
     ghost Value = { Option ℕ };
 
@@ -60,7 +60,7 @@ pub(crate) struct OptionalEvent {
 impl Model for OptionalEvent {
     ghost use Rattle.std.specs.Prelude.{Option};
     ghost use Rattle.history_model.specs.declared.ids.EvId.{EvId as AnEvId};
-    ghost use Rattle.reg_arena.specs.Optional.{as_event, as_number, as_number-as_event};
+    ghost use Rattle.reg_arena.specs.Options.{as_event, as_number, as_number-as_event};
 
     ghost Value = { Option AnEvId };
 

@@ -1,9 +1,9 @@
 //! An event in 24 bytes. An `Event`, whose options and enums have tags of their own, takes 48.
 ghost use Rattle.std.specs.Prelude.{◌≡◌, ◌<◌, IfSome};
 ghost use Rattle.reg_arena.specs.Rows.{unpacked, value_held};
-ghost use Rattle.reg_arena.specs.declared.optional.TheConstants.{NO_NUMBER};
+ghost use Rattle.reg_arena.specs.declared.options.TheConstants.{NO_NUMBER};
 
-use crate::optional::OptionalNumber;
+use crate::options::OptionalNumber;
 use history_model::{Event, RegId, What};
 use history_text::Val;
 
