@@ -6,17 +6,8 @@ use Rattle.configurations.specs.declared.moment.Moment.{Moment}
 use Rattle.configurations.specs.declared.moment.Moment.TheVariants.{Call, Reply}
 use Rattle.history_model.specs.Lists.{In}
 use Rattle.configurations.specs.Ops.{fits_at, left_at}
-use Rattle.configurations.specs.Runs.{
-  AliveBy,
-  AliveFree,
-  at_once,
-  by_one,
-  over_free,
-  called_free,
-  replied_free,
-  uses,
-  without,
-}
+use Rattle.configurations.specs.Runs.{AliveBy, AliveFree, at_once, by_one, over_free}
+use Rattle.configurations.specs.Runs.{called_free, replied_free, uses, without}
 use Rattle.configurations.proofs.Lists.{without-In, In-without, In-or}
 
 -- the call leaves each value as it is

@@ -1,39 +1,7 @@
 -- The step over a call, and slots that are given and taken back.
-use Rattle.std.proofs.Common.{
-  ◌≡◌,
-  ◌≢◌,
-  ℕ,
-  zero,
-  suc,
-  ◌+◌,
-  ◌<◌,
-  ◌≤◌,
-  ◌==◌,
-  ◌&&◌,
-  not,
-  Bool,
-  true,
-  false,
-  List,
-  [],
-  ◌∷◌,
-  ◌⊎◌,
-  length,
-  slice_get,
-  slice_set,
-  get_or,
-  Some,
-  Option,
-  None,
-  inl,
-  inr,
-  refl,
-  sym,
-  ap,
-  subst,
-  ◌∙◌,
-  arith,
-}
+use Rattle.std.proofs.Common.{◌≡◌, ◌≢◌, ℕ, zero, suc, ◌+◌, ◌<◌, ◌≤◌, ◌==◌, ◌&&◌, not, Bool, true}
+use Rattle.std.proofs.Common.{false, List, [], ◌∷◌, ◌⊎◌, length, slice_get, slice_set, get_or}
+use Rattle.std.proofs.Common.{Some, Option, None, inl, inr, refl, sym, ap, subst, ◌∙◌, arith}
 use Rattle.std.specs.Prelude.{IsTrue}
 use Rattle.std.proofs.lemmas.Bool.{false≢true, cases_Bool, cases_eq, cases_lt}
 use Rattle.std.proofs.lemmas.Bool.Decides.{nat_tests}
@@ -50,17 +18,8 @@ use Rattle.configurations.specs.declared.config.Configs.{Configs}
 use Rattle.configurations.specs.Ops.{fits, is_content, kind_looks}
 use Rattle.configurations.specs.Runs.{AliveFree, AreInOrder, called_free, without}
 use Rattle.configurations.specs.Tables.{IsGiven, IsReleased, IsTable, IsToCome, IsWithin, call_at, members}
-use Rattle.configurations.specs.Configs.{
-  AreHeld,
-  AreOff,
-  IsAble,
-  IsAnyAble,
-  IsHeld,
-  IsOver,
-  free_of,
-  lacking,
-  owed_by,
-}
+use Rattle.configurations.specs.Configs.{AreHeld, AreOff, IsAble, IsAnyAble, IsHeld}
+use Rattle.configurations.specs.Configs.{IsOver, free_of, lacking, owed_by}
 use Rattle.configurations.proofs.Lists.{In-without, without-In}
 use Rattle.configurations.proofs.Members.{member_of_slot, slot_of_member}
 use Rattle.configurations.proofs.AsFree.{IsIdle, as_free, counted}

@@ -1,27 +1,6 @@
 -- What operations can explain, eased ones can.
-use Rattle.std.proofs.Common.{
-  ◌≡◌,
-  ℕ,
-  zero,
-  suc,
-  ◌<◌,
-  Bool,
-  true,
-  false,
-  cond,
-  nat_lt,
-  List,
-  [],
-  ◌∷◌,
-  map,
-  inl,
-  inr,
-  refl,
-  sym,
-  ap,
-  subst,
-  ◌∙◌,
-}
+use Rattle.std.proofs.Common.{◌≡◌, ℕ, zero, suc, ◌<◌, Bool, true, false, cond, nat_lt}
+use Rattle.std.proofs.Common.{List, [], ◌∷◌, map, inl, inr, refl, sym, ap, subst, ◌∙◌}
 use Rattle.configurations.specs.declared.op.Op.{Op}
 use Rattle.configurations.specs.declared.op.Kind.{Kind}
 use Rattle.configurations.specs.declared.op.Kind.TheVariants.{Read, Write, Cas, Miss}
@@ -30,15 +9,8 @@ use Rattle.configurations.specs.declared.moment.Moment.{Moment}
 use Rattle.configurations.specs.declared.moment.Moment.TheVariants.{Call, Reply}
 use Rattle.configurations.specs.Eased.{ease, ease_kind, written}
 use Rattle.configurations.specs.Ops.{fits, fits_at, kind_fits, kind_leaves, left_at, left_by, rank_at}
-use Rattle.configurations.specs.Runs.{
-  AliveFree,
-  AreInOrder,
-  over_free,
-  called_free,
-  replied_free,
-  uses,
-  without,
-}
+use Rattle.configurations.specs.Runs.{AliveFree, AreInOrder, over_free, called_free}
+use Rattle.configurations.specs.Runs.{replied_free, uses, without}
 
 -- ---- one operation
 

@@ -9,20 +9,8 @@ use Rattle.configurations.specs.Ops.{fits_at, left_at}
 use Rattle.configurations.specs.Runs.{AliveFree, at_once, by_one, over_free, called_free, without}
 use Rattle.configurations.specs.Use.{IsSooner}
 use Rattle.configurations.proofs.Lists.{without-In, In-without, same_or}
-use Rattle.configurations.proofs.AsFree.{
-  Follows,
-  FollowsBy,
-  IsIdle,
-  as_free,
-  as_free_by,
-  by_more,
-  counted,
-  one_more,
-  place_or,
-  replied_placed,
-  still_placed,
-  uncounted,
-}
+use Rattle.configurations.proofs.AsFree.{Follows, FollowsBy, IsIdle, as_free, as_free_by, by_more, counted}
+use Rattle.configurations.proofs.AsFree.{one_more, place_or, replied_placed, still_placed, uncounted}
 
 module _ (ops : List Op) where
   -- i and j are open or free alike, and the same at all values. What a run can do that has let j take effect,

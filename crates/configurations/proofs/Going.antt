@@ -1,32 +1,7 @@
 -- All events, one after the other.
-use Rattle.std.proofs.Common.{
-  ◌≡◌,
-  ℕ,
-  zero,
-  suc,
-  ◌+◌,
-  ◌<◌,
-  ◌++◌,
-  Bool,
-  false,
-  List,
-  [],
-  ◌∷◌,
-  length,
-  take,
-  slice_get,
-  get_or,
-  Some,
-  inl,
-  inr,
-  sym,
-  ap,
-  subst,
-  ◌∙◌,
-  add-one,
-  append_assoc,
-  append-nil,
-}
+use Rattle.std.proofs.Common.{◌≡◌, ℕ, zero, suc, ◌+◌, ◌<◌, ◌++◌, Bool, false, List, []}
+use Rattle.std.proofs.Common.{◌∷◌, length, take, slice_get, get_or, Some, inl, inr, sym}
+use Rattle.std.proofs.Common.{ap, subst, ◌∙◌, add-one, append_assoc, append-nil}
 use Rattle.std.proofs.lemmas.Bool.{false≢true}
 use Rattle.std.proofs.Math.Seq.{take-suc}
 use Rattle.history_model.specs.Lists.{In}

@@ -1,29 +1,6 @@
 -- Of calls that change alike the one that replies first may go first.
-use Rattle.std.proofs.Common.{
-  ◌≡◌,
-  ℕ,
-  ◌==◌,
-  ◌<◌,
-  ◌≤◌,
-  not,
-  cond,
-  Bool,
-  true,
-  false,
-  List,
-  [],
-  ◌∷◌,
-  ◌++◌,
-  ◌⊎◌,
-  inl,
-  inr,
-  refl,
-  sym,
-  ap,
-  subst,
-  ◌∙◌,
-  arith,
-}
+use Rattle.std.proofs.Common.{◌≡◌, ℕ, ◌==◌, ◌<◌, ◌≤◌, not, cond, Bool, true, false, List, []}
+use Rattle.std.proofs.Common.{◌∷◌, ◌++◌, ◌⊎◌, inl, inr, refl, sym, ap, subst, ◌∙◌, arith}
 use Rattle.std.proofs.lemmas.Bool.{false≢true}
 use Rattle.std.proofs.lemmas.Bool.Decides.{nat_tests}
 use Rattle.history_model.specs.Lists.{In}

@@ -16,24 +16,9 @@ use Rattle.configurations.specs.Ops.{asks_at, fits_at, left_at, option_writes, r
 use Rattle.configurations.specs.Runs.{AliveBy, AliveFree, without}
 use Rattle.configurations.specs.Use.{IsAsked, IsOfUse, free_after, freed, kept, open_after, stays}
 use Rattle.configurations.specs.Tables.{IsBefore, IsTable, IsToCome, IsWithin, call_at, members}
-use Rattle.configurations.specs.Configs.{
-  AreApart,
-  AreKept,
-  AreStill,
-  GoesBy,
-  IsAble,
-  IsAbleBy,
-  IsAnyAble,
-  IsAnyAbleBy,
-  IsBegun,
-  IsGoneOver,
-  IsHeld,
-  IsLed,
-  IsTried,
-  free_of,
-  lacking,
-  owed_by,
-}
+use Rattle.configurations.specs.Configs.{AreApart, AreKept, AreStill, GoesBy, IsAble, IsAbleBy}
+use Rattle.configurations.specs.Configs.{IsAnyAble, IsAnyAbleBy, IsBegun, IsGoneOver, IsHeld}
+use Rattle.configurations.specs.Configs.{IsLed, IsTried, free_of, lacking, owed_by}
 use Rattle.configurations.proofs.Lists.{In-without, without-In}
 use Rattle.configurations.proofs.Members.{member_at, member_of_slot, slot_of_member}
 use Rattle.configurations.proofs.AsFree.{as_free, as_free_by, counted}

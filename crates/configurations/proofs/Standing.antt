@@ -1,30 +1,6 @@
 -- When one configuration stands for another, and lists with one more.
-use Rattle.std.proofs.Common.{
-  ◌≡◌,
-  ℕ,
-  zero,
-  suc,
-  ◌++◌,
-  ◌||◌,
-  Bool,
-  true,
-  false,
-  List,
-  [],
-  ◌∷◌,
-  ◌⊎◌,
-  length,
-  slice_get,
-  Some,
-  None,
-  inl,
-  inr,
-  refl,
-  sym,
-  ap,
-  subst,
-  ◌∙◌,
-}
+use Rattle.std.proofs.Common.{◌≡◌, ℕ, zero, suc, ◌++◌, ◌||◌, Bool, true, false, List, [], ◌∷◌, ◌⊎◌}
+use Rattle.std.proofs.Common.{length, slice_get, Some, None, inl, inr, refl, sym, ap, subst, ◌∙◌}
 use Rattle.std.proofs.lemmas.Bool.{false≢true}
 use Rattle.std.proofs.lemmas.Option.{get_or_from_slice_get}
 use Rattle.slot_sets.specs.Sets.{has}
@@ -37,16 +13,8 @@ use Rattle.configurations.specs.declared.config.Configs.{Configs}
 use Rattle.configurations.specs.Ops.{kind_looks, kind_leaves, option_left_by}
 use Rattle.configurations.specs.Tables.{IsTable, IsWithin, call_at, members}
 use Rattle.configurations.specs.Runs.{AliveBy, AliveFree}
-use Rattle.configurations.specs.Configs.{
-  AreHeld,
-  AreOwing,
-  AreStill,
-  CanAll,
-  IsHeld,
-  IsStoodFor,
-  free_of,
-  owed_by,
-}
+use Rattle.configurations.specs.Configs.{AreHeld, AreOwing, AreStill, CanAll}
+use Rattle.configurations.specs.Configs.{IsHeld, IsStoodFor, free_of, owed_by}
 use Rattle.configurations.proofs.AsFree.{IsAsFree, IsIdle, as_free, as_free_by}
 use Rattle.configurations.proofs.Members.{slot_of_member, member_of_slot}
 

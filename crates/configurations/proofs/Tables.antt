@@ -1,40 +1,7 @@
 -- The slots of open calls: what suits a value, and what giving a slot and taking it back leave.
-use Rattle.std.proofs.Common.{
-  ◌≡◌,
-  ℕ,
-  suc,
-  zero,
-  ◌*◌,
-  ◌<◌,
-  ◌≤◌,
-  ◌++◌,
-  ◌==◌,
-  ◌||◌,
-  not,
-  cond,
-  Bool,
-  true,
-  false,
-  List,
-  [],
-  ◌∷◌,
-  length,
-  set,
-  slice_get,
-  get_or,
-  get_or-set_same,
-  get_or-set_other,
-  length-set,
-  Some,
-  inl,
-  inr,
-  refl,
-  sym,
-  ap,
-  subst,
-  ◌∙◌,
-  arith,
-}
+use Rattle.std.proofs.Common.{◌≡◌, ℕ, suc, zero, ◌*◌, ◌<◌, ◌≤◌, ◌++◌, ◌==◌, ◌||◌, not, cond, Bool, true}
+use Rattle.std.proofs.Common.{false, List, [], ◌∷◌, length, set, slice_get, get_or, get_or-set_same}
+use Rattle.std.proofs.Common.{get_or-set_other, length-set, Some, inl, inr, refl, sym, ap, subst, ◌∙◌, arith}
 use Rattle.std.proofs.lemmas.Bool.Decides.{nat_tests}
 use Rattle.std.proofs.lemmas.Bool.{cases_eq, cases_lt, false≢true}
 use Rattle.history_model.proofs.Lists.{slice_get-set, slice_get-set_other}

@@ -1,34 +1,7 @@
 -- Writes that nobody sees: a call that is free may stay out of sight, and only changes that somebody asks for
 -- need to be tried.
-use Rattle.std.proofs.Common.{
-  ◌≡◌,
-  ℕ,
-  suc,
-  ◌==◌,
-  ◌&&◌,
-  not,
-  cond,
-  Bool,
-  true,
-  false,
-  List,
-  [],
-  ◌∷◌,
-  ◌++◌,
-  ◌⊎◌,
-  inl,
-  inr,
-  refl,
-  sym,
-  ap,
-  subst,
-  ◌∙◌,
-  slice_get,
-  Option,
-  Some,
-  None,
-  arith,
-}
+use Rattle.std.proofs.Common.{◌≡◌, ℕ, suc, ◌==◌, ◌&&◌, not, cond, Bool, true, false, List, [], ◌∷◌, ◌++◌}
+use Rattle.std.proofs.Common.{◌⊎◌, inl, inr, refl, sym, ap, subst, ◌∙◌, slice_get, Option, Some, None, arith}
 use Rattle.std.proofs.lemmas.Bool.{false≢true, cases_Bool}
 use Rattle.std.proofs.lemmas.Bool.Decides.{nat_tests}
 use Rattle.configurations.specs.declared.op.Op.{Op}
@@ -37,18 +10,8 @@ use Rattle.configurations.specs.declared.op.Kind.TheVariants.{Read, Write, Cas, 
 use Rattle.configurations.specs.declared.moment.Moment.{Moment}
 use Rattle.configurations.specs.declared.moment.Moment.TheVariants.{Call, Reply}
 use Rattle.history_model.specs.Lists.{In}
-use Rattle.configurations.specs.Ops.{
-  fits_at,
-  left_at,
-  option_fits,
-  option_left_by,
-  kind_fits,
-  kind_leaves,
-  writes_at,
-  option_writes,
-  kind_writes,
-  asks_at,
-}
+use Rattle.configurations.specs.Ops.{fits_at, left_at, option_fits, option_left_by, kind_fits}
+use Rattle.configurations.specs.Ops.{kind_leaves, writes_at, option_writes, kind_writes, asks_at}
 use Rattle.configurations.specs.Runs.{AliveBy, AliveFree, at_once, by_one, over_free, called_free, uses, without}
 use Rattle.configurations.specs.Use.{IsOfUse, IsAsked, open_after, free_after, stays, kept, freed}
 use Rattle.history_model.proofs.Lists.{In-filter, filter-In, In-left, In-right, append-In}

@@ -1,22 +1,6 @@
 -- Configurations as sets of slots.
-use Rattle.std.specs.Prelude.{
-  ℕ,
-  [],
-  IsTrue,
-  ◌==◌,
-  ◌&&◌,
-  not,
-  ◌≡◌,
-  ◌<◌,
-  ◌⊎◌,
-  ◌∷◌,
-  Bool,
-  true,
-  false,
-  List,
-  slice_get,
-  Some,
-}
+use Rattle.std.specs.Prelude.{ℕ, [], IsTrue, ◌==◌, ◌&&◌, not, ◌≡◌, ◌<◌, ◌⊎◌}
+use Rattle.std.specs.Prelude.{◌∷◌, Bool, true, false, List, slice_get, Some}
 use Rattle.configurations.specs.declared.moment.Moment.{Moment}
 use Rattle.configurations.specs.declared.moment.Moment.TheVariants.{Reply}
 use Rattle.configurations.specs.declared.table.Table.{Table}

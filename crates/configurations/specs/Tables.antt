@@ -1,25 +1,6 @@
 -- The slots of open calls.
-use Rattle.std.specs.Prelude.{
-  ℕ,
-  suc,
-  ◌*◌,
-  ◌^◌,
-  ◌==◌,
-  ◌≡◌,
-  ◌<◌,
-  ◌⊎◌,
-  Bool,
-  true,
-  false,
-  cond,
-  List,
-  [],
-  ◌∷◌,
-  slice_get,
-  Some,
-  length,
-  get_or,
-}
+use Rattle.std.specs.Prelude.{ℕ, suc, ◌*◌, ◌^◌, ◌==◌, ◌≡◌, ◌<◌, ◌⊎◌, Bool, true, false}
+use Rattle.std.specs.Prelude.{cond, List, [], ◌∷◌, slice_get, Some, length, get_or}
 use Rattle.history_model.specs.Lists.{In}
 use Rattle.slot_sets.specs.Sets.{has}
 use Rattle.configurations.specs.declared.op.Op.{Op}

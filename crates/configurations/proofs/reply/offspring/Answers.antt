@@ -2,17 +2,8 @@ use Rattle.std.proofs.Common.{◌∙◌, ◌≡◌, ◌≢◌, ap, inl, inr, not
 use Rattle.std.proofs.lemmas.Bool.{cases_Bool, false≢true}
 use Rattle.slot_sets.specs.Sets.{has}
 use Rattle.configurations.specs.declared.config.Config.{Config}
-use Rattle.configurations.proofs.Replying.{
-  IsOffspring,
-  both,
-  both_parts,
-  neither,
-  not_true,
-  offspring_able,
-  offspring_held,
-  or_left,
-  or_right,
-}
+use Rattle.configurations.proofs.Replying.{IsOffspring, both, both_parts, neither, not_true}
+use Rattle.configurations.proofs.Replying.{offspring_able, offspring_held, or_left, or_right}
 use Rattle.configurations.proofs.Standing.{either_or}
 use Rattle.configurations.proofs.reply.offspring.Goals as goal
 

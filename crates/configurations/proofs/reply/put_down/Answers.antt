@@ -3,14 +3,8 @@ use Rattle.slot_sets.specs.Sets.{has}
 use Rattle.configurations.specs.declared.config.Config.{Config}
 use Rattle.configurations.specs.Configs.{free_of, lacking, owed_by}
 use Rattle.configurations.specs.Tables.{call_at}
-use Rattle.configurations.proofs.Replying.{
-  ahead,
-  dropped_able,
-  dropped_held,
-  not_member,
-  owing_able,
-  owing_held,
-}
+use Rattle.configurations.proofs.Replying.{ahead, dropped_able, dropped_held}
+use Rattle.configurations.proofs.Replying.{not_member, owing_able, owing_held}
 use Rattle.configurations.proofs.Unseen.{settled_by}
 use Rattle.configurations.proofs.reply.put_down.Goals as goal
 
@@ -32,20 +26,8 @@ pub returns-in_ok-admit-3-clause-apart : goal.returns-in_ok-admit-3-clause-apart
 returns-in_ok-admit-3-clause-apart g c =
     let t = c.args.table.now in
     let before = c.args.config.now in
-    let dropped : Config g.row.W = record {
-      value = before.value;
-      owed = before.owed;
-      free = c.remove.new.self;
-      last = before.last;
-      unanswered = before.unanswered;
-    } in
-    let owing : Config g.row.W = record {
-      value = before.value;
-      owed = c.insert.new.self;
-      free = c.remove.new.self;
-      last = before.last;
-      unanswered = before.unanswered;
-    } in
+    let dropped : Config g.row.W = record before { free = c.remove.new.self } in
+    let owing : Config g.row.W = record before { owed = c.insert.new.self; free = c.remove.new.self } in
     let none = sym c.has.ensures ∙ c.if-has.false in
     record {
       work_held =
@@ -69,20 +51,8 @@ returns-in_ok-admit-3-clause-goes g c = λ es n to_come l.
     let i = c.requires.table in
     let reply = c.args.reply in
     let before = c.args.config.now in
-    let dropped : Config g.row.W = record {
-      value = before.value;
-      owed = before.owed;
-      free = c.remove.new.self;
-      last = before.last;
-      unanswered = before.unanswered;
-    } in
-    let owing : Config g.row.W = record {
-      value = before.value;
-      owed = c.insert.new.self;
-      free = c.remove.new.self;
-      last = before.last;
-      unanswered = before.unanswered;
-    } in
+    let dropped : Config g.row.W = record before { free = c.remove.new.self } in
+    let owing : Config g.row.W = record before { owed = c.insert.new.self; free = c.remove.new.self } in
     let none = sym c.has.ensures ∙ c.if-has.false in
     elim (settled_by t.ops.items es (call_at t reply) n before.value (owed_by t before) (free_of t before)
     (not_member t i before.owed reply c.requires.held.0 c.requires.reply none)
@@ -114,13 +84,7 @@ pub returns-else-has-2-clause-apart : goal.returns-else-has-2-clause-apart
 returns-else-has-2-clause-apart g c =
     let t = c.args.table.now in
     let before = c.args.config.now in
-    let dropped : Config g.row.W = record {
-      value = before.value;
-      owed = before.owed;
-      free = c.remove.new.self;
-      last = before.last;
-      unanswered = before.unanswered;
-    } in
+    let dropped : Config g.row.W = record before { free = c.remove.new.self } in
     let none = sym c.has.ensures ∙ c.if-has.false in
     record {
       work_held = c.requires.apart.work_held;
@@ -137,13 +101,7 @@ returns-else-has-2-clause-goes g c = λ es n to_come l.
     let i = c.requires.table in
     let reply = c.args.reply in
     let before = c.args.config.now in
-    let dropped : Config g.row.W = record {
-      value = before.value;
-      owed = before.owed;
-      free = c.remove.new.self;
-      last = before.last;
-      unanswered = before.unanswered;
-    } in
+    let dropped : Config g.row.W = record before { free = c.remove.new.self } in
     let none = sym c.has.ensures ∙ c.if-has.false in
     elim (settled_by t.ops.items es (call_at t reply) n before.value (owed_by t before) (free_of t before)
     (not_member t i before.owed reply c.requires.held.0 c.requires.reply none)
