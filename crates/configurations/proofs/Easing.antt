@@ -1,5 +1,6 @@
 -- What operations can explain, eased ones can.
-use Rattle.std.proofs.Common.{◌≡◌, ℕ, zero, suc, ◌<◌, Bool, true, false, cond, nat_lt, List, [], ◌∷◌, map, inl, inr, refl, sym, ap, subst, ◌∙◌}
+use Rattle.std.proofs.Common.{◌≡◌, ℕ, zero, suc, ◌<◌, Bool, true, false, cond, nat_lt}
+use Rattle.std.proofs.Common.{List, [], ◌∷◌, map, inl, inr, refl, sym, ap, subst, ◌∙◌}
 use Rattle.configurations.specs.declared.op.Op.{Op}
 use Rattle.configurations.specs.declared.op.Kind.{Kind}
 use Rattle.configurations.specs.declared.op.Kind.TheVariants.{Read, Write, Cas, Miss}
@@ -8,7 +9,8 @@ use Rattle.configurations.specs.declared.moment.Moment.{Moment}
 use Rattle.configurations.specs.declared.moment.Moment.TheVariants.{Call, Reply}
 use Rattle.configurations.specs.Eased.{ease, ease_kind, written}
 use Rattle.configurations.specs.Ops.{fits, fits_at, kind_fits, kind_leaves, left_at, left_by, rank_at}
-use Rattle.configurations.specs.Runs.{AliveFree, AreInOrder, over_free, called_free, replied_free, uses, without}
+use Rattle.configurations.specs.Runs.{AliveFree, AreInOrder, over_free, called_free}
+use Rattle.configurations.specs.Runs.{replied_free, uses, without}
 
 -- ---- one operation
 
@@ -60,19 +62,28 @@ rank-eased [] k = refl
 rank-eased (o ∷ ops) zero = rank_kind o o.kind
 rank-eased (o ∷ ops) (suc k) = rank-eased ops k
 
-pub alive-eased : (ops : List Op) (es : List Moment) (v : ℕ) (p f : List ℕ) → AliveFree ops v p f es → AliveFree (map ease ops) v p f es
+pub alive-eased : (ops : List Op) (es : List Moment) (v : ℕ) (p f : List ℕ) → AliveFree ops v p f es
+    → AliveFree (map ease ops) v p f es
 alive-eased ops [] v p f over_free = over_free
 alive-eased ops (Call k ∷ es) v p f (called_free r) = called_free (alive-eased ops es v (k ∷ p) f r)
-alive-eased ops (Reply k ∷ es) v p f (replied_free n r) = replied_free n (alive-eased ops es v p (without k f) r)
-alive-eased ops (Reply k ∷ es) v p f (uses j i z r) = uses j i (fits-eased ops j v z) (subst (λ x. AliveFree (map ease ops) x (without j p) (without j f) (Reply k ∷ es)) (sym (leaves-eased ops j v)) (alive-eased ops (Reply k ∷ es) (left_at ops j v) (without j p) (without j f) r))
+alive-eased ops (Reply k ∷ es) v p f (replied_free n r) =
+    replied_free n (alive-eased ops es v p (without k f) r)
+alive-eased ops (Reply k ∷ es) v p f (uses j i z r) =
+    uses j i (fits-eased ops j v z)
+    (subst (λ x. AliveFree (map ease ops) x (without j p) (without j f) (Reply k ∷ es))
+    (sym (leaves-eased ops j v))
+    (alive-eased ops (Reply k ∷ es) (left_at ops j v) (without j p) (without j f) r))
 
-pub in_order-eased : (ops : List Op) (opened : List ℕ) (es : List Moment) → AreInOrder ops opened es → AreInOrder (map ease ops) opened es
+pub in_order-eased : (ops : List Op) (opened : List ℕ) (es : List Moment) → AreInOrder ops opened es
+    → AreInOrder (map ease ops) opened es
 in_order-eased ops opened [] o = tt
 in_order-eased ops opened (Call k ∷ es) o = (o.0, in_order-eased ops (k ∷ opened) es o.1)
 in_order-eased ops opened (Reply k ∷ es) o = (
   λ i h. elim (o.0 i h) [
     | inl e ↦ inl e
-    | inr lt ↦ inr (subst (λ x. x < rank_at (map ease ops) i) (sym (rank-eased ops k)) (subst (λ x. rank_at ops k < x) (sym (rank-eased ops i)) lt))
+    | inr lt ↦
+        inr (subst (λ x. x < rank_at (map ease ops) i) (sym (rank-eased ops k))
+        (subst (λ x. rank_at ops k < x) (sym (rank-eased ops i)) lt))
   ],
   in_order-eased ops (without k opened) es o.1,
 )

@@ -1,4 +1,6 @@
 pub mod Lists
+pub mod AsFree
+pub mod Exchanging
 pub mod Unseen
 pub mod Leading
 pub mod Members

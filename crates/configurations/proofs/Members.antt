@@ -1,5 +1,6 @@
 -- A call stands among those of a set exactly if its slot is in the set.
-use Rattle.std.proofs.Common.{◌≡◌, ℕ, zero, suc, ◌+◌, ◌<◌, Bool, true, false, cond, List, [], ◌∷◌, ◌⊎◌, length, slice_get, get_or, Some, inl, inr, refl, sym, ap, subst, arith}
+use Rattle.std.proofs.Common.{◌≡◌, ℕ, zero, suc, ◌+◌, ◌<◌, Bool, true, false, cond, List, [], ◌∷◌, ◌⊎◌}
+use Rattle.std.proofs.Common.{length, slice_get, get_or, Some, inl, inr, refl, sym, ap, subst, arith}
 use Rattle.std.proofs.lemmas.Bool.{false≢true}
 use Rattle.std.proofs.lemmas.Option.{slice_get-get_or}
 use Rattle.history_model.specs.Lists.{In}
@@ -13,19 +14,23 @@ first : (q : ℕ) → q ≡ 0 + q
 first q = omega arith
 
 -- it is the one of this slot, or stands behind it
-open_by : (b : Bool) (k j : ℕ) (rest : List ℕ) → In j (cond b (k ∷ rest) rest) → ((j ≡ k) × (b ≡ true)) ⊎ In j rest
+open_by : (b : Bool) (k j : ℕ) (rest : List ℕ) → In j (cond b (k ∷ rest) rest)
+    → ((j ≡ k) × (b ≡ true)) ⊎ In j rest
 open_by true k j rest (inl e) = inl (e, refl)
 open_by true k j rest (inr h) = inr h
 open_by false k j rest h = inr h
 
-slot_from : (q : ℕ) (ks s : List ℕ) (j : ℕ) → In j (members_from q ks s) → (i : ℕ) × (slice_get ks i ≡ Some j) × (has s (i + q) ≡ true)
+slot_from : (q : ℕ) (ks s : List ℕ) (j : ℕ) → In j (members_from q ks s)
+    → (i : ℕ) × (slice_get ks i ≡ Some j) × (has s (i + q) ≡ true)
 slot_from q [] s j h = absurd h
 slot_from q (k ∷ ks) s j h = elim (open_by (has s q) k j (members_from (suc q) ks s) h) [
   | inl a ↦ (0, ap Some (sym a.0), subst (λ x. has s x ≡ true) (first q) a.1)
-  | inr a ↦ let r = slot_from (suc q) ks s j a in (suc r.0, r.1, subst (λ x. has s x ≡ true) (sym (more r.0 q)) r.2)
+  | inr a ↦
+      let r = slot_from (suc q) ks s j a in (suc r.0, r.1, subst (λ x. has s x ≡ true) (sym (more r.0 q)) r.2)
 ]
 
-pub slot_of_member : (ks s : List ℕ) (j : ℕ) → In j (members ks s) → (i : ℕ) × (slice_get ks i ≡ Some j) × (has s i ≡ true)
+pub slot_of_member : (ks s : List ℕ) (j : ℕ) → In j (members ks s)
+    → (i : ℕ) × (slice_get ks i ≡ Some j) × (has s i ≡ true)
 slot_of_member ks s j h =
     let r = slot_from 0 ks s j h in
     let same : r.0 + 0 ≡ r.0 = omega arith in
@@ -39,12 +44,19 @@ first_by : (b : Bool) (k j : ℕ) (rest : List ℕ) → b ≡ true → j ≡ k �
 first_by true k j rest e h = inl h
 first_by false k j rest e h = absurd (false≢true e)
 
-member_from : (q : ℕ) (ks s : List ℕ) (j i : ℕ) → slice_get ks i ≡ Some j → has s (i + q) ≡ true → In j (members_from q ks s)
+member_from : (q : ℕ) (ks s : List ℕ) (j i : ℕ) → slice_get ks i ≡ Some j → has s (i + q) ≡ true
+    → In j (members_from q ks s)
 member_from q [] s j i e b = absurd (cc)
-member_from q (k ∷ ks) s j zero e b = let same : k ≡ j = cc in first_by (has s q) k j (members_from (suc q) ks s) (subst (λ x. has s x ≡ true) (sym (first q)) b) (sym same)
-member_from q (k ∷ ks) s j (suc i) e b = kept_by (has s q) k j (members_from (suc q) ks s) (member_from (suc q) ks s j i e (subst (λ x. has s x ≡ true) (more i q) b))
+member_from q (k ∷ ks) s j zero e b =
+    let same : k ≡ j = cc in
+    first_by (has s q) k j (members_from (suc q) ks s) (subst (λ x. has s x ≡ true) (sym (first q)) b)
+    (sym same)
+member_from q (k ∷ ks) s j (suc i) e b =
+    kept_by (has s q) k j (members_from (suc q) ks s)
+    (member_from (suc q) ks s j i e (subst (λ x. has s x ≡ true) (more i q) b))
 
-pub member_of_slot : (ks s : List ℕ) (j i : ℕ) → slice_get ks i ≡ Some j → has s i ≡ true → In j (members ks s)
+pub member_of_slot : (ks s : List ℕ) (j i : ℕ) → slice_get ks i ≡ Some j → has s i ≡ true
+    → In j (members ks s)
 member_of_slot ks s j i e b =
     let same : i ≡ i + 0 = omega arith in
     member_from 0 ks s j i e (subst (λ x. has s x ≡ true) same b)

@@ -1,5 +1,7 @@
 -- The slots of open calls: what suits a value, and what giving a slot and taking it back leave.
-use Rattle.std.proofs.Common.{◌≡◌, ℕ, suc, zero, ◌*◌, ◌<◌, ◌≤◌, ◌++◌, ◌==◌, ◌||◌, not, cond, Bool, true, false, List, [], ◌∷◌, length, set, slice_get, get_or, get_or-set_same, get_or-set_other, length-set, Some, inl, inr, refl, sym, ap, subst, ◌∙◌, arith}
+use Rattle.std.proofs.Common.{◌≡◌, ℕ, suc, zero, ◌*◌, ◌<◌, ◌≤◌, ◌++◌, ◌==◌, ◌||◌, not, cond, Bool, true}
+use Rattle.std.proofs.Common.{false, List, [], ◌∷◌, length, set, slice_get, get_or, get_or-set_same}
+use Rattle.std.proofs.Common.{get_or-set_other, length-set, Some, inl, inr, refl, sym, ap, subst, ◌∙◌, arith}
 use Rattle.std.proofs.lemmas.Bool.Decides.{nat_tests}
 use Rattle.std.proofs.lemmas.Bool.{cases_eq, cases_lt, false≢true}
 use Rattle.history_model.proofs.Lists.{slice_get-set, slice_get-set_other}
@@ -13,7 +15,8 @@ use Rattle.configurations.specs.Ops.{fits_at, option_fits, kind_fits, kind_looks
 use Rattle.configurations.specs.Tables.{IsGiven, IsReleased, IsSlot, IsTable, call_at}
 
 -- whether the value suits a kind, from the three tests that the code makes
-kind_tests : (k : Kind) (a v : ℕ) → (cond (kind_misses k) (not (v == a)) (v == a) || kind_writes k) ≡ kind_fits k a v
+kind_tests : (k : Kind) (a v : ℕ)
+    → (cond (kind_misses k) (not (v == a)) (v == a) || kind_writes k) ≡ kind_fits k a v
 kind_tests Read a v = elim (v == a) as (λ b. (b || false) ≡ b) [ true ↦ refl | false ↦ refl ]
 kind_tests Write a v = elim (v == a) as (λ b. (b || true) ≡ true) [ true ↦ refl | false ↦ refl ]
 kind_tests Cas a v = elim (v == a) as (λ b. (b || false) ≡ b) [ true ↦ refl | false ↦ refl ]
@@ -29,7 +32,8 @@ pub nothing_past : (xs : List (List ℕ)) (v q : ℕ) → length xs ≤ v → ha
 nothing_past xs v q le = ap (λ x. has x q) (past_end xs v le) ∙ has_past [] q (omega arith)
 
 -- nothing is asked for either once a set of no slots comes behind the others
-pub nothing_pushed : (xs : List (List ℕ)) (w : List ℕ) → ((v q : ℕ) → has (get_or xs v []) q ≡ false) → ((q : ℕ) → has w q ≡ false) → (v q : ℕ) → has (get_or (xs ++ (w ∷ [])) v []) q ≡ false
+pub nothing_pushed : (xs : List (List ℕ)) (w : List ℕ) → ((v q : ℕ) → has (get_or xs v []) q ≡ false)
+    → ((q : ℕ) → has w q ≡ false) → (v q : ℕ) → has (get_or (xs ++ (w ∷ [])) v []) q ≡ false
 nothing_pushed [] w old new zero q = new q
 nothing_pushed [] w old new (suc v) q = has_past [] q (omega arith)
 nothing_pushed (x ∷ xs) w old new zero q = old zero q
@@ -42,20 +46,32 @@ eq_false : (a b : ℕ) → (a ≡ b → ⊥) → (a == b) ≡ false
 eq_false a b n = grind (arith, nat_tests)
 
 -- one set of a vector was changed at one slot
-same_words : (xs ys : List (List ℕ)) (at : ℕ) (w : List ℕ) (slot : ℕ) → at < length xs → ys ≡ set xs at w → ((q : ℕ) → (q ≡ slot → ⊥) → has w q ≡ has (get_or xs at []) q) → (v q : ℕ) → (q ≡ slot → ⊥) → has (get_or ys v []) q ≡ has (get_or xs v []) q
+same_words : (xs ys : List (List ℕ)) (at : ℕ) (w : List ℕ) (slot : ℕ) → at < length xs → ys ≡ set xs at w
+    → ((q : ℕ) → (q ≡ slot → ⊥) → has w q ≡ has (get_or xs at []) q) → (v q : ℕ) → (q ≡ slot → ⊥)
+    → has (get_or ys v []) q ≡ has (get_or xs v []) q
 same_words xs ys at w slot lt e o v q n = elim (cases_eq v at) [
-  | inl same ↦ ap (λ x. has (get_or x v []) q) e ∙ (ap (λ x. has (get_or (set xs at w) x []) q) same ∙ (ap (λ x. has x q) (get_or-set_same xs at w [] lt) ∙ (o q n ∙ ap (λ x. has (get_or xs x []) q) (sym same))))
+  | inl same ↦
+      ap (λ x. has (get_or x v []) q) e
+      ∙ (ap (λ x. has (get_or (set xs at w) x []) q) same
+      ∙ (ap (λ x. has x q) (get_or-set_same xs at w [] lt)
+      ∙ (o q n ∙ ap (λ x. has (get_or xs x []) q) (sym same))))
   | inr apart ↦ ap (λ x. has (get_or x v []) q) e ∙ ap (λ x. has x q) (get_or-set_other xs at v w [] apart)
 ]
 
 module _ {W : ℕ} where
   -- the set of those that a value suits
-  pub fitting_test : (t : Table W) (v q : ℕ) (asked : Bool) → IsTable t → asked ≡ has (get_or t.asks.items v []) q → has t.used q ≡ true → (cond (has t.misses q) (not asked) asked || has t.writes q) ≡ fits_at t.ops.items (call_at t q) v
+  pub fitting_test : (t : Table W) (v q : ℕ) (asked : Bool) → IsTable t
+      → asked ≡ has (get_or t.asks.items v []) q → has t.used q ≡ true
+      → (cond (has t.misses q) (not asked) asked || has t.writes q) ≡ fits_at t.ops.items (call_at t q) v
   fitting_test t v q asked i a u =
       let s = i.each q u in
-      let is : asked ≡ (v == s.op.from) = a ∙ elim (cases_lt v (length t.asks.items)) [
+      let is : asked ≡ (v == s.op.from) =
+      a
+      ∙ elim (cases_lt v (length t.asks.items)) [
         | inl lt ↦ s.asks v lt
-        | inr le ↦ nothing_past t.asks.items v q le ∙ sym (eq_false v s.op.from (let f = s.from in λ e. omega (arith, e, f, le)))
+        | inr le ↦
+            nothing_past t.asks.items v q le
+            ∙ sym (eq_false v s.op.from (let f = s.from in λ e. omega (arith, e, f, le)))
       ] in
       ap (λ x. cond (has t.misses q) (not x) x || has t.writes q) is
       ∙ (ap (λ x. cond x (not (v == s.op.from)) (v == s.op.from) || has t.writes q) s.misses
@@ -88,11 +104,13 @@ module _ {W : ℕ} where
     pub word : has w slot ≡ true
     pub word_same : (q : ℕ) → (q ≡ slot → ⊥) → has w q ≡ has (get_or t.asks.items o.from []) q
 
-  module _ (t u : Table W) (slot number : ℕ) (o : Op) (w : List ℕ) (i : IsTable t) (g : IsGiving t u slot number o w) where
+  module _ (t u : Table W) (slot number : ℕ) (o : Op) (w : List ℕ) (i : IsTable t)
+      (g : IsGiving t u slot number o w) where
     mine : call_at u slot ≡ number
     mine = ap (λ x. get_or x slot 0) g.calls ∙ get_or-set_same t.calls.items slot number 0 g.placed
 
-    asks_same : (v q : ℕ) → (q ≡ slot → ⊥) → has (get_or u.asks.items v []) q ≡ has (get_or t.asks.items v []) q
+    asks_same : (v q : ℕ) → (q ≡ slot → ⊥)
+        → has (get_or u.asks.items v []) q ≡ has (get_or t.asks.items v []) q
     asks_same = same_words t.asks.items u.asks.items o.from w slot g.from g.asks g.word_same
 
     long : length u.asks.items ≡ length t.asks.items
@@ -102,9 +120,14 @@ module _ {W : ℕ} where
     new = record {
       op = o;
       there = ap (λ x. slice_get x (call_at u slot)) g.ops ∙ (ap (slice_get t.ops.items) mine ∙ g.op);
-      back = ap (slice_get u.slot_of.items) mine ∙ (ap (λ x. slice_get x number) g.slot_of ∙ slice_get-set t.slot_of.items number slot g.numbered);
+      back =
+          ap (slice_get u.slot_of.items) mine
+          ∙ (ap (λ x. slice_get x number) g.slot_of ∙ slice_get-set t.slot_of.items number slot g.numbered);
       small = g.small;
-      placed = let len : length u.calls.items ≡ length t.calls.items = ap length g.calls ∙ length-set t.calls.items slot number in omega (arith, len, g.placed);
+      placed =
+          let len : length u.calls.items ≡ length t.calls.items =
+          ap length g.calls ∙ length-set t.calls.items slot number in
+          omega (arith, len, g.placed);
       looks = g.looks;
       writes = g.writes;
       misses = g.misses;
@@ -112,10 +135,12 @@ module _ {W : ℕ} where
         | inl e ↦
             ap (λ x. has (get_or x v []) slot) g.asks
             ∙ (ap (λ x. has (get_or (set t.asks.items o.from w) x []) slot) e
-            ∙ (ap (λ x. has x slot) (get_or-set_same t.asks.items o.from w [] g.from) ∙ (g.word ∙ sym (eq_true v o.from e))))
+            ∙ (ap (λ x. has x slot) (get_or-set_same t.asks.items o.from w [] g.from)
+            ∙ (g.word ∙ sym (eq_true v o.from e))))
         | inr n ↦
             ap (λ x. has (get_or x v []) slot) g.asks
-            ∙ (ap (λ x. has x slot) (get_or-set_other t.asks.items o.from v w [] n) ∙ (i.others slot v g.free ∙ sym (eq_false v o.from n)))
+            ∙ (ap (λ x. has x slot) (get_or-set_other t.asks.items o.from v w [] n)
+            ∙ (i.others slot v g.free ∙ sym (eq_false v o.from n)))
       ];
       from = omega (arith, long, g.from);
     }
@@ -123,14 +148,22 @@ module _ {W : ℕ} where
     old : (q : ℕ) → (q ≡ slot → ⊥) → has t.used q ≡ true → IsSlot u q
     old q n h =
         let s = i.each q h in
-        let same : call_at u q ≡ call_at t q = ap (λ x. get_or x q 0) g.calls ∙ get_or-set_other t.calls.items slot q number 0 n in
-        let apart : call_at t q ≡ number → ⊥ = λ e. g.unslotted q h (subst (λ x. slice_get t.slot_of.items x ≡ Some q) e s.back) in
+        let same : call_at u q ≡ call_at t q =
+        ap (λ x. get_or x q 0) g.calls ∙ get_or-set_other t.calls.items slot q number 0 n in
+        let apart : call_at t q ≡ number → ⊥ = λ e.
+        g.unslotted q h (subst (λ x. slice_get t.slot_of.items x ≡ Some q) e s.back) in
         record {
           op = s.op;
           there = ap (λ x. slice_get x (call_at u q)) g.ops ∙ (ap (slice_get t.ops.items) same ∙ s.there);
-          back = ap (slice_get u.slot_of.items) same ∙ (ap (λ x. slice_get x (call_at t q)) g.slot_of ∙ (slice_get-set_other t.slot_of.items number (call_at t q) slot apart ∙ s.back));
+          back =
+              ap (slice_get u.slot_of.items) same
+              ∙ (ap (λ x. slice_get x (call_at t q)) g.slot_of
+              ∙ (slice_get-set_other t.slot_of.items number (call_at t q) slot apart ∙ s.back));
           small = s.small;
-          placed = let len : length u.calls.items ≡ length t.calls.items = ap length g.calls ∙ length-set t.calls.items slot number in omega (arith, len, s.placed);
+          placed =
+              let len : length u.calls.items ≡ length t.calls.items =
+              ap length g.calls ∙ length-set t.calls.items slot number in
+              omega (arith, len, s.placed);
           looks = g.looks_same q n ∙ s.looks;
           writes = g.writes_same q n ∙ s.writes;
           misses = g.misses_same q n ∙ s.misses;
@@ -141,7 +174,10 @@ module _ {W : ℕ} where
     pub given_table : IsTable u
     given_table = record {
       room = i.room;
-      each = λ q h. elim (cases_eq q slot) [ inl e ↦ subst (λ x. IsSlot u x) (sym e) new | inr n ↦ old q n (sym (g.used_same q n) ∙ h) ];
+      each = λ q h. elim (cases_eq q slot) [
+        | inl e ↦ subst (λ x. IsSlot u x) (sym e) new
+        | inr n ↦ old q n (sym (g.used_same q n) ∙ h)
+      ];
       others = λ q v h.
           let apart : q ≡ slot → ⊥ = λ e. false≢true (sym h ∙ (ap (has u.used) e ∙ g.used)) in
           asks_same v q apart ∙ i.others q v (sym (g.used_same q apart) ∙ h);
@@ -172,7 +208,8 @@ module _ {W : ℕ} where
     pub word : has w slot ≡ false
     pub word_same : (q : ℕ) → (q ≡ slot → ⊥) → has w q ≡ has (get_or t.asks.items from []) q
 
-  module _ (t u : Table W) (slot : ℕ) (w : List ℕ) (i : IsTable t) (s : IsSlot t slot) (g : IsTaking t u slot s.op.from w) where
+  module _ (t u : Table W) (slot : ℕ) (w : List ℕ) (i : IsTable t) (s : IsSlot t slot)
+      (g : IsTaking t u slot s.op.from w) where
     still : (v q : ℕ) → (q ≡ slot → ⊥) → has (get_or u.asks.items v []) q ≡ has (get_or t.asks.items v []) q
     still = same_words t.asks.items u.asks.items s.op.from w slot s.from g.asks g.word_same
 
@@ -181,11 +218,17 @@ module _ {W : ℕ} where
 
     gone : (v : ℕ) → has (get_or u.asks.items v []) slot ≡ false
     gone v = elim (cases_eq v s.op.from) [
-      | inl e ↦ ap (λ x. has (get_or x v []) slot) g.asks ∙ (ap (λ x. has (get_or (set t.asks.items s.op.from w) x []) slot) e ∙ (ap (λ x. has x slot) (get_or-set_same t.asks.items s.op.from w [] s.from) ∙ g.word))
-      | inr n ↦ ap (λ x. has (get_or x v []) slot) g.asks ∙ (ap (λ x. has x slot) (get_or-set_other t.asks.items s.op.from v w [] n) ∙ elim (cases_lt v (length t.asks.items)) [
-        | inl lt ↦ s.asks v lt ∙ eq_false v s.op.from n
-        | inr le ↦ nothing_past t.asks.items v slot le
-      ])
+      | inl e ↦
+          ap (λ x. has (get_or x v []) slot) g.asks
+          ∙ (ap (λ x. has (get_or (set t.asks.items s.op.from w) x []) slot) e
+          ∙ (ap (λ x. has x slot) (get_or-set_same t.asks.items s.op.from w [] s.from) ∙ g.word))
+      | inr n ↦
+          ap (λ x. has (get_or x v []) slot) g.asks
+          ∙ (ap (λ x. has x slot) (get_or-set_other t.asks.items s.op.from v w [] n)
+          ∙ elim (cases_lt v (length t.asks.items)) [
+            | inl lt ↦ s.asks v lt ∙ eq_false v s.op.from n
+            | inr le ↦ nothing_past t.asks.items v slot le
+          ])
     ]
 
     kept : (q : ℕ) → (q ≡ slot → ⊥) → IsSlot t q → IsSlot u q
@@ -194,9 +237,12 @@ module _ {W : ℕ} where
         record {
           op = a.op;
           there = ap (λ x. slice_get x (call_at u q)) g.ops ∙ (ap (slice_get t.ops.items) same ∙ a.there);
-          back = ap (slice_get u.slot_of.items) same ∙ (ap (λ x. slice_get x (call_at t q)) g.slot_of ∙ a.back);
+          back =
+              ap (slice_get u.slot_of.items) same ∙ (ap (λ x. slice_get x (call_at t q)) g.slot_of ∙ a.back);
           small = a.small;
-          placed = let len : length u.calls.items ≡ length t.calls.items = ap length g.calls in omega (arith, len, a.placed);
+          placed =
+              let len : length u.calls.items ≡ length t.calls.items = ap length g.calls in
+              omega (arith, len, a.placed);
           looks = ap (λ x. has x q) g.looks ∙ a.looks;
           writes = ap (λ x. has x q) g.writes ∙ a.writes;
           misses = ap (λ x. has x q) g.misses ∙ a.misses;

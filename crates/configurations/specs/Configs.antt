@@ -1,5 +1,6 @@
 -- Configurations as sets of slots.
-use Rattle.std.specs.Prelude.{ℕ, [], IsTrue, ◌==◌, ◌&&◌, not, ◌≡◌, ◌<◌, ◌⊎◌, ◌∷◌, Bool, true, false, List, slice_get, Some}
+use Rattle.std.specs.Prelude.{ℕ, [], IsTrue, ◌==◌, ◌&&◌, not, ◌≡◌, ◌<◌, ◌⊎◌}
+use Rattle.std.specs.Prelude.{◌∷◌, Bool, true, false, List, slice_get, Some}
 use Rattle.configurations.specs.declared.moment.Moment.{Moment}
 use Rattle.configurations.specs.declared.moment.Moment.TheVariants.{Reply}
 use Rattle.configurations.specs.declared.table.Table.{Table}
@@ -43,7 +44,8 @@ module _ {W : ℕ} where
   IsAbleBy t k es n c = AliveBy t.ops.items k es n c.value (owed_by t c) (free_of t c)
 
   abbrev pub IsAnyAbleBy : Table W → ℕ → List Moment → ℕ → Configs W → Type 0
-  IsAnyAbleBy t k es n cs = (at : ℕ) × (c : Config W) × (slice_get cs.list.items at ≡ Some c) × IsAbleBy t k es n c
+  IsAnyAbleBy t k es n cs =
+      (at : ℕ) × (c : Config W) × (slice_get cs.list.items at ≡ Some c) × IsAbleBy t k es n c
 
   -- c can explain whatever d can, and before a reply by no more calls
   pub record CanAll (t : Table W) (c d : Config W) : Type 0 where
@@ -56,25 +58,36 @@ module _ {W : ℕ} where
 
   -- those of `before` are still there
   abbrev pub AreStill : Configs W → Configs W → Type 0
-  AreStill before after = (at : ℕ) (c : Config W) → slice_get before.list.items at ≡ Some c → slice_get after.list.items at ≡ Some c
+  AreStill before after =
+      (at : ℕ) (c : Config W) → slice_get before.list.items at ≡ Some c
+      → slice_get after.list.items at ≡ Some c
 
   -- in each of them the call of the slot must take effect
   abbrev pub AreOwing : ℕ → Configs W → Type 0
   AreOwing slot cs = (at : ℕ) (c : Config W) → slice_get cs.list.items at ≡ Some c → has c.owed slot ≡ true
 
-  -- Over the reply of k, from the value v with the calls p that must take effect and f that may: what could be explained by n calls before the reply, one of `work` can by no more, or one of `next` what comes then.
+  -- Over the reply of k, from the value v with the calls p that must take effect and f that may: what could
+  -- be explained by n calls before the reply, one of `work` can by no more, or one of `next` what comes then.
   abbrev pub GoesBy : Table W → ℕ → Configs W → Configs W → ℕ → List ℕ → List ℕ → Type 0
-  GoesBy t k work next v p f = (es : List Moment) (n : ℕ) → IsToCome t (Reply k ∷ es) → AliveBy t.ops.items k es n v p f → IsAnyAbleBy t k es n work ⊎ IsAnyAble t next es
+  GoesBy t k work next v p f =
+      (es : List Moment) (n : ℕ) → IsToCome t (Reply k ∷ es) → AliveBy t.ops.items k es n v p f
+      → IsAnyAbleBy t k es n work ⊎ IsAnyAble t next es
 
   -- each of `now` goes over the reply of a slot's call
   abbrev pub IsBegun : Table W → Configs W → ℕ → Configs W → Configs W → Type 0
-  IsBegun t now slot work next = (at : ℕ) (c : Config W) → slice_get now.list.items at ≡ Some c → GoesBy t (call_at t slot) work next c.value (owed_by t c) (free_of t c)
+  IsBegun t now slot work next =
+      (at : ℕ) (c : Config W) → slice_get now.list.items at ≡ Some c
+      → GoesBy t (call_at t slot) work next c.value (owed_by t c) (free_of t c)
 
-  -- what comes of c once a call has taken effect is there: if c can explain what comes, one of `work` can by fewer calls before the reply, or one of `next` can
+  -- what comes of c once a call has taken effect is there: if c can explain what comes, one of `work` can by
+  -- fewer calls before the reply, or one of `next` can
   abbrev pub IsGoneOver : Table W → ℕ → Configs W → Configs W → Config W → Type 0
-  IsGoneOver t k work next c = (es : List Moment) (n : ℕ) → IsToCome t (Reply k ∷ es) → IsAbleBy t k es n c → ((m : ℕ) × (m < n) × IsAnyAbleBy t k es m work) ⊎ IsAnyAble t next es
+  IsGoneOver t k work next c =
+      (es : List Moment) (n : ℕ) → IsToCome t (Reply k ∷ es) → IsAbleBy t k es n c
+      → ((m : ℕ) × (m < n) × IsAnyAbleBy t k es m work) ⊎ IsAnyAble t next es
 
-  -- at the reply of a slot's call: those of `work` have given slots and owe the call, those of `next` haven't that slot
+  -- at the reply of a slot's call: those of `work` have given slots and owe the call, those of `next` haven't
+  -- that slot
   pub record AreApart (t : Table W) (slot : ℕ) (work next : Configs W) : Type 0 where
     pub work_held : AreHeld (has t.used) work
     pub work_owe : AreOwing slot work
@@ -90,20 +103,31 @@ module _ {W : ℕ} where
     pub leader : ℕ
     pub alike : AreAlike t.ops.items (call_at t leader) (call_at t slot)
     pub sooner : IsBefore t leader slot
-    pub opened : ((has c.owed leader ≡ true) × (has c.free leader ≡ false)) ⊎ ((has c.free leader ≡ true) × (has c.owed leader ≡ false) × (has c.owed slot ≡ false))
+    pub opened : ((has c.owed leader ≡ true) × (has c.free leader ≡ false))
+        ⊎ ((has c.free leader ≡ true) × (has c.owed leader ≡ false) × (has c.owed slot ≡ false))
 
-  -- if it is of use that the call of the slot takes effect, another one goes first, or what comes of it goes over the reply
+  -- if it is of use that the call of the slot takes effect, another one goes first, or what comes of it goes
+  -- over the reply
   abbrev pub IsTried : Table W → Config W → ℕ → ℕ → Configs W → Configs W → Type 0
-  IsTried t c slot reply work next = IsOfUse t.ops.items (owed_by t c) (free_of t c) (call_at t reply) (call_at t slot) c.value
-      → IsLed t c slot ⊎ GoesBy t (call_at t reply) work next (left_at t.ops.items (call_at t slot) c.value) (open_after t.ops.items (call_at t reply) (call_at t slot) (owed_by t c)) (free_after t.ops.items (call_at t reply) (call_at t slot) (owed_by t c) (free_of t c))
+  IsTried t c slot reply work next =
+      IsOfUse t.ops.items (owed_by t c) (free_of t c) (call_at t reply) (call_at t slot) c.value
+      → IsLed t c slot
+      ⊎ GoesBy t (call_at t reply) work next (left_at t.ops.items (call_at t slot) c.value)
+      (open_after t.ops.items (call_at t reply) (call_at t slot) (owed_by t c))
+      (free_after t.ops.items (call_at t reply) (call_at t slot) (owed_by t c) (free_of t c))
 
   -- none of them has the slot
   abbrev pub AreOff : ℕ → Configs W → Type 0
-  AreOff slot cs = (at : ℕ) (c : Config W) → slice_get cs.list.items at ≡ Some c → (has c.owed slot ≡ false) × (has c.free slot ≡ false)
+  AreOff slot cs =
+      (at : ℕ) (c : Config W) → slice_get cs.list.items at ≡ Some c
+      → (has c.owed slot ≡ false) × (has c.free slot ≡ false)
 
-  -- if one of `before` could explain the event and what comes then, one of `after` can explain what comes then
+  -- if one of `before` could explain the event and what comes then, one of `after` can explain what comes
+  -- then
   abbrev pub IsStep : Table W → Configs W → Moment → Table W → Configs W → Type 0
-  IsStep t before e u after = (es : List Moment) → IsToCome t (e ∷ es) → IsToCome u es × (IsAnyAble t before (e ∷ es) → IsAnyAble u after es)
+  IsStep t before e u after =
+      (es : List Moment) → IsToCome t (e ∷ es)
+      → IsToCome u es × (IsAnyAble t before (e ∷ es) → IsAnyAble u after es)
 
   -- only the value 0 without open calls
   pub record IsFirst (cs : Configs W) : Type 0 where
@@ -114,7 +138,8 @@ module _ {W : ℕ} where
     pub nothing_free : (q : ℕ) → has config.free q ≡ false
 
   -- u and `after` are what an event leaves of t and `before`; nothing was let go if they are whole
-  pub record IsOver (whole : Bool) (t : Table W) (before : Configs W) (e : Moment) (u : Table W) (after : Configs W) : Type 0 where
+  pub record IsOver (whole : Bool) (t : Table W) (before : Configs W) (e : Moment) (u : Table W)
+      (after : Configs W) : Type 0 where
     pub ops : u.ops.items ≡ t.ops.items
     pub table : IsTable u
     pub held : AreHeld (has u.used) after

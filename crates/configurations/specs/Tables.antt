@@ -1,5 +1,6 @@
 -- The slots of open calls.
-use Rattle.std.specs.Prelude.{ℕ, suc, ◌*◌, ◌^◌, ◌==◌, ◌≡◌, ◌<◌, ◌⊎◌, Bool, true, false, cond, List, [], ◌∷◌, slice_get, Some, length, get_or}
+use Rattle.std.specs.Prelude.{ℕ, suc, ◌*◌, ◌^◌, ◌==◌, ◌≡◌, ◌<◌, ◌⊎◌, Bool, true, false}
+use Rattle.std.specs.Prelude.{cond, List, [], ◌∷◌, slice_get, Some, length, get_or}
 use Rattle.history_model.specs.Lists.{In}
 use Rattle.slot_sets.specs.Sets.{has}
 use Rattle.configurations.specs.declared.op.Op.{Op}
@@ -27,9 +28,13 @@ module _ {W : ℕ} where
   abbrev pub call_at : Table W → ℕ → ℕ
   call_at t q = get_or t.calls.items q 0
 
-  -- the call of the first slot replies sooner than that of the second; of two that never do, the earlier call counts as the sooner
+  -- the call of the first slot replies sooner than that of the second; of two that never do, the earlier call
+  -- counts as the sooner
   abbrev pub IsBefore : Table W → ℕ → ℕ → Type 0
-  IsBefore t p q = (rank_at t.ops.items (call_at t p) < rank_at t.ops.items (call_at t q)) ⊎ ((rank_at t.ops.items (call_at t p) ≡ rank_at t.ops.items (call_at t q)) × (call_at t p < call_at t q))
+  IsBefore t p q =
+      (rank_at t.ops.items (call_at t p) < rank_at t.ops.items (call_at t q))
+      ⊎ ((rank_at t.ops.items (call_at t p) ≡ rank_at t.ops.items (call_at t q))
+      × (call_at t p < call_at t q))
 
   -- what is known of a slot that is given
   pub record IsSlot (t : Table W) (q : ℕ) : Type 0 where

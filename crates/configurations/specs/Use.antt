@@ -12,7 +12,8 @@ use Rattle.configurations.specs.Runs.{without}
 abbrev pub IsAsked : List Op → List ℕ → List ℕ → ℕ → Type 0
 IsAsked ops p f v = (i : ℕ) × (In i p ⊎ In i f) × (asks_at ops i v ≡ true)
 
--- before the reply of k it is of use that j takes effect at v: it is k, or no write and must take effect, or its value is asked for
+-- before the reply of k it is of use that j takes effect at v: it is k, or no write and must take effect, or
+-- its value is asked for
 abbrev pub IsOfUse : List Op → List ℕ → List ℕ → ℕ → ℕ → ℕ → Type 0
 IsOfUse ops p f k j v = (j ≡ k) ⊎ (((writes_at ops j ≡ false) × In j p) ⊎ IsAsked ops p f (left_at ops j v))
 
@@ -26,7 +27,8 @@ kept ops k p = filter (stays ops k) p
 abbrev pub freed : List Op → ℕ → List ℕ → List ℕ
 freed ops k p = filter (λ i. not (stays ops k i)) p
 
--- When j takes effect before the reply of k: if it is a write, all other open writes are free from then on, since they could have come just before it.
+-- When j takes effect before the reply of k: if it is a write, all other open writes are free from then on,
+-- since they could have come just before it.
 abbrev pub open_after : List Op → ℕ → ℕ → List ℕ → List ℕ
 open_after ops k j p = cond (writes_at ops j) (kept ops k (without j p)) (without j p)
 

@@ -49,7 +49,8 @@ fn with_call<const W: usize>(table: &Table<W>, config: &Config<W>, slot: u32, op
     requires slot { has table.now.used slot ≡ true }
     requires op { slice_get table.now.ops.items (call_at table.now slot) ≡ Some op.now }
     ensures held { IsHeld (has table.now.used) config.now → IsHeld (has table.now.used) result }
-    ensures able { (es : List AMoment) → has config.now.owed slot ≡ false → has config.now.free slot ≡ false → IsAble table.now config.now (ACall (call_at table.now slot) ∷ es) → IsAble table.now result es }
+    ensures able { (es : List AMoment) → has config.now.owed slot ≡ false → has config.now.free slot ≡ false
+        → IsAble table.now config.now (ACall (call_at table.now slot) ∷ es) → IsAble table.now result es }
 {
     let mut config = *config;
     if is_content(op, config.value) {
@@ -71,7 +72,8 @@ fn with_calls<const W: usize>(table: &Table<W>, configs: &mut Configs<W>, slot: 
     requires held { AreHeld (has table.now.used) configs.old }
     requires off { AreOff slot configs.old }
     ensures held { AreHeld (has table.now.used) configs.new }
-    ensures able { (es : List AMoment) → IsAnyAble table.now configs.old (ACall (call_at table.now slot) ∷ es) → IsAnyAble table.now configs.new es }
+    ensures able { (es : List AMoment) → IsAnyAble table.now configs.old (ACall (call_at table.now slot) ∷ es)
+        → IsAnyAble table.now configs.new es }
 {
     for at in 0..configs.list.len() {
         configs.list[at] = with_call(table, &configs.list[at], slot, op);

@@ -137,8 +137,10 @@ pub(crate) fn admit<const W: usize>(
 ) -> Result<(), Stop>
     requires table { IsTable table.now }
     requires held { IsHeld (has table.now.used) config.now }
-    ensures all { IfOk result (λ _. (w : ℕ → Bool) → IsHeld w config.now → AreHeld w set.old → AreHeld w set.new) }
-    ensures owing { IfOk result (λ _. (q : ℕ) → has config.now.owed q ≡ true → AreOwing q set.old → AreOwing q set.new) }
+    ensures all { IfOk result
+        (λ _. (w : ℕ → Bool) → IsHeld w config.now → AreHeld w set.old → AreHeld w set.new) }
+    ensures owing { IfOk result
+        (λ _. (q : ℕ) → has config.now.owed q ≡ true → AreOwing q set.old → AreOwing q set.new) }
     ensures kept { IfOk result (λ _. AreStill set.old set.new) }
     ensures there { IfOk result (λ _. IsStoodFor table.now set.new config.now) }
 {

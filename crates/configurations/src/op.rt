@@ -96,7 +96,8 @@ pub(crate) fn suits(op: &Op, value: u32) -> bool
 /// Whether both take effect at the same values, and leave the same.
 #[inline(always)]
 pub(crate) fn is_alike(one: &Op, other: &Op) -> bool
-    ensures same { IsTrue result → (v : ℕ) → (fits one.now v ≡ fits other.now v) × (left_by one.now v ≡ left_by other.now v) }
+    ensures same { IsTrue result → (v : ℕ)
+        → (fits one.now v ≡ fits other.now v) × (left_by one.now v ≡ left_by other.now v) }
     ensures kinds { IsTrue result → kind_writes one.now.kind ≡ kind_writes other.now.kind }
 {
     one.to == other.to

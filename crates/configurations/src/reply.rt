@@ -1,6 +1,8 @@
 //! The step over a reply: where the call has not taken effect, others do before it.
 ghost use Rattle.std.specs.Prelude.{◌≡◌, ◌≢◌, ◌∷◌, ◌&&◌, ◌||◌, not, true, false, IsTrue, IfOk, List, ℕ};
-ghost use Rattle.configurations.specs.Configs.{AreApart, AreKept, AreStill, GoesBy, IsAbleBy, IsAnyAble, IsAnyAbleBy, IsGoneOver, IsHeld, IsLed, IsTried, free_of, owed_by};
+ghost use Rattle.configurations.specs.Configs.{AreApart, AreKept, AreStill, IsHeld, free_of, owed_by};
+ghost use Rattle.configurations.specs.Configs.{GoesBy, IsAbleBy, IsAnyAble, IsAnyAbleBy, IsGoneOver};
+ghost use Rattle.configurations.specs.Configs.{IsLed, IsTried};
 ghost use Rattle.slot_sets.specs.Sets.{has};
 ghost use Rattle.configurations.specs.Ops.{fits_at, left_at};
 ghost use Rattle.configurations.specs.Runs.{AliveBy};
@@ -28,7 +30,9 @@ pub(crate) struct Lists<const W: usize> {
 fn is_asked<const W: usize>(table: &Table<W>, config: &Config<W>, value: u32) -> bool
     requires table { IsTable table.now }
     requires held { IsHeld (has table.now.used) config.now }
-    ensures { result ≡ false → IsAsked table.now.ops.items (owed_by table.now config.now) (free_of table.now config.now) value → ⊥ }
+    ensures { result ≡ false
+        → IsAsked table.now.ops.items (owed_by table.now config.now) (free_of table.now config.now) value
+        → ⊥ }
 {
     config
         .owed
@@ -51,7 +55,9 @@ fn is_of_use<const W: usize>(table: &Table<W>, config: &Config<W>, slot: u32, re
     requires held { IsHeld (has table.now.used) config.now }
     requires slot { has table.now.used slot ≡ true }
     requires reply { has table.now.used reply ≡ true }
-    ensures { result ≡ false → IsOfUse table.now.ops.items (owed_by table.now config.now) (free_of table.now config.now) (call_at table.now reply) (call_at table.now slot) config.now.value → ⊥ }
+    ensures { result ≡ false
+        → IsOfUse table.now.ops.items (owed_by table.now config.now) (free_of table.now config.now)
+        (call_at table.now reply) (call_at table.now slot) config.now.value → ⊥ }
 {
     if slot == reply {
         return true;
@@ -91,7 +97,8 @@ fn is_led<const W: usize>(table: &Table<W>, config: &Config<W>, slot: u32) -> bo
 #[inline(always)]
 fn freeing<const W: usize>(table: &Table<W>, value: u32, slot: u32, reply: u32) -> Slots<W>
     requires table { IsTable table.now }
-    ensures { has table.now.writes slot ≡ true → (q : ℕ) → q ≢ reply → has table.now.writes q ≡ true → has result q ≡ true }
+    ensures { has table.now.writes slot ≡ true → (q : ℕ) → q ≢ reply → has table.now.writes q ≡ true
+        → has result q ≡ true }
 {
     let mut freed = table.writes;
     if !table.writes.has(slot) {
@@ -114,7 +121,14 @@ fn offspring<const W: usize>(
     requires slot { has table.now.used slot ≡ true }
     requires reply { has table.now.used reply ≡ true }
     ensures held { IsHeld (has table.now.used) result }
-    ensures able { (es : List AMoment) (n : ℕ) → AliveBy table.now.ops.items (call_at table.now reply) es n (left_at table.now.ops.items (call_at table.now slot) config.now.value) (open_after table.now.ops.items (call_at table.now reply) (call_at table.now slot) (owed_by table.now config.now)) (free_after table.now.ops.items (call_at table.now reply) (call_at table.now slot) (owed_by table.now config.now) (free_of table.now config.now)) → IsAbleBy table.now (call_at table.now reply) es n result }
+    ensures able { (es : List AMoment) (n : ℕ)
+        → AliveBy table.now.ops.items (call_at table.now reply) es n
+        (left_at table.now.ops.items (call_at table.now slot) config.now.value)
+        (open_after table.now.ops.items (call_at table.now reply) (call_at table.now slot)
+        (owed_by table.now config.now))
+        (free_after table.now.ops.items (call_at table.now reply) (call_at table.now slot)
+        (owed_by table.now config.now) (free_of table.now config.now))
+        → IsAbleBy table.now (call_at table.now reply) es n result }
 {
     let value = table.left(slot, config.value);
     let content = table.fitting(value).common(&table.looks);
@@ -148,7 +162,9 @@ pub(crate) fn put_down<const W: usize>(
     requires apart { AreApart table.now reply lists.old.work lists.old.next }
     ensures apart { IfOk result (λ _. AreApart table.now reply lists.new.work lists.new.next) }
     ensures kept { IfOk result (λ _. AreKept lists.old.work lists.old.next lists.new.work lists.new.next) }
-    ensures goes { IfOk result (λ _. GoesBy table.now (call_at table.now reply) lists.new.work lists.new.next config.now.value (owed_by table.now config.now) (free_of table.now config.now)) }
+    ensures goes { IfOk result (λ _.
+        GoesBy table.now (call_at table.now reply) lists.new.work lists.new.next config.now.value
+        (owed_by table.now config.now) (free_of table.now config.now)) }
 {
     if config.owed.has(reply) {
         admit(table, &mut lists.work, config, taken, &mut lists.spent)?;
@@ -196,7 +212,7 @@ fn try_slot<const W: usize>(
 
 /// Lets each call of some slots take effect that is of use.
 #[inline(always)]
-pub(crate) fn try_each<const W: usize>(
+fn try_each<const W: usize>(
     table: &Table<W>,
     lists: &mut Lists<W>,
     config: &Config<W>,
@@ -210,7 +226,9 @@ pub(crate) fn try_each<const W: usize>(
     requires apart { AreApart table.now reply lists.old.work lists.old.next }
     ensures apart { IfOk result (λ _. AreApart table.now reply lists.new.work lists.new.next) }
     ensures kept { IfOk result (λ _. AreKept lists.old.work lists.old.next lists.new.work lists.new.next) }
-    ensures goes { IfOk result (λ _. (q : ℕ) → has slots.now q ≡ true → IsTried table.now config.now q reply lists.new.work lists.new.next) }
+    ensures goes { IfOk result (λ _.
+        (q : ℕ) → has slots.now q ≡ true
+        → IsTried table.now config.now q reply lists.new.work lists.new.next) }
 {
     let mut at = 0;
     while let Some(slot) = slots.first_from(at) {
@@ -221,12 +239,13 @@ pub(crate) fn try_each<const W: usize>(
     Ok(())
 }
 
-/// Lets each call of use take effect.
+/// Lets each call of use take effect, but for those of the slots that are left out.
 #[inline(always)]
 fn try_all<const W: usize>(
     table: &Table<W>,
     lists: &mut Lists<W>,
     config: &Config<W>,
+    left_out: &Slots<W>,
     reply: u32,
 ) -> Result<(), Stop>
     requires table { IsTable table.now }
@@ -235,32 +254,39 @@ fn try_all<const W: usize>(
     requires apart { AreApart table.now reply lists.old.work lists.old.next }
     ensures apart { IfOk result (λ _. AreApart table.now reply lists.new.work lists.new.next) }
     ensures kept { IfOk result (λ _. AreKept lists.old.work lists.old.next lists.new.work lists.new.next) }
-    ensures goes { IfOk result (λ _. IsGoneOver table.now (call_at table.now reply) lists.new.work lists.new.next config.now) }
+    ensures goes { IfOk result (λ _.
+        ((q : ℕ) → has left_out.now q ≡ false)
+        → IsGoneOver table.now (call_at table.now reply) lists.new.work lists.new.next config.now) }
 {
-    let fitting = fitting(table, config);
+    let fitting = fitting(table, config, left_out);
     try_each(table, lists, config, &fitting, reply)?;
     Ok(())
 }
 
-/// The slots of the calls of a configuration that may meet its value.
+/// The slots of the calls of a configuration that may meet its value, but for those that are left out.
 #[inline(always)]
-pub(crate) fn fitting<const W: usize>(table: &Table<W>, config: &Config<W>) -> Slots<W>
+fn fitting<const W: usize>(table: &Table<W>, config: &Config<W>, left_out: &Slots<W>) -> Slots<W>
     requires table { IsTable table.now }
     requires held { IsHeld (has table.now.used) config.now }
     ensures used { IsWithin (has result) (has table.now.used) }
-    ensures all { (q : ℕ) → (has config.now.owed q || has config.now.free q) ≡ true → fits_at table.now.ops.items (call_at table.now q) config.now.value ≡ true → has result q ≡ true }
+    ensures all { (q : ℕ) → (has config.now.owed q || has config.now.free q) ≡ true
+        → fits_at table.now.ops.items (call_at table.now q) config.now.value ≡ true
+        → has left_out.now q ≡ false → has result q ≡ true }
 {
     config
         .owed
         .union(&config.free)
         .common(&table.fitting(config.value))
+        .minus(left_out)
 }
 
-/// The step over the reply of the call at a slot; true if all of `work` were gone over. What comes of one stands behind the others,
-/// so those in which fewer calls take effect come first. A list holds no more than its bound, so one round more finds none left.
-pub(crate) fn pass_all<const W: usize>(
+/// The step over the reply of the call at a slot, where the calls of some slots are left out; true if all of `work` were gone
+/// over. What comes of one stands behind the others, so those in which fewer calls take effect come first. A list holds no more
+/// than its bound, so one round more finds none left.
+pub(crate) fn pass<const W: usize>(
     table: &Table<W>,
     lists: &mut Lists<W>,
+    left_out: &Slots<W>,
     reply: u32,
 ) -> Result<bool, Stop>
     requires table { IsTable table.now }
@@ -268,7 +294,11 @@ pub(crate) fn pass_all<const W: usize>(
     requires apart { AreApart table.now reply lists.old.work lists.old.next }
     ensures apart { IfOk result (λ _. AreApart table.now reply lists.new.work lists.new.next) }
     ensures kept { IfOk result (λ _. AreStill lists.old.next lists.new.next) }
-    ensures goes { IfOk result (λ all. IsTrue all → (es : List AMoment) (n : ℕ) → IsToCome table.now (AReply (call_at table.now reply) ∷ es) → IsAnyAbleBy table.now (call_at table.now reply) es n lists.old.work → IsAnyAble table.now lists.new.next es) }
+    ensures goes { IfOk result (λ all.
+        IsTrue all → ((q : ℕ) → has left_out.now q ≡ false) → (es : List AMoment) (n : ℕ)
+        → IsToCome table.now (AReply (call_at table.now reply) ∷ es)
+        → IsAnyAbleBy table.now (call_at table.now reply) es n lists.old.work
+        → IsAnyAble table.now lists.new.next es) }
 {
     for at in 0..lists.spent.most().saturating_add(1) {
         if at >= lists.work.list.len() {
@@ -278,7 +308,7 @@ pub(crate) fn pass_all<const W: usize>(
             return Ok(false);
         }
         let config = lists.work.list[at];
-        try_all(table, lists, &config, reply)?;
+        try_all(table, lists, &config, left_out, reply)?;
     }
     Err(Stop::Bound(Bound::Configurations))
 }

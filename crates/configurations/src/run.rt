@@ -58,7 +58,8 @@ fn search<const W: usize>(
     requires table { IsTable table.old }
     requires none { (q : ℕ) → has table.old.used q ≡ false }
     requires first { IsFirst now.old }
-    ensures { IfOk result (λ found. AreInOrder table.old.ops.items [] events.now → IsFound table.old.ops.items events.now found) }
+    ensures { IfOk result (λ found.
+        AreInOrder table.old.ops.items [] events.now → IsFound table.old.ops.items events.now found) }
 {
     let mut whole = true;
     for (place, event) in events.iter().enumerate() {
@@ -170,7 +171,8 @@ fn begin<const W: usize>(
     requires reply { has table.now.used reply ≡ true }
     requires empty { (lists.old.work.list.items ≡ []) × (lists.old.next.list.items ≡ []) }
     ensures apart { IfOk result (λ _. AreApart table.now reply lists.new.work lists.new.next) }
-    ensures goes { IfOk result (λ whole. IsTrue whole → IsBegun table.now now.now reply lists.new.work lists.new.next) }
+    ensures goes { IfOk result
+        (λ whole. IsTrue whole → IsBegun table.now now.now reply lists.new.work lists.new.next) }
 {
     if now.list.len() <= lists.spent.beam() {
         thin(table, now, lists, reply)?;

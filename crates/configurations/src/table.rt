@@ -1,5 +1,6 @@
 //! The open calls: each has a slot, and keeps it until its reply.
-ghost use Rattle.std.specs.Prelude.{◌≡◌, ◌<◌, ◌≤◌, ◌*◌, ◌^◌, [], IfOk, IsTrue, MatchOption, get_or, slice_get, true, false, ℕ};
+ghost use Rattle.std.specs.Prelude.{◌≡◌, ◌<◌, ◌≤◌, ◌*◌, ◌^◌, [], IfOk, IsTrue, MatchOption, get_or, slice_get};
+ghost use Rattle.std.specs.Prelude.{true, false, ℕ};
 ghost use Rattle.configurations.specs.Ops.{fits_at, left_at};
 ghost use Rattle.configurations.specs.Tables.{IsGiven, IsReleased, IsTable, IsBefore, IsWithin, call_at};
 ghost use Rattle.configurations.specs.Use.{AreAlike};
@@ -56,7 +57,8 @@ impl<const W: usize> Table<W> {
     #[inline(always)]
     pub(crate) fn fitting(&self, value: u32) -> Slots<W>
         requires { IsTable self.now }
-        ensures { (q : ℕ) → has self.now.used q ≡ true → has result q ≡ fits_at self.now.ops.items (call_at self.now q) value }
+        ensures { (q : ℕ) → has self.now.used q ≡ true
+            → has result q ≡ fits_at self.now.ops.items (call_at self.now q) value }
     {
         self.asked(value).either(&self.misses).union(&self.writes)
     }
@@ -64,7 +66,8 @@ impl<const W: usize> Table<W> {
     /// The slot of a call, if it has one.
     pub(crate) fn slot_of(&self, number: u32) -> Option<u32>
         requires { IsTable self.now }
-        ensures { MatchOption result ((q : ℕ) → has self.now.used q ≡ true → call_at self.now q ≡ number → ⊥) (λ slot. (has self.now.used slot ≡ true) × (call_at self.now slot ≡ number)) }
+        ensures { MatchOption result ((q : ℕ) → has self.now.used q ≡ true → call_at self.now q ≡ number → ⊥)
+            (λ slot. (has self.now.used slot ≡ true) × (call_at self.now slot ≡ number)) }
     {
         let slot = *self.slot_of.get(number as usize)?;
         if self.used.has(slot) && self.call(slot) == number {
@@ -157,7 +160,9 @@ impl<const W: usize> Table<W> {
     /// earlier one goes first, so that those of one kind that took effect differ in their number alone.
     #[inline(always)]
     pub(crate) fn goes_before(&self, first: u32, second: u32) -> bool
-        ensures { IsTrue result → AreAlike self.now.ops.items (call_at self.now first) (call_at self.now second) × IsBefore self.now first second }
+        ensures { IsTrue result
+            → AreAlike self.now.ops.items (call_at self.now first) (call_at self.now second)
+            × IsBefore self.now first second }
     {
         let (Some(one), Some(other)) = (self.op(first), self.op(second)) else {
             return false;
@@ -170,7 +175,8 @@ impl<const W: usize> Table<W> {
     /// Gives a slot to a call that has had none, if one is left.
     pub(crate) fn give(&mut self, number: u32) -> Option<u32>
         requires { IsTable self.old }
-        ensures { MatchOption result (Unit {0}) (λ slot. IsTable self.new × IsGiven self.old self.new slot number) }
+        ensures { MatchOption result (Unit {0})
+            (λ slot. IsTable self.new × IsGiven self.old self.new slot number) }
     {
         let (Some(op), Some(slot)) = (self.op_of(number), self.used.first_missing()) else {
             return None;

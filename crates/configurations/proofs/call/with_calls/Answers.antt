@@ -9,21 +9,30 @@ loop-at-init g c = record { called = with_none c.args.table.now c.args.slot c.ar
 pub loop-at-preserved : goal.loop-at-preserved
 loop-at-preserved g c =
     let items = c.loop-at.configs.list.items in
-    let there : slice_get items c.loop-at.at ≡ Some c.index.result.now = slice_get_read items (length items) c.loop-at.at c.index.result.now refl (omega (arith, c.loop-at.invariant.long, c.len-at-end.ensures, c.loop-at-test.true)) c.index.ensures in
+    let there : slice_get items c.loop-at.at ≡ Some c.index.result.now =
+    slice_get_read items (length items) c.loop-at.at c.index.result.now refl
+    (omega (arith, c.loop-at.invariant.long, c.len-at-end.ensures, c.loop-at-test.true))
+    c.index.ensures in
     let before = sym (c.loop-at.invariant.called.rest c.loop-at.at (omega arith)) ∙ there in
     let off = c.requires.off c.loop-at.at c.index.result.now before in
     record {
-      called = with_more c.args.table.now c.args.slot c.args.configs.now c.loop-at.configs _ c.loop-at.at c.index.result.now c.with_call.result refl there
+      called =
+          with_more c.args.table.now c.args.slot c.args.configs.now c.loop-at.configs _ c.loop-at.at
+          c.index.result.now c.with_call.result refl there
           (c.with_call.ensures.held (c.requires.held c.loop-at.at c.index.result.now before))
-          (λ es l. c.with_call.ensures.able es off.0 off.1 l)
-          c.loop-at.invariant.called;
+          (λ es l. c.with_call.ensures.able es off.0 off.1 l) c.loop-at.invariant.called;
       long = length-set items c.loop-at.at c.with_call.result ∙ c.loop-at.invariant.long;
     }
 
 pub returns : goal.returns
 returns g c =
-    let all : length c.loop-at.configs.list.items ≤ c.loop-at.at = omega (arith, c.loop-at.invariant.long, c.len-at-end.ensures, c.loop-at-test.false) in
+    let all : length c.loop-at.configs.list.items ≤ c.loop-at.at =
+    omega (arith, c.loop-at.invariant.long, c.len-at-end.ensures, c.loop-at-test.false) in
     record {
-      held = with_all c.args.table.now c.args.slot c.args.configs.now c.loop-at.configs c.loop-at.at all c.loop-at.invariant.called;
-      able = with_any c.args.table.now c.args.slot c.args.configs.now c.loop-at.configs c.loop-at.at all c.loop-at.invariant.called;
+      held =
+          with_all c.args.table.now c.args.slot c.args.configs.now c.loop-at.configs c.loop-at.at all
+          c.loop-at.invariant.called;
+      able =
+          with_any c.args.table.now c.args.slot c.args.configs.now c.loop-at.configs c.loop-at.at all
+          c.loop-at.invariant.called;
     }

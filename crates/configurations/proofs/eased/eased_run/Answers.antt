@@ -10,6 +10,9 @@ returns-in-Hopeless g c = λ in_order alive.
     let ops = c.args.ops.now in
     let events = c.args.events.now in
     let same : c.deref.result.now ≡ map ease ops = c.deref.ensures.value ∙ c.in_ok-eased.ensures in
-    let told = c.in_ok-place.ensures (subst (λ xs. AreInOrder xs [] events) (sym same) (in_order-eased ops [] events in_order)) in
+    let told =
+    c.in_ok-place.ensures
+    (subst (λ xs. AreInOrder xs [] events) (sym same) (in_order-eased ops [] events in_order)) in
     let hopeless = subst (λ xs. IsFound xs events c.in_ok-place.field-0) same told in
-    (subst (λ f. IsFound (map ease ops) events f) c.in-Hopeless.is hopeless) (alive-eased ops (take (suc c.in-Hopeless.place) events) 0 [] [] alive)
+    (subst (λ f. IsFound (map ease ops) events f) c.in-Hopeless.is hopeless)
+    (alive-eased ops (take (suc c.in-Hopeless.place) events) 0 [] [] alive)

@@ -4,6 +4,9 @@ use Rattle.configurations.proofs.Replying.{not_asked, both}
 use Rattle.configurations.proofs.reply.is_asked.Goals as goal
 
 pub returns : goal.returns
-returns g c = λ no. not_asked c.args.table.now c.requires.table c.args.config.now c.requires.held c.args.value c.union.result c.minus.result c.union.ensures
-    (λ q u fits other. c.minus.ensures q ∙ both (has c.fitting.result q) (not (has c.args.table.now.writes q)) (c.fitting.ensures q u ∙ fits) (ap not other))
-    (c.meets.ensures.no no)
+returns g c = λ no.
+    not_asked c.args.table.now c.requires.table c.args.config.now c.requires.held c.args.value c.union.result
+    c.minus.result c.union.ensures (λ q u fits other.
+    c.minus.ensures q
+    ∙ both (has c.fitting.result q) (not (has c.args.table.now.writes q))
+    (c.fitting.ensures q u ∙ fits) (ap not other)) (c.meets.ensures.no no)

@@ -16,7 +16,9 @@ returns g c = λ no u.
         | inl a ↦
             let owed = slot_at t i c.args.config.now.owed slot c.requires.held.0 c.requires.slot a.1 in
             let other : has t.writes slot ≡ false = write_test t i slot c.requires.slot ∙ a.0 in
-            let must = c.must_change.ensures ∙ both (has c.args.config.now.owed slot) (not (has t.writes slot)) owed (ap not other) in
+            let must =
+            c.must_change.ensures
+            ∙ both (has c.args.config.now.owed slot) (not (has t.writes slot)) owed (ap not other) in
             false≢true (sym c.if-must_change.false ∙ must)
         | inr a ↦ c.is_asked.ensures no (a.0, a.1, ap (asks_at t.ops.items a.0) c.left.ensures ∙ a.2)
       ]

@@ -1,4 +1,4 @@
-use Rattle.std.proofs.Common.{◌∙◌, arith, inl, inr, subst, sym, true}
+use Rattle.std.proofs.Common.{◌∙◌, arith, inl, inr, subst, sym}
 use Rattle.std.proofs.lemmas.Bool.{cases_eq, cases_lt, false≢true}
 use Rattle.configurations.specs.Configs.{IsTried}
 use Rattle.configurations.proofs.Replying.{kept_both, still_tried}
@@ -12,11 +12,17 @@ loop-slot-preserved g c =
     let kept = c.in_ok-try_slot.ensures.kept in
     record {
       apart = c.in_ok-try_slot.ensures.apart;
-      kept = kept_both c.args.lists.now.work c.args.lists.now.next now.work now.next after.work after.next c.loop-slot.invariant.kept kept;
+      kept =
+          kept_both c.args.lists.now.work c.args.lists.now.next now.work now.next after.work after.next
+          c.loop-slot.invariant.kept kept;
       tried = λ q lt b. elim (cases_eq q c.in-Some.slot) [
-        | inl e ↦ subst (λ x. IsTried t c.args.config.now x c.args.reply after.work after.next) (sym e) c.in_ok-try_slot.ensures.goes
+        | inl e ↦
+            subst (λ x. IsTried t c.args.config.now x c.args.reply after.work after.next) (sym e)
+            c.in_ok-try_slot.ensures.goes
         | inr n ↦ elim (cases_lt q c.loop-slot.at) [
-          | inl below ↦ still_tried t c.args.config.now q c.args.reply now.work now.next after.work after.next kept (c.loop-slot.invariant.tried q below b)
+          | inl below ↦
+              still_tried t c.args.config.now q c.args.reply now.work now.next after.work after.next kept
+              (c.loop-slot.invariant.tried q below b)
           | inr above ↦ absurd (false≢true (sym (c.in-Some.ensures.4 q above (omega (arith, lt, n))) ∙ b))
         ]
       ];

@@ -7,7 +7,8 @@ abbrev pub invariant-loop-slot : goal.invariant-loop-slot
 invariant-loop-slot g l = record {
   apart : AreApart l.table l.reply l.lists.work l.lists.next;
   kept : AreKept l.fn.lists.work l.fn.lists.next l.lists.work l.lists.next;
-  tried : (q : ℕ) → q < l.at → has l.slots q ≡ true → IsTried l.table l.config q l.reply l.lists.work l.lists.next;
+  tried : (q : ℕ) → q < l.at → has l.slots q ≡ true
+      → IsTried l.table l.config q l.reply l.lists.work l.lists.next;
 }
 
 abbrev pub decreases-loop-slot : goal.decreases-loop-slot

@@ -7,7 +7,9 @@ use Rattle.configurations.proofs.Replying.{begun_able, still_able}
 use Rattle.configurations.proofs.run.over_reply.Goals as goal
 
 pub returns-in_default : goal.returns-in_default
-returns-in_default g c = no_reply_over c.args.table.now c.args.now.now c.args.number c.requires.table c.requires.held c.in_default.ensures
+returns-in_default g c =
+    no_reply_over c.args.table.now c.args.now.now c.args.number c.requires.table c.requires.held
+    c.in_default.ensures
 
 pub returns : goal.returns
 returns g c =
@@ -17,11 +19,14 @@ returns g c =
     let next = c.pass_by_stage.new.lists.next in
     let passed = c.in_ok-pass_by_stage.ensures in
     let after = c.swap.ensures.x_after in
-    reply_over c.are_both-whole.result t c.release.new.self c.args.now.now c.swap.new.x slot c.args.number c.requires.table c.release.ensures.table c.in-Some.ensures.0 c.in-Some.ensures.1 c.release.ensures.released
-    (subst (λ (cs : Configs g.row.W). AreHeld (lacking (has t.used) slot) cs) (sym after) passed.apart.next_held)
-    (λ all es to_come a.
+    reply_over c.are_both-whole.result t c.release.new.self c.args.now.now c.swap.new.x slot c.args.number
+    c.requires.table c.release.ensures.table c.in-Some.ensures.0 c.in-Some.ensures.1
+    c.release.ensures.released
+    (subst (λ (cs : Configs g.row.W). AreHeld (lacking (has t.used) slot) cs) (sym after)
+    passed.apart.next_held) (λ all es to_come a.
     let both = c.are_both-whole.ensures all in
-    subst (λ cs. IsAnyAble t cs es) (sym after) (elim (begun_able t c.args.now.now slot begun.work begun.next es (c.in_ok-whole.ensures.goes both.0) to_come a) [
+    subst (λ cs. IsAnyAble t cs es) (sym after) (elim (begun_able t c.args.now.now slot begun.work
+    begun.next es (c.in_ok-whole.ensures.goes both.0) to_come a) [
       | inl x ↦ passed.goes both.1 es x.0 to_come x.1
       | inr x ↦ still_able t es begun.next next passed.kept x
     ]))

@@ -7,7 +7,9 @@ loop-place-init g c = record {
   table = c.requires.table;
   held = first_held c.args.now.now c.requires.first;
   ops = refl;
-  covers = λ _. first_covers c.args.table.now.ops.items c.args.events.now c.args.table.now c.args.now.now refl c.requires.none c.requires.first;
+  covers = λ _.
+      first_covers c.args.table.now.ops.items c.args.events.now c.args.table.now c.args.now.now refl
+      c.requires.none c.requires.first;
 }
 
 pub loop-place-preserved : goal.loop-place-preserved
@@ -19,11 +21,16 @@ loop-place-preserved g c =
       ops = after.ops ∙ c.loop-place.invariant.ops;
       covers = λ whole.
           let all = c.are_both-whole.ensures whole in
-          more_covers c.args.table.now.ops.items c.args.events.now c.loop-place.place _ c.loop-place.table c.over.new.table c.loop-place.now c.over.new.now c.loop-place-test.true (after.step all.1) (c.loop-place.invariant.covers all.0);
+          more_covers c.args.table.now.ops.items c.args.events.now c.loop-place.place _ c.loop-place.table
+          c.over.new.table c.loop-place.now c.over.new.now c.loop-place-test.true (after.step all.1)
+          (c.loop-place.invariant.covers all.0);
     }
 
 pub returns-then-is_none : goal.returns-then-is_none
 returns-then-is_none g c = λ in_order alive.
     let all = c.are_both-whole.ensures c.if-not-whole.false in
-    none_left c.args.table.now.ops.items c.args.events.now c.loop-place.place c.over.new.table c.over.new.now (c.is_none.ensures c.if-is_none.true)
-    (more_covers c.args.table.now.ops.items c.args.events.now c.loop-place.place _ c.loop-place.table c.over.new.table c.loop-place.now c.over.new.now c.loop-place-test.true (c.in_ok-over.ensures.step all.1) (c.loop-place.invariant.covers all.0)) in_order alive
+    none_left c.args.table.now.ops.items c.args.events.now c.loop-place.place c.over.new.table c.over.new.now
+    (c.is_none.ensures c.if-is_none.true)
+    (more_covers c.args.table.now.ops.items c.args.events.now c.loop-place.place _ c.loop-place.table
+    c.over.new.table c.loop-place.now c.over.new.now c.loop-place-test.true
+    (c.in_ok-over.ensures.step all.1) (c.loop-place.invariant.covers all.0)) in_order alive

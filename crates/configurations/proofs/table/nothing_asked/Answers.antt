@@ -5,7 +5,10 @@ use Rattle.configurations.proofs.Tables.{nothing_pushed}
 use Rattle.configurations.proofs.table.nothing_asked.Goals as goal
 
 pub loop-preserved : goal.loop-preserved
-loop-preserved g c = λ v q. subst (λ xs. has (get_or xs v []) q ≡ false) (sym c.in_ok-push.ensures.items) (nothing_pushed c.loop.asks.items c.none.result c.loop.invariant c.none.ensures v q)
+loop-preserved g c = λ v q.
+    subst (λ xs. has (get_or xs v []) q ≡ false) (sym c.in_ok-push.ensures.items)
+    (nothing_pushed c.loop.asks.items c.none.result c.loop.invariant c.none.ensures v q)
 
 pub loop-init : goal.loop-init
-loop-init g c = λ v q. subst (λ xs. has (get_or xs v []) q ≡ false) (sym c.new-asks.ensures.items) (has_past [] q (omega arith))
+loop-init g c = λ v q.
+    subst (λ xs. has (get_or xs v []) q ≡ false) (sym c.new-asks.ensures.items) (has_past [] q (omega arith))

@@ -14,10 +14,12 @@ returns g c =
     let words = t.asks.items in
     let slots = t.slot_of.items in
     let long : op.from < length words = omega (arith, c.len-else-place-len.ensures, c.if-from-len.false) in
-    let numbered : c.args.number < length slots = omega (arith, c.len-else-from-len.ensures, c.if-call-len.false) in
+    let numbered : c.args.number < length slots =
+    omega (arith, c.len-else-from-len.ensures, c.if-call-len.false) in
     let small : slot < 64 * g.row.W = c.in-Some-Some.ensures'.0 in
     let free : has t.used slot ≡ false = c.in-Some-Some.ensures'.1 in
-    let none : slice_get slots c.args.number ≡ Some c.index.result.now = slice_get_read slots (length slots) c.args.number c.index.result.now refl numbered c.index.ensures in
+    let none : slice_get slots c.args.number ≡ Some c.index.result.now =
+    slice_get_read slots (length slots) c.args.number c.index.result.now refl numbered c.index.ensures in
     let u : Table g.row.W = record {
       ops = t.ops;
       calls = with_item t.calls slot c.args.number;
@@ -53,6 +55,13 @@ returns g c =
       misses_same = c.mark-3.ensures.others;
       asks = refl;
       word = c.insert-2.ensures.same small;
-      word_same = λ q n. c.insert-2.ensures.others q n ∙ ap (λ x. has x q) (sym (get_or_from_slice_get words op.from c.index_mut-3.result.now [] (slice_get_read words (length words) op.from c.index_mut-3.result.now refl long c.index_mut-3.ensures.value)));
-    } in
-    (given_table t u slot c.args.number op c.insert-2.new.self c.requires giving, given_is t u slot c.args.number op c.insert-2.new.self c.requires giving)
+      word_same = λ q n.
+          c.insert-2.ensures.others q n
+          ∙ ap (λ x. has x q)
+          (sym (get_or_from_slice_get words op.from c.index_mut-3.result.now []
+          (slice_get_read words (length words) op.from c.index_mut-3.result.now refl long
+          c.index_mut-3.ensures.value)));
+    } in (
+      given_table t u slot c.args.number op c.insert-2.new.self c.requires giving,
+      given_is t u slot c.args.number op c.insert-2.new.self c.requires giving,
+    )

@@ -39,6 +39,11 @@ returns-then-from-len-clause-table g c =
       used_same = c.remove.ensures.others;
       asks = ap (λ o. (with_item t.asks o.from c.remove-then-from-len.new.self).items) same;
       word = c.remove-then-from-len.ensures.same;
-      word_same = λ q n. c.remove-then-from-len.ensures.others q n ∙ (ap (λ x. has x q) (sym (get_or_from_slice_get words op.from c.index_mut.result.now [] (slice_get_read words (length words) op.from c.index_mut.result.now refl long c.index_mut.ensures.value))) ∙ ap (λ o. has (get_or words o.from []) q) same);
+      word_same = λ q n.
+          c.remove-then-from-len.ensures.others q n
+          ∙ (ap (λ x. has x q)
+          (sym (get_or_from_slice_get words op.from c.index_mut.result.now []
+          (slice_get_read words (length words) op.from c.index_mut.result.now refl long
+          c.index_mut.ensures.value))) ∙ ap (λ o. has (get_or words o.from []) q) same);
     } in
     taken_table t u c.args.slot c.remove-then-from-len.new.self c.requires.table s taking
