@@ -1,19 +1,26 @@
-# make: prove and build bin/regcheck and bin/regsearch. make run: run regcheck on a shipped example, or on FILE=...
+# make: prove and build bin/regcheck and bin/regsearch.
+# make run: run regcheck on a shipped example, or on FILE=...
 # make try: the same at once, unproved and with checks at run time; for a first look.
-# make test: the gate: every proof from nothing, edits that must fail, tests, and scripts over the built program.
-# make edits: try the wrong bodies that `make test` leaves out, in half an hour: after a change of a contract or of a body that they edit.
+# make test: the gate: every proof from nothing, edits that must fail, tests, and scripts over the built
+#   program.
+# make edits: try the wrong bodies that `make test` leaves out, in half an hour: after a change of a contract
+#   or of a body that they edit.
 # make costs: write the tables of what the programs spend, after a change that is meant to cost more or less.
 # make fuzz: compare the program with the reference on spoiled histories for SECONDS=...
-# make library: bin/libregcheck.a, bin/libregcheck.so and bin/regcheck.pc, to call the checkers from C and other languages.
-# make embed-test: compare the library with the programs from C, Python, Go and Rust, on COUNT=... histories; under valgrind too;
-#   and run the tests of the packages for other languages.
+# make library: bin/libregcheck.a, bin/libregcheck.so and bin/regcheck.pc, to call the checkers from C and
+#   other languages.
+# make embed-test: compare the library with the programs from C, Python, Go and Rust, on COUNT=... histories;
+#   under valgrind too; and run the tests of the packages for other languages.
 # make bench-library: time small calls, and 2^20 events against the program with one worker.
-# make picture-test: look at pages of `regkit draw` in a headless browser, and keep the screenshots in SHOTS=...
+# make picture-test: look at pages of `regkit draw` in a headless browser, and keep the screenshots in
+#   SHOTS=...
 # make bench: time it on generated histories, in three to fifteen minutes.
 # make bench-compare: time it and an older build, OLD=..., in turn.
-# make bench-search: compare regsearch with a depth-first search on generated histories, in some twenty minutes or more; needs cargo.
+# make bench-search: compare regsearch with a depth-first search on generated histories, in some twenty
+#   minutes or more; needs cargo.
 # make install: all of the next two below PREFIX, within DESTDIR.
-# make install-programs: the programs, man pages, documents, examples, completions, and the packages for other languages.
+# make install-programs: the programs, man pages, documents, examples, completions, and the packages for
+#   other languages.
 # make install-library: the library.
 # make dist: the release in dist/: a tarball, a Debian package, their bill of materials and their sums.
 # make dist-library: a tarball of the library in dist/, with the packages for other languages.
@@ -31,27 +38,30 @@ SONAME := libregcheck.so.1
 SOURCES := $(shell find crates -name out -prune -o -type f \( -name '*.rt' -o -name '*.antt' \) -print)
 PYTHON := $(shell find python/regkit -name '*.py')
 # The packages for other languages, without what somebody built in their folders.
-PACKAGES := $(shell find clojure go java javascript rust -name target -prune -o -type f \( -name '*.clj' -o -name '*.go' -o -name go.mod \
-	-o -name '*.java' -o -name '*.cjs' -o -name '*.rs' -o -name Cargo.toml -o -name README.md \) -print | sort)
+PACKAGES := $(shell find clojure go java javascript rust -name target -prune -o -type f \
+	\( -name '*.clj' -o -name '*.go' -o -name go.mod -o -name '*.java' -o -name '*.cjs' -o -name '*.rs' \
+	-o -name Cargo.toml -o -name README.md \) -print | sort)
 PROGRAMS := regcheck regsearch
 # The folder that has them; a release has those of bin/static.
 BUILT := bin
 DOCUMENTS = $(DESTDIR)$(PREFIX)/share/doc/regcheck
 
-.PHONY: all run try test edits costs fuzz picture-test bench bench-compare bench-search library embed-test bench-library install install-programs install-library dist dist-library wheel stores clean
+.PHONY: all run try test edits costs fuzz picture-test bench bench-compare bench-search library embed-test \
+	bench-library install install-programs install-library dist dist-library wheel stores clean
 
 all: $(PROGRAMS:%=bin/%)
 
-# The crates below a program are proved side by side. Then `rt run` proves the program's own, builds it and leaves it in
-# out/; its stored input keeps it from waiting for ours. What they say goes to logs in bin/, and a line for each crate to
-# standard error.
+# The crates below a program are proved side by side. Then `rt run` proves the program's own, builds it and
+# leaves it in out/; its stored input keeps it from waiting for ours. What they say goes to logs in bin/, and
+# a line for each crate to standard error.
 $(PROGRAMS:%=bin/%): bin/%: $(SOURCES) crates.txt
 	packaging/prove_crates $*
 	cd crates/$* && $(CURDIR)/packaging/prove $(CURDIR)/bin/$*.log rt run < stdin
 	cp crates/$*/out/$* bin/$*
 
 bin/history_generator: $(SOURCES) crates.txt
-	cd crates/history_generator && $(CURDIR)/packaging/prove $(CURDIR)/bin/history_generator.log rt run -- sequential
+	cd crates/history_generator && \
+		$(CURDIR)/packaging/prove $(CURDIR)/bin/history_generator.log rt run -- sequential
 	cp crates/history_generator/out/history_generator bin/history_generator
 
 library: bin/libregcheck.a bin/libregcheck.so bin/regcheck.pc
@@ -59,8 +69,9 @@ library: bin/libregcheck.a bin/libregcheck.so bin/regcheck.pc
 # The names of the library, which library/regcheck.map has too.
 CALLS := regcheck_report regcheck_refusal regsearch_report regsearch_refusal
 
-# The archive of a static library leaves out the C part of the toolchain's allocator; here it is put in, once for both, and its
-# names are hidden, so that nothing but the calls can clash with a name of the program that links it.
+# The archive of a static library leaves out the C part of the toolchain's allocator; here it is put in, once
+# for both, and its names are hidden, so that nothing but the calls can clash with a name of the program that
+# links it.
 bin/libregcheck.a: $(SOURCES) crates.txt
 	for crate in regcheck_c regsearch_c; do \
 	    (cd crates/$$crate && $(CURDIR)/packaging/prove $(CURDIR)/bin/$$crate.log rt lib) || exit 1; \
@@ -72,7 +83,8 @@ bin/libregcheck.a: $(SOURCES) crates.txt
 	ar rcsD $@ bin/regcheck.o
 
 bin/libregcheck.so: bin/libregcheck.a library/regcheck.map
-	$(CC) -shared -o bin/$(SONAME) -Wl,-soname,$(SONAME),--version-script=library/regcheck.map,--no-undefined,-z,noexecstack,-z,now bin/regcheck.o
+	$(CC) -shared -o bin/$(SONAME) -Wl,-soname,$(SONAME),--version-script=library/regcheck.map \
+		-Wl,--no-undefined,-z,noexecstack,-z,now bin/regcheck.o
 	ln -sf $(SONAME) $@
 
 bin/regcheck.pc: library/regcheck.pc.in VERSION
@@ -143,12 +155,14 @@ install-programs: $(PROGRAMS:%=bin/%) bin/regkit bin/completions
 	install -D -m 644 -t $(DOCUMENTS) README.md CHANGELOG.md
 	install -D -m 644 -t $(DOCUMENTS)/docs docs/*.md
 	install -D -m 644 -t $(DOCUMENTS)/docs/stores docs/stores/*
-	install -D -m 644 -t $(DOCUMENTS)/examples examples/README.md examples/*.jsonl examples/*.report examples/*.refusal
+	install -D -m 644 -t $(DOCUMENTS)/examples examples/README.md \
+		examples/*.jsonl examples/*.report examples/*.refusal
 	install -D -m 644 -t $(DOCUMENTS)/examples/search examples/search/*.jsonl examples/search/*.report
 	install -D -m 755 -t $(DOCUMENTS)/examples examples/recorder.py
 	install -D -m 644 -t $(DOCUMENTS)/examples/tutorial examples/tutorial/*.py
 	install -D -m 644 -t $(DOCUMENTS)/examples/stores examples/stores/harness.py
-	install -D -m 755 -t $(DOCUMENTS)/examples/stores $(addprefix examples/stores/,redis.py postgresql.py etcd.py)
+	install -D -m 755 -t $(DOCUMENTS)/examples/stores \
+		$(addprefix examples/stores/,redis.py postgresql.py etcd.py)
 	install -D -m 755 -t $(DOCUMENTS)/engines engines/*
 	for file in $(PACKAGES); do install -D -m 644 $$file $(DOCUMENTS)/$$file || exit 1; done
 
@@ -180,7 +194,8 @@ dist-library:
 	$(MAKE) --no-print-directory -s install-library DESTDIR=$(LIBRARY_TREE) PREFIX=
 	cp --parents $(PACKAGES) docs/embedding.md docs/format.md $(LIBRARY_TREE)
 	mkdir -p dist
-	tar --sort=name --owner=root --group=root --mtime=@0 --mode=u+rw,go=rX -C bin/library -c . | gzip -9n > dist/$(notdir $(LIBRARY_TREE)).tar.gz
+	tar --sort=name --owner=root --group=root --mtime=@0 --mode=u+rw,go=rX -C bin/library -c . \
+		| gzip -9n > dist/$(notdir $(LIBRARY_TREE)).tar.gz
 	packaging/write_sums dist
 
 wheel: $(PROGRAMS:%=bin/static/%) bin/libregcheck.so

@@ -1,4 +1,5 @@
-/* Calls the library so many times on the history in a file, and writes the report of the last call: `calls FILE COUNT`. */
+/* Calls the library so many times on the history in a file, and writes the report of the last
+   call: `calls FILE COUNT`. */
 #include <stdio.h>
 #include <stdlib.h>
 #include "regcheck.h"

@@ -4,8 +4,8 @@
     examples/recorder.py | bin/regcheck
 
 The store is a dictionary behind a lock, so the history is atomic. Put the store under test in its place: what
-times out there is `TimeoutError` here, and what certainly did nothing is `ConnectionRefusedError`. The line with
-`sys.path` is for the repository. With a release, say `export PYTHONPATH=$(command -v regkit)` first."""
+times out there is `TimeoutError` here, and what certainly did nothing is `ConnectionRefusedError`. The line
+with `sys.path` is for the repository. With a release, say `export PYTHONPATH=$(command -v regkit)` first."""
 import pathlib
 import random
 import sys
@@ -44,8 +44,8 @@ class Store:
 
 
 def call(client, store):
-    """One call. A write that timed out stays pending, and the client goes on under a new number. A write that was
-    refused has failed."""
+    """One call. A write that timed out stays pending, and the client goes on under a new number. A write that
+    was refused has failed."""
     register = random.choice(["x", "y"])
     if random.random() < 0.5:
         with suppress(TimeoutError, ConnectionRefusedError), client.write(register) as write:
@@ -58,8 +58,8 @@ def call(client, store):
 
 
 def use(recorder, store, name):
-    """One client. If it is killed, its process crashes, and another client takes its place. Its lines have its
-    name, and that of the server that it asks."""
+    """One client. If it is killed, its process crashes, and another client takes its place. Its lines have
+    its name, and that of the server that it asks."""
     calls = 100
     while calls > 0:
         with suppress(Killed), recorder.client(name, node="store-1") as client:

@@ -1,7 +1,7 @@
 "use strict";
 /**
- * Records what the clients of a store call and get, and asks the programs `regcheck` and `regsearch` whether it is
- * linearizable.
+ * Records what the clients of a store call and get, and asks the programs `regcheck` and `regsearch` whether
+ * it is linearizable.
  *
  *     const { Recorder } = require("./regcheck.cjs");
  *
@@ -23,7 +23,9 @@ const [LEAST, GREATEST] = [-(2n ** 63n), 2n ** 63n - 1n];
 const [ATOMIC, NOT_ATOMIC, REFUSED, GAVE_UP] = [0, 1, 2, 6]; // exit statuses of the programs
 const VERDICTS = { [ATOMIC]: "yes", [NOT_ATOMIC]: "no", [GAVE_UP]: "unknown" };
 
-/** The recorder was used in a way that would make the history wrong. The call stays pending, or isn't made. */
+/**
+ * The recorder was used in a way that would make the history wrong. The call stays pending, or isn't made.
+ */
 class Mistake extends Error {}
 
 /** No order of the operations explains what the clients saw, or too little was read to say so. */
@@ -33,8 +35,8 @@ class NotLinearizable extends Error {}
 class NotChecked extends Error {}
 
 /**
- * Throw it from a call that certainly had no effect, and never will have: the connection was refused, say. Don't throw it
- * when a call timed out: if the store did the write after all, that invents a fault.
+ * Throw it from a call that certainly had no effect, and never will have: the connection was refused, say.
+ * Don't throw it when a call timed out: if the store did the write after all, that invents a fault.
  */
 class NoEffect extends Error {
   constructor(cause) {
@@ -44,7 +46,8 @@ class NoEffect extends Error {
 
 /** The name in JSON. Throws Mistake if it can't name a register; clients and nodes keep to the same rule. */
 function quoted(name, what) {
-  if (typeof name === "string" && name.isWellFormed() && name !== "" && Buffer.byteLength(name) <= NAME_BYTES) {
+  if (typeof name === "string" && name.isWellFormed() && name !== ""
+      && Buffer.byteLength(name) <= NAME_BYTES) {
     return JSON.stringify(name);
   }
   throw new Mistake(`${JSON.stringify(name)} is no ${what}: name it by a text of 1 to ${NAME_BYTES} bytes`);
@@ -59,8 +62,8 @@ function numberOf(value) {
   const isWhole = Number.isSafeInteger(value) || typeof value === "bigint"
     || (typeof value === "string" && /^-?[0-9]{1,19}$/.test(value));
   if (isWhole && BigInt(value) >= LEAST && BigInt(value) <= GREATEST) return BigInt(value).toString();
-  throw new Mistake(`the store gave ${shown(value)}, but a value is a whole number of 64 bits, its text, or null; `
-    + "give a number above 9007199254740991 as a BigInt");
+  throw new Mistake(`the store gave ${shown(value)}, but a value is a whole number of 64 bits, its text, or `
+    + "null; give a number above 9007199254740991 as a BigInt");
 }
 
 /** A value that the caller lets a call write, as the history has it. Throws Mistake if it is none. */
@@ -91,9 +94,10 @@ class Client {
   }
 
   /**
-   * Records a write, in which `set` gives the store the value. How `set` ends decides how the call ends. If it returns,
-   * the history has its reply. If it throws, nobody knows what the store did: the call stays pending, and the client
-   * goes on under a new process number. If it throws NoEffect, the call certainly had no effect.
+   * Records a write, in which `set` gives the store the value. How `set` ends decides how the call ends.
+   * If it returns, the history has its reply. If it throws, nobody knows what the store did: the call
+   * stays pending, and the client goes on under a new process number. If it throws NoEffect, the call
+   * certainly had no effect.
    */
   async write(register, set) {
     const value = this.#recorder.nextValue(register);
@@ -106,19 +110,23 @@ class Client {
     return this.#end(register, () => set(value), () => "");
   }
 
-  /** Records a read, in which `get` asks the store: a whole number, its text, or null. Gives what `get` gives. */
+  /**
+   * Records a read, in which `get` asks the store: a whole number, its text, or null. Gives what `get` gives.
+   */
   async read(register, get) {
     this.#begin("read", register, () => "");
     return this.#end(register, get, (value) => `,"value":${numberOf(value)}`);
   }
 
   /**
-   * Records a compare-and-swap, in which `swap` asks the store to write `to` if the register holds `from`, null if it has
-   * no value, and tells whether that took place: true or false. It gives what `swap` gives. Let that be false only if the
-   * store compared, and said that it found another value. If the store refused without comparing, throw NoEffect.
+   * Records a compare-and-swap, in which `swap` asks the store to write `to` if the register holds `from`,
+   * null if it has no value, and tells whether that took place: true or false. It gives what `swap` gives.
+   * Let that be false only if the store compared, and said that it found another value. If the store refused
+   * without comparing, throw NoEffect.
    */
   async cas(register, from, to, swap) {
-    this.#begin("cas", register, () => `,"from":${from === null ? "null" : written(from)},"to":${written(to)}`);
+    const asked = () => (from === null ? "null" : written(from));
+    this.#begin("cas", register, () => `,"from":${asked()},"to":${written(to)}`);
     return this.#end(register, swap, (tookPlace) => `,"ok":${outcomeOf(tookPlace)}`);
   }
 
@@ -161,15 +169,16 @@ class Client {
 }
 
 /**
- * A history in the making. The values of a register's writes are 1, 2, 3, and so on, unless the caller chooses them.
+ * A history in the making. The values of a register's writes are 1, 2, 3, and so on, unless the
+ * caller chooses them.
  *
  * - `output`: a path whose file gets each line at once;
  * - `clock`: gives nanoseconds as a BigInt; by default the machine's monotonic clock;
- * - `valuesAfter`: what the values come after, by default 0. Where several processes or worker threads record one run,
- *   give each a number of its own, far from the others;
+ * - `valuesAfter`: what the values come after, by default 0. Where several processes or worker threads record
+ *   one run, give each a number of its own, far from the others;
  * - `folder`: where assertLinearizable leaves what it found; by default regcheck-failures;
- * - `bounds`: of the search that cas and repeated values need: `steps`, by default 10,000,000,000, and `configurations`,
- *   by default 65,536.
+ * - `bounds`: of the search that cas and repeated values need: `steps`, by default 10,000,000,000, and
+ *   `configurations`, by default 65,536.
  */
 class Recorder {
   #lines = [];
@@ -193,7 +202,8 @@ class Recorder {
   /** A client for one task. `regkit explain` says its name and its node, if they are given. */
   client(name = "", node = "") {
     const members = [["client", name], ["node", node]].filter(([, said]) => said !== "");
-    return new Client(this, this.noting(() => members.map(([what, said]) => `,"${what}":${quoted(said, what)}`).join("")));
+    const who = () => members.map(([what, said]) => `,"${what}":${quoted(said, what)}`).join("");
+    return new Client(this, this.noting(who));
   }
 
   /** The lines so far, which are a history at any moment: what is open is pending. */
@@ -202,10 +212,11 @@ class Recorder {
   }
 
   /**
-   * Throws unless the history is linearizable, a read was completed, and the recorder was used rightly. A cas that was
-   * answered counts as a read. It says why in words, and leaves the history, its report and a page that shows the fault in
-   * the folder, named after the test. If the search for an order gave up, nobody knows: it throws NotChecked, which says
-   * what to do. The words and the page are made by `regkit`: where it isn't there, the report stands in their place.
+   * Throws unless the history is linearizable, a read was completed, and the recorder was used rightly. A cas
+   * that was answered counts as a read. It says why in words, and leaves the history, its report and a page
+   * that shows the fault in the folder, named after the test. If the search for an order gave up, nobody
+   * knows: it throws NotChecked, which says what to do. The words and the page are made by `regkit`: where it
+   * isn't there, the report stands in their place.
    */
   assertLinearizable(test) {
     if (this.mistakes.length > 0) throw this.mistakes[0];
@@ -213,7 +224,10 @@ class Recorder {
     assertLinearizable(this, { history: `${begin}.jsonl`, report: `${begin}.report`, page: `${begin}.html` });
   }
 
-  /** For Client: what the function gives; a Mistake that it throws is kept, for a caller that doesn't look at it. */
+  /**
+   * For Client: what the function gives; a Mistake that it throws is kept, for a caller that
+   * doesn't look at it.
+   */
   noting(make) {
     try {
       return make();
@@ -249,7 +263,9 @@ function find(variable, name) {
   return process.env[variable] || places.find((place) => fs.existsSync(place));
 }
 
-/** The path of a program, or that of regcheck's companion beside it, as a release has it. Throws NotChecked. */
+/**
+ * The path of a program, or that of regcheck's companion beside it, as a release has it. Throws NotChecked.
+ */
 function mustFind(variable, name) {
   const beside = path.join(path.dirname(find("REGCHECK", "regcheck") ?? ""), name);
   const found = !process.env[variable] && fs.existsSync(beside) ? beside : find(variable, name);
@@ -260,7 +276,9 @@ function mustFind(variable, name) {
 /** The exit status and the output of a program, as texts. Throws NotChecked if it can't be run. */
 function run(program, words, input = "") {
   const ran = spawnSync(program, words, { input, encoding: "utf8", maxBuffer: Infinity });
-  if (ran.error && ran.error.code !== "EPIPE") throw new NotChecked(`${program} could not be run: ${ran.error.message}`);
+  if (ran.error && ran.error.code !== "EPIPE") {
+    throw new NotChecked(`${program} could not be run: ${ran.error.message}`);
+  }
   return { status: ran.status, output: ran.stdout, words: ran.stderr.trimEnd() };
 }
 
@@ -276,9 +294,9 @@ function findRegsearch(refusal) {
 const optionsOf = (bounds) => Object.entries(bounds).flatMap(([name, most]) => [`--${name}`, `${most}`]);
 
 /**
- * The verdict on a history, "yes", "no" or "unknown", and the report. regcheck decides what it accepts, and regsearch what
- * else there is: cas and repeated values. The bounds are those of regsearch. Throws NotChecked, in the words of the
- * program, if there is no verdict.
+ * The verdict on a history, "yes", "no" or "unknown", and the report. regcheck decides what it accepts, and
+ * regsearch what else there is: cas and repeated values. The bounds are those of regsearch. Throws
+ * NotChecked, in the words of the program, if there is no verdict.
  */
 function check(history, bounds = {}) {
   let program = mustFind("REGCHECK", "regcheck");
@@ -311,8 +329,8 @@ function assertLinearizable(recorder, files) {
   keep(files.history, history);
   keep(files.report, checked.report);
   if (checked.verdict === "yes") {
-    throw new NotLinearizable("too little evidence: the history is linearizable, but no read was completed\n\n"
-      + `history: ${files.history}`);
+    throw new NotLinearizable("too little evidence: the history is linearizable, but no read was "
+      + `completed\n\nhistory: ${files.history}`);
   }
   const words = explain(files, checked, bounds);
   if (checked.verdict === "no") throw new NotLinearizable(words);
@@ -322,14 +340,15 @@ function assertLinearizable(recorder, files) {
 /** Why the kept history isn't linearizable, or what to do if nobody knows, in the words of regkit. */
 function explained(files, bounds) {
   const options = ["--color", "never", ...optionsOf(bounds)];
-  const { status, output, words } = run(mustFind("REGKIT", "regkit"), ["explain", files.history, files.report, ...options]);
+  const { status, output, words } = run(
+    mustFind("REGKIT", "regkit"), ["explain", files.history, files.report, ...options]);
   if (status !== NOT_ATOMIC && status !== GAVE_UP) throw new NotChecked(words);
   return output.trimEnd();
 }
 
 /**
- * Why a history isn't linearizable, or what to do if nobody knows, as `regkit explain` says it; of a yes, nothing. The
- * answer is that of `check`, with the same bounds. Throws NotChecked if there are no words.
+ * Why a history isn't linearizable, or what to do if nobody knows, as `regkit explain` says it; of a yes,
+ * nothing. The answer is that of `check`, with the same bounds. Throws NotChecked if there are no words.
  */
 function words(history, answer, bounds = {}) {
   if (answer.verdict === "yes") return "";
@@ -360,7 +379,8 @@ function explain(files, checked, bounds) {
 /** The verdict, and the lines of the report that it rests on. */
 function reported({ verdict, report }) {
   const [words, key] = verdict === "no" ? ["not linearizable", '"fault":']
-    : ["unknown: the search gave up; raise its bounds, or record runs with fewer calls open at once", '"gave_up":'];
+    : ["unknown: the search gave up; raise its bounds, or record runs with fewer calls open at once",
+      '"gave_up":'];
   const lines = report.split("\n").filter((line) => line.includes(key)).map((line) => `  ${line}`);
   return [words, ...lines].join("\n");
 }

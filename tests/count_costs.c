@@ -1,8 +1,9 @@
 /* Counts what a program asks for: preloaded by tests/costs.
 
-   At the program's end a line of numbers goes to the descriptor COSTS_TOLD: its system calls, the threads that it started, its
-   requests for memory, the most KiB of memory that it held at once, and the most KiB that were resident. The program is told
-   that it has COSTS_PROCESSORS processors, whatever the machine has. It needs glibc, and knows the calls that the program makes. */
+   At the program's end a line of numbers goes to the descriptor COSTS_TOLD: its system calls, the threads
+   that it started, its requests for memory, the most KiB of memory that it held at once, and the most KiB
+   that were resident. The program is told that it has COSTS_PROCESSORS processors, whatever the machine has.
+   It needs glibc, and knows the calls that the program makes. */
 #define _GNU_SOURCE
 #include <dlfcn.h>
 #include <errno.h>
@@ -46,7 +47,8 @@ static void *hold(void *block)
 {
     unsigned long now = __atomic_add_fetch(&held, malloc_usable_size(block), __ATOMIC_SEQ_CST);
     unsigned long most = __atomic_load_n(&most_held, __ATOMIC_SEQ_CST);
-    while (now > most && !__atomic_compare_exchange_n(&most_held, &most, now, 0, __ATOMIC_SEQ_CST, __ATOMIC_SEQ_CST))
+    while (now > most
+           && !__atomic_compare_exchange_n(&most_held, &most, now, 0, __ATOMIC_SEQ_CST, __ATOMIC_SEQ_CST))
         ;
     add(&requests);
     return block;
@@ -123,9 +125,11 @@ int getentropy(void *into, size_t size)
     return syscall(SYS_getrandom, into, size, 0) == (long)size ? 0 : -1;
 }
 
-int pthread_create(pthread_t *thread, const pthread_attr_t *attributes, void *(*start)(void *), void *argument)
+int pthread_create(pthread_t *thread, const pthread_attr_t *attributes, void *(*start)(void *),
+                   void *argument)
 {
-    int (*create)(pthread_t *, const pthread_attr_t *, void *(*)(void *), void *) = dlsym(RTLD_NEXT, "pthread_create");
+    int (*create)(pthread_t *, const pthread_attr_t *, void *(*)(void *), void *) =
+        dlsym(RTLD_NEXT, "pthread_create");
     add(&threads);
     return create(thread, attributes, start, argument);
 }
@@ -149,7 +153,8 @@ __attribute__((constructor)) static void begin(void)
     processors = number("COSTS_PROCESSORS", 1);
 }
 
-/* What the kernel says was resident of this program alone: what getrusage says is no less than the parent had. */
+/* What the kernel says was resident of this program alone: what getrusage says is no less than
+   the parent had. */
 static unsigned long most_resident(void)
 {
     unsigned long found = 0;
@@ -163,7 +168,8 @@ static unsigned long most_resident(void)
 static void tell(void)
 {
     unsigned long told[] = {system_calls, threads, requests, most_held / 1024, most_resident()};
-    dprintf((int)number("COSTS_TOLD", 2), "%lu %lu %lu %lu %lu\n", told[0], told[1], told[2], told[3], told[4]);
+    dprintf((int)number("COSTS_TOLD", 2), "%lu %lu %lu %lu %lu\n", told[0], told[1], told[2], told[3],
+            told[4]);
 }
 
 void _exit(int status)

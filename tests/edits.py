@@ -35,7 +35,8 @@ class Function(NamedTuple):
 
 
 class Edit(NamedTuple):
-    """The lines that an edit changes, and the functions whose bodies hold them: none if not all are in one."""
+    """The lines that an edit changes, and the functions whose bodies hold them: none if not
+    all are in one."""
 
     crate: str
     tier: str

@@ -52,7 +52,9 @@ def read_rows(folder: pathlib.Path = FOLDER) -> Iterator[Row]:
 
 
 def without_before(fault: Any) -> Any:
-    return {key: value for key, value in fault.items() if key != "before"} if isinstance(fault, dict) else fault
+    if not isinstance(fault, dict):
+        return fault
+    return {key: value for key, value in fault.items() if key != "before"}
 
 
 def is_as_expected(want: str, have: str) -> bool:

@@ -110,7 +110,8 @@ class Store:
 
 
 def reorder(chance: random.Random, lines: List[Line]) -> None:
-    """Mostly leaves the values as they are: those of a register's writes ascend. Else they descend, or stand in no order."""
+    """Mostly leaves the values as they are: those of a register's writes ascend. Else they descend, or
+    stand in no order."""
     order = chance.choice(["ascending", "ascending", "descending", "none"])
     for line in lines:
         value = line.get("value")

@@ -1,4 +1,5 @@
-/* Interrupts the calls of a program every millisecond: preloaded by tests/wrong_ends. A call that waits then ends with EINTR. */
+/* Interrupts the calls of a program every millisecond: preloaded by tests/wrong_ends. A call that waits then
+   ends with EINTR. */
 #include <signal.h>
 #include <stdlib.h>
 #include <string.h>

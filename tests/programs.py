@@ -1,4 +1,5 @@
-"""What differs between the two programs that tests run: regcheck, and regsearch, which knows cas and repeated values.
+"""What differs between the two programs that tests run: regcheck, and regsearch, which knows cas
+and repeated values.
 
 A script is told the file of a program, and knows by its name which of the two it is."""
 import json
@@ -17,15 +18,19 @@ class Program(NamedTuple):
     searches: bool  # whether it is regsearch
 
     def answer(self, answer: Answer) -> Answer:
-        """What the program answers where this is regcheck's answer to a history without cas, and no other order is legal."""
+        """What the program answers where this is regcheck's answer to a history without cas, and no other
+        order is legal."""
         status, report, error = answer
-        return (status, "".join(map(of_regsearch, report.splitlines(keepends=True))), error) if self.searches else answer
+        if not self.searches:
+            return answer
+        return status, "".join(map(of_regsearch, report.splitlines(keepends=True))), error
 
 
 def program(path: str) -> Program:
     whole = os.path.abspath(path)
     if pathlib.Path(path).name == "regsearch":
-        return Program(whole, "regsearch", {"--steps": 1_000_000_000_000, "--configurations": 1_048_576}, True)
+        return Program(whole, "regsearch", {"--steps": 1_000_000_000_000, "--configurations": 1_048_576},
+                       True)
     return Program(whole, "regcheck", {"--cut": 1_048_576}, False)
 
 
@@ -34,7 +39,8 @@ def dumped(value: Any) -> str:
 
 
 def of_regsearch(line: str) -> str:
-    """A line of a report that says that all is atomic, without safe, regular and the order of the whole, and with a count of cas."""
+    """A line of a report that says that all is atomic, without safe, regular and the order of the whole, and
+    with a count of cas."""
     row: Dict[str, Any] = json.loads(line)
     left: List[str] = ["safe", "regular"] if "register" in row else ["order"]
     kept = {key: value for key, value in row.items() if key not in left}

@@ -195,7 +195,8 @@ def call_fault(event: Event, options: Options) -> int:
     fits = is_value(event.value) if event.op == "write" else event.value in (ABSENT, None)
     if not fits:
         return 8
-    fits = event.op != "cas" or ((event.from_value is None or is_value(event.from_value)) and is_value(event.to_value))
+    fits = event.op != "cas" or ((event.from_value is None or is_value(event.from_value))
+                                 and is_value(event.to_value))
     return 0 if fits else 20
 
 
@@ -247,7 +248,9 @@ def refusal_of(event: Event, before: Sequence[Event], options: Options) -> Optio
     if last is not None and last.what == "crash":
         return Refused(19, event.line, last.line)
     is_cas = open_call is not None and open_call.op == "cas"
-    return Refused(21, event.line) if is_cas and event.what == "reply" and not isinstance(event.ok, bool) else None
+    if is_cas and event.what == "reply" and not isinstance(event.ok, bool):
+        return Refused(21, event.line)
+    return None
 
 
 def same_written(one: Event, other: Event) -> bool:

@@ -1,8 +1,9 @@
 /* Refuses chosen requests for memory of a program: preloaded by tests/refused_memory.
 
-   REFUSE_FROM and REFUSE_TO are numbers of requests, counted from 1 once the program's own code begins. A byte is written
-   to the descriptor REFUSE_TOLD at each refusal: m for memory, t for a thread. With REFUSE_THREADS each start of a thread is
-   a request too. It needs glibc, and knows malloc, calloc and realloc, the ones that the program and the C library call. */
+   REFUSE_FROM and REFUSE_TO are numbers of requests, counted from 1 once the program's own code begins. A
+   byte is written to the descriptor REFUSE_TOLD at each refusal: m for memory, t for a thread. With
+   REFUSE_THREADS each start of a thread is a request too. It needs glibc, and knows malloc, calloc and
+   realloc, the ones that the program and the C library call. */
 #define _GNU_SOURCE
 #include <dlfcn.h>
 #include <errno.h>
@@ -70,9 +71,11 @@ void *realloc(void *old, size_t size)
     return __libc_realloc(old, size);
 }
 
-int pthread_create(pthread_t *thread, const pthread_attr_t *attributes, void *(*start)(void *), void *argument)
+int pthread_create(pthread_t *thread, const pthread_attr_t *attributes, void *(*start)(void *),
+                   void *argument)
 {
-    int (*create)(pthread_t *, const pthread_attr_t *, void *(*)(void *), void *) = dlsym(RTLD_NEXT, "pthread_create");
+    int (*create)(pthread_t *, const pthread_attr_t *, void *(*)(void *), void *) =
+        dlsym(RTLD_NEXT, "pthread_create");
     if (threads && refused('t'))
         return EAGAIN;
     return create(thread, attributes, start, argument);

@@ -1,4 +1,5 @@
-"""Runs programs with some of their requests for memory refused, by tests/refuse_memory.c, which is preloaded."""
+"""Runs programs with some of their requests for memory refused, by tests/refuse_memory.c,
+which is preloaded."""
 import os
 import pathlib
 import subprocess
@@ -19,7 +20,8 @@ def build(folder: str) -> str:
     """The library to preload, made in this folder."""
     library = os.path.join(folder, "refuse_memory.so")
     compiler = os.environ.get("CC", "cc")
-    subprocess.run([compiler, "-O2", "-shared", "-fPIC", "-o", library, FOLDER / "refuse_memory.c", "-ldl"], check=True)
+    subprocess.run([compiler, "-O2", "-shared", "-fPIC", "-o", library, FOLDER / "refuse_memory.c", "-ldl"],
+                   check=True)
     return library
 
 
@@ -27,10 +29,10 @@ def to_one_processor() -> None:
     os.sched_setaffinity(0, {min(os.sched_getaffinity(0))})
 
 
-def run(library: str, command: Sequence[Union[str, "os.PathLike[str]"]], first: int = 0, last: int = 0, threads: bool = False,
-        given: bytes = b"", alone: bool = False) -> Tuple[Ended, Set[str]]:
-    """What the command ended with, and which kinds of request were refused: m for memory, t for a thread. It runs on one
-    processor if it is alone. A command that doesn't end ends the test."""
+def run(library: str, command: Sequence[Union[str, "os.PathLike[str]"]], first: int = 0, last: int = 0,
+        threads: bool = False, given: bytes = b"", alone: bool = False) -> Tuple[Ended, Set[str]]:
+    """What the command ended with, and which kinds of request were refused: m for memory, t for a thread. It
+    runs on one processor if it is alone. A command that doesn't end ends the test."""
     reader, writer = os.pipe()
     environment = {"LD_PRELOAD": library, "REFUSE_FROM": str(first), "REFUSE_TO": str(last),
                    "REFUSE_TOLD": str(writer), "REFUSE_THREADS": str(int(threads))}
@@ -45,9 +47,10 @@ def run(library: str, command: Sequence[Union[str, "os.PathLike[str]"]], first: 
         return (ran.returncode, ran.stdout, ran.stderr), set(told.read().decode())
 
 
-def in_turn(refused_at: Callable[[int], Tuple[T, Set[str]]], most: int) -> Iterator[Optional[Tuple[T, Set[str]]]]:
-    """What `refused_at` gives for each request in turn, a pair whose second part are the kinds of request that were
-    refused, until none is. Last comes None if some were refused up to request `most`."""
+def in_turn(refused_at: Callable[[int], Tuple[T, Set[str]]],
+            most: int) -> Iterator[Optional[Tuple[T, Set[str]]]]:
+    """What `refused_at` gives for each request in turn, a pair whose second part are the kinds of request
+    that were refused, until none is. Last comes None if some were refused up to request `most`."""
     with ThreadPoolExecutor(AT_ONCE) as pool:
         for start in range(1, most + 1, BATCH):
             tried = list(pool.map(refused_at, range(start, start + BATCH)))

@@ -36,7 +36,8 @@ def event(words: str) -> str:
     elif what == "R":
         members.update(event="call", op="read", register=rest[0])
     elif what == "C":
-        members.update(event="call", op="cas", register=rest[0], **dict(zip(("from", "to"), map(json.loads, rest[1:]))))
+        members.update(event="call", op="cas", register=rest[0],
+                       **dict(zip(("from", "to"), map(json.loads, rest[1:]))))
     elif what in ("true", "false"):
         members.update(event="reply", ok=what == "true")
     elif what == "=":
@@ -99,15 +100,21 @@ def refused_cases() -> List[Case]:
     cases.append(case("as it is", (), history(WRITE_AND_READ)))
     cases.append(case("by name", ("--workers", "2"), history(INVERSION))._replace(named=True))
     cases.append(Case("bad words", ("--workers", "17"), history(INVERSION), (3, b"", BAD_WORDS)))
-    cases.append(case("two_registers --cut 1", ("--workers", "4", "--cut", "1"), history(TWO_REGISTERS))._replace(threaded=True))
+    cases.append(case("two_registers --cut 1", ("--workers", "4", "--cut", "1"),
+                      history(TWO_REGISTERS))._replace(threaded=True))
     cases.append(case("sixteen_registers", ("--workers", "4"), sixteen_registers())._replace(threaded=True))
-    cases.append(case("inversion in two blocks", ("--workers", "2"), in_two_blocks(history(INVERSION)))._replace(threaded=True))
-    first = case("two_registers --first", ("--workers", "2", "--first"), history(TWO_REGISTERS))._replace(threaded=True)
-    by_two = case("two_registers --workers 2", ("--workers", "2"), history(TWO_REGISTERS))._replace(threaded=True)
-    cases.extend([first, *(one._replace(name=f"{one.name}, one processor", alone=True) for one in (first, by_two))])
+    cases.append(case("inversion in two blocks", ("--workers", "2"),
+                      in_two_blocks(history(INVERSION)))._replace(threaded=True))
+    first = case("two_registers --first", ("--workers", "2", "--first"),
+                 history(TWO_REGISTERS))._replace(threaded=True)
+    by_two = case("two_registers --workers 2", ("--workers", "2"),
+                  history(TWO_REGISTERS))._replace(threaded=True)
+    alone = (one._replace(name=f"{one.name}, one processor", alone=True) for one in (first, by_two))
+    cases.extend([first, *alone])
     # On one processor a history that is refused starts no thread.
     several = len(os.sched_getaffinity(0)) > 1
-    cases.append(case("written_twice before a block", (), history(WRITTEN_TWICE) + BLOCK)._replace(threaded=several))
+    cases.append(case("written_twice before a block", (),
+                      history(WRITTEN_TWICE) + BLOCK)._replace(threaded=several))
     return cases
 
 
@@ -123,8 +130,9 @@ def search_case(program: str, name: str, words: Tuple[str, ...], given: bytes) -
 
 def refused_search_cases(program: str) -> List[Case]:
     """What regsearch is run on while memory is refused."""
-    named = {"cas": CAS, "cas that missed": CAS_MISSED, "two registers": TWO_REGISTERS, "written twice": WRITTEN_TWICE,
-             "no ok": "p1 C x 1 2; p1 ok", "unwritten": "p1 W x 1; p1 ok; p2 C x 9 2; p2 true"}
+    named = {"cas": CAS, "cas that missed": CAS_MISSED, "two registers": TWO_REGISTERS,
+             "written twice": WRITTEN_TWICE, "no ok": "p1 C x 1 2; p1 ok",
+             "unwritten": "p1 W x 1; p1 ok; p2 C x 9 2; p2 true"}
     cases = [search_case(program, name, ("--workers", "2"), history(text)) for name, text in named.items()]
     cases.append(search_case(program, "cas, one worker", ("--workers", "1"), history(CAS)))
     cases.append(search_case(program, "as it is", (), history(MERGED)))
@@ -132,6 +140,8 @@ def refused_search_cases(program: str) -> List[Case]:
     cases.append(search_case(program, "by name", (), history(CAS))._replace(named=True))
     cases.append(search_case(program, "in two blocks", ("--workers", "2"), in_two_blocks(history(CAS))))
     cases.append(Case("bad words", ("--workers", "17"), history(CAS), (3, b"", BAD_WORDS)))
-    cases.append(search_case(program, "sixteen_registers", ("--workers", "4"), sixteen_registers())._replace(threaded=True))
-    cases.append(search_case(program, "two registers, one processor", (), history(TWO_REGISTERS))._replace(alone=True))
+    cases.append(search_case(program, "sixteen_registers", ("--workers", "4"),
+                             sixteen_registers())._replace(threaded=True))
+    cases.append(search_case(program, "two registers, one processor", (),
+                             history(TWO_REGISTERS))._replace(alone=True))
     return cases

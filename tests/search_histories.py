@@ -1,8 +1,9 @@
 """Random histories of up to 12 operations with cas and repeated values, for tests of regsearch.
 
-A history is a function of its seed. In half of them a right store is run at random and its clients recorded, so
-that many are atomic; of these some have one answer changed. In the others the answers are random. One in ten is a
-history of tests/histories.py, which regcheck knows too. Some lines are odd, and some wrong, as there.
+A history is a function of its seed. In half of them a right store is run at random and its clients
+recorded, so that many are atomic; of these some have one answer changed. In the others the answers are
+random. One in ten is a history of tests/histories.py, which regcheck knows too. Some lines are odd, and
+some wrong, as there.
 """
 import random
 from typing import Any, Dict, List, Optional
@@ -15,8 +16,9 @@ Value = Optional[int]
 MOST = 12  # operations
 NOBODYS = 9  # a value that is hardly ever written
 CAS_FORMS: List[Any] = [None, 1.0, "a", True, [], {}, 2**63 - 1, 2**63, -2**63 - 1, 10**30, 1, 2]
-WRONG: Dict[str, List[Any]] = {**histories.WRONG, "op": [*histories.WRONG["op"], "cas", "Cas"], "from": CAS_FORMS,
-                               "to": CAS_FORMS, "ok": [None, 1, 0, "true", [], True, False]}
+WRONG: Dict[str, List[Any]] = {**histories.WRONG, "op": [*histories.WRONG["op"], "cas", "Cas"],
+                               "from": CAS_FORMS, "to": CAS_FORMS,
+                               "ok": [None, 1, 0, "true", [], True, False]}
 
 
 class Call:
@@ -29,7 +31,8 @@ class Call:
 
 
 class Store:
-    """Registers with clients that call at random. Each call takes effect at a random moment, if it has a client or not."""
+    """Registers with clients that call at random. Each call takes effect at a random moment, if it has a
+    client or not."""
 
     def __init__(self, chance: random.Random) -> None:
         self.chance = chance

@@ -6,8 +6,8 @@
 
 Lines are read and refused as in tests/reference.py; nothing else is shared with it. An operation's times are
 the lines of its call and its reply. Only registers of up to 12 operations are searched: those have to be
-decided, and of larger ones only what the report itself shows is looked at. A register without cas whose written
-values are distinct has to be decided in any case. `-` is standard input.
+decided, and of larger ones only what the report itself shows is looked at. A register without cas whose
+written values are distinct has to be decided in any case. `-` is standard input.
 """
 import argparse
 import json
@@ -143,7 +143,8 @@ def first_hopeless_reply(operations: Sequence[Operation]) -> Optional[int]:
 
 def first_unwritten(operations: Sequence[Operation]) -> Optional[int]:
     written = {None, *(a.given for a in operations)}
-    return next((a.line for a in operations if not a.pending() and a.asks == "this" and a.asked not in written), None)
+    return next((a.line for a in operations
+                 if not a.pending() and a.asks == "this" and a.asked not in written), None)
 
 
 # ---- the report

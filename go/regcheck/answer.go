@@ -39,7 +39,8 @@ type Bound struct {
 
 const steps, configurations = "steps", "configurations"
 
-// Steps says how many steps the search for an order of one register may take; by default, or if 0, 10,000,000,000.
+// Steps says how many steps the search for an order of one register may take; by default, or
+// if 0, 10,000,000,000.
 func Steps(most uint64) Bound { return Bound{steps, most} }
 
 // Configurations says how many configurations the search may hold in one list; by default, or if 0, 65,536.
@@ -67,8 +68,9 @@ func options(bounds []Bound) []string {
 	return words
 }
 
-// CheckHistory says whether a history in the form of the programs is linearizable. regcheck decides what it accepts, and
-// regsearch what else there is: repeated values and compare-and-swap. The bounds are those of regsearch.
+// CheckHistory says whether a history in the form of the programs is linearizable. regcheck decides what
+// it accepts, and regsearch what else there is: repeated values and compare-and-swap. The bounds are
+// those of regsearch.
 //
 // The error says why there is no answer: it may be a *Refusal.
 func CheckHistory(history []byte, bounds ...Bound) (Answer, error) {
@@ -82,7 +84,8 @@ func CheckHistory(history []byte, bounds ...Bound) (Answer, error) {
 	return answer, err
 }
 
-// search gives the answer of regsearch to a history that regcheck refused. What both refuse has the words of regsearch.
+// search gives the answer of regsearch to a history that regcheck refused. What both refuse has the
+// words of regsearch.
 func (answer Answer) search(refusal *Refusal) (Answer, error) {
 	var err error
 	answer.Verdict, answer.Report, err = searched(answer.History, answer.bounds)
@@ -93,8 +96,8 @@ func (answer Answer) search(refusal *Refusal) (Answer, error) {
 	return answer, err
 }
 
-// Words says why a history isn't linearizable, or what to do if nobody knows, as `regkit explain` does. Of a yes there is
-// nothing to say. The error says why there are no words.
+// Words says why a history isn't linearizable, or what to do if nobody knows, as `regkit explain` does. Of a
+// yes there is nothing to say. The error says why there are no words.
 func (answer Answer) Words() (string, error) {
 	if answer.Report == nil || answer.Verdict == Yes {
 		return "", nil

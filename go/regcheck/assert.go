@@ -29,12 +29,13 @@ func Record(test TB) *Recorder {
 	return recorder
 }
 
-// Assert fails the test unless the history is linearizable, a read was completed, and the recorder was used rightly. A
-// compare-and-swap that was answered counts as a read. It says whether the test may go on.
+// Assert fails the test unless the history is linearizable, a read was completed, and the recorder was used
+// rightly. A compare-and-swap that was answered counts as a read. It says whether the test may go on.
 //
-// It says why in words, and leaves the history, its report and a page that shows the fault in Folder. If the search for an
-// order gave up, nobody knows: that fails the test too, and the words say what to do. The words and the page are made by
-// regkit: where it isn't there, Assert says so, and gives the lines of the report instead.
+// It says why in words, and leaves the history, its report and a page that shows the fault in Folder. If
+// the search for an order gave up, nobody knows: that fails the test too, and the words say what to do.
+// The words and the page are made by regkit: where it isn't there, Assert says so, and gives the lines of
+// the report instead.
 func (recorder *Recorder) Assert(test TB) bool {
 	test.Helper()
 	if err := recorder.Err(); err != nil {
@@ -81,7 +82,8 @@ func assert(test TB, files files, answer Answer, err error, reads int) bool {
 	case err != nil:
 		test.Errorf("no verdict: %v\n\nhistory: %s", err, files.history)
 	case answer.Verdict == Yes:
-		test.Errorf("too little evidence: the history is linearizable, but no read was completed\n\nhistory: %s", files.history)
+		test.Errorf("too little evidence: the history is linearizable, but no read was completed\n\nhistory: %s",
+			files.history)
 	default:
 		test.Errorf("%s", files.explain(answer))
 	}
@@ -133,7 +135,8 @@ func (files files) byRegkit(answer Answer) (string, error) {
 	if err != nil {
 		return "", err
 	}
-	words := append([]string{"explain", "--color", "never", files.history, files.report}, options(answer.bounds)...)
+	words := []string{"explain", "--color", "never", files.history, files.report}
+	words = append(words, options(answer.bounds)...)
 	said, err := run(path, nil, words...)
 	if err != nil {
 		return "", err
@@ -164,7 +167,8 @@ func (files files) draw() string {
 func shown(answer Answer) string {
 	verdict, key := "not linearizable", `"fault":`
 	if answer.Verdict == Unknown {
-		verdict, key = "unknown: the search gave up; raise its bounds, or record runs with fewer calls open at once", `"gave_up":`
+		verdict = "unknown: the search gave up; raise its bounds, or record runs with fewer calls open at once"
+		key = `"gave_up":`
 	}
 	lines := []string{verdict}
 	for _, line := range strings.Split(string(answer.Report), "\n") {

@@ -34,8 +34,11 @@ func searched(history []byte, bounds []Bound) (Verdict, []byte, error) {
 	})
 }
 
-// asked gives what the library says of a history of so many bytes, by its functions for a report and for a refusal's words.
-func asked(length int, report func([]byte, *C.regcheck_answer), refusal func([]byte) C.size_t) (Verdict, []byte, error) {
+// asked gives what the library says of a history of so many bytes, by its functions for a report and for
+// a refusal's words.
+func asked(
+	length int, report func([]byte, *C.regcheck_answer), refusal func([]byte) C.size_t,
+) (Verdict, []byte, error) {
 	var answer C.regcheck_answer
 	out := make([]byte, length+1024) // enough unless registers have one operation or two
 	report(out, &answer)

@@ -17,7 +17,8 @@ import (
 func TestWithoutSearch(t *testing.T) {
 	t.Setenv("REGSEARCH", "/nowhere/regsearch")
 	answer, err := regcheck.Check(valueTwice())
-	if err == nil || answer.Verdict != regcheck.Unknown || !strings.Contains(err.Error(), "/nowhere/regsearch could not be run") {
+	if err == nil || answer.Verdict != regcheck.Unknown ||
+		!strings.Contains(err.Error(), "/nowhere/regsearch could not be run") {
 		t.Errorf("%v, %v", answer.Verdict, err)
 	}
 }
@@ -29,7 +30,8 @@ func TestSearchNotFound(t *testing.T) {
 	t.Setenv("PATH", "")
 	_, err := regcheck.Check(valueTwice())
 	var refusal *regcheck.Refusal
-	if !errors.As(err, &refusal) || refusal.Line != 9 || !strings.Contains(err.Error(), "; repeated values and cas need regsearch, but ") {
+	if !errors.As(err, &refusal) || refusal.Line != 9 ||
+		!strings.Contains(err.Error(), "; repeated values and cas need regsearch, but ") {
 		t.Errorf("%v", err)
 	}
 }

@@ -10,8 +10,9 @@ import (
 
 // History gives the operations in the form of the program regcheck: one event a line, in the order of time.
 //
-// One operation precedes another exactly if it returned before the other was called. So at one moment the calls come
-// before the returns, and a client that calls while it has an open call gets a process of its own for that operation.
+// One operation precedes another exactly if it returned before the other was called. So at one moment the
+// calls come before the returns, and a client that calls while it has an open call gets a process of its own
+// for that operation.
 func History(operations []Operation) ([]byte, error) {
 	steps, err := inOrder(operations)
 	if err != nil {

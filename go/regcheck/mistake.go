@@ -6,7 +6,8 @@ import (
 	"unicode/utf8"
 )
 
-// A Mistake says that a recorder was used in a way that would make its history wrong. The call stays pending, or isn't made.
+// A Mistake says that a recorder was used in a way that would make its history wrong. The call stays
+// pending, or isn't made.
 type Mistake struct{ words string }
 
 func (mistake *Mistake) Error() string { return mistake.words }
@@ -26,7 +27,8 @@ func noName(name, what string) *Mistake {
 	return mistaken("%q is no %s: name it by a text of 1 to %d bytes", name, what, nameBytes)
 }
 
-// Number reads the value that a store of texts gave. A text that is no value of a register is a mistake that fails the test.
+// Number reads the value that a store of texts gave. A text that is no value of a register is a mistake
+// that fails the test.
 func Number(text string) (*int64, error) {
 	number, err := strconv.ParseInt(text, 10, 64)
 	if err != nil {
@@ -35,8 +37,9 @@ func Number(text string) (*int64, error) {
 	return &number, nil
 }
 
-// NoEffect marks the error of a call that certainly had no effect, and never will have: the connection was refused, say. Don't
-// say it of a call that timed out: if the store did the write after all, that invents a fault.
+// NoEffect marks the error of a call that certainly had no effect, and never will have: the connection
+// was refused, say. Don't say it of a call that timed out: if the store did the write after all, that
+// invents a fault.
 func NoEffect(err error) error { return &noEffect{err} }
 
 type noEffect struct{ err error }

@@ -40,7 +40,8 @@ type notFound struct{ words string }
 
 func (missing notFound) Error() string { return missing.words }
 
-// companion gives the path in the variable, the program beside regcheck, as a release has it, or that on PATH.
+// companion gives the path in the variable, the program beside regcheck, as a release has it,
+// or that on PATH.
 func companion(variable, name string) (string, error) {
 	checker, err := checker()
 	beside := filepath.Join(filepath.Dir(checker), name)
@@ -72,5 +73,6 @@ func run(path string, input []byte, arguments ...string) (said, error) {
 	if err != nil && !errors.As(err, &ended) {
 		return said{}, fmt.Errorf("%s could not be run: %w", path, err)
 	}
-	return said{command.ProcessState.ExitCode(), output.Bytes(), strings.TrimRight(complaint.String(), "\n")}, nil
+	words := strings.TrimRight(complaint.String(), "\n")
+	return said{command.ProcessState.ExitCode(), output.Bytes(), words}, nil
 }

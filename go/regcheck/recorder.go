@@ -8,19 +8,19 @@ import (
 	"sync"
 )
 
-// A Recorder writes down what the clients of a store call and get. Its zero value is ready. Goroutines share one recorder,
-// and each takes a client of its own.
+// A Recorder writes down what the clients of a store call and get. Its zero value is ready. Goroutines share
+// one recorder, and each takes a client of its own.
 //
-// The values of a register's writes are 1, 2, 3, and so on, so that a read's value tells which write it saw. WriteValue and
-// Cas take values of the caller's own, which may repeat.
+// The values of a register's writes are 1, 2, 3, and so on, so that a read's value tells which write it saw.
+// WriteValue and Cas take values of the caller's own, which may repeat.
 type Recorder struct {
 	Output io.Writer    // gets each line at once, if it isn't nil
 	Clock  func() int64 // nanoseconds; if nil, those of the machine's monotonic clock
 	Folder string       // where Assert leaves what it found; if empty, regcheck-failures
 	Bounds []Bound      // of the search that cas and repeated values need; if empty, the defaults
 
-	// ValuesAfter is what the values of a register's writes come after. Where several processes record one run, give each a
-	// number of its own, far from the others.
+	// ValuesAfter is what the values of a register's writes come after. Where several processes record one run,
+	// give each a number of its own, far from the others.
 	ValuesAfter int64
 
 	lock      sync.Mutex
@@ -66,7 +66,8 @@ func (recorder *Recorder) expect(name, what string) {
 // Write records a write, in which set gives the store the value. What set returns decides how the call ends:
 //
 //   - nil: the write took effect, and the history has its reply.
-//   - an error: nobody knows what the store did. The call stays pending, and the client goes on under a new process number.
+//   - an error: nobody knows what the store did. The call stays pending, and the client goes on under a new
+//     process number.
 //   - an error marked by NoEffect: the call certainly had no effect.
 //
 // It gives the error of set, or a *Mistake.
@@ -89,8 +90,8 @@ func (client *Client) write(register string, value *int64, set func(value int64)
 	return err
 }
 
-// Read records a read, in which get asks the store. It gives what get returns, which is nil if the store has no value. An
-// error of get ends the call as one of Write does.
+// Read records a read, in which get asks the store. It gives what get returns, which is nil if the store has
+// no value. An error of get ends the call as one of Write does.
 func (client *Client) Read(register string, get func() (*int64, error)) (*int64, error) {
 	if err := client.begin(line{Op: "read", Register: register}); err != nil {
 		return nil, err
@@ -101,11 +102,12 @@ func (client *Client) Read(register string, get func() (*int64, error)) (*int64,
 	return value, err
 }
 
-// Cas records a compare-and-swap: swap asks the store to write to if the register holds from, nil if it has no value, and
-// tells whether that took place. It gives what swap returns. An error of swap ends the call as one of Write does.
+// Cas records a compare-and-swap: swap asks the store to write to if the register holds from, nil if it has
+// no value, and tells whether that took place. It gives what swap returns. An error of swap ends the call as
+// one of Write does.
 //
-// Let swap return false only if the store compared, and said that it found another value. If the store refused without
-// comparing, the call had NoEffect.
+// Let swap return false only if the store compared, and said that it found another value. If the store
+// refused without comparing, the call had NoEffect.
 func (client *Client) Cas(register string, from *int64, to int64, swap func() (bool, error)) (bool, error) {
 	if err := client.begin(line{Op: "cas", Register: register, From: &from, To: &to}); err != nil {
 		return false, err
@@ -132,7 +134,8 @@ func (client *Client) begin(call line) error {
 		return recorder.note(noName(call.Register, "register"))
 	}
 	if client.open {
-		return recorder.note(mistaken("the client has a call open while it calls a %s of %q: take a client for each goroutine",
+		return recorder.note(mistaken(
+			"the client has a call open while it calls a %s of %q: take a client for each goroutine",
 			call.Op, call.Register))
 	}
 	if client.spent {
@@ -211,7 +214,8 @@ func (client *Client) append(event line) {
 	}
 }
 
-// note keeps a mistake, so that it fails the test even if nobody looks at the error. The caller holds the lock.
+// note keeps a mistake, so that it fails the test even if nobody looks at the error. The
+// caller holds the lock.
 func (recorder *Recorder) note(mistake *Mistake) error {
 	recorder.mistakes = append(recorder.mistakes, mistake)
 	return mistake

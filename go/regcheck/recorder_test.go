@@ -98,7 +98,9 @@ func TestMistakes(t *testing.T) {
 		"a long name": {func(client *regcheck.Client) error {
 			return client.Write(strings.Repeat("x", 256), returns(nil))
 		}, "1 to 255 bytes"},
-		"not UTF-8": {func(client *regcheck.Client) error { return client.Write("\xff", returns(nil)) }, "no register"},
+		"not UTF-8": {func(client *regcheck.Client) error {
+			return client.Write("\xff", returns(nil))
+		}, "no register"},
 		"two calls at once": {func(client *regcheck.Client) error {
 			return client.Write("x", func(int64) error { return client.Write("y", returns(nil)) })
 		}, "for each goroutine"},
@@ -248,7 +250,8 @@ func TestCasIsEvidence(t *testing.T) {
 	}
 }
 
-// Two cas that find no value, at once, without regkit. A search of one step gives up, and one without configurations is none.
+// Two cas that find no value, at once, without regkit. A search of one step gives up, and one without
+// configurations is none.
 func TestUnknown(t *testing.T) {
 	recorder := &regcheck.Recorder{Folder: t.TempDir()}
 	one, two := recorder.Client("one"), recorder.Client("two")
@@ -263,7 +266,8 @@ func TestUnknown(t *testing.T) {
 		{nil, []string{"TestTold_a_b.jsonl: not linearizable", `"kind":"search"`}},
 		{[]regcheck.Bound{regcheck.Steps(1)}, []string{
 			"TestTold_a_b.jsonl: unknown: the search gave up; raise its bounds", `"gave_up":{"bound":"steps"}`}},
-		{[]regcheck.Bound{regcheck.Steps(0), regcheck.Configurations(0)}, []string{"TestTold_a_b.jsonl: not linearizable"}},
+		{[]regcheck.Bound{regcheck.Steps(0), regcheck.Configurations(0)},
+			[]string{"TestTold_a_b.jsonl: not linearizable"}},
 	} {
 		recorder.Bounds = test.bounds
 		said := asserted(recorder)
@@ -281,7 +285,12 @@ func TestFault(t *testing.T) {
 	_, _ = recorder.Client("one").Read("x", gives(regcheck.Value(7), nil))
 	t.Setenv("REGKIT", "/nowhere/regkit")
 	said := asserted(recorder)
-	for _, want := range []string{"TestTold_a_b.jsonl: not linearizable", `"kind":"unwritten"`, "/nowhere/regkit could not be run", "report: "} {
+	for _, want := range []string{
+		"TestTold_a_b.jsonl: not linearizable",
+		`"kind":"unwritten"`,
+		"/nowhere/regkit could not be run",
+		"report: ",
+	} {
 		if !strings.Contains(said, want) {
 			t.Errorf("%q isn't in %q", want, said)
 		}
@@ -305,13 +314,15 @@ func TestAssertOperations(t *testing.T) {
 		"no value":   {[]regcheck.Operation{{Register: "x", Write: true, Call: 1, Return: 2}}, "writes no value"},
 		"a value twice": {append(inversion(2), regcheck.Operation{
 			Register: "x", Write: true, Value: regcheck.Value(1), Call: 100, Return: 110}), ""},
-		"one cas":   {cas(regcheck.TookPlace, regcheck.Missed), ""},
-		"two cas":   {cas(regcheck.TookPlace, regcheck.TookPlace), "not linearizable"},
-		"no client": {[]regcheck.Operation{{ClientId: -1, Register: "x", Call: 1, Return: 2}}, "no verdict: line 1: "},
+		"one cas": {cas(regcheck.TookPlace, regcheck.Missed), ""},
+		"two cas": {cas(regcheck.TookPlace, regcheck.TookPlace), "not linearizable"},
+		"no client": {[]regcheck.Operation{{ClientId: -1, Register: "x", Call: 1, Return: 2}},
+			"no verdict: line 1: "},
 	} {
 		told := &told{}
 		may := regcheck.AssertOperations(told, test.operations, as)
-		if said := told.said.String(); may != (test.want == "") || may != (said == "") || !strings.Contains(said, test.want) {
+		said := told.said.String()
+		if may != (test.want == "") || may != (said == "") || !strings.Contains(said, test.want) {
 			t.Errorf("%s: %v, %q", name, may, said)
 		}
 	}

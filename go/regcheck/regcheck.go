@@ -1,14 +1,14 @@
-// Package regcheck says whether recorded runs of registers are linearizable. It asks the proved checkers regcheck and
-// regsearch, and decides nothing itself.
+// Package regcheck says whether recorded runs of registers are linearizable. It asks the proved checkers
+// regcheck and regsearch, and decides nothing itself.
 //
-// A Recorder writes down what goroutines call and get, and fails a test with an explanation in words. Check takes operations
-// with the times of their calls and returns, as the checker Porcupine does. CheckHistory takes a history in the form of the
-// programs, and Report gives regcheck's report of it.
+// A Recorder writes down what goroutines call and get, and fails a test with an explanation in words. Check
+// takes operations with the times of their calls and returns, as the checker Porcupine does. CheckHistory
+// takes a history in the form of the programs, and Report gives regcheck's report of it.
 //
-// It links libregcheck.a, from lib in the release that it came with, which has both checkers. Without cgo, or with the build
-// tag regcheck_program, it runs the programs instead: the regcheck that REGCHECK names, or the one on PATH; and for histories
-// that regcheck refuses, above all those with compare-and-swap or repeated values, the regsearch that REGSEARCH names, the one
-// beside regcheck, or the one on PATH.
+// It links libregcheck.a, from lib in the release that it came with, which has both checkers. Without cgo, or
+// with the build tag regcheck_program, it runs the programs instead: the regcheck that REGCHECK names, or the
+// one on PATH; and for histories that regcheck refuses, above all those with compare-and-swap or repeated
+// values, the regsearch that REGSEARCH names, the one beside regcheck, or the one on PATH.
 package regcheck
 
 import "errors"
@@ -27,7 +27,8 @@ type Refusal struct {
 // Error is what the program says of the refusal.
 func (refusal *Refusal) Error() string { return refusal.Words }
 
-// Report gives whether regcheck finds the history atomic, and the bytes of its report. Goroutines may call it at once.
+// Report gives whether regcheck finds the history atomic, and the bytes of its report. Goroutines may
+// call it at once.
 //
 // The error is a *Refusal or ErrMemory. Without the library it may also say why the program couldn't be run.
 func Report(history []byte) (atomic bool, report []byte, err error) {

@@ -13,7 +13,8 @@ import (
 	"regcheck"
 )
 
-// A write of 1, then a write of 2 that is open while two reads begin and end: the first gives 2, the second what is asked.
+// A write of 1, then a write of 2 that is open while two reads begin and end: the first gives 2, the
+// second what is asked.
 func inversion(second int64) []regcheck.Operation {
 	return []regcheck.Operation{
 		{ClientId: 1, Register: "x", Write: true, Value: regcheck.Value(1), Call: 0, Return: 10},
@@ -79,7 +80,8 @@ func ExampleReport() {
 
 // Two cas from nil to 1 that overlap, and then a read of 1. A cas without an outcome is pending.
 func cas(outcomes ...regcheck.Outcome) []regcheck.Operation {
-	operations := []regcheck.Operation{{ClientId: 3, Register: "x", Value: regcheck.Value(1), Call: 30, Return: 31}}
+	operations := []regcheck.Operation{
+		{ClientId: 3, Register: "x", Value: regcheck.Value(1), Call: 30, Return: 31}}
 	for client, outcome := range outcomes {
 		operation := regcheck.Operation{ClientId: client, Register: "x", Call: int64(client), Return: 20,
 			Cas: &regcheck.Cas{To: 1, Outcome: outcome}}
@@ -103,8 +105,10 @@ func TestVerdicts(t *testing.T) {
 		"a pending write is read": {[]regcheck.Operation{
 			{ClientId: 1, Register: "x", Write: true, Value: one, Call: 0, Return: regcheck.Pending},
 			{ClientId: 2, Register: "x", Value: one, Call: 5, Return: 6}}, regcheck.Yes},
-		"a pending read":      {[]regcheck.Operation{{ClientId: 1, Register: "x", Call: 0, Return: regcheck.Pending}}, regcheck.Yes},
-		"nothing was written": {[]regcheck.Operation{{ClientId: 1, Register: "x", Call: 0, Return: 1}}, regcheck.Yes},
+		"a pending read": {[]regcheck.Operation{
+			{ClientId: 1, Register: "x", Call: 0, Return: regcheck.Pending}}, regcheck.Yes},
+		"nothing was written": {[]regcheck.Operation{
+			{ClientId: 1, Register: "x", Call: 0, Return: 1}}, regcheck.Yes},
 		"at one moment they overlap": {[]regcheck.Operation{
 			{ClientId: 1, Register: "x", Write: true, Value: one, Call: 0, Return: 5},
 			{ClientId: 2, Register: "x", Call: 5, Return: 6}}, regcheck.Yes},
@@ -136,7 +140,8 @@ func TestHistory(t *testing.T) {
 		{ClientId: 0, Register: "x", Call: 4, Return: 5},
 		{ClientId: 2, Register: "x", Call: 6, Return: regcheck.Pending},
 		{ClientId: 3, Register: "x", Call: 10, Return: 11, Cas: &regcheck.Cas{To: 1, Outcome: regcheck.TookPlace}},
-		{ClientId: 3, Register: "x", Call: 12, Return: 13, Cas: &regcheck.Cas{From: regcheck.Value(0), Outcome: regcheck.Missed}},
+		{ClientId: 3, Register: "x", Call: 12, Return: 13,
+			Cas: &regcheck.Cas{From: regcheck.Value(0), Outcome: regcheck.Missed}},
 	}
 	want := `{"process":0,"event":"call","op":"read","register":"x"}
 {"process":1,"event":"call","op":"write","register":"<&>","value":1}
@@ -205,7 +210,8 @@ func mustHave(history []byte, err error) []byte {
 	return history
 }
 
-// Without a fault or a bound there is nothing to say. The words of the rest are those of regkit: this one says its arguments.
+// Without a fault or a bound there is nothing to say. The words of the rest are those of regkit: this one
+// says its arguments.
 func TestWords(t *testing.T) {
 	regkit := filepath.Join(t.TempDir(), "regkit")
 	script := "#!/bin/sh\necho \"$4: $*\"\ngrep -q gave_up \"$5\" && exit 6\nexit 1\n"
@@ -219,9 +225,11 @@ func TestWords(t *testing.T) {
 		verdict    regcheck.Verdict
 		want       string
 	}{
-		"yes":     {inversion(2), regcheck.Yes, `^$`},
-		"no":      {inversion(1), regcheck.No, `^explain --color never \S+history.jsonl \S+history.report --steps 1$`},
-		"unknown": {cas(regcheck.TookPlace, regcheck.Missed), regcheck.Unknown, `^explain --color never .* --steps 1$`},
+		"yes": {inversion(2), regcheck.Yes, `^$`},
+		"no": {inversion(1), regcheck.No,
+			`^explain --color never \S+history.jsonl \S+history.report --steps 1$`},
+		"unknown": {cas(regcheck.TookPlace, regcheck.Missed), regcheck.Unknown,
+			`^explain --color never .* --steps 1$`},
 	} {
 		answer, err := regcheck.Check(test.operations, few)
 		if err != nil || answer.Verdict != test.verdict {
@@ -233,21 +241,25 @@ func TestWords(t *testing.T) {
 	}
 	t.Setenv("REGKIT", "/nowhere/regkit")
 	answer, _ := regcheck.Check(inversion(1))
-	if words, err := answer.Words(); err == nil || !strings.Contains(err.Error(), "/nowhere/regkit could not be run") {
+	words, err := answer.Words()
+	if err == nil || !strings.Contains(err.Error(), "/nowhere/regkit could not be run") {
 		t.Errorf("%v, %q", err, words)
 	}
 }
 
 func TestErrors(t *testing.T) {
 	for want, operation := range map[string]regcheck.Operation{
-		"before its call":          {Register: "x", Call: 2, Return: 1},
-		"writes no value":          {Register: "x", Write: true, Call: 1, Return: 2},
-		"isn't UTF-8":              {Register: "\xff", Call: 1, Return: 2},
-		"TookPlace or Missed":      {Register: "x", Cas: &regcheck.Cas{To: 1}, Call: 1, Return: 2},
-		"has Write or Value too":   {Register: "x", Cas: &regcheck.Cas{To: 1}, Value: regcheck.Value(1), Call: 1, Return: 2},
-		"a cas, and has Write or ": {Register: "x", Cas: &regcheck.Cas{To: 1}, Write: true, Value: regcheck.Value(1), Call: 1, Return: 2},
+		"before its call":     {Register: "x", Call: 2, Return: 1},
+		"writes no value":     {Register: "x", Write: true, Call: 1, Return: 2},
+		"isn't UTF-8":         {Register: "\xff", Call: 1, Return: 2},
+		"TookPlace or Missed": {Register: "x", Cas: &regcheck.Cas{To: 1}, Call: 1, Return: 2},
+		"has Write or Value too": {
+			Register: "x", Cas: &regcheck.Cas{To: 1}, Value: regcheck.Value(1), Call: 1, Return: 2},
+		"a cas, and has Write or ": {
+			Register: "x", Cas: &regcheck.Cas{To: 1}, Write: true, Value: regcheck.Value(1), Call: 1, Return: 2},
 	} {
-		if _, err := regcheck.Check([]regcheck.Operation{operation}); err == nil || !strings.Contains(err.Error(), want) {
+		_, err := regcheck.Check([]regcheck.Operation{operation})
+		if err == nil || !strings.Contains(err.Error(), want) {
 			t.Errorf("%s: %v", want, err)
 		}
 	}
@@ -272,7 +284,8 @@ func TestAtOnce(t *testing.T) {
 		go func(second int64) {
 			defer all.Done()
 			for round := 0; round < 200; round++ {
-				if have, err := regcheck.Check(inversion(second)); err != nil || (have.Verdict == regcheck.Yes) != (second == 2) {
+				have, err := regcheck.Check(inversion(second))
+				if err != nil || (have.Verdict == regcheck.Yes) != (second == 2) {
 					t.Errorf("%v, %v", have.Verdict, err)
 				}
 			}

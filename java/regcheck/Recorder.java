@@ -21,8 +21,8 @@ import java.util.stream.Collectors;
 import java.util.stream.Stream;
 
 /**
- * Records what the clients of a store call and get, and asks the programs {@code regcheck} and {@code regsearch} whether it
- * is linearizable.
+ * Records what the clients of a store call and get, and asks the programs {@code regcheck} and
+ * {@code regsearch} whether it is linearizable.
  *
  * <pre>{@code
  * Recorder recorder = new Recorder();
@@ -32,13 +32,14 @@ import java.util.stream.Stream;
  * recorder.assertLinearizable("the store");
  * }</pre>
  *
- * It needs JDK 17 and nothing else. Threads share one recorder, and each takes a client of its own. The values of a
- * register's writes are 1, 2, 3, and so on, so that a read's value tells which write it saw. A caller may choose values of
- * its own, and repeat them, and may compare and swap (cas).
+ * It needs JDK 17 and nothing else. Threads share one recorder, and each takes a client of its own. The
+ * values of a register's writes are 1, 2, 3, and so on, so that a read's value tells which write it saw. A
+ * caller may choose values of its own, and repeat them, and may compare and swap (cas).
  */
 public final class Recorder {
     private static final int NAME_BYTES = 255;
-    private static final int ATOMIC = 0, NOT_ATOMIC = 1, REFUSED = 2, GAVE_UP = 6; // exit statuses of the programs
+    // Exit statuses of the programs.
+    private static final int ATOMIC = 0, NOT_ATOMIC = 1, REFUSED = 2, GAVE_UP = 6;
 
     private final ByteArrayOutputStream history = new ByteArrayOutputStream();
     private final OutputStream output;
@@ -69,15 +70,17 @@ public final class Recorder {
     }
 
     /**
-     * Says what the values of a register's writes come after, in place of 0. Where several processes record one run, give
-     * each a number of its own, far from the others.
+     * Says what the values of a register's writes come after, in place of 0. Where several processes record
+     * one run, give each a number of its own, far from the others.
      */
     public Recorder valuesAfter(long number) {
         valuesAfter = number;
         return this;
     }
 
-    /** Says how many steps the search that cas and repeated values need may take, in place of 10,000,000,000. */
+    /**
+     * Says how many steps the search that cas and repeated values need may take, in place of 10,000,000,000.
+     */
     public Recorder steps(long most) {
         bounds.put("--steps", most);
         return this;
@@ -110,11 +113,11 @@ public final class Recorder {
     }
 
     /**
-     * Throws unless the history is linearizable, a read was completed, and the recorder was used rightly. A cas that was
-     * answered counts as a read. It says why in words, and leaves the history, its report and a page that shows the fault
-     * in the folder, named after the test. If the search for an order gave up, nobody knows: it throws NotChecked, which
-     * says what to do. The words and the page are made by {@code regkit}: where it isn't there, the report stands in
-     * their place.
+     * Throws unless the history is linearizable, a read was completed, and the recorder was used rightly. A
+     * cas that was answered counts as a read. It says why in words, and leaves the history, its report and a
+     * page that shows the fault in the folder, named after the test. If the search for an order gave up,
+     * nobody knows: it throws NotChecked, which says what to do. The words and the page are made by
+     * {@code regkit}: where it isn't there, the report stands in their place.
      */
     public void assertLinearizable(String test) {
         for (Mistake mistake : mistakes()) {
@@ -135,8 +138,8 @@ public final class Recorder {
         kept.keep(kept.history(), history());
         kept.keep(kept.report(), answer.report());
         switch (answer.verdict()) {
-            case YES -> throw new NotLinearizable("too little evidence: the history is linearizable, but no read was "
-                    + "completed\n\nhistory: " + kept.history());
+            case YES -> throw new NotLinearizable("too little evidence: the history is linearizable, but no "
+                    + "read was completed\n\nhistory: " + kept.history());
             case NO -> throw new NotLinearizable(kept.explain(answer, options()));
             case UNKNOWN -> throw new NotChecked(kept.explain(answer, options())
                     + "\nbounds: give the recorder more steps or configurations");
@@ -144,17 +147,21 @@ public final class Recorder {
     }
 
     private List<String> options() {
-        return bounds.entrySet().stream().flatMap(bound -> Stream.of(bound.getKey(), bound.getValue().toString())).toList();
+        return bounds.entrySet().stream()
+                .flatMap(bound -> Stream.of(bound.getKey(), bound.getValue().toString())).toList();
     }
 
     /** Whether a history is linearizable. Of UNKNOWN the search for an order gave up at a bound. */
     public enum Verdict { YES, NO, UNKNOWN }
 
-    /** The verdict on a history, and the report of regcheck, or of regsearch where regcheck refuses the history. */
+    /**
+     * The verdict on a history, and the report of regcheck, or of regsearch where regcheck
+     * refuses the history.
+     */
     public record Answer(Verdict verdict, byte[] report) {
         /**
-         * Why the history isn't linearizable, or what to do if nobody knows, as {@code regkit explain} says it; of YES,
-         * nothing. Throws NotChecked if there are no words.
+         * Why the history isn't linearizable, or what to do if nobody knows, as {@code regkit explain} says
+         * it; of YES, nothing. Throws NotChecked if there are no words.
          */
         public String words(byte[] history) {
             if (verdict == Verdict.YES) {
@@ -179,8 +186,8 @@ public final class Recorder {
     }
 
     /**
-     * Asks regcheck, and of what it refuses, such as cas and repeated values, regsearch. Throws NotChecked, in the words of
-     * the program, if there is no verdict.
+     * Asks regcheck, and of what it refuses, such as cas and repeated values, regsearch. Throws NotChecked,
+     * in the words of the program, if there is no verdict.
      */
     public static Answer check(byte[] history) {
         return check(history, List.of());
@@ -193,7 +200,8 @@ public final class Recorder {
             try {
                 program = Programs.regsearch();
             } catch (NotChecked none) {
-                throw new NotChecked(ran.words() + "; repeated values and cas need regsearch, but " + none.getMessage());
+                throw new NotChecked(
+                        ran.words() + "; repeated values and cas need regsearch, but " + none.getMessage());
             }
             ran = Ran.run(history, concat(List.of(program), bounds));
         }
@@ -202,7 +210,8 @@ public final class Recorder {
             case NOT_ATOMIC -> new Answer(Verdict.NO, ran.output());
             case GAVE_UP -> new Answer(Verdict.UNKNOWN, ran.output());
             case REFUSED -> throw new NotChecked(ran.words());
-            default -> throw new NotChecked(program + " ended with status " + ran.status() + ": " + ran.words());
+            default -> throw new NotChecked(
+                    program + " ended with status " + ran.status() + ": " + ran.words());
         };
     }
 
@@ -210,7 +219,10 @@ public final class Recorder {
         return Stream.concat(first.stream(), second.stream()).toList();
     }
 
-    /** The recorder was used in a way that would make the history wrong. The call stays pending, or isn't made. */
+    /**
+     * The recorder was used in a way that would make the history wrong. The call stays
+     * pending, or isn't made.
+     */
     public static final class Mistake extends RuntimeException {
         private Mistake(String words) {
             super(words);
@@ -232,8 +244,8 @@ public final class Recorder {
     }
 
     /**
-     * Throw it from a call that certainly had no effect, and never will have: the connection was refused, say. Don't throw
-     * it when a call timed out: if the store did the write after all, that invents a fault.
+     * Throw it from a call that certainly had no effect, and never will have: the connection was refused,
+     * say. Don't throw it when a call timed out: if the store did the write after all, that invents a fault.
      */
     public static final class NoEffect extends RuntimeException {
         public NoEffect(Throwable cause) {
@@ -261,7 +273,8 @@ public final class Recorder {
         private final Recorder recorder;
         private final String who;
         private long process;
-        private boolean spent = true; // whether the process has a call that isn't ended; true before the first call
+        // Whether the process has a call that isn't ended; true before the first call.
+        private boolean spent = true;
         private boolean open; // whether a call is open right now
 
         private Client(Recorder recorder, String who) {
@@ -270,9 +283,9 @@ public final class Recorder {
         }
 
         /**
-         * Records a write. How the setter ends decides how the call ends. If it returns, the history has its reply. If
-         * it throws, nobody knows what the store did: the call stays pending, and the client goes on under a new
-         * process number. If it throws NoEffect, the call certainly had no effect.
+         * Records a write. How the setter ends decides how the call ends. If it returns, the history has its
+         * reply. If it throws, nobody knows what the store did: the call stays pending, and the client goes
+         * on under a new process number. If it throws NoEffect, the call certainly had no effect.
          */
         public <E extends Exception> void write(String register, Setter<E> setter) throws E {
             write(register, recorder.next(register), setter);
@@ -286,24 +299,28 @@ public final class Recorder {
             }, nothing -> "");
         }
 
-        /** Records a read, and gives what the getter gives. An exception ends the call as one of a write does. */
+        /**
+         * Records a read, and gives what the getter gives. An exception ends the call as one of a write does.
+         */
         public <T, E extends Exception> T read(String register, Getter<T, E> getter) throws E {
             return during("read", register, "", getter, given -> ",\"value\":" + recorder.numberOf(given));
         }
 
         /**
-         * Records a compare-and-swap: the swapper asks the store to write {@code to} if the register holds {@code from},
-         * null if it has no value, and tells whether that took place. It gives what the swapper gives. Let that be false
-         * only if the store compared, and said that it found another value. If the store refused without comparing, throw
-         * NoEffect. An exception ends the call as one of a write does.
+         * Records a compare-and-swap: the swapper asks the store to write {@code to} if the register holds
+         * {@code from}, null if it has no value, and tells whether that took place. It gives what the swapper
+         * gives. Let that be false only if the store compared, and said that it found another value. If the
+         * store refused without comparing, throw NoEffect. An exception ends the call as one of a write does.
          */
-        public <E extends Exception> boolean cas(String register, Long from, long to, Swapper<E> swapper) throws E {
-            return during("cas", register, ",\"from\":" + from + ",\"to\":" + to, swapper::swap, ok -> ",\"ok\":" + ok);
+        public <E extends Exception> boolean cas(String register, Long from, long to, Swapper<E> swapper)
+                throws E {
+            String said = ",\"from\":" + from + ",\"to\":" + to;
+            return during("cas", register, said, swapper::swap, ok -> ",\"ok\":" + ok);
         }
 
         /** Records a call, from what its line says to what its answer says. */
-        private <T, E extends Exception> T during(String op, String register, String said, Getter<T, E> action,
-                Function<T, String> answer) throws E {
+        private <T, E extends Exception> T during(String op, String register, String said,
+                Getter<T, E> action, Function<T, String> answer) throws E {
             begin(op, register, said);
             try {
                 T given = action.get();
@@ -335,7 +352,8 @@ public final class Recorder {
 
         private void end(String event, String register, String answer) {
             synchronized (recorder) {
-                append("\"event\":\"" + event + "\",\"register\":" + recorder.quoted(register, "register") + answer);
+                String name = recorder.quoted(register, "register");
+                append("\"event\":\"" + event + "\",\"register\":" + name + answer);
                 recorder.reads += answer.isEmpty() ? 0 : 1;
                 spent = false;
             }
@@ -392,14 +410,16 @@ public final class Recorder {
             // It has no size, as the empty one.
         }
         if (size < 1 || size > NAME_BYTES) {
-            throw mistake(escaped(name) + " is no " + what + ": name it by a text of 1 to " + NAME_BYTES + " bytes");
+            throw mistake(escaped(name) + " is no " + what
+                    + ": name it by a text of 1 to " + NAME_BYTES + " bytes");
         }
         return escaped(name);
     }
 
     private static String escaped(String text) {
         return text.chars().mapToObj(letter -> letter < ' ' || letter > '~' || letter == '"' || letter == '\\'
-                ? String.format("\\u%04x", letter) : String.valueOf((char) letter)).collect(Collectors.joining("", "\"", "\""));
+                ? String.format("\\u%04x", letter) : String.valueOf((char) letter))
+                .collect(Collectors.joining("", "\"", "\""));
     }
 
     /** What the store gave, as the history has it. */
@@ -407,7 +427,8 @@ public final class Recorder {
         if (given == null) {
             return "null";
         }
-        String text = given instanceof byte[] bytes ? new String(bytes, StandardCharsets.UTF_8) : given.toString();
+        String text = given instanceof byte[] bytes
+                ? new String(bytes, StandardCharsets.UTF_8) : given.toString();
         try {
             if (given instanceof Number || text.matches("-?[0-9]{1,19}")) {
                 return Long.toString(Long.parseLong(text));
@@ -415,7 +436,8 @@ public final class Recorder {
         } catch (NumberFormatException tooLarge) {
             // It is no value of a register, as any other text.
         }
-        throw mistake("the store gave " + escaped(text) + ", but a value is a whole number of 64 bits, its text, or null");
+        throw mistake("the store gave " + escaped(text)
+                + ", but a value is a whole number of 64 bits, its text, or null");
     }
 
     /** Where the programs are. */
@@ -435,14 +457,16 @@ public final class Recorder {
         /** The one that is named, the one beside regcheck, as a release has it, or that on PATH. */
         private static String companion(String variable, String name) {
             return named(variable)
-                    .or(() -> find("REGCHECK", "regcheck").map(checker -> Path.of(checker).resolveSibling(name))
+                    .or(() -> find("REGCHECK", "regcheck")
+                            .map(checker -> Path.of(checker).resolveSibling(name))
                             .filter(Files::isExecutable).map(Path::toString))
                     .or(() -> find(variable, name)).orElseThrow(() -> missing(variable, name));
         }
 
         private static Optional<String> find(String variable, String name) {
             return named(variable).or(() -> Stream.of(System.getenv().getOrDefault("PATH", "").split(":"))
-                    .map(folder -> Path.of(folder, name)).filter(Files::isExecutable).map(Path::toString).findFirst());
+                    .map(folder -> Path.of(folder, name)).filter(Files::isExecutable)
+                    .map(Path::toString).findFirst());
         }
 
         /** The path in the system property or the variable of this name. */
@@ -452,7 +476,8 @@ public final class Recorder {
         }
 
         private static NotChecked missing(String variable, String name) {
-            return new NotChecked(name + " was not found: put it on PATH, or set " + variable + " to its path");
+            return new NotChecked(
+                    name + " was not found: put it on PATH, or set " + variable + " to its path");
         }
     }
 
@@ -503,8 +528,9 @@ public final class Recorder {
 
         /** Why the kept history isn't linearizable, or what to do if nobody knows, in the words of regkit. */
         String told(List<String> bounds) {
-            Ran told = Ran.run(new byte[0],
-                    concat(List.of(Programs.regkit(), "explain", "--color", "never", history(), report()), bounds));
+            List<String> command =
+                    List.of(Programs.regkit(), "explain", "--color", "never", history(), report());
+            Ran told = Ran.run(new byte[0], concat(command, bounds));
             if (told.status() != NOT_ATOMIC && told.status() != GAVE_UP) {
                 throw new NotChecked(told.words());
             }
@@ -517,7 +543,8 @@ public final class Recorder {
             String page = begin + ".html";
             try {
                 String told = told(bounds);
-                Ran drawn = Ran.run(new byte[0], List.of(Programs.regkit(), "draw", history(), report(), "-o", page));
+                Ran drawn = Ran.run(
+                        new byte[0], List.of(Programs.regkit(), "draw", history(), report(), "-o", page));
                 return told + "\n\n" + kept + "\n"
                         + (drawn.status() == 0 ? "page: " + page : "no page: " + drawn.words());
             } catch (NotChecked none) {
@@ -532,7 +559,8 @@ public final class Recorder {
                     ? "unknown: the search gave up; raise its bounds, or record runs with fewer calls open at once"
                     : "not linearizable";
             Stream<String> lines = new String(answer.report(), StandardCharsets.UTF_8).lines()
-                    .filter(line -> line.contains(unknown ? "\"gave_up\":" : "\"fault\":")).map(line -> "  " + line);
+                    .filter(line -> line.contains(unknown ? "\"gave_up\":" : "\"fault\":"))
+                    .map(line -> "  " + line);
             return Stream.concat(Stream.of(verdict), lines).collect(Collectors.joining("\n"));
         }
     }

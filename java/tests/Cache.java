@@ -5,8 +5,8 @@ import regcheck.Recorder;
 
 /**
  * Records three clients of a cache in front of a database, and says whether what they saw is linearizable:
- * {@code java Cache faulty}, or {@code java Cache right}. The faulty one keeps a value that it read before a write.
- * tests/languages compares what all languages say of it.
+ * {@code java Cache faulty}, or {@code java Cache right}. The faulty one keeps a value that it read before a
+ * write. tests/languages compares what all languages say of it.
  */
 final class Cache {
     private final Map<String, Long> database = new HashMap<>();
@@ -44,7 +44,10 @@ final class Cache {
         return value;
     }
 
-    /** The writer writes again, in a thread of its own, while the reader's answer from the database is on its way. */
+    /**
+     * The writer writes again, in a thread of its own, while the reader's answer from the
+     * database is on its way.
+     */
     static void record(Recorder recorder, boolean counts) {
         Cache store = new Cache(counts);
         Recorder.Client writer = recorder.client("thread-1", "cache");

@@ -3,9 +3,9 @@ import java.util.concurrent.atomic.AtomicLong;
 import regcheck.Recorder;
 
 /**
- * Records two clients that take a lock by compare-and-swap at once, and says whether what they saw is linearizable:
- * {@code java Lock faulty}, or {@code java Lock right}. The faulty register compares and swaps in two steps, so both
- * clients get the lock. tests/languages compares what all languages say of it.
+ * Records two clients that take a lock by compare-and-swap at once, and says whether what they saw is
+ * linearizable: {@code java Lock faulty}, or {@code java Lock right}. The faulty register compares and swaps
+ * in two steps, so both clients get the lock. tests/languages compares what all languages say of it.
  */
 final class Lock {
     private final AtomicLong value = new AtomicLong();
@@ -30,7 +30,9 @@ final class Lock {
         return true;
     }
 
-    /** A second client takes the lock, in a thread of its own, while the first one is between its two steps. */
+    /**
+     * A second client takes the lock, in a thread of its own, while the first one is between its two steps.
+     */
     static void record(Recorder recorder, boolean right) {
         Lock store = new Lock(right);
         Recorder.Client first = recorder.client("thread-1", "register");

@@ -49,16 +49,21 @@ final class RecorderTest {
 
     private static final List<Row> MISTAKES = List.of(
             new Row("no name", "is no register", recorder -> recorder.client("one").write("", value -> {})),
-            new Row("a long name", "1 to 255 bytes", recorder -> recorder.client("one").write("x".repeat(256), value -> {})),
-            new Row("half a letter", "is no register", recorder -> recorder.client("one").write("\ud800", value -> {})),
+            new Row("a long name", "1 to 255 bytes",
+                    recorder -> recorder.client("one").write("x".repeat(256), value -> {})),
+            new Row("half a letter", "is no register",
+                    recorder -> recorder.client("one").write("\ud800", value -> {})),
             new Row("a long client", "is no client", recorder -> recorder.client("x".repeat(256))),
             new Row("two calls at once", "for each thread", recorder -> {
                 Recorder.Client one = recorder.client("one");
                 one.write("x", value -> one.read("x", () -> value));
             }),
-            new Row("a fraction", "the store gave \"1.0\"", recorder -> recorder.client("one").read("x", () -> 1.0)),
-            new Row("64 bits and one", "64 bits", recorder -> recorder.client("one").read("x", () -> "9223372036854775808")),
-            new Row("a text", "the store gave \"7a\"", recorder -> recorder.client("one").read("x", () -> "7a")));
+            new Row("a fraction", "the store gave \"1.0\"",
+                    recorder -> recorder.client("one").read("x", () -> 1.0)),
+            new Row("64 bits and one", "64 bits",
+                    recorder -> recorder.client("one").read("x", () -> "9223372036854775808")),
+            new Row("a text", "the store gave \"7a\"",
+                    recorder -> recorder.client("one").read("x", () -> "7a")));
 
     private static Path folder;
 
@@ -76,7 +81,8 @@ final class RecorderTest {
         }));
         two.read("x", () -> null);
         two.read("x", () -> "-3".getBytes(StandardCharsets.UTF_8));
-        expect(two.<Long, RuntimeException>read("x", () -> Long.MAX_VALUE) == Long.MAX_VALUE, "the value is handed on");
+        expect(two.<Long, RuntimeException>read("x", () -> Long.MAX_VALUE) == Long.MAX_VALUE,
+                "the value is handed on");
         two.write("x", -3, value -> expect(value == -3, "the value is handed on"));
         expect(!two.<RuntimeException>cas("x", null, 1, () -> false), "it missed");
         expect(two.<RuntimeException>cas("x", -3L, 1, () -> true), "it took place");
@@ -97,7 +103,8 @@ final class RecorderTest {
     static void mistakes() {
         for (Row row : MISTAKES) {
             Recorder recorder = new Recorder().keepIn(folder);
-            for (Consumer<Recorder> use : List.of(row.use(), (Recorder used) -> used.assertLinearizable(row.name()))) {
+            Consumer<Recorder> asserted = used -> used.assertLinearizable(row.name());
+            for (Consumer<Recorder> use : List.of(row.use(), asserted)) {
                 String words = thrown(Recorder.Mistake.class, () -> use.accept(recorder)).getMessage();
                 expect(words.contains(row.words()), row.name() + ": " + words);
             }
@@ -144,7 +151,8 @@ final class RecorderTest {
     static void evidence() {
         Recorder recorder = new Recorder().keepIn(folder);
         recorder.client("one").write("x", value -> {});
-        Throwable little = thrown(Recorder.NotLinearizable.class, () -> recorder.assertLinearizable("little"));
+        Throwable little = thrown(
+                Recorder.NotLinearizable.class, () -> recorder.assertLinearizable("little"));
         expect(little.getMessage().contains("no read was completed"), little.getMessage());
         recorder.client("one").read("x", () -> 1);
         recorder.assertLinearizable("little");
@@ -153,16 +161,20 @@ final class RecorderTest {
         cas.assertLinearizable("a cas that was answered");
     }
 
-    /** Two cas that find no value, at once. A search of one step gives up, and one without configurations is none. */
+    /**
+     * Two cas that find no value, at once. A search of one step gives up, and one without
+     * configurations is none.
+     */
     static void unknown() {
         Recorder recorder = new Recorder().keepIn(folder);
         recorder.client("one").cas("x", null, 1, () -> recorder.client("two").cas("x", null, 1, () -> true));
         System.setProperty("regkit", "/nowhere/regkit");
-        String no = thrown(Recorder.NotLinearizable.class, () -> recorder.assertLinearizable("two")).getMessage();
+        Action asserts = () -> recorder.assertLinearizable("two");
+        String no = thrown(Recorder.NotLinearizable.class, asserts).getMessage();
         recorder.steps(1);
-        String unknown = thrown(Recorder.NotChecked.class, () -> recorder.assertLinearizable("two")).getMessage();
+        String unknown = thrown(Recorder.NotChecked.class, asserts).getMessage();
         recorder.configurations(0);
-        String refused = thrown(Recorder.NotChecked.class, () -> recorder.assertLinearizable("two")).getMessage();
+        String refused = thrown(Recorder.NotChecked.class, asserts).getMessage();
         System.clearProperty("regkit");
         expect(refused.contains("no verdict: ") && refused.contains("'0' for '--configurations"), refused);
         expect(no.contains("two.jsonl: not linearizable") && no.contains("\"kind\":\"search\""), no);
@@ -182,12 +194,16 @@ final class RecorderTest {
         Recorder recorder = new Recorder().keepIn(folder);
         recorder.client("one").read("x", () -> 7);
         System.setProperty("regkit", "/nowhere/regkit");
-        String words = thrown(Recorder.NotLinearizable.class, () -> recorder.assertLinearizable("a fault/1")).getMessage();
+        String words = thrown(
+                Recorder.NotLinearizable.class, () -> recorder.assertLinearizable("a fault/1")).getMessage();
         System.clearProperty("regkit");
-        for (String part : List.of("a_fault_1.jsonl: not linearizable", "\"kind\":\"unwritten\"", "/nowhere/regkit could not be run")) {
+        List<String> parts = List.of("a_fault_1.jsonl: not linearizable", "\"kind\":\"unwritten\"",
+                "/nowhere/regkit could not be run");
+        for (String part : parts) {
             expect(words.contains(part), words);
         }
-        expect(Files.readString(folder.resolve("a_fault_1.jsonl")).equals(text(recorder.history())), "the history is kept");
+        expect(Files.readString(folder.resolve("a_fault_1.jsonl")).equals(text(recorder.history())),
+                "the history is kept");
     }
 
     /** The words on any history are those of regkit: this one says its arguments. */
@@ -210,7 +226,8 @@ final class RecorderTest {
 
     static void noVerdict() {
         byte[] none = "[]\n".getBytes(StandardCharsets.UTF_8);
-        expect(thrown(Recorder.NotChecked.class, () -> Recorder.check(none)).getMessage().startsWith("line 1: "), "refused");
+        String first = thrown(Recorder.NotChecked.class, () -> Recorder.check(none)).getMessage();
+        expect(first.startsWith("line 1: "), "refused");
         System.setProperty("regsearch", "/nowhere/regsearch");
         String refused = thrown(Recorder.NotChecked.class, () -> Recorder.check(none)).getMessage();
         System.clearProperty("regsearch");
@@ -248,9 +265,10 @@ final class RecorderTest {
     public static void main(String[] none) throws Exception {
         folder = Files.createTempDirectory("regcheck-");
         Map<String, Action> tests = Map.of("lines", RecorderTest::lines, "mistakes", RecorderTest::mistakes,
-                "threads", RecorderTest::threads, "evidence", RecorderTest::evidence, "unknown", RecorderTest::unknown,
-                "valuesAfter", RecorderTest::valuesAfter, "faultWithoutRegkit", RecorderTest::faultWithoutRegkit,
-                "words", RecorderTest::words, "noVerdict", RecorderTest::noVerdict);
+                "threads", RecorderTest::threads, "evidence", RecorderTest::evidence,
+                "unknown", RecorderTest::unknown, "valuesAfter", RecorderTest::valuesAfter,
+                "faultWithoutRegkit", RecorderTest::faultWithoutRegkit, "words", RecorderTest::words,
+                "noVerdict", RecorderTest::noVerdict);
         int failed = 0;
         for (Map.Entry<String, Action> test : tests.entrySet()) {
             try {

@@ -4,15 +4,17 @@ import java.util.concurrent.atomic.AtomicLong;
 
 import regcheck.Recorder;
 
-/** Runs toy stores whose events are the same in each language. tests/languages compares what is said of them. */
+/**
+ * Runs toy stores whose events are the same in each language. tests/languages compares what is said of them.
+ */
 final class Toy {
     interface Store {
         void record(Recorder recorder, boolean right);
     }
 
     /**
-     * Records one run of a store, and prints the verdict in words. The first word of the command line says which store:
-     * faulty or right, or, for the right one and a search that soon gives up, bounded.
+     * Records one run of a store, and prints the verdict in words. The first word of the command line says
+     * which store: faulty or right, or, for the right one and a search that soon gives up, bounded.
      */
     static void run(String name, String[] words, Store store) {
         AtomicLong time = new AtomicLong();

@@ -5,7 +5,8 @@
  *     node tests/cache.cjs faulty
  *     node tests/cache.cjs right
  *
- * The faulty one keeps a value that it read before a write. tests/languages compares what all languages say of it.
+ * The faulty one keeps a value that it read before a write. tests/languages compares what all
+ * languages say of it.
  */
 const { run } = require("./toy.cjs");
 
@@ -36,7 +37,8 @@ class Cache {
 /** The writer writes again while the reader's answer from the database is on its way. */
 async function record(recorder, counts) {
   const store = new Cache(counts);
-  const [writer, reader, late] = ["thread-1", "thread-2", "thread-3"].map((name) => recorder.client(name, "cache"));
+  const names = ["thread-1", "thread-2", "thread-3"];
+  const [writer, reader, late] = names.map((name) => recorder.client(name, "cache"));
   const [set, get] = [(value) => store.set("x", value), () => store.get("x")];
   await writer.write("x", set);
   store.loaded = () => writer.write("x", set);

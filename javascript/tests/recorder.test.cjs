@@ -100,9 +100,11 @@ test("a wrong use is a mistake, also for who doesn't look", async (t) => {
     ["a text", (client) => client.read("x", () => "7a"), 'the store gave "7a"'],
     ["a text to write", (client) => client.writeValue("x", "7", () => {}), '"7" can\'t be written'],
     ["nothing to swap for", (client) => client.cas("x", 1, null, () => true), "null can't be written"],
-    ["nobody knows what", (client) => client.cas("x", undefined, 1, () => true), "undefined can't be written"],
+    ["nobody knows what", (client) => client.cas("x", undefined, 1, () => true),
+      "undefined can't be written"],
     ["a rounded cas", (client) => client.cas("x", 1, 2 ** 53, () => true), "as a BigInt"],
-    ["no outcome", (client) => client.cas("x", 1, 2, () => "OK"), 'the store gave "OK", but a cas took place'],
+    ["no outcome", (client) => client.cas("x", 1, 2, () => "OK"),
+      'the store gave "OK", but a cas took place'],
     ["a truth", (client) => client.read("x", () => true), "the store gave true"],
   ];
   for (const [name, use, words] of rows) {
@@ -124,7 +126,8 @@ test("tasks at once, under the machine's clock", async () => {
   const use = async (number) => {
     const client = recorder.client(`worker-${number}`);
     for (let round = 0; round < 25; round++) {
-      await client.write(`x${number % 2}`, async (value) => (await pause(), store.set(`x${number % 2}`, `${value}`)));
+      const register = `x${number % 2}`;
+      await client.write(register, async (value) => (await pause(), store.set(register, `${value}`)));
       await client.read("x0", async () => (await pause(), store.get("x0")));
     }
   };
@@ -150,7 +153,8 @@ test("two cas that find no value, at once; a search of one step gives up", async
   const recorder = new Recorder({ folder });
   const [one, two] = [recorder.client(), recorder.client()];
   await one.cas("x", null, 1, () => two.cas("x", null, 1, () => true));
-  const told = (kind, ...words) => (error) => error instanceof kind && words.every((said) => error.message.includes(said));
+  const told = (kind, ...words) => (error) => error instanceof kind
+    && words.every((said) => error.message.includes(said));
   withProgram("REGKIT", "/nowhere/regkit", () => {
     const no = told(NotLinearizable, "two.jsonl: not linearizable", '"kind":"search"');
     assert.throws(() => recorder.assertLinearizable("two"), no);
@@ -166,17 +170,22 @@ test("two cas that find no value, at once; a search of one step gives up", async
 test("a fault is told without regkit too", async () => {
   const recorder = new Recorder({ folder });
   await recorder.client().read("x", () => 7);
-  const told = (error) => error instanceof NotLinearizable && ["a_fault_1.jsonl: not linearizable", '"kind":"unwritten"',
-    "/nowhere/regkit could not be run"].every((words) => error.message.includes(words));
-  withProgram("REGKIT", "/nowhere/regkit", () => assert.throws(() => recorder.assertLinearizable("a fault/1"), told));
+  const want = ["a_fault_1.jsonl: not linearizable", '"kind":"unwritten"',
+    "/nowhere/regkit could not be run"];
+  const told = (error) => error instanceof NotLinearizable
+    && want.every((words) => error.message.includes(words));
+  withProgram("REGKIT", "/nowhere/regkit",
+    () => assert.throws(() => recorder.assertLinearizable("a fault/1"), told));
   assert.strictEqual(fs.readFileSync(path.join(folder, "a_fault_1.jsonl"), "utf8"), recorder.history());
 });
 
 test("the checker's own words say why there is no verdict", () => {
-  assert.throws(() => check("[]\n"), (error) => error instanceof NotChecked && error.message.startsWith("line 1: "));
+  assert.throws(() => check("[]\n"),
+    (error) => error instanceof NotChecked && error.message.startsWith("line 1: "));
   withProgram("REGSEARCH", "/nowhere/regsearch", () => assert.throws(() => check("[]\n"),
     /\/nowhere\/regsearch could not be run/));
-  withProgram("REGCHECK", "/nowhere/regcheck", () => assert.throws(() => check(""), /\/nowhere\/regcheck could not be run/));
+  withProgram("REGCHECK", "/nowhere/regcheck", () => assert.throws(() => check(""),
+    /\/nowhere\/regcheck could not be run/));
 });
 
 test("the words on any history are those of regkit", async () => {
@@ -185,12 +194,15 @@ test("the words on any history are those of regkit", async () => {
   await one.cas("x", null, 1, () => two.cas("x", null, 1, () => true));
   const history = recorder.history();
   const regkit = path.join(folder, "regkit");
-  fs.writeFileSync(regkit, '#!/bin/sh\necho "$2: $*"\ngrep -q gave_up "$3" && exit 6\nexit 1\n', { mode: 0o755 });
+  fs.writeFileSync(regkit, '#!/bin/sh\necho "$2: $*"\ngrep -q gave_up "$3" && exit 6\nexit 1\n',
+    { mode: 0o755 });
   withProgram("REGKIT", regkit, () => {
-    assert.match(words(history, check(history)), /^explain \S+history.jsonl \S+history.report --color never$/);
+    assert.match(words(history, check(history)),
+      /^explain \S+history.jsonl \S+history.report --color never$/);
     const few = { steps: 1 };
     assert.match(words(history, check(history, few), few), /^explain \S+ \S+ --color never --steps 1$/);
     assert.strictEqual(words("", check("")), "");
   });
-  withProgram("REGKIT", "/nowhere/regkit", () => assert.throws(() => words(history, check(history)), NotChecked));
+  withProgram("REGKIT", "/nowhere/regkit",
+    () => assert.throws(() => words(history, check(history)), NotChecked));
 });

@@ -1,10 +1,12 @@
 "use strict";
-/** Runs toy stores whose events are the same in each language. tests/languages compares what is said of them. */
+/**
+ * Runs toy stores whose events are the same in each language. tests/languages compares what is said of them.
+ */
 const { Recorder } = require("../regcheck.cjs");
 
 /**
- * Records one run of a store, and prints the verdict in words. The first word of the command line says which store: faulty
- * or right, or, for the right one and a search that soon gives up, bounded.
+ * Records one run of a store, and prints the verdict in words. The first word of the command line says which
+ * store: faulty or right, or, for the right one and a search that soon gives up, bounded.
  */
 async function run(name, record) {
   let time = 0n;

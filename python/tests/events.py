@@ -100,7 +100,8 @@ def random_history(seed: int, events: int, processes: int = 3, fails: bool = Tru
 
 
 def cas(process: int, asked: Optional[int], given: int, register: str = "x") -> Line:
-    return {"process": process, "event": "call", "op": "cas", "register": register, "from": asked, "to": given}
+    return {"process": process, "event": "call", "op": "cas", "register": register, "from": asked,
+            "to": given}
 
 
 def took(process: int, place: bool) -> Line:

@@ -91,15 +91,17 @@ class Words(unittest.TestCase):
         return ran.out
 
     def test_when_they_say_at_least(self) -> None:
-        """Only if the beginning has the overlaps that are asked for, and not if all is asked for. If it has too few
-        reads, the report says how many there are at least: all reads but as many as operations are pending."""
+        """Only if the beginning has the overlaps that are asked for, and not if all is asked for. If it
+        has too few reads, the report says how many there are at least: all reads but as many as
+        operations are pending."""
         least = "; at least 3 completed reads, at least 1 overlaps a write\n"
         whole = "; 5 completed reads, 2 overlap a write\n"
         table: List[Tuple[List[Line], List[str], str]] = [
             (BUSY, [], least),
             (BUSY, ["--least-reads", "3", "--least-overlaps", "1"], least),
             (BUSY, ["--least-reads", "4"], "; at least 5 completed reads, at least 1 overlaps a write\n"),
-            ([*BUSY, read(3)], ["--least-reads", "5"], "; at least 5 completed reads, at least 1 overlaps a write\n"),
+            ([*BUSY, read(3)], ["--least-reads", "5"],
+             "; at least 5 completed reads, at least 1 overlaps a write\n"),
             ([*BUSY, write(3, 9)], ["--least-reads", "5"], "; 5 completed reads, 3 overlap a write\n"),
             (BUSY, ["--least-overlaps", "2"], whole),
             (BUSY, ["--count-all"], whole),
@@ -133,8 +135,8 @@ class Words(unittest.TestCase):
 
     def test_a_fault_behind_the_beginning(self) -> None:
         out = self.said(text(*BUSY, read(2), gave(2, None)))
-        self.assertIn(": not linearizable: 1 faulty register; 5 operations on 1 register; at least 3 completed "
-                      "reads, at least 1 overlaps a write\n", out)
+        self.assertIn(": not linearizable: 1 faulty register; 5 operations on 1 register; at least 3 "
+                      "completed reads, at least 1 overlaps a write\n", out)
 
 
 if __name__ == "__main__":

@@ -68,7 +68,8 @@ began, so 5 comes before null
 """)
 
     def test_the_examples(self) -> None:
-        atomic = {"atomic", "crashed_client", "dropped_write", "merged_order", "pending_write", "retried_write"}
+        atomic = {"atomic", "crashed_client", "dropped_write", "merged_order", "pending_write",
+                  "retried_write"}
         too_little = {"refused", "failed_value_again"}  # regcheck refuses them, and regsearch takes them
         for path in sorted(EXAMPLES.glob("*.jsonl")):
             status = 0 if path.stem in atomic else 5 if path.stem in too_little else 1
@@ -133,7 +134,8 @@ class SeveralFiles(Files):
         self.assertEqual([line.split(": ")[1] for line in ran.out.splitlines() if line.startswith("/")],
                          ["linearizable", "too little evidence", "not linearizable"])
         self.assertEqual(ran.err.splitlines()[0], f"{self.folder}/none: failed: No such file or directory")
-        self.assertIn(f"{self.folder}/twice: refused: line 3: reply without an open call", ran.err.splitlines()[1])
+        self.assertIn(f"{self.folder}/twice: refused: line 3: reply without an open call",
+                      ran.err.splitlines()[1])
 
     def test_standard_input_once(self) -> None:
         self.assertEqual(run("check", "-", given=text(*FINE)).out.split(":")[0], "standard input")
@@ -434,8 +436,10 @@ exit 1"""
         self.assertTrue(json.loads(run("check", "--verify", "--json", given=text(*FINE)).out)["verified"])
 
     def test_verify_takes_what_the_checker_was_given(self) -> None:
-        failed = [b'{"process":1,"event":"call","op":"write","register":"y","value":5}', b'{"process":1,"event":"fail"}']
-        read = [b'{"process":1,"event":"call","op":"read","register":"x"}', b'{"process":1,"event":"reply","value":null}']
+        failed = [b'{"process":1,"event":"call","op":"write","register":"y","value":5}',
+                  b'{"process":1,"event":"fail"}']
+        read = [b'{"process":1,"event":"call","op":"read","register":"x"}',
+                b'{"process":1,"event":"reply","value":null}']
         self.assertEqual(run("check", "--verify", given=b"\n".join([*failed, *read])).status, 0)
         self.assertEqual(run("check", "--verify", given=b'{"process":1,"event":"info"}\n').status, 2)
 

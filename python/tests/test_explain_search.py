@@ -47,7 +47,8 @@ def values_behind(order: List[Kept], call: Operation) -> List[int]:
     trace = [0]
     for each in order:
         trace.append(each.call.line if each.call.writes else trace[-1])
-    ended = [place for place, each in enumerate(order, 1) if each.replied and (each.call.end_line or 0) < call.line]
+    ended = [place for place, each in enumerate(order, 1)
+             if each.replied and (each.call.end_line or 0) < call.line]
     return trace[max(ended, default=0):]
 
 
@@ -61,15 +62,17 @@ def faulty_reply(events: List[Line]) -> Optional[int]:
 class Steps(unittest.TestCase):
     def test_what_was_called_before(self) -> None:
         """A write that fails later is not there, nor is what replied later and changed nothing."""
-        events = [write(1, 5), reply(1), write(2, 6), write(3, 7), read(4), cas(5, 5, 6), cas(6, 5, 8), read(7),
-                  gave(7, 5), fail(3), reply(2), gave(4, 5), took(5, False), crash(6), write(8, 9)]
+        events = [write(1, 5), reply(1), write(2, 6), write(3, 7), read(4), cas(5, 5, 6),
+                  cas(6, 5, 8), read(7), gave(7, 5), fail(3), reply(2), gave(4, 5), took(5, False), crash(6),
+                  write(8, 9)]
         kept = until(calls_of(events), 9)
         self.assertEqual([(each.call.line, each.replied) for each in kept],
                          [(1, True), (3, False), (7, False), (8, True)])
 
     def test_its_history(self) -> None:
         """Lines keep their numbers, and each operation has a process of its own."""
-        events = [write(1, 5), reply(1), cas(1, 5, 6), took(1, False), read(1), gave(1, None), cas(1, None, 7)]
+        events = [write(1, 5), reply(1), cas(1, 5, 6), took(1, False), read(1), gave(1, None),
+                  cas(1, None, 7)]
         kept = [Kept(call, call.line != 1) for call in calls_of(events)]
         made = history_of(kept)
         again = read_history(made)
@@ -118,8 +121,8 @@ class Steps(unittest.TestCase):
 
     def test_fences(self) -> None:
         """Pending calls may overlap a fence, and stay."""
-        events = [write(9, 8), write(1, 5), reply(1), write(1, 6), read(2), reply(1), gave(2, 6), write(1, 7), write(3, 8),
-                  reply(1), write(1, 4), reply(1), read(2), gave(2, 8)]
+        events = [write(9, 8), write(1, 5), reply(1), write(1, 6), read(2), reply(1), gave(2, 6), write(1, 7),
+                  write(3, 8), reply(1), write(1, 4), reply(1), read(2), gave(2, 8)]
         kept = until(calls_of(events), len(events) + 1)
         self.assertEqual([call.line for call in fences(kept)], [2, 8, 11])
         self.assertEqual(lines(since(kept, fences(kept)[1])), [1, 8, 9, 11, 13])
@@ -249,25 +252,30 @@ class Told(Files):
         said = self.explained(TWO_WINNERS)
         for words in (
                 "standard input: not linearizable: 1 of 1 register", 'Register "x" is not linearizable',
-                "The reply of line 6, of the cas from 0 to 2 that took place, by process 2 (lines 4 to 6): whatever",
-                "These 3 of the 3 operations called before line 6 have no order by themselves: the write of 0",
+                "The reply of line 6, of the cas from 0 to 2 that took place, by process 2 (lines 4 to 6): "
+                "whatever",
+                "These 3 of the 3 operations called before line 6 have no order by themselves: the write "
+                "of 0",
                 "That holds even if nothing had answered the write of 0 by process 1 (lines 1 to 2).",
-                "From line 4 to line 6 the value can only be 0, by the write of 0 by process 1 (lines 1 to 2); or 1, by",
-                "It could have taken effect on 0, by the write of 0 by process 1 (lines 1 to 2); but no order then gives "
-                "the reply of line 5, of the cas from 0 to 1 that took place",
+                "From line 4 to line 6 the value can only be 0, by the write of 0 by process 1 (lines 1 to 2); "
+                "or 1, by",
+                "It could have taken effect on 0, by the write of 0 by process 1 (lines 1 to 2); but no order "
+                "then gives the reply of line 5, of the cas from 0 to 1 that took place",
                 "4 to 6 process 2 cas from 0 to 2, true X [=======]", "X no order gives its reply"):
             self.assertIn(words, said)
 
     def test_a_read(self) -> None:
         said = self.explained([read(3), gave(3, None), *STALE, read(3)])
-        for words in ("These 2 of the 5 operations called before line 10", "the value can only be 5, by the write of 5",
-                      "What was answered before line 7 isn't needed, since the write of 5 by process 1 (lines 7 to 8) "
-                      "hides it.", "What wrote 6 before is hidden by the write of 5 by process 1 (lines 7 to 8)."):
+        for words in ("These 2 of the 5 operations called before line 10",
+                      "the value can only be 5, by the write of 5",
+                      "What was answered before line 7 isn't needed, since the write of 5 by process 1 "
+                      "(lines 7 to 8) hides it.",
+                      "What wrote 6 before is hidden by the write of 5 by process 1 (lines 7 to 8)."):
             self.assertIn(words, said)
         overlapped = [write(1, 6), write(3, 5), reply(1), reply(3), read(2), gave(2, 5), read(2), gave(2, 6)]
         said = self.explained([*overlapped, write(1, 5)])
-        self.assertIn("The last write of 6 that was answered is the write of 6 by process 1 (lines 1 to 3), and its value "
-                      "was overwritten by then.", said)
+        self.assertIn("The last write of 6 that was answered is the write of 6 by process 1 (lines 1 to 3), "
+                      "and its value was overwritten by then.", said)
 
     def test_a_write_that_comes_later(self) -> None:
         said = self.explained([read(1), gave(1, 5), write(2, 5), reply(2), write(2, 5)])
@@ -276,8 +284,8 @@ class Told(Files):
 
     def test_an_open_cas(self) -> None:
         said = self.explained([write(1, 1), reply(1), cas(2, 3, 5), read(1), gave(1, 5), write(1, 3)])
-        self.assertIn("the cas from 3 to 5 by process 2 (line 3, never answered) was open, but in none of these orders "
-                      "it takes effect from line 4 on", said.lower())
+        self.assertIn("the cas from 3 to 5 by process 2 (line 3, never answered) was open, but in none of "
+                      "these orders it takes effect from line 4 on", said.lower())
 
     def test_a_miss(self) -> None:
         said = self.explained([cas(1, None, 5), took(1, False)])
@@ -296,7 +304,8 @@ class Told(Files):
         written, history = self.folder / "r", self.folder / "h"
         history.write_bytes(text(*TWO_WINNERS))
         written.write_bytes(decide(text(*TWO_WINNERS)).report)
-        self.assertIn("These 3 of the 3 operations", " ".join(run("explain", str(history), str(written)).out.split()))
+        self.assertIn("These 3 of the 3 operations",
+                      " ".join(run("explain", str(history), str(written)).out.split()))
         with mock.patch("regkit.explain.shrinking.find_program", lambda name: None):
             ran = run("explain", str(history), str(written))
         self.assertEqual(ran.status, 1)
@@ -326,16 +335,19 @@ class Told(Files):
 
     def test_yes_and_unknown(self) -> None:
         ran = run("explain", "-", given=text(*FINE))
-        self.assertEqual((ran.status, ran.out), (0, "standard input: linearizable: 4 operations, nothing to explain\n"))
+        self.assertEqual((ran.status, ran.out),
+                         (0, "standard input: linearizable: 4 operations, nothing to explain\n"))
         ran = run("explain", "--configurations", "1", "-", given=text(*NULL_TWICE))
         self.assertEqual(ran.status, 6)
-        self.assertIn('standard input: unknown: the search gave up on 1 register, "x"\n  raise `--conf', ran.out)
+        self.assertIn('standard input: unknown: the search gave up on 1 register, "x"\n  raise `--conf',
+                      ran.out)
 
     def test_one_register_of_several(self) -> None:
         other = [{**event, "register": "y"} for event in FINE]
         events = [*other, *NULL_TWICE]
         ran = run("explain", "--configurations", "1", "--register", "y", "-", given=text(*events))
-        self.assertEqual((ran.status, ran.out), (0, 'standard input: register "y" is linearizable, nothing to explain\n'))
+        self.assertEqual((ran.status, ran.out),
+                         (0, 'standard input: register "y" is linearizable, nothing to explain\n'))
         ran = run("explain", "--configurations", "1", "--register", "x", "-", given=text(*events))
         self.assertEqual(ran.status, 6)
 

@@ -1,4 +1,5 @@
-"""The checker as a library in this process: the same answers as the program's, and when which of them is asked."""
+"""The checker as a library in this process: the same answers as the program's, and when which of
+them is asked."""
 import ctypes
 import os
 import pathlib
@@ -23,8 +24,9 @@ BUILT = os.environ.get("REGCHECK_LIBRARY") or str(ROOT / "bin" / "libregcheck.so
 
 # A history that is refused for each reason about a line, by number; 14 needs a million lines.
 REFUSED: Dict[int, bytes] = {
-    1: b'{"process":1' + b" " * 65536 + b"}", 2: b"{", 3: b"[]", 4: b'{"process":-1}', 5: b'{"process":1,"event":"end"}',
-    6: b'{"process":1,"event":"call","op":"add"}', 7: b'{"process":1,"event":"call","op":"read","register":""}',
+    1: b'{"process":1' + b" " * 65536 + b"}", 2: b"{", 3: b"[]", 4: b'{"process":-1}',
+    5: b'{"process":1,"event":"end"}', 6: b'{"process":1,"event":"call","op":"add"}',
+    7: b'{"process":1,"event":"call","op":"read","register":""}',
     8: b'{"process":1,"event":"call","op":"read","register":"x","value":1}', 9: text(read(1), read(1)),
     10: text(reply(1)), 11: text(write(1, 5), gave(1, 6)), 12: text(read(1), reply(1)),
     13: text(write(1, 5), reply(1), write(2, 5)), 19: text(crash(1), read(1)),
@@ -104,7 +106,8 @@ class Answers(unittest.TestCase):
         for path in EXAMPLES:
             history = path.read_bytes()
             told, want = library.check(history), run_checker(history, program=program)
-            self.assertEqual((told.status, told.report, told.refusal), (want.status, want.report, want.refusal), path)
+            self.assertEqual((told.status, told.report, told.refusal),
+                             (want.status, want.report, want.refusal), path)
 
     def test_refusals(self) -> None:
         library = Library(BUILT)
@@ -125,13 +128,15 @@ class Answers(unittest.TestCase):
         options = [word for name, bound in bounds.items() for word in (f"--{name}", str(bound))]
         told = Library(BUILT).search(history, **bounds)
         want = run_checker(history, options, program=REGSEARCH)
-        self.assertEqual((told.status, told.report, told.refusal), (want.status, want.report, want.refusal), history)
+        self.assertEqual((told.status, told.report, told.refusal),
+                         (want.status, want.report, want.refusal), history)
         return told.status
 
     @unittest.skipUnless(REGSEARCH, "no regsearch")
     def test_search(self) -> None:
         examples = [path.read_bytes() for path in SEARCH_EXAMPLES]
-        statuses = {self.searched(history) for history in [*examples, *REFUSED.values(), *SEARCH_REFUSED.values()]}
+        statuses = {self.searched(history)
+                    for history in [*examples, *REFUSED.values(), *SEARCH_REFUSED.values()]}
         self.assertEqual(statuses, {0, 1, 2})
 
     @unittest.skipUnless(REGSEARCH, "no regsearch")

@@ -37,7 +37,8 @@ class Wheel(unittest.TestCase):
 
     def made(self, name: str) -> pathlib.Path:
         """The wheel, made in a folder of that name."""
-        packed("make_wheel", *(self.folder / program for program in PROGRAMS), self.folder / FILE, self.folder / name)
+        packed("make_wheel", *(self.folder / program for program in PROGRAMS), self.folder / FILE,
+               self.folder / name)
         wheel, = (self.folder / name).iterdir()
         return wheel
 
@@ -69,7 +70,8 @@ class Wheel(unittest.TestCase):
                 wanted = base64.urlsafe_b64encode(hashlib.sha256(data).digest()).decode().rstrip("=")
                 self.assertEqual((digest, size), (f"sha256={wanted}", str(len(data))))
             runs = [name for name in names if archive.getinfo(name).external_attr >> 16 & 0o100]
-        self.assertEqual(runs, [f"regkit/{FILE}", *(f"{NAME}.data/scripts/{program}" for program in PROGRAMS)])
+        self.assertEqual(runs,
+                         [f"regkit/{FILE}", *(f"{NAME}.data/scripts/{program}" for program in PROGRAMS)])
         python = ROOT / "python"
         sources = {path.relative_to(python).as_posix() for path in python.glob("regkit/**/*.py")}
         self.assertEqual({name for name in names if name.endswith(".py")}, sources)

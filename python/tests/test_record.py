@@ -224,7 +224,8 @@ class ValuesOfTheCaller(unittest.TestCase):
                 lambda recorder: recorder.cas("x", 1, value)]
             for call in calls:
                 recorder = Recorder()
-                with self.subTest(value), self.assertRaisesRegex(RecordingError, "can't be written: a value is a whole"):
+                words = "can't be written: a value is a whole"
+                with self.subTest(value), self.assertRaisesRegex(RecordingError, words):
                     call(recorder)
                 self.assertEqual((lines(recorder), len(recorder.mistakes)), ([], 1))
         nothing: Any = None
@@ -455,13 +456,15 @@ class Misuse(unittest.TestCase):
         wrong: List[Any] = [1, None, "OK"]
         for ok in wrong:
             recorder = Recorder()
-            with self.subTest(ok), self.assertRaisesRegex(RecordingError, "`cas.ok` is True if it took place"):
+            words = "`cas.ok` is True if it took place"
+            with self.subTest(ok), self.assertRaisesRegex(RecordingError, words):
                 with recorder.cas("x", None, 1) as cas:
                     cas.ok = ok
             self.check(recorder, 1)
         recorder = Recorder()
         cas = recorder.cas("x", None, 1)
-        with self.assertRaisesRegex(RecordingError, r"is used outside its block: `with client.cas\('x', from_, to\) as cas"):
+        with self.assertRaisesRegex(RecordingError,
+                                    r"is used outside its block: `with client.cas\('x', from_, to\) as cas"):
             cas.ok = True
         self.check(recorder, 0)
 

@@ -114,7 +114,8 @@ class WhichProgram(Files):
             with mock.patch.dict(os.environ, {"REGSEARCH": str(path)}):
                 ran = run("check", given=text(*STALE))
             self.assertEqual(ran.status, 4)
-            self.assertIn(f"the answer of regsearch is wrong: its exit status is {status}, and by its report 1", ran.err)
+            self.assertIn(f"the answer of regsearch is wrong: its exit status is {status}, and by its "
+                          "report 1", ran.err)
 
     def test_the_options_are_those_of_the_search(self) -> None:
         self.assertEqual(decide(text(*NULL_TWICE), ["--configurations", "1"]).status, 6)
@@ -145,18 +146,19 @@ class Verdicts(Files):
         ran = run("check", given=text(*TWO_WINNERS))
         self.assertEqual((ran.status, ran.err), (1, ""))
         self.assertEqual(ran.out.splitlines()[1:], [
-            '  register "x": the reply of line 6, of the cas from 0 to 2 that took place, by process 2 (lines 4 to '
-            '6): whatever order the operations before it took effect in, none gives it; it needs a value of 0',
-            "    until then there was an order, and at the end of one the value is 1, by the cas from 0 to 1 that "
-            "took place, by process 1 (lines 3 to 5)",
+            '  register "x": the reply of line 6, of the cas from 0 to 2 that took place, by process 2 '
+            '(lines 4 to 6): whatever order the operations before it took effect in, none gives it; it needs '
+            'a value of 0',
+            "    until then there was an order, and at the end of one the value is 1, by the cas from 0 to 1 "
+            "that took place, by process 1 (lines 3 to 5)",
             "    no other call of this register was open then"])
 
     def test_open_calls_are_named(self) -> None:
-        events = [*AGAIN[:6], write(3, 7), crash(3), cas(4, 9, 8), read(5), *(write(n, 7) for n in range(10, 16)),
-                  read(2), gave(2, 6), reply(10)]
+        events = [*AGAIN[:6], write(3, 7), crash(3), cas(4, 9, 8), read(5),
+                  *(write(n, 7) for n in range(10, 16)), read(2), gave(2, 6), reply(10)]
         ran = run("check", given=text(*events))
-        self.assertIn("open then: the write of 7 by process 3 (line 7, open when its process crashed at line 8)",
-                      ran.out)
+        self.assertIn("open then: the write of 7 by process 3 (line 7, open when its process crashed at "
+                      "line 8)", ran.out)
         self.assertIn("open then: the cas from 9 to 8 by process 4 (line 9, never answered)", ran.out)
         self.assertIn("and 3 other open calls", ran.out)
 
@@ -168,9 +170,12 @@ class Verdicts(Files):
     def test_unwritten(self) -> None:
         table: List[Any] = [
             ([cas(1, 7, 5), took(1, True)], "found 7, which nobody wrote to this register"),
-            ([write(1, 5), reply(1), write(1, 5), reply(1), read(1), gave(1, 7)], "gave 7, which nobody wrote"),
-            ([cas(1, None, 7), fail(1), read(1), gave(1, 7)], "which only a call that failed would have written"),
-            ([cas(1, 8, 7), took(1, False), read(1), gave(1, 7)], "which only a call that missed would have written")]
+            ([write(1, 5), reply(1), write(1, 5), reply(1), read(1), gave(1, 7)],
+             "gave 7, which nobody wrote"),
+            ([cas(1, None, 7), fail(1), read(1), gave(1, 7)],
+             "which only a call that failed would have written"),
+            ([cas(1, 8, 7), took(1, False), read(1), gave(1, 7)],
+             "which only a call that missed would have written")]
         for events, words in table:
             with self.subTest(words):
                 ran = run("check", given=text(*events))
@@ -189,7 +194,8 @@ class Verdicts(Files):
         call: Line = cas(1, 1, 2)
         table: List[Any] = [
             ([{**call, "to": None}], "line 1: from or to does not fit the event"),
-            ([{key: call[key] for key in call if key != "from"}], "line 1: from or to does not fit the event"),
+            ([{key: call[key] for key in call if key != "from"}],
+             "line 1: from or to does not fit the event"),
             ([call, reply(1)], "line 2: a cas's reply has no ok, true or false"),
             ([call, {**took(1, True), "value": 3}], "line 2: reply disagrees with its call"),
             ([call, {"process": 2, "event": "call", "op": "add", "register": "x"}],
@@ -217,20 +223,22 @@ class Unknown(Files):
     def test_beside_a_no(self) -> None:
         """A no of another register is a no of the history."""
         other = [{**event, "register": "y"} for event in STALE]
-        said = json.loads(run("check", "--json", "--configurations", "1", given=text(*NULL_TWICE, *other)).out)
+        said = json.loads(run("check", "--json", "--configurations", "1",
+                              given=text(*NULL_TWICE, *other)).out)
         self.assertEqual((said["status"], said["unknown_registers"], said["faulty_registers"]), (1, ["x"], 1))
 
     def test_beside_a_yes(self) -> None:
         other = [{**event, "register": "y"} for event in FINE]
-        said = json.loads(run("check", "--json", "--configurations", "1", given=text(*other, *NULL_TWICE)).out)
+        said = json.loads(run("check", "--json", "--configurations", "1",
+                              given=text(*other, *NULL_TWICE)).out)
         self.assertEqual((said["status"], said["verdict"], said["faults"]), (6, "unknown", []))
         self.assertIn("the search gave up on 1 of 2 registers", said["reason"])
 
     def test_in_ci(self) -> None:
         path = self.folder / "h.jsonl"
         path.write_bytes(text(*NULL_TWICE))
-        ran = run("check", "--quiet", "--annotate", "--junit", str(self.folder / "j"), "--configurations", "1",
-                  str(path))
+        ran = run("check", "--quiet", "--annotate", "--junit", str(self.folder / "j"),
+                  "--configurations", "1", str(path))
         self.assertEqual(ran.status, 6)
         self.assertIn("::error file=", ran.out)
         self.assertIn("title=regkit%3A unknown::the search gave up on 1 of 1 register", ran.out)
@@ -268,7 +276,8 @@ class Assertions(Files):
             assert_atomic(text(*TWO_WINNERS))
         with self.assertRaises(TooLittleEvidence):
             assert_atomic(text(*FINE[:-2]))
-        with without_search(), self.assertRaisesRegex(NotChecked, "line 5: value already .*; regsearch would decide"):
+        words = "line 5: value already .*; regsearch would decide"
+        with without_search(), self.assertRaisesRegex(NotChecked, words):
             assert_atomic(text(*FINE))
 
     def test_bounds(self) -> None:
@@ -298,9 +307,11 @@ class Assertions(Files):
 class Drawings(Files):
     def test_a_page_of_each_answer(self) -> None:
         path, page = self.folder / "h.jsonl", self.folder / "h.html"
-        table = [(FINE, "Linearizable", False), (TWO_WINNERS, "The reply of line 6, of the cas from 0 to 2", True),
+        table = [(FINE, "Linearizable", False),
+                 (TWO_WINNERS, "The reply of line 6, of the cas from 0 to 2", True),
                  ([cas(1, 7, 5), took(1, True)], "found 7, which nobody wrote", True),
-                 ([write(3, 5), *TWO_WINNERS, write(2, 7)], "The reply of line 7, of the cas from 0 to 2", True)]
+                 ([write(3, 5), *TWO_WINNERS, write(2, 7)],
+                  "The reply of line 7, of the cas from 0 to 2", True)]
         for events, words, marked in table:
             path.write_bytes(text(*events))
             ran = run("draw", str(path), "-o", str(page))
@@ -331,7 +342,8 @@ class Drawings(Files):
                 self.assertEqual((ran.status, ran.err), (0, ""))
                 self.assertIn(f'">{verdict}</td>', (self.folder / "index.html").read_text())
                 self.assertIn(f"<title>{verdict.capitalize()}: ", picture.read_text())
-                self.assertEqual(f"raise <code>{bound}</code>; or" in (self.folder / "index.html").read_text(),
+                page = (self.folder / "index.html").read_text()
+                self.assertEqual(f"raise <code>{bound}</code>; or" in page,
                                  verdict == "unknown")
             picture.unlink()
 

@@ -36,7 +36,8 @@ def recorded(steps: List[Step], recorder: Optional[Recorder] = None) -> Recorder
 
 
 class Register:
-    """A register that compares and swaps in two steps. If it looks again, it swaps only what it still finds."""
+    """A register that compares and swaps in two steps. If it looks again, it swaps only what
+    it still finds."""
 
     def __init__(self, looks_again: bool) -> None:
         self.looks_again = looks_again

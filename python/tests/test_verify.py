@@ -410,7 +410,8 @@ class EarlyAnswers(unittest.TestCase):
         summary = '{"atomic":"yes","operations":0,"registers":0}'
         found = verify.verify(b"", report(summary))
         self.assertEqual((found.atomic, found.early, found.registers), (True, True, 0))
-        self.assertIn("there are 0 registers", self.wrong("", '{"atomic":"yes","operations":0,"registers":1}'))
+        self.assertIn("there are 0 registers",
+                      self.wrong("", '{"atomic":"yes","operations":0,"registers":1}'))
 
     def test_a_line_of_an_atomic_register(self) -> None:
         """Its line says nothing of the registers that have none."""

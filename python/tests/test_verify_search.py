@@ -81,7 +81,8 @@ class Honest(unittest.TestCase):
             events = random_events(seed)
             rows = answered(events)
             with self.subTest(seed):
-                self.assertEqual(verify.verify(text(*events), report(*rows)).atomic, rows[-1]["atomic"] == "yes")
+                self.assertEqual(verify.verify(text(*events), report(*rows)).atomic,
+                                 rows[-1]["atomic"] == "yes")
                 row, replies = rows[0], [n for n, event in enumerate(events, 1) if event["event"] == "reply"]
                 if row["atomic"] == "no" or not replies:
                     continue
@@ -103,12 +104,14 @@ class Honest(unittest.TestCase):
 
     def test_what_it_says(self) -> None:
         table = [(FINE, (), 0, "holds: linearizable: 4 operations on 1 register\n"),
-                 (TWO_WINNERS, (), 0, "holds: not linearizable: 3 operations on 1 register, 1 of which is not "
-                  "linearizable; 1 no searched again, in all orders; the open calls of 1 no are those listed\n"),
-                 ([cas(1, 7, 5), took(1, True)], (), 0, "holds: not linearizable: 1 operation on 1 register, 1 of "
-                  "which is not linearizable; 1 no by a value that nobody wrote\n"),
-                 (NULL_TWICE, ("--steps", "1"), 0, "holds: unknown: 3 operations on 1 register, 1 of which the "
-                  "search gave up\n")]
+                 (TWO_WINNERS, (), 0,
+                  "holds: not linearizable: 3 operations on 1 register, 1 of which is not linearizable; "
+                  "1 no searched again, in all orders; the open calls of 1 no are those listed\n"),
+                 ([cas(1, 7, 5), took(1, True)], (), 0,
+                  "holds: not linearizable: 1 operation on 1 register, 1 of which is not linearizable; "
+                  "1 no by a value that nobody wrote\n"),
+                 (NULL_TWICE, ("--steps", "1"), 0,
+                  "holds: unknown: 3 operations on 1 register, 1 of which the search gave up\n")]
         with tempfile.TemporaryDirectory() as folder:
             history, written = pathlib.Path(folder) / "h", pathlib.Path(folder) / "r"
             for events, options, status, words in table:
@@ -145,7 +148,8 @@ class Changed(unittest.TestCase):
             ("an order lacks line 7", {"order": [1, 3, 5], "points": [1, 3, 5]}),
             ("twice", {"order": [1, 3, 5, 5, 7]}), ("which doesn't belong there", {"order": [1, 2, 3, 5, 7]}),
             ("line 3 stands after line 5, which was called after its reply", {"order": [1, 5, 3, 7]}),
-            ("the point of line 7 is 7", {"points": [1, 3, 5, 6]}), ("not as many places", {"points": [1, 3, 5]}),
+            ("the point of line 7 is 7", {"points": [1, 3, 5, 6]}),
+            ("not as many places", {"points": [1, 3, 5]}),
             ("`reads` is 1", {"reads": 2}), ("`writes` is 3", {"writes": True}), ("`cas` is 0", {"cas": 1}),
             ("`pending` is 0", {"pending": 1}), ("neither yes, no nor unknown", {"atomic": True}),
             ("its keys are not", {"safe": "yes"}), ("its keys are not", {"atomic": "unknown"}),
@@ -171,7 +175,8 @@ class Changed(unittest.TestCase):
         table: List[Any] = [
             ("line 7 is no reply", {"reply": 7}), ("line 4 is no reply", {"reply": 4}),
             ("line True is no reply", {"reply": True}),
-            ("what was called before line 5 has a legal order", {"reply": 5, "asks": [3, 4], "before": [1, 3]}),
+            ("what was called before line 5 has a legal order",
+             {"reply": 5, "asks": [3, 4], "before": [1, 3]}),
             ("`asks` lacks line 4, a call that is open at line 6", {"asks": []}),
             ("`asks` has line 3, which is no call that is open at line 6", {"asks": [3, 4]}),
             ("`asks` has line 6, which", {"asks": [4, 6]}), ("or has one twice", {"asks": [4, 4]}),
@@ -182,16 +187,18 @@ class Changed(unittest.TestCase):
         for words, said in table:
             with self.subTest(words):
                 self.wrong(TWO_WINNERS, words, {**row, "fault": {**row["fault"], **said}}, summary)
-        self.wrong(TWO_WINNERS, "no call that found", {**row, "fault": {"call": 3, "kind": "unwritten"}}, summary)
+        self.wrong(TWO_WINNERS, "no call that found", {**row, "fault": {"call": 3, "kind": "unwritten"}},
+                   summary)
         self.wrong(TWO_WINNERS, "not an object", {**row, "fault": 3}, summary)
 
     def test_open_calls(self) -> None:
         """Pending ones, what is answered later, and the call that the reply answers; none that failed."""
-        events = [*STALE[:6], write(3, 7), crash(3), read(4), write(5, 8), read(2, "y"), read(6), fail(5), gave(6, 6),
-                  gave(4, 7), write(7, 9)]
+        events = [*STALE[:6], write(3, 7), crash(3), read(4), write(5, 8), read(2, "y"), read(6), fail(5),
+                  gave(6, 6), gave(4, 7), write(7, 9)]
         row, *others = answered(events)
         self.assertEqual(row["fault"]["asks"], [7, 9, 12])
-        for words, asks in [("lacks line 7", [9, 12]), ("lacks line 9", [7, 12]), ("has line 10", [7, 9, 10, 12]),
+        for words, asks in [("lacks line 7", [9, 12]), ("lacks line 9", [7, 12]),
+                            ("has line 10", [7, 9, 10, 12]),
                             ("has line 11", [7, 9, 11, 12]), ("has line 5", [5, 7, 9, 12]),
                             ("isn't in the order of the calls", [12, 9, 7])]:
             with self.subTest(words):
@@ -204,10 +211,12 @@ class Changed(unittest.TestCase):
         self.assertEqual(verify.verify(text(*TWO_WINNERS), report(row, summary)).nos, verify.Nos(searched=1))
 
     def test_an_unwritten_value(self) -> None:
-        events = [cas(1, None, 7), fail(1), cas(2, 5, 6), took(2, False), read(3), gave(3, 6), read(4), gave(4, None)]
+        events = [cas(1, None, 7), fail(1), cas(2, 5, 6), took(2, False), read(3), gave(3, 6), read(4),
+                  gave(4, None)]
         row, summary = answered(events)
         self.assertEqual(row["fault"], {"call": 5, "kind": "unwritten"})
-        self.wrong(events, "line 7 is no call that found", {**row, "fault": {"call": 7, "kind": "unwritten"}}, summary)
+        self.wrong(events, "line 7 is no call that found", {**row, "fault": {"call": 7, "kind": "unwritten"}},
+                   summary)
         yes = {**row, "atomic": "yes", "order": [3, 5, 7], "points": [3, 5, 7]}
         del yes["fault"]
         self.wrong(events, "found a value that nobody wrote", yes, {**summary, "atomic": "yes"})
@@ -244,7 +253,8 @@ class Refusals(unittest.TestCase):
                 self.assertEqual(run("check", "--verify", given=text(*events)).status, 2)
 
     def test_no_refusal(self) -> None:
-        for words in ("line 5: reply without an open call", "line 3: from or to does not fit the event", "", " "):
+        for words in ("line 5: reply without an open call",
+                      "line 3: from or to does not fit the event", "", " "):
             with self.assertRaises(verify.Wrong):
                 verify.verify_refusal(text(*STALE), words)
             with self.assertRaises(verify.Wrong):
@@ -252,8 +262,8 @@ class Refusals(unittest.TestCase):
 
     def test_a_report_of_what_is_refused(self) -> None:
         events = [cas(1, 1, 2), reply(1)]
-        row = {"atomic": "yes", "cas": 1, "order": [], "pending": 0, "points": [], "reads": 0, "register": "x",
-               "writes": 0}
+        row = {"atomic": "yes", "cas": 1, "order": [], "pending": 0, "points": [], "reads": 0,
+               "register": "x", "writes": 0}
         with self.assertRaises(verify.Wrong) as caught:
             verify.verify(text(*events), report(row, {"atomic": "yes", "operations": 1, "registers": 1}))
         self.assertIn("has to be refused: line 2: a cas's reply has no ok", str(caught.exception))

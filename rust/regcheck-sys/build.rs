@@ -1,5 +1,5 @@
-//! Links libregcheck.a from the folder REGCHECK_LIB_DIR; else from that of the release or the repository which this crate
-//! stands in; else the installed library.
+//! Links libregcheck.a from the folder REGCHECK_LIB_DIR; else from that of the release or the repository
+//! which this crate stands in; else the installed library.
 use std::{
     env,
     path::{Path, PathBuf},

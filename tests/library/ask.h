@@ -1,5 +1,6 @@
-/* What the tests ask the library: regcheck_report, or with SEARCH defined regsearch_report, within STEPS and CONFIGURATIONS.
-   For a refused history it then asks for the line that says why: that goes to `out` too, and its length into the answer. */
+/* What the tests ask the library: regcheck_report, or with SEARCH defined regsearch_report, within STEPS and
+   CONFIGURATIONS. For a refused history it then asks for the line that says why: that goes to `out` too, and
+   its length into the answer. */
 #include "regcheck.h"
 
 #ifndef STEPS
@@ -9,7 +10,8 @@
 #define CONFIGURATIONS 0
 #endif
 
-static void ask(const uint8_t *input, size_t input_length, uint8_t *out, size_t out_length, regcheck_answer *answer)
+static void ask(const uint8_t *input, size_t input_length, uint8_t *out, size_t out_length,
+                regcheck_answer *answer)
 {
 #ifdef SEARCH
     regsearch_report(input, input_length, STEPS, CONFIGURATIONS, out, out_length, answer);

@@ -1,9 +1,9 @@
 /* Refuses the library's requests for memory, one after another, and then each with all after it.
 
-   The arguments are files with histories. The library is linked with this file, so its malloc and realloc are the ones below.
-   A call has to give the answer that it gives with memory enough, or say that memory ran out, or give no line of a refusal, and
-   then it has to leave the place for the report as it was. It has to give back all memory either way. Nothing is printed if so;
-   else the exit status is 1. */
+   The arguments are files with histories. The library is linked with this file, so its malloc and realloc are
+   the ones below. A call has to give the answer that it gives with memory enough, or say that memory ran out,
+   or give no line of a refusal, and then it has to leave the place for the report as it was. It has to give
+   back all memory either way. Nothing is printed if so; else the exit status is 1. */
 #include <stdio.h>
 #include <stdlib.h>
 #include <string.h>
@@ -59,8 +59,10 @@ static size_t read_all(const char *path, uint8_t *bytes)
     return length;
 }
 
-/* Whether a call with these requests refused answers as it should; `refused` says whether it met one of them. */
-static int is_right(const uint8_t *bytes, size_t length, const regcheck_answer *answer, const uint8_t *report, int *refused)
+/* Whether a call with these requests refused answers as it should; `refused` says whether it
+   met one of them. */
+static int is_right(const uint8_t *bytes, size_t length, const regcheck_answer *answer,
+                    const uint8_t *report, int *refused)
 {
     static uint8_t out[ROOM], before[ROOM];
     regcheck_answer have;

@@ -1,8 +1,8 @@
 /* Answers each history on standard input, by the library: tests/embed compares what it writes.
 
-   A history comes as its length, 8 bytes, and its bytes. Its answer goes out as the struct, 24 bytes, and the report or the line
-   of the refusal, whose length is that in the struct. Numbers are little-endian. A history is asked about twice: without room,
-   and then with room for these bytes and no byte more. */
+   A history comes as its length, 8 bytes, and its bytes. Its answer goes out as the struct, 24 bytes, and the
+   report or the line of the refusal, whose length is that in the struct. Numbers are little-endian. A history
+   is asked about twice: without room, and then with room for these bytes and no byte more. */
 #include <stdio.h>
 #include <stdlib.h>
 #include <string.h>

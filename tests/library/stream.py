@@ -1,4 +1,5 @@
-"""Answers each history on standard input, by regkit's library. Its form is that of stream.c, with the refusal's words.
+"""Answers each history on standard input, by regkit's library. Its form is that of stream.c, with
+the refusal's words.
 
 With two arguments, of steps and configurations, it searches within these bounds."""
 import os

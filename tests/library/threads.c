@@ -1,8 +1,8 @@
 /* Calls the library from several threads at once, and compares each answer with that of a call alone.
 
-   The arguments are files with histories. Each thread asks about all of them, over and over, from another one on. Nothing is
-   printed if all answers are the same; else the exit status is 1. The threads have the least stack that docs/embedding.md
-   asks for. */
+   The arguments are files with histories. Each thread asks about all of them, over and over, from another one
+   on. Nothing is printed if all answers are the same; else the exit status is 1. The threads have the least
+   stack that docs/embedding.md asks for. */
 #include <pthread.h>
 #include <stdio.h>
 #include <stdlib.h>
@@ -62,7 +62,8 @@ static int is_same(const struct history *history)
     regcheck_answer answer;
     uint8_t *report = room_for(history->room);
     ask(history->bytes, history->length, report, history->room, &answer);
-    int same = !memcmp(&answer, &history->answer, sizeof answer) && !memcmp(report, history->report, history->room);
+    int same = !memcmp(&answer, &history->answer, sizeof answer)
+               && !memcmp(report, history->report, history->room);
     free(report);
     return same;
 }

@@ -1,12 +1,13 @@
 (ns regcheck.checker
-  "A checker for Jepsen that says whether registers are linearizable, in the place of jepsen.checker/linearizable:
+  "A checker for Jepsen that says whether registers are linearizable, in the place of
+  jepsen.checker/linearizable:
 
       (require '[regcheck.checker :as regcheck])
       {:checker (regcheck/checker {})}
 
   It takes the history of one register, or that of many by jepsen.independent, with or without
-  jepsen.independent/checker around it. It runs the proved programs: regcheck decides what it accepts, and regsearch what
-  else there is, such as cas and repeated values. regkit tells a fault in words and draws it."
+  jepsen.independent/checker around it. It runs the proved programs: regcheck decides what it accepts, and
+  regsearch what else there is, such as cas and repeated values. regkit tells a fault in words and draws it."
   (:require [clojure.string :as str]
             [jepsen.checker :as checker]
             [jepsen.store :as store]
@@ -25,12 +26,15 @@
              [what (.getCanonicalPath (store/path! test (:subdirectory check-opts) name))])))
 
 (defn- in-words
-  "What regkit says of a fault, or of a search that gave up; it draws the page too. Without regkit, why there are no words."
+  "What regkit says of a fault, or of a search that gave up; it draws the page too. Without regkit, why
+  there are no words."
   [opts {:keys [history report words page]}]
   (try (let [regkit (programs/regkit opts)
-             told (apply programs/run regkit "explain" "--color" "never" history report (programs/bounds opts))
+             told (apply programs/run regkit "explain" "--color" "never" history report
+                         (programs/bounds opts))
              drawn (programs/run regkit "draw" history report "-o" page)]
-         (when-not (contains? #{false :unknown} (programs/verdicts (:exit told))) (history/unknown! (:err told)))
+         (when-not (contains? #{false :unknown} (programs/verdicts (:exit told)))
+           (history/unknown! (:err told)))
          (spit words (:out told))
          {:words (str/trimr (:out told))
           :files (cond-> {:words words} (zero? (:exit drawn)) (assoc :page page))})
@@ -96,18 +100,22 @@
 (defn checker
   "A checker of linearizability for registers. Options, none of which is needed:
 
-    :register        the name of the register of a history without keys; by default that of jepsen.independent's key, or \"x\"
-    :failed-cas      what the :fail of a :cas says. By default that it had no effect, and nothing of the value; with :missed
-                     that the store compared, and found another value, unless its :error says otherwise
+    :register        the name of the register of a history without keys; by default that of
+                     jepsen.independent's key, or \"x\"
+    :failed-cas      what the :fail of a :cas says. By default that it had no effect, and nothing of the
+                     value; with :missed that the store compared, and found another value, unless its :error
+                     says otherwise
     :steps           where the search of regsearch gives up, in place of 10,000,000,000 steps for a register
     :configurations  the same, in place of 65,536 configurations in one list
-    :regcheck        the path of the program regcheck; by default as the variable REGCHECK says, or the one on PATH
-    :regsearch       the path of regsearch; by default as REGSEARCH says, the one beside regcheck, or the one on PATH
+    :regcheck        the path of the program regcheck; by default as the variable REGCHECK says, or the one on
+                     PATH
+    :regsearch       the path of regsearch; by default as REGSEARCH says, the one beside regcheck, or the one
+                     on PATH
     :regkit          the path of regkit; by default as REGKIT says, and so on
 
-  Its result is laid out as that of jepsen.checker/linearizable. It has :valid?, which is true, false or :unknown; :cause,
-  the reason of :unknown in a sentence; for false :op, the operation that no order explains, :previous-ok, :faults, and
-  :words; :files, by their paths; and :analyzer, the program."
+  Its result is laid out as that of jepsen.checker/linearizable. It has :valid?, which is true, false or
+  :unknown; :cause, the reason of :unknown in a sentence; for false :op, the operation that no order explains,
+  :previous-ok, :faults, and :words; :files, by their paths; and :analyzer, the program."
   ([] (checker {}))
   ([opts]
    (reify checker/Checker

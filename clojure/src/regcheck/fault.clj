@@ -35,8 +35,8 @@
       :cas (if (= :fail (:type op)) held (second value)))))
 
 (defn paths
-  "Knossos' :final-paths and :configs, of a fault that has an order of what was known until its reply: the end of that order
-  with the values of the register, and what there was then."
+  "Knossos' :final-paths and :configs, of a fault that has an order of what was known until its reply: the end
+  of that order with the values of the register, and what there was then."
   [operations events {{:keys [asks before reply]} :fault}]
   (when before
     (let [op (operations reply)
@@ -44,5 +44,6 @@
           values (reductions after nil path)
           steps (map (fn [op value] {:op op :model {:value value}}) path (rest values))
           pending (mapv #(:op (nth events (dec %))) (remove (set before) asks))]
-      {:final-paths [(conj (vec (take-last most-steps steps)) {:op op :model {:msg "no order gives this answer"}})]
+      {:final-paths [(conj (vec (take-last most-steps steps))
+                           {:op op :model {:msg "no order gives this answer"}})]
        :configs [{:model {:value (last values)} :last-op (last path) :pending pending}]})))

@@ -1,9 +1,9 @@
 (ns regcheck.history
   "A history of Jepsen as the lines that regcheck and regsearch read.
 
-  A client is a process with a number; what others do, such as the nemesis, is left out. An :invoke is a call, an :ok its
-  reply, and a :fail says that the call had no effect. After an :info nobody knows, so the call stays pending. The value of a
-  :cas is [from to].
+  A client is a process with a number; what others do, such as the nemesis, is left out. An :invoke is a call,
+  an :ok its reply, and a :fail says that the call had no effect. After an :info nobody knows, so the call
+  stays pending. The value of a :cas is [from to].
 
   What isn't understood is no event: it is thrown, so that the verdict is :unknown and says why."
   (:require [clojure.string :as str]
@@ -40,7 +40,8 @@
   [value op]
   (cond (nil? value) "null"
         (and (integer? value) (<= least value greatest)) (str value)
-        :else (unknown! "the value " (pr-str value) " of " (pr-str op) " is no whole number of 64 bits: number your values")))
+        :else (unknown! "the value " (pr-str value) " of " (pr-str op)
+                        " is no whole number of 64 bits: number your values")))
 
 (defn- client-op? [op] (integer? (:process op)))
 
@@ -67,8 +68,8 @@
         :else (unknown! (pr-str op) " has no key, and other operations have one")))
 
 (defn- who
-  "The members that say which client called which node, and when. Jepsen gives the thread after a crash another process
-  number, which is larger by the number of threads."
+  "The members that say which client called which node, and when. Jepsen gives the thread after a crash
+  another process number, which is larger by the number of threads."
   [{:keys [concurrency nodes]} {:keys [process time]}]
   (let [thread (when (and (integer? concurrency) (pos? concurrency)) (mod process concurrency))
         node (when (and thread (seq nodes)) (nth nodes (mod thread (count nodes))))]
@@ -84,7 +85,8 @@
   (str ",\"from\":" (number (first value) op) ",\"to\":" (number (second value) op)))
 
 (defn- missed?
-  "Whether a cas that failed tells that the store compared: it found another value, or a key without the value asked for."
+  "Whether a cas that failed tells that the store compared: it found another value, or a key without the
+  value asked for."
   [{:keys [error exception]} [from]]
   (let [reason (or error exception)
         word (if (sequential? reason) (first reason) reason)]
@@ -111,8 +113,8 @@
          :cas (str ",\"ok\":" ok))))
 
 (defn- event
-  "What an operation is: its :said, the members behind its process, and whether it :tells something of the register's value.
-  Nil if nobody knows how it ended."
+  "What an operation is: its :said, the members behind its process, and whether it :tells something of the
+  register's value. Nil if nobody knows how it ended."
   [op {:keys [failed-cas] :as names}]
   (let [op-name (or (op-names (:f op))
                     (unknown! "regcheck knows :read, :write and :cas, and not the :f of " (pr-str op)))
@@ -127,8 +129,9 @@
       (unknown! "the :type of " (pr-str op) " is none of :invoke, :ok, :fail and :info"))))
 
 (defn events
-  "The events of a history, in order: each has its :line, its :op, and whether it :tells something of a register's value.
-  The options name the :register, if the values have no keys, and say what a :failed-cas is."
+  "The events of a history, in order: each has its :line, its :op, and whether it :tells something
+  of a register's value. The options name the :register, if the values have no keys, and say what
+  a :failed-cas is."
   [test history opts]
   (let [names (assoc opts :keyed (keyed? history))]
     (into [] (comp (filter client-op?)
@@ -139,8 +142,8 @@
           history)))
 
 (defn operations
-  "From the number of the line of each call and of each answer, from 1, to the operation of Jepsen that answered, or else
-  that called."
+  "From the number of the line of each call and of each answer, from 1, to the operation of Jepsen that
+  answered, or else that called."
   [events]
   (:known
    (reduce (fn [{:keys [open known]} [line {:keys [op]}]]

@@ -36,7 +36,8 @@
       (missing! "REGCHECK" "regcheck")))
 
 (defn- companion
-  "The path of a program: the one that is named, the one beside regcheck, as a release has it, or that on PATH."
+  "The path of a program: the one that is named, the one beside regcheck, as a release has it,
+  or that on PATH."
   [opts given variable program]
   (or (named given variable)
       (let [beside (io/file (.getParentFile (.getAbsoluteFile (io/file (regcheck opts)))) program)]
@@ -75,8 +76,8 @@
          (unknown! words "; repeated values and cas need regsearch, but " (ex-message error)))))
 
 (defn check
-  "What regcheck says of a history, or of what it refuses, such as cas and repeated values, regsearch. The :analyzer is the
-  program."
+  "What regcheck says of a history, or of what it refuses, such as cas and repeated values, regsearch. The
+  :analyzer is the program."
   [opts history]
   (let [{:keys [exit err] :as ran} (run (regcheck opts) history)]
     (if (= refused exit)

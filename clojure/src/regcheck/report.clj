@@ -1,5 +1,6 @@
 (ns regcheck.report
-  "Reads the lines of a report. Each is an object of JSON, of which an escape in a register's name is left as it is."
+  "Reads the lines of a report. Each is an object of JSON, of which an escape in a register's name
+  is left as it is."
   (:require [clojure.string :as str]))
 
 (def ^:private token #"\"(?:[^\"\\]|\\.)*\"|-?[0-9]+|true|false|null|[\[\]{},:]")

@@ -1,5 +1,6 @@
 (ns jepsen.checker
-  "Stands in for Jepsen's namespace in the tests: its protocol, and what the example in README.md takes beside it.")
+  "Stands in for Jepsen's namespace in the tests: its protocol, and what the example in README.md
+  takes beside it.")
 
 (defprotocol Checker
   (check [checker test history opts]))

@@ -1,14 +1,19 @@
 (ns regcheck.cache
-  "Runs three clients of a cache in front of a database as Jepsen would, and says whether what they saw is linearizable:
+  "Runs three clients of a cache in front of a database as Jepsen would, and says whether what they
+  saw is linearizable:
 
       clojure -cp src:test -m regcheck.cache faulty
       clojure -cp src:test -m regcheck.cache right
 
-  The faulty one keeps a value that it read before a write. tests/languages compares what all languages say of it."
+  The faulty one keeps a value that it read before a write. tests/languages compares what all
+  languages say of it."
   (:require [regcheck.toy :as toy]))
 
 (defn write! [store k v]
-  (swap! store #(-> % (assoc-in [:database k] v) (update-in [:writes k] (fnil inc 0)) (update :kept dissoc k)))
+  (swap! store #(-> %
+                    (assoc-in [:database k] v)
+                    (update-in [:writes k] (fnil inc 0))
+                    (update :kept dissoc k)))
   v)
 
 (defn read!
@@ -18,7 +23,9 @@
     (or (kept k)
         (let [v (database k)]
           (loaded)
-          (swap! store #(if (or (not counts) (= (writes k) (get-in % [:writes k]))) (assoc-in % [:kept k] v) %))
+          (swap! store #(if (or (not counts) (= (writes k) (get-in % [:writes k])))
+                          (assoc-in % [:kept k] v)
+                          %))
           v))))
 
 (defn record

@@ -36,7 +36,8 @@
 
 (def stale
   "A read of 1 after the write of 2 was answered."
-  (ops [0 :invoke :write 1] [0 :ok :write 1] [0 :invoke :write 2] [0 :ok :write 2] [1 :invoke :read nil] [1 :ok :read 1]))
+  (ops [0 :invoke :write 1] [0 :ok :write 1] [0 :invoke :write 2] [0 :ok :write 2]
+       [1 :invoke :read nil] [1 :ok :read 1]))
 
 (deftest one-register
   (let [history (ops [0 :invoke :write 1]
@@ -83,22 +84,29 @@
 
 (deftest each-end-of-a-cas
   (doseq [[second-end opts valid? answered line]
-          [[:ok {} false nil "{\"process\":2,\"event\":\"reply\",\"op\":\"cas\",\"register\":\"x\",\"ok\":true,"]
+          [[:ok {} false nil
+            "{\"process\":2,\"event\":\"reply\",\"op\":\"cas\",\"register\":\"x\",\"ok\":true,"]
            [:fail {} true 2 "{\"process\":2,\"event\":\"fail\","]
-           [:fail {:failed-cas :missed} true 3 "{\"process\":2,\"event\":\"reply\",\"op\":\"cas\",\"register\":\"x\",\"ok\":false,"]
-           [:info {} true 2 "{\"process\":0,\"event\":\"call\",\"op\":\"write\",\"register\":\"x\",\"value\":0,"]]]
+           [:fail {:failed-cas :missed} true 3
+            "{\"process\":2,\"event\":\"reply\",\"op\":\"cas\",\"register\":\"x\",\"ok\":false,"]
+           [:info {} true 2
+            "{\"process\":0,\"event\":\"call\",\"op\":\"write\",\"register\":\"x\",\"value\":0,"]]]
     (let [result (judged (contended second-end) opts {})
           lines (str/split-lines (::lines result))]
       (is (= [valid? :regsearch answered] [(:valid? result) (:analyzer result) (:completed-reads result)]))
-      (is (str/starts-with? (lines 2) "{\"process\":1,\"event\":\"call\",\"op\":\"cas\",\"register\":\"x\",\"from\":0,\"to\":1,"))
+      (is (str/starts-with?
+           (lines 2)
+           "{\"process\":1,\"event\":\"call\",\"op\":\"cas\",\"register\":\"x\",\"from\":0,\"to\":1,"))
       (is (str/starts-with? (lines 5) line)))))
 
 (deftest what-a-failed-cas-says
-  (doseq [[error from ok] [[nil nil false] [:precondition-failed nil false] [[:precondition-failed "is 2"] nil false]
+  (doseq [[error from ok] [[nil nil false] [:precondition-failed nil false]
+                           [[:precondition-failed "is 2"] nil false]
                            ["precondition-failed" nil false]
                            [:key-does-not-exist 1 false] [:key-does-not-exist nil nil] [:not-leader 1 nil]]]
     (let [failed #(cond-> % (= :fail (:type %)) (assoc :error error))
-          history (map failed (ops [1 :invoke :cas [from 2]] [1 :fail :cas [from 2]] [0 :invoke :read nil] [0 :ok :read nil]))
+          history (map failed (ops [1 :invoke :cas [from 2]] [1 :fail :cas [from 2]]
+                                   [0 :invoke :read nil] [0 :ok :read nil]))
           lines (str/split-lines (::lines (judged history {:failed-cas :missed} {})))]
       (is (= (false? ok) (str/includes? (lines 1) "\"ok\":false")) error)
       (is (= (nil? ok) (str/includes? (lines 1) "\"event\":\"fail\"")) error))))
@@ -107,28 +115,33 @@
   (let [{:keys [valid? op previous-ok faults configs final-paths words] :as result} (judged (contended :ok))]
     (is (= [false 5 4] [valid? (:index op) (:index previous-ok)]))
     (is (= [[:search 5 [1 4] [5]]]
-           (map (fn [fault] [(:kind fault) (:index (:reply fault)) (mapv :index (:before fault)) (mapv :index (:asks fault))])
+           (map (fn [fault] [(:kind fault) (:index (:reply fault))
+                             (mapv :index (:before fault)) (mapv :index (:asks fault))])
                 faults)))
     (is (= [[[1 {:value 0}] [4 {:value 1}] [5 {:msg "no order gives this answer"}]]]
            (map (fn [path] (map (fn [{:keys [op model]}] [(:index op) model]) path)) final-paths)))
     (is (= [[{:value 1} 4 [3]]]
-           (map (fn [{:keys [model last-op pending]}] [model (:index last-op) (map :index pending)]) configs)))
+           (map (fn [{:keys [model last-op pending]}] [model (:index last-op) (map :index pending)])
+                configs)))
     (is (str/includes? words "the cas from 0 to 1"))
     (is (= #{"regcheck.jsonl" "regcheck.report" "regcheck.txt" "regcheck.html"} (::left result)))))
 
 (deftest a-search-that-gives-up
-  (let [{:keys [valid? analyzer cause words] :as result} (judged (contended :fail) {:failed-cas :missed :steps 1} {})]
+  (let [{:keys [valid? analyzer cause words] :as result}
+        (judged (contended :fail) {:failed-cas :missed :steps 1} {})]
     (is (= [:unknown :regsearch] [valid? analyzer]))
     (is (str/includes? cause "raise the option :steps"))
     (is (str/includes? words "unknown: the search gave up on 1 register"))
-    (is (str/includes? (:cause (judged (contended :fail) {:configurations 0} {})) "'0' for '--configurations"))
+    (is (str/includes? (:cause (judged (contended :fail) {:configurations 0} {}))
+                       "'0' for '--configurations"))
     (is (str/includes? (::report result) "\"gave_up\":{\"bound\":\"steps\"}"))))
 
 (deftest keys-of-independent
   (let [keyed (fn [k history] (map #(update % :value (partial tuple k)) history))
         right (ops [2 :invoke :write 1] [2 :ok :write 1])]
     (testing "a whole history, whose keys may be alike in print"
-      (let [{:keys [valid? registers faulty-registers] :as result} (judged (concat (keyed 1 right) (keyed "1" stale)))]
+      (let [{:keys [valid? registers faulty-registers] :as result}
+            (judged (concat (keyed 1 right) (keyed "1" stale)))]
         (is (= [false 2 1] [valid? registers faulty-registers]))
         (is (str/includes? (::report result) "\"register\":\"\\\"1\\\"\""))))
     (testing "the history of one key"
@@ -137,10 +150,13 @@
         (is (str/includes? (::report result) "\"register\":\"4\""))
         (is (contains? (::left result) "independent/4/regcheck.html"))))
     (testing "cas with keys"
-      (let [{:keys [valid? registers op configs] :as result} (judged (concat (keyed 1 right) (keyed 2 (contended :ok))))]
+      (let [{:keys [valid? registers op configs] :as result}
+            (judged (concat (keyed 1 right) (keyed 2 (contended :ok))))]
         (is (= [false 2 [2 [0 1]]] [valid? registers (:value op)]))
         (is (= [{:value 1}] (map :model configs)))
-        (is (str/includes? (::report result) "\"cas\":2,\"fault\":{\"asks\":[6],\"before\":[3,5],\"kind\":\"search\",\"reply\":8}"))))
+        (is (str/includes?
+             (::report result)
+             "\"cas\":2,\"fault\":{\"asks\":[6],\"before\":[3,5],\"kind\":\"search\",\"reply\":8}"))))
     (testing "an operation without a key among those with one"
       (is (str/includes? (:cause (judged (concat (keyed 1 right) stale))) "has no key")))))
 

@@ -1,12 +1,12 @@
 (ns regcheck.lock
-  "Runs two clients that take a lock by compare-and-swap at once as Jepsen would, and says whether what they saw is
-  linearizable:
+  "Runs two clients that take a lock by compare-and-swap at once as Jepsen would, and says whether what they
+  saw is linearizable:
 
       clojure -cp src:test -m regcheck.lock faulty
       clojure -cp src:test -m regcheck.lock right
 
-  The faulty register compares and swaps in two steps, so both clients get the lock. tests/languages compares what all
-  languages say of it."
+  The faulty register compares and swaps in two steps, so both clients get the lock. tests/languages compares
+  what all languages say of it."
   (:require [regcheck.toy :as toy]))
 
 (defn swap-in-two-steps!
@@ -28,7 +28,8 @@
                (op! :ok process :write 0))
         take-it (fn [process compared]
                   (op! :invoke process :cas [0 1])
-                  (op! (if (swap-in-two-steps! store looks-again 0 1 compared) :ok :fail) process :cas [0 1]))]
+                  (op! (if (swap-in-two-steps! store looks-again 0 1 compared) :ok :fail)
+                       process :cas [0 1]))]
     (free 1)
     (take-it 2 #(take-it 1 (fn [])))
     (free 1)

@@ -1,6 +1,6 @@
 (ns regcheck.toy
-  "Runs toy stores whose events are the same in each language, as Jepsen would. tests/languages compares what is said of
-  them."
+  "Runs toy stores whose events are the same in each language, as Jepsen would. tests/languages compares what
+  is said of them."
   (:require [jepsen.checker :as checker]
             [regcheck.checker :as regcheck]))
 
@@ -16,8 +16,8 @@
     @history))
 
 (defn run
-  "Runs a store, and prints the verdict in words. The kind says which store: faulty or right, or, for the right one and a
-  search that soon gives up, bounded."
+  "Runs a store, and prints the verdict in words. The kind says which store: faulty or right, or, for the
+  right one and a search that soon gives up, bounded."
   [kind test opts record]
   (let [test (assoc test :folder "kept" :concurrency 4)
         opts (cond-> opts (= kind "bounded") (assoc :steps 1))

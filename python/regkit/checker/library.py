@@ -100,7 +100,8 @@ class Library:
         if answer.status in (ExitStatus.ATOMIC, ExitStatus.NOT_ATOMIC, ExitStatus.UNKNOWN):
             return Told(answer.status, report, "")
         line = ctypes.create_string_buffer(LINE_LENGTH)
-        if answer.status == ExitStatus.REFUSED and (length := refusal(history, len(history), line, LINE_LENGTH)):
+        if (answer.status == ExitStatus.REFUSED
+                and (length := refusal(history, len(history), line, LINE_LENGTH))):
             words = line.raw[:length].decode()
             return Told(ExitStatus.REFUSED, b"", words, answer.number, answer.line, answer.other)
         return Told(ExitStatus.FAILED, b"", *OUT_OF_MEMORY)

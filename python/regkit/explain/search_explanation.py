@@ -1,5 +1,5 @@
-"""Why `regsearch` says that a register isn't linearizable: the few operations that have no order, what the value
-can be before the reply, and why nothing gives what the reply says."""
+"""Why `regsearch` says that a register isn't linearizable: the few operations that have no order, what the
+value can be before the reply, and why nothing gives what the reply says."""
 from typing import List, NamedTuple, Optional
 
 from regkit.checker.programs import NoChecker
@@ -40,8 +40,8 @@ def made_small(page: Page, told: Contradicted, calls: List[Operation], searcher:
         page.sentence(str(error))
     if small is None:
         kept = until(calls, told.line)
-        page.sentence(f"it wasn't made smaller: {counted(len(kept), 'operation')} called before line {told.line} may "
-                      "have to do with it")
+        page.sentence(f"it wasn't made smaller: {counted(len(kept), 'operation')} called before line "
+                      f"{told.line} may have to do with it")
         return Left(kept)
     for sentence in enough(small, told, "in the time line"):
         page.sentence(sentence)
@@ -51,8 +51,8 @@ def made_small(page: Page, told: Contradicted, calls: List[Operation], searcher:
 def enough(small: Small, told: Contradicted, where: str) -> List[str]:
     """What a no was made to, in sentences. Of many operations they say where these are."""
     rest = "" if small.ended else f"; after {MOST_RUNS} runs of regsearch no more was tried"
-    said = [f"these {len(small.kept):,} of the {small.whole:,} operations called before line {told.line} have "
-            f"no order by themselves: {list_of(small.kept, where)}{rest}"]
+    said = [f"these {len(small.kept):,} of the {small.whole:,} operations called before line {told.line} "
+            f"have no order by themselves: {list_of(small.kept, where)}{rest}"]
     if small.fence is not None:
         said.append(f"what was answered before line {small.fence.line} isn't needed, since "
                     f"{named(small.fence)} hides it")
@@ -89,11 +89,12 @@ def why_not(told: Contradicted, calls: List[Operation], left: Left, found: Optio
     call = told.call
     if found is None:
         return ["there are too many orders to say which values the register can have by then"]
-    lines = [f"from line {call.line} to line {told.line} the value can only be {by_what(calls, found.values)}: in "
-             f"each order of these that gives the replies before line {told.line}"]
+    lines = [f"from line {call.line} to line {told.line} the value can only be "
+             f"{by_what(calls, found.values)}: in each order of these that gives the replies before "
+             f"line {told.line}"]
     if found.taken and found.broken is not None:
-        lines.append(f"it could have taken effect on {by_what(calls, found.taken)}; but no order then gives the reply of "
-                     f"line {found.broken.end_line}, of {named(found.broken)}")
+        lines.append(f"it could have taken effect on {by_what(calls, found.taken)}; but no order then gives "
+                     f"the reply of line {found.broken.end_line}, of {named(found.broken)}")
         return lines
     return lines + nothing_gives(told, calls, left)
 
@@ -104,21 +105,22 @@ def nothing_gives(told: Contradicted, calls: List[Operation], left: Left) -> Lis
     if call.missed:
         return ["so it could only have found what it asks for"]
     wanted = call.asked if call.kind == "cas" else call.value
-    writes = [each for each in calls if each.writes and each.value == wanted and not each.failed and each is not call]
+    writes = [each for each in calls
+              if each.writes and each.value == wanted and not each.failed and each is not call]
     later = [each for each in writes if each.line > told.line]
     lines = []
     if writes and len(later) == len(writes):
         lines.append(f"{wanted_of(call)} is written only later, first by {named(later[0])}")
     past = [each.call for each in left.kept if each.call in writes and not is_open(each.call, told.line)]
     if past:
-        lines.append(f"the last write of {wanted_of(call)} that was answered is {named(past[-1])}, and its value was "
-                     "overwritten by then")
+        lines.append(f"the last write of {wanted_of(call)} that was answered is {named(past[-1])}, and its "
+                     "value was overwritten by then")
     elif left.fence is not None and any(each.line < left.fence.line for each in writes):
         lines.append(f"what wrote {wanted_of(call)} before is hidden by {named(left.fence)}")
     for each in left.kept:
         if each.call in writes and is_open(each.call, told.line):
-            lines.append(f"{named(each.call)} was open, but in none of these orders it takes effect from line "
-                         f"{call.line} on")
+            lines.append(f"{named(each.call)} was open, but in none of these orders it takes effect from "
+                         f"line {call.line} on")
     return lines
 
 
@@ -146,7 +148,8 @@ def explain_unwritten(page: Page, history: History, row: Row) -> None:
     beside = [each for each in history.registers[row["register"]]
               if is_open(each, end) and (each.end_line or end) >= call.line and each is not call]
     around = [*([other] if other is not None else []), *beside][:MOST_OPEN]
-    add_timeline(page, [timeline.Entry(call, READ_SIGN, "bad"), *(timeline.Entry(each, "", "") for each in set(around))])
+    add_timeline(page, [timeline.Entry(call, READ_SIGN, "bad"),
+                        *(timeline.Entry(each, "", "") for each in set(around))])
 
 
 def explain_search(page: Page, history: History, row: Row, searcher: Searcher) -> None:
@@ -171,4 +174,5 @@ def explain_search(page: Page, history: History, row: Row, searcher: Searcher) -
 def entry_of(each: Kept, told: Contradicted) -> timeline.Entry:
     if each.call is told.call:
         return timeline.Entry(each.call, READ_SIGN, "bad")
-    return timeline.Entry(each.call, ACTOR_SIGN if each.replied else LOOSE_SIGN, "bold" if each.replied else "look")
+    return timeline.Entry(each.call, ACTOR_SIGN if each.replied else LOOSE_SIGN,
+                          "bold" if each.replied else "look")

@@ -1,8 +1,8 @@
 """What each key of a report of regsearch claims, and how it is checked.
 
-A yes is replayed along its order. Of a no, the order of what was known before the reply is replayed, the calls
-that were open at the reply are looked up, and that there is no order with the reply is searched again, in a plain
-way and up to a bound.
+A yes is replayed along its order. Of a no, the order of what was known before the reply is replayed, the
+calls that were open at the reply are looked up, and that there is no order with the reply is searched again,
+in a plain way and up to a bound.
 """
 from typing import Any, Dict, FrozenSet, Iterator, List, NamedTuple, Optional, Sequence, Set, Tuple
 
@@ -30,7 +30,8 @@ def check_search_report(history: History, rows: Sequence[Row]) -> Nos:
     """Checks each claim of a report of regsearch. Raises Wrong."""
     *lines, summary = rows
     named = [line.get("register") for line in lines]
-    need(named == list(history.registers), "the lines aren't those of the registers, in the order of their first calls")
+    need(named == list(history.registers),
+         "the lines aren't those of the registers, in the order of their first calls")
     kinds: List[str] = []
     for line in lines:
         name = line["register"]
@@ -69,7 +70,8 @@ def check_line(operations: List[Operation], line: Row, kinds: List[str]) -> None
         check_order(operations, lines_of(line, "order"))
         check_points(lines_of(line, "order"), lines_of(line, "points"))
     else:
-        need(line["gave_up"] in [{"bound": bound} for bound in BOUNDS], "`gave_up` names no bound of a search")
+        need(line["gave_up"] in [{"bound": bound} for bound in BOUNDS],
+             "`gave_up` names no bound of a search")
 
 
 # ---- An order
@@ -147,7 +149,8 @@ def check_open(operations: List[Operation], asks: Lines, reply: int) -> None:
     due = [a.line for a in operations if a.line < reply <= a.end]
     lacking, others = set(due) - set(asks), set(asks) - set(due)
     need(not lacking, f"`asks` lacks line {min(lacking, default=0)}, a call that is open at line {reply}")
-    need(not others, f"`asks` has line {min(others, default=0)}, which is no call that is open at line {reply}")
+    need(not others, f"`asks` has line {min(others, default=0)}, which is no call that is open "
+         f"at line {reply}")
     need(asks == due, "`asks` isn't in the order of the calls, or has one twice")
 
 

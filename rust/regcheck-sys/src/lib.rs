@@ -1,7 +1,7 @@
 //! The functions of `regcheck.h`, as they are. The crate `regcheck` calls them safely.
 //!
-//! It links `libregcheck.a` from the folder `REGCHECK_LIB_DIR`; else from `lib` or `bin` two folders above the crate, where
-//! a release and the repository have it; else the installed library.
+//! It links `libregcheck.a` from the folder `REGCHECK_LIB_DIR`; else from `lib` or `bin` two folders above
+//! the crate, where a release and the repository have it; else the installed library.
 
 /// `regcheck_answer`.
 #[repr(C)]
@@ -29,8 +29,8 @@ extern "C" {
     /// Puts the report of the input into `out`, and what came of it into `answer`.
     ///
     /// # Safety
-    /// The pointers aren't null, and point to as many bytes as the lengths say; nothing else uses `out` and `answer`
-    /// meanwhile.
+    /// The pointers aren't null, and point to as many bytes as the lengths say; nothing else uses `out`
+    /// and `answer` meanwhile.
     pub fn regcheck_report(
         input: *const u8,
         input_length: usize,
@@ -39,8 +39,8 @@ extern "C" {
         answer: *mut Answer,
     );
 
-    /// The same for histories with compare-and-swap and repeated values too, by a search within these bounds. A bound of 0 is
-    /// the program's default.
+    /// The same for histories with compare-and-swap and repeated values too, by a search within these bounds.
+    /// A bound of 0 is the program's default.
     ///
     /// # Safety
     /// As of [`regcheck_report`].
@@ -54,8 +54,8 @@ extern "C" {
         answer: *mut Answer,
     );
 
-    /// Puts the line that regcheck writes of a history that it refuses into `out`, and gives its length: 0 if the history isn't
-    /// refused, or if memory ran out.
+    /// Puts the line that regcheck writes of a history that it refuses into `out`, and gives its length: 0 if
+    /// the history isn't refused, or if memory ran out.
     ///
     /// # Safety
     /// As of [`regcheck_report`].

@@ -3,7 +3,8 @@
 //!     cargo run --example cache -- faulty
 //!     cargo run --example cache -- right
 //!
-//! The faulty one keeps a value that it read before a write. tests/languages compares what all languages say of it.
+//! The faulty one keeps a value that it read before a write. tests/languages compares what all
+//! languages say of it.
 mod toy;
 
 use regcheck::{Client, Recorder};
@@ -53,7 +54,8 @@ fn write(client: &mut Client, store: &Cache) {
     write.replied();
 }
 
-/// The writer writes again, in a thread of its own, while the reader's answer from the database is on its way.
+/// The writer writes again, in a thread of its own, while the reader's answer from the
+/// database is on its way.
 fn record(recorder: &Recorder, counts: bool) {
     let store = Cache {
         keys: Mutex::default(),

@@ -1,10 +1,11 @@
-//! Records two clients that take a lock by compare-and-swap at once, and says whether what they saw is linearizable:
+//! Records two clients that take a lock by compare-and-swap at once, and says whether what they
+//! saw is linearizable:
 //!
 //!     cargo run --example lock -- faulty
 //!     cargo run --example lock -- right
 //!
-//! The faulty register compares and swaps in two steps, so both clients get the lock. tests/languages compares what all
-//! languages say of it.
+//! The faulty register compares and swaps in two steps, so both clients get the lock. tests/languages
+//! compares what all languages say of it.
 mod toy;
 
 use regcheck::{Client, Recorder};

@@ -19,8 +19,8 @@ pub struct Answer {
 }
 
 impl Answer {
-    /// Why the history isn't linearizable, or what to do if nobody knows, as `regkit explain` says it. Of a yes there is
-    /// nothing to say. The history and the bounds are those that the answer was given to.
+    /// Why the history isn't linearizable, or what to do if nobody knows, as `regkit explain` says it. Of a
+    /// yes there is nothing to say. The history and the bounds are those that the answer was given to.
     ///
     /// # Errors
     /// Why there are no words.

@@ -18,8 +18,8 @@ pub fn now() -> i64 {
         seconds: 0,
         nanoseconds: 0,
     };
-    // SAFETY: the pointer is that of a value that this call alone has borrowed, laid out as the C library of Linux on
-    // 64-bit machines has it. With this clock and such a pointer the call can't fail.
+    // SAFETY: the pointer is that of a value that this call alone has borrowed, laid out as the C library of
+    // Linux on 64-bit machines has it. With this clock and such a pointer the call can't fail.
     unsafe { clock_gettime(MONOTONIC, &mut time) };
     time.seconds * 1_000_000_000 + time.nanoseconds
 }

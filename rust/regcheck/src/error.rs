@@ -15,7 +15,8 @@ pub enum Error {
 /// Why a history is refused.
 #[derive(Clone, Debug, PartialEq, Eq)]
 pub struct Refusal {
-    /// The number of the refusal in docs/format.md, if the library refused the history: a program tells words alone.
+    /// The number of the refusal in docs/format.md, if the library refused the history: a program
+    /// tells words alone.
     pub number: Option<u32>,
     /// The refused line, from 1, if a line is refused.
     pub line: Option<u32>,

@@ -48,7 +48,8 @@ impl Files {
             .map_err(|error| format!("{} can't be kept: {error}", self.history.display()))
     }
 
-    /// Why the kept history isn't linearizable, or what to do if nobody knows, in the words of regkit. It draws the page too.
+    /// Why the kept history isn't linearizable, or what to do if nobody knows, in the words of regkit. It
+    /// draws the page too.
     fn explain(&self, answer: &Answer, bounds: Bounds) -> String {
         let kept = format!(
             "history: {}\nreport: {}",

@@ -1,4 +1,5 @@
-//! Says whether recorded runs of registers are linearizable, by the proved checkers `regcheck` and `regsearch`.
+//! Says whether recorded runs of registers are linearizable, by the proved checkers `regcheck` and
+//! `regsearch`.
 //!
 //! ```
 //! use regcheck::{check, Bounds, Verdict};
@@ -12,10 +13,10 @@
 //!
 //! A [`Recorder`] writes such a history while threads use a store, and fails the test in words.
 //!
-//! It links `libregcheck.a`, which has both checkers, and depends on nothing else. Without the feature `library` it runs the
-//! programs: the `regcheck` that the variable `REGCHECK` names, or the one on `PATH`; and for histories that regcheck refuses,
-//! above all those with compare-and-swap or repeated values, the `regsearch` that `REGSEARCH` names, the one beside
-//! `regcheck`, or the one on `PATH`.
+//! It links `libregcheck.a`, which has both checkers, and depends on nothing else. Without the feature
+//! `library` it runs the programs: the `regcheck` that the variable `REGCHECK` names, or the one on `PATH`;
+//! and for histories that regcheck refuses, above all those with compare-and-swap or repeated values, the
+//! `regsearch` that `REGSEARCH` names, the one beside `regcheck`, or the one on `PATH`.
 mod answer;
 #[cfg(not(feature = "library"))]
 mod by_program;

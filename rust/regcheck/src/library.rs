@@ -7,8 +7,8 @@ use regcheck_sys::{
 
 /// What regcheck says.
 pub fn ask(history: &[u8]) -> Result<Answer, Error> {
-    // SAFETY: the pointers and lengths are those of slices, which are never null, and the two that are written are borrowed
-    // by this call alone. The declarations are those of regcheck.h.
+    // SAFETY: the pointers and lengths are those of slices, which are never null, and the two that are
+    // written are borrowed by this call alone. The declarations are those of regcheck.h.
     let report = |out: &mut [u8], told: &mut Told| unsafe {
         regcheck_report(
             history.as_ptr(),

@@ -35,7 +35,8 @@ pub fn regkit() -> Result<PathBuf, String> {
     companion("REGKIT", "regkit")
 }
 
-/// The path in the variable, that of the program beside regcheck, as a release has it, or that of the one on PATH.
+/// The path in the variable, that of the program beside regcheck, as a release has it, or that of
+/// the one on PATH.
 pub fn companion(variable: &str, name: &str) -> Result<PathBuf, String> {
     named(variable)
         .or_else(|| {

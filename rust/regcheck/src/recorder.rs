@@ -9,7 +9,8 @@ use std::{
 
 const NAME_BYTES: usize = 255;
 
-/// A history in the making. Threads share one recorder, by clones of it or of references, and each takes a client of its own.
+/// A history in the making. Threads share one recorder, by clones of it or of references, and each takes a
+/// client of its own.
 ///
 /// ```
 /// # use std::{collections::HashMap, sync::Mutex};
@@ -27,8 +28,10 @@ const NAME_BYTES: usize = 255;
 /// recorder.assert_linearizable("the store");
 /// ```
 ///
-/// The values of a register's writes are 1, 2, 3, and so on, so that a read's value tells which write it saw.
-/// [`Client::write_value`] and [`Client::cas`] take values of the caller's own, which may repeat. A call that is dropped without a word stays pending: nobody knows what the store did. So `?` does what is right after a time-out.
+/// The values of a register's writes are 1, 2, 3, and so on, so that a read's value tells which write it
+/// saw. [`Client::write_value`] and [`Client::cas`] take values of the caller's own, which may repeat. A
+/// call that is dropped without a word stays pending: nobody knows what the store did. So `?` does what is
+/// right after a time-out.
 #[derive(Clone, Default)]
 pub struct Recorder {
     journal: Arc<Mutex<Journal>>,
@@ -122,8 +125,8 @@ impl Recorder {
         self
     }
 
-    /// Says what the values of a register's writes come after, in place of 0. Where several processes record one run, give
-    /// each a number of its own, far from the others.
+    /// Says what the values of a register's writes come after, in place of 0. Where several processes record
+    /// one run, give each a number of its own, far from the others.
     pub fn values_after(self, number: i64) -> Recorder {
         locked(&self.journal).values_after = number;
         self
@@ -158,10 +161,11 @@ impl Recorder {
         locked(&self.journal).history.clone()
     }
 
-    /// Says why the history fails the test, unless it is linearizable, a read was completed, and the recorder was used
-    /// rightly. A cas that was answered counts as a read. It leaves the history, its report and a page that shows the fault
-    /// in `regcheck-failures`, named after the test. If the search for an order gave up, nobody knows: that fails the test
-    /// too. The words and the page are made by `regkit`: where it isn't there, the report stands in their place.
+    /// Says why the history fails the test, unless it is linearizable, a read was completed, and the recorder
+    /// was used rightly. A cas that was answered counts as a read. It leaves the history, its report and a
+    /// page that shows the fault in `regcheck-failures`, named after the test. If the search for an order
+    /// gave up, nobody knows: that fails the test too. The words and the page are made by `regkit`: where it
+    /// isn't there, the report stands in their place.
     ///
     /// # Errors
     /// What is wrong, in words.
@@ -322,8 +326,8 @@ impl Write<'_> {
         self.call.end("reply", "");
     }
 
-    /// The call certainly had no effect, and never will have: the connection was refused, say. Don't say it of a call that
-    /// timed out: if the store did the write after all, that invents a fault.
+    /// The call certainly had no effect, and never will have: the connection was refused, say. Don't say it
+    /// of a call that timed out: if the store did the write after all, that invents a fault.
     pub fn failed(self) {
         self.call.end("fail", "");
     }
@@ -355,8 +359,8 @@ pub struct Cas<'c> {
 }
 
 impl Cas<'_> {
-    /// The store compared, and said whether that took place. Say false only if it found another value. If it refused
-    /// without comparing, the call has failed.
+    /// The store compared, and said whether that took place. Say false only if it found another value. If it
+    /// refused without comparing, the call has failed.
     pub fn replied(self, took_place: bool) {
         self.call.end("reply", &format!(",\"ok\":{took_place}"));
     }

@@ -136,7 +136,9 @@ fn a_long_report() {
 
 // Whether some calls one after another give the report.
 fn all_report() -> bool {
-    (0..200).all(|_| matches!(report(INVERSION.as_bytes()), Ok(checked) if checked.report == REPORT.as_bytes()))
+    (0..200).all(|_| {
+        matches!(report(INVERSION.as_bytes()), Ok(checked) if checked.report == REPORT.as_bytes())
+    })
 }
 
 #[test]

@@ -1,9 +1,11 @@
-// Command cache records three clients of a cache in front of a database, and says whether what they saw is linearizable:
+// Command cache records three clients of a cache in front of a database, and says whether what they
+// saw is linearizable:
 //
 //	go run ./internal/cache faulty
 //	go run ./internal/cache right
 //
-// The faulty one keeps a value that it read before a write. tests/languages compares what all languages say of it.
+// The faulty one keeps a value that it read before a write. tests/languages compares what all
+// languages say of it.
 package main
 
 import (
@@ -50,7 +52,12 @@ func (cache *cache) get(key string) (*int64, error) {
 // record lets the reader's answer from the database wait until the writer has written again.
 func record(recorder *regcheck.Recorder, counts bool) {
 	loaded, written, done := make(chan bool), make(chan bool), make(chan bool)
-	store := &cache{database: map[string]int64{}, kept: map[string]int64{}, writes: map[string]int{}, counts: counts}
+	store := &cache{
+		database: map[string]int64{},
+		kept:     map[string]int64{},
+		writes:   map[string]int{},
+		counts:   counts,
+	}
 	store.loaded = func() { loaded <- true; <-written }
 	use := func(name string) *regcheck.Client { return recorder.Client(name).On("cache") }
 	set := func(value int64) error { return store.set("x", value) }

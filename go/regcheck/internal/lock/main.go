@@ -1,11 +1,11 @@
-// Command lock records two clients that take a lock by compare-and-swap at once, and says whether what they saw is
-// linearizable:
+// Command lock records two clients that take a lock by compare-and-swap at once, and says whether what they
+// saw is linearizable:
 //
 //	go run ./internal/lock faulty
 //	go run ./internal/lock right
 //
-// The faulty register compares and swaps in two steps, so both clients get the lock. tests/languages compares what all
-// languages say of it.
+// The faulty register compares and swaps in two steps, so both clients get the lock. tests/languages compares
+// what all languages say of it.
 package main
 
 import (

@@ -1,5 +1,5 @@
-// Command stream answers each history on standard input. tests/embed compares what it writes; its form is that of
-// tests/library/stream.c.
+// Command stream answers each history on standard input. tests/embed compares what it writes; its form is
+// that of tests/library/stream.c.
 //
 // With two arguments, of steps and configurations, it asks regsearch too, within these bounds.
 package main
@@ -41,7 +41,8 @@ func answer(history []byte, bounds []regcheck.Bound) (numbers, []byte) {
 	switch {
 	case errors.As(err, &refusal):
 		words := []byte(err.Error())
-		return numbers{2, uint32(refusal.Number), uint32(refusal.Line), uint32(refusal.Other), uint64(len(words))}, words
+		number, line, other := uint32(refusal.Number), uint32(refusal.Line), uint32(refusal.Other)
+		return numbers{2, number, line, other, uint64(len(words))}, words
 	case err != nil:
 		log.Fatal(err)
 	}
@@ -55,7 +56,8 @@ func boundsOf(words []string) []regcheck.Bound {
 		if err != nil {
 			log.Fatal(err)
 		}
-		bounds = append(bounds, []func(uint64) regcheck.Bound{regcheck.Steps, regcheck.Configurations}[place](number))
+		kinds := []func(uint64) regcheck.Bound{regcheck.Steps, regcheck.Configurations}
+		bounds = append(bounds, kinds[place](number))
 	}
 	return bounds
 }

@@ -1,5 +1,5 @@
-// Package toy runs toy stores whose events are the same in each language, and prints what is said of them. tests/languages
-// compares that.
+// Package toy runs toy stores whose events are the same in each language, and prints what is said of them.
+// tests/languages compares that.
 package toy
 
 import (
@@ -9,8 +9,8 @@ import (
 	"regcheck"
 )
 
-// Run records one run of a store, and prints the verdict in words. The first word of the command line says which store:
-// faulty or right, or, for the right one and a search that soon gives up, bounded.
+// Run records one run of a store, and prints the verdict in words. The first word of the command line says
+// which store: faulty or right, or, for the right one and a search that soon gives up, bounded.
 func Run(name string, record func(recorder *regcheck.Recorder, right bool)) {
 	var time int64
 	recorder := &regcheck.Recorder{Folder: "kept", Clock: func() int64 { time += 1_000_000; return time }}

@@ -2,8 +2,8 @@
 use regcheck::{Bounds, Recorder};
 use std::{env, process};
 
-/// Records one run of a store, and prints the verdict in words. The first word of the command line says which store: faulty
-/// or right, or, for the right one and a search that soon gives up, bounded.
+/// Records one run of a store, and prints the verdict in words. The first word of the command line says which
+/// store: faulty or right, or, for the right one and a search that soon gives up, bounded.
 pub fn run(name: &str, record: fn(&Recorder, bool)) {
     let mut time = 0;
     let kind = env::args().nth(1).unwrap_or_default();
