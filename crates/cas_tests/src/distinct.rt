@@ -6,6 +6,7 @@ use cas_search::{Bounds, Verdict, timeline};
 use distinct_values::decide;
 use history_text::Val;
 use std::alloc::{AllocError, Global};
+use std::process::Abort;
 use std::test::Fail;
 
 const FOUR: Val = Val::Int(4);
@@ -29,9 +30,20 @@ fn answer(alloc: Global, ops: &[Operation]) -> Result<String, AllocError> {
     text_of(alloc, verdict(alloc, ops)?)
 }
 
+/// A register with its name.
+type Row<'a> = (&'static str, &'a [Operation]);
+
+fn expect(rt: &(impl AllocGlobal + Abort), rows: &[Row], expected: &str) -> Result<(), Fail> {
+    for (name, ops) in rows {
+        let found = answer(rt.alloc(), ops)?;
+        assert_eq!(rt; found.as_str(), expected, "{name}");
+    }
+    Ok(())
+}
+
 #[test]
 fn right_ones(rt: HostRuntime) -> Result<(), Fail> {
-    let rows: [(&str, &[Operation]); 6] = [
+    let rows: [Row; 4] = [
         (
             "a read during the write of its value",
             &[write(2, Some(5), ONE), read(3, 4, ONE)],
@@ -39,19 +51,6 @@ fn right_ones(rt: HostRuntime) -> Result<(), Fail> {
         (
             "a read of null during a write",
             &[write(2, Some(5), ONE), read(3, 4, Val::Null)],
-        ),
-        (
-            "a pending write that was read",
-            &[write(2, None, ONE), read(3, 4, Val::Null), read(5, 6, ONE)],
-        ),
-        (
-            "a pending write and a pending read that nobody needs",
-            &[
-                write(2, Some(3), ONE),
-                write(4, None, TWO),
-                pending_read(5),
-                read(6, 7, ONE),
-            ],
         ),
         (
             "writes that overlap, in the order in which they were read",
@@ -72,17 +71,49 @@ fn right_ones(rt: HostRuntime) -> Result<(), Fail> {
             ],
         ),
     ];
-    for (name, ops) in rows {
-        let found = answer(rt.alloc(), ops)?;
-        assert_eq!(rt; found.as_str(), "yes", "{name}");
+    expect(&rt, &rows, "yes")
+}
+
+#[test]
+fn right_ones_with_pending_calls(rt: HostRuntime) -> Result<(), Fail> {
+    let rows: [Row; 2] = [
+        (
+            "a pending write that was read",
+            &[write(2, None, ONE), read(3, 4, Val::Null), read(5, 6, ONE)],
+        ),
+        (
+            "a pending write and a pending read that nobody needs",
+            &[
+                write(2, Some(3), ONE),
+                write(4, None, TWO),
+                pending_read(5),
+                read(6, 7, ONE),
+            ],
+        ),
+    ];
+    expect(&rt, &rows, "yes")
+}
+
+/// A register that isn't atomic, with the place of the first hopeless reply, and the one order that is legal before it.
+type Faulty<'a> = (&'static str, &'a [Operation], u32, &'a [u32]);
+
+fn expect_no(rt: &(impl AllocGlobal + Abort), rows: &[Faulty]) -> Result<(), Fail> {
+    for (name, ops, reply, before) in rows {
+        let found = match verdict(rt.alloc(), ops)? {
+            Verdict::No { reply, before } => Some((reply, before)),
+            _ => None,
+        };
+        let (at, order) = found.ok_or(*name)?;
+        assert_eq!(rt; at, *reply, "{name}");
+        let order = order.ok_or(*name)?;
+        assert_eq!(rt; order.as_slice(), *before, "{name}");
     }
     Ok(())
 }
 
-/// Rows with the place of the first hopeless reply, and the one order that is legal before it.
 #[test]
-fn faulty_ones(rt: HostRuntime) -> Result<(), Fail> {
-    let rows: [(&str, &[Operation], u32, &[u32]); 8] = [
+fn values_not_written_yet(rt: HostRuntime) -> Result<(), Fail> {
+    let rows: [Faulty; 2] = [
         (
             "a value that nobody writes",
             &[write(2, Some(3), ONE), read(4, 5, TWO)],
@@ -95,6 +126,13 @@ fn faulty_ones(rt: HostRuntime) -> Result<(), Fail> {
             0,
             &[],
         ),
+    ];
+    expect_no(&rt, &rows)
+}
+
+#[test]
+fn values_that_are_over(rt: HostRuntime) -> Result<(), Fail> {
+    let rows: [Faulty; 4] = [
         (
             "a read of null after a write",
             &[write(2, Some(3), ONE), read(4, 5, Val::Null)],
@@ -128,6 +166,13 @@ fn faulty_ones(rt: HostRuntime) -> Result<(), Fail> {
             3,
             &[0, 1, 2],
         ),
+    ];
+    expect_no(&rt, &rows)
+}
+
+#[test]
+fn zones_that_conflict(rt: HostRuntime) -> Result<(), Fail> {
+    let rows: [Faulty; 2] = [
         (
             "two forward zones that overlap",
             &[
@@ -154,22 +199,12 @@ fn faulty_ones(rt: HostRuntime) -> Result<(), Fail> {
             &[0, 1, 3, 4],
         ),
     ];
-    for (name, ops, reply, before) in rows {
-        let found = match verdict(rt.alloc(), ops)? {
-            Verdict::No { reply, before } => Some((reply, before)),
-            _ => None,
-        };
-        let (at, order) = found.ok_or(name)?;
-        assert_eq!(rt; at, reply, "{name}");
-        let order = order.ok_or(name)?;
-        assert_eq!(rt; order.as_slice(), before, "{name}");
-    }
-    Ok(())
+    expect_no(&rt, &rows)
 }
 
 #[test]
 fn others_keep_their_bounds(rt: HostRuntime) -> Result<(), Fail> {
-    let rows: [(&str, &[Operation]); 3] = [
+    let rows: [Row; 3] = [
         (
             "a value written twice",
             &[
@@ -185,9 +220,5 @@ fn others_keep_their_bounds(rt: HostRuntime) -> Result<(), Fail> {
             &[write(2, Some(3), ONE), write(4, Some(5), Val::Null)],
         ),
     ];
-    for (name, ops) in rows {
-        let found = answer(rt.alloc(), ops)?;
-        assert_eq!(rt; found.as_str(), "steps", "{name}");
-    }
-    Ok(())
+    expect(&rt, &rows, "steps")
 }

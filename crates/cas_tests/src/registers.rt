@@ -4,6 +4,7 @@ use cas_search::{Bound, Bounds, Moment, Verdict, decide, first_unwritten, timeli
 use history_model::RegId;
 use history_text::Val;
 use std::alloc::{AllocError, Global};
+use std::process::Abort;
 use std::test::Fail;
 
 pub(crate) const ONE: Val = Val::Int(1);
@@ -86,18 +87,20 @@ fn moments(rt: HostRuntime) -> Result<(), Fail> {
     Ok(())
 }
 
+/// A register, and what the search says of it.
+type Row<'a> = (&'static str, &'a [Operation], &'static str);
+
+fn expect(rt: &(impl AllocGlobal + Abort), rows: &[Row]) -> Result<(), Fail> {
+    for (name, ops, expected) in rows {
+        let found = answer(rt.alloc(), ops, Bounds::DEFAULT)?;
+        assert_eq!(rt; found.as_str(), *expected, "{name}");
+    }
+    Ok(())
+}
+
 #[test]
-fn verdicts(rt: HostRuntime) -> Result<(), Fail> {
-    let rows: [(&str, &[Operation], &str); 14] = [
-        (
-            "a cas takes place, and its value is read",
-            &[
-                write(2, Some(3), ONE),
-                cas(4, Some(5), ONE, 2),
-                read(6, 7, TWO),
-            ],
-            "yes",
-        ),
+fn writes_of_one_value(rt: HostRuntime) -> Result<(), Fail> {
+    let rows: [Row; 4] = [
         (
             "the same value twice, the second time pending",
             &[write(2, Some(3), ONE), write(4, None, ONE)],
@@ -114,14 +117,49 @@ fn verdicts(rt: HostRuntime) -> Result<(), Fail> {
             "no at 3",
         ),
         (
-            "a cas misses since the value is another",
-            &[write(2, Some(3), ONE), miss(4, 5, THREE)],
+            "two writes of one value that overlap a read of null",
+            &[
+                write(2, Some(6), ONE),
+                write(3, Some(7), ONE),
+                read(4, 5, Val::Null),
+            ],
             "yes",
         ),
         (
-            "a cas misses though the value is its own",
-            &[write(2, Some(3), ONE), miss(4, 5, ONE)],
-            "no at 1",
+            "the same, and a read of null after both",
+            &[
+                write(2, Some(6), ONE),
+                write(3, Some(7), ONE),
+                read(4, 5, Val::Null),
+                read(8, 9, Val::Null),
+            ],
+            "no at 3",
+        ),
+    ];
+    expect(&rt, &rows)
+}
+
+#[test]
+fn values_that_nobody_wrote(rt: HostRuntime) -> Result<(), Fail> {
+    let rows: [Row; 1] = [(
+        "two reads of what nobody wrote: the first one is named",
+        &[read(2, 4, ONE), read(3, 5, TWO)],
+        "no at 0",
+    )];
+    expect(&rt, &rows)
+}
+
+#[test]
+fn cas_that_reply(rt: HostRuntime) -> Result<(), Fail> {
+    let rows: [Row; 3] = [
+        (
+            "a cas takes place, and its value is read",
+            &[
+                write(2, Some(3), ONE),
+                cas(4, Some(5), ONE, 2),
+                read(6, 7, TWO),
+            ],
+            "yes",
         ),
         (
             "two cas from one value, one after the other",
@@ -132,6 +170,40 @@ fn verdicts(rt: HostRuntime) -> Result<(), Fail> {
             ],
             "no at 2",
         ),
+        (
+            "a cas from null",
+            &[cas(2, Some(3), Val::Null, 1), read(4, 5, ONE)],
+            "yes",
+        ),
+    ];
+    expect(&rt, &rows)
+}
+
+#[test]
+fn misses(rt: HostRuntime) -> Result<(), Fail> {
+    let rows: [Row; 3] = [
+        (
+            "a cas misses since the value is another",
+            &[write(2, Some(3), ONE), miss(4, 5, THREE)],
+            "yes",
+        ),
+        (
+            "a cas misses though the value is its own",
+            &[write(2, Some(3), ONE), miss(4, 5, ONE)],
+            "no at 1",
+        ),
+        (
+            "a cas that misses later is a miss from its call on, so the read before its reply can't be",
+            &[write(2, Some(3), ONE), miss(4, 9, ONE), read(5, 6, TWO)],
+            "no at 2",
+        ),
+    ];
+    expect(&rt, &rows)
+}
+
+#[test]
+fn pending_cas(rt: HostRuntime) -> Result<(), Fail> {
+    let rows: [Row; 3] = [
         (
             "a pending cas that was read",
             &[
@@ -160,52 +232,28 @@ fn verdicts(rt: HostRuntime) -> Result<(), Fail> {
             ],
             "yes",
         ),
-        (
-            "a cas from null",
-            &[cas(2, Some(3), Val::Null, 1), read(4, 5, ONE)],
-            "yes",
-        ),
-        (
-            "two writes of one value that overlap a read of null",
-            &[
-                write(2, Some(6), ONE),
-                write(3, Some(7), ONE),
-                read(4, 5, Val::Null),
-            ],
-            "yes",
-        ),
-        (
-            "the same, and a read of null after both",
-            &[
-                write(2, Some(6), ONE),
-                write(3, Some(7), ONE),
-                read(4, 5, Val::Null),
-                read(8, 9, Val::Null),
-            ],
-            "no at 3",
-        ),
-        (
-            "two reads of what nobody wrote: the first one is named",
-            &[read(2, 4, ONE), read(3, 5, TWO)],
-            "no at 0",
-        ),
-        (
-            "a cas that misses later is a miss from its call on, so the read before its reply can't be",
-            &[write(2, Some(3), ONE), miss(4, 9, ONE), read(5, 6, TWO)],
-            "no at 2",
-        ),
     ];
+    expect(&rt, &rows)
+}
+
+/// A register that isn't atomic, and the one order that is legal before the hopeless reply.
+type Faulty<'a> = (&'static str, &'a [Operation], &'a [u32]);
+
+fn expect_before(rt: &(impl AllocGlobal + Abort), rows: &[Faulty]) -> Result<(), Fail> {
     for (name, ops, expected) in rows {
-        let found = answer(rt.alloc(), ops, Bounds::DEFAULT)?;
-        assert_eq!(rt; found.as_str(), expected, "{name}");
+        let before = match verdict(rt.alloc(), ops, Bounds::DEFAULT)? {
+            Verdict::No { before, .. } => before,
+            _ => None,
+        };
+        let order = before.ok_or(*name)?;
+        assert_eq!(rt; order.as_slice(), *expected, "{name}");
     }
     Ok(())
 }
 
-/// Rows in which one order alone is legal before the hopeless reply.
 #[test]
 fn orders_before(rt: HostRuntime) -> Result<(), Fail> {
-    let rows: [(&str, &[Operation], &[u32]); 4] = [
+    let rows: [Faulty; 4] = [
         (
             "nothing has taken effect",
             &[read(2, 4, ONE), read(3, 5, TWO)],
@@ -236,15 +284,7 @@ fn orders_before(rt: HostRuntime) -> Result<(), Fail> {
             &[1, 0],
         ),
     ];
-    for (name, ops, expected) in rows {
-        let before = match verdict(rt.alloc(), ops, Bounds::DEFAULT)? {
-            Verdict::No { before, .. } => before,
-            _ => None,
-        };
-        let order = before.ok_or(name)?;
-        assert_eq!(rt; order.as_slice(), expected, "{name}");
-    }
-    Ok(())
+    expect_before(&rt, &rows)
 }
 
 #[test]

@@ -3,40 +3,46 @@ use Rattle.std.proofs.Common.{◌≡◌, [], ◌∷◌, codes, length, refl, Non
 use Rattle.clap.specs.Words.{fault_of}
 use Rattle.clap.specs.declared.error.kind.ErrorKind.TheVariants.{DisplayHelp, DisplayVersion}
 use Rattle.clap.proofs.OnLiterals.{clap_on_literals}
-use Rattle.regcheck.specs.Words.{IsTaken, command_line, cut_named, file_named, first_given, workers_named}
+use Rattle.command_words.specs.Words.{IsTaken, file_named, number_named}
+use Rattle.regcheck.specs.Words.{command_line, first_given}
 
 -- no word is standard input
-no_word : IsTaken [] × (file_named [] ≡ None)
+no_word : IsTaken command_line [] × (file_named command_line [] ≡ None)
 unfolding clap_on_literals IsTaken file_named
 no_word = (refl, refl)
 
 -- a word is a file
-one_word : IsTaken (codes "h.jsonl" ∷ []) × (file_named (codes "h.jsonl" ∷ []) ≡ Some (codes "h.jsonl"))
+one_word : IsTaken command_line (codes "h.jsonl" ∷ [])
+    × (file_named command_line (codes "h.jsonl" ∷ []) ≡ Some (codes "h.jsonl"))
 unfolding clap_on_literals IsTaken file_named
 one_word = (refl, refl)
 
 -- `-` is standard input, as no word is, and a file of that name has another
-dash : IsTaken (codes "-" ∷ []) × (file_named (codes "-" ∷ []) ≡ None)
+dash : IsTaken command_line (codes "-" ∷ []) × (file_named command_line (codes "-" ∷ []) ≡ None)
 unfolding clap_on_literals IsTaken file_named
 dash = (refl, refl)
 
 dash_after_options : let words = codes "--workers" ∷ codes "2" ∷ codes "--" ∷ codes "-" ∷ [] in
-    IsTaken words × (file_named words ≡ None) × (workers_named words ≡ Some 2)
-unfolding clap_on_literals IsTaken file_named workers_named
+    IsTaken command_line words × (file_named command_line words ≡ None)
+    × (number_named command_line (codes "workers") words ≡ Some 2)
+unfolding clap_on_literals IsTaken file_named number_named
 dash_after_options = (refl, refl, refl)
 
-file_called_dash : IsTaken (codes "./-" ∷ []) × (file_named (codes "./-" ∷ []) ≡ Some (codes "./-"))
+file_called_dash : IsTaken command_line (codes "./-" ∷ [])
+    × (file_named command_line (codes "./-" ∷ []) ≡ Some (codes "./-"))
 unfolding clap_on_literals IsTaken file_named
 file_called_dash = (refl, refl)
 
 -- where no word says otherwise, there are 4 workers, and a cut of 4096
-defaults : (workers_named [] ≡ Some 4) × (cut_named [] ≡ Some 4096)
-unfolding clap_on_literals workers_named cut_named
+defaults : (number_named command_line (codes "workers") [] ≡ Some 4)
+    × (number_named command_line (codes "cut") [] ≡ Some 4096)
+unfolding clap_on_literals number_named
 defaults = (refl, refl)
 
 -- the flag is set where a word says so, and not set where none does
 flag : let words = codes "--first" ∷ codes "h.jsonl" ∷ [] in
-    IsTaken words × (first_given words ≡ Some (codes "true")) × (file_named words ≡ Some (codes "h.jsonl"))
+    IsTaken command_line words × (first_given words ≡ Some (codes "true"))
+    × (file_named command_line words ≡ Some (codes "h.jsonl"))
 unfolding clap_on_literals IsTaken first_given file_named
 flag = (refl, refl, refl)
 
@@ -46,14 +52,18 @@ no_flag = refl
 
 -- the least numbers
 least : let words = codes "--workers" ∷ codes "1" ∷ codes "--cut" ∷ codes "1" ∷ [] in
-    IsTaken words × (workers_named words ≡ Some 1) × (cut_named words ≡ Some 1) × (file_named words ≡ None)
-unfolding clap_on_literals IsTaken workers_named cut_named file_named
+    IsTaken command_line words × (number_named command_line (codes "workers") words ≡ Some 1)
+    × (number_named command_line (codes "cut") words ≡ Some 1) × (file_named command_line words ≡ None)
+unfolding clap_on_literals IsTaken number_named file_named
 least = (refl, refl, refl, refl)
 
 -- the greatest, and a file
-greatest : let words = codes "--workers" ∷ codes "16" ∷ codes "--cut" ∷ codes "1048576" ∷ codes "h.jsonl" ∷ [] in
-    IsTaken words × (workers_named words ≡ Some 16) × (cut_named words ≡ Some 1048576) × (file_named words ≡ Some (codes "h.jsonl"))
-unfolding clap_on_literals IsTaken workers_named cut_named file_named
+greatest : let words = codes "--workers" ∷ codes "16" ∷ codes "--cut" ∷ codes "1048576" ∷ codes "h.jsonl"
+    ∷ [] in
+    IsTaken command_line words × (number_named command_line (codes "workers") words ≡ Some 16)
+    × (number_named command_line (codes "cut") words ≡ Some 1048576)
+    × (file_named command_line words ≡ Some (codes "h.jsonl"))
+unfolding clap_on_literals IsTaken number_named file_named
 greatest = (refl, refl, refl, refl)
 
 -- numbers past their limits are a fault

@@ -1,66 +1,31 @@
 -- What the words of the command line name (the reading of words is `clap`'s).
-use Rattle.std.specs.Prelude.{◌≡◌, [], ◌∷◌, ℕ, codes, if◌then◌else◌, option_map, pos, true, false, Bool, List, Option, None, Some}
-use Rattle.std.specs.Str.{bytes_eq}
-use Rattle.std.specs.Str.Parse.{digits_value, without_leading_plus}
-use Rattle.clap.specs.Words.{App, Rule, Text, fault_of, first_of, matches_of, new_app, new_rule, one_of, takes, with_rule}
-use Rattle.clap.specs.declared.builder.action.ArgAction.TheVariants.{Set, SetTrue}
+use Rattle.std.specs.Prelude.{◌≡◌, ℕ, codes, pos, true, false, Bool, List, Option, None, Some}
+use Rattle.clap.specs.Words.{App, Rule, Text, matches_of, new_rule, one_of, with_rule}
+use Rattle.clap.specs.declared.builder.action.ArgAction.TheVariants.{SetTrue}
+use Rattle.clap.specs.declared.builder.value_parser.ValueParser.{ValueParser}
 use Rattle.clap.specs.declared.builder.value_parser.ValueParser.TheVariants.{Signed}
+use Rattle.command_words.specs.Words.{file_rule, option_rule, program}
 use Rattle.reg_pieces.specs.declared.settings.TheConstants.{MAX_CUT, MAX_WORKERS}
 
--- the one argument: a word that names the file
-abbrev pub file_rule : Rule
-file_rule = record (new_rule (codes "file")) { value_names = 1 }
-
--- an option with a number from 1 to `most`, which is `default` where the words have no such option
-abbrev pub number_rule : Text → ℕ → Text → Rule
-number_rule name most default = record (new_rule name) {
-  long = Some name;
-  value_names = 1;
-  action = Some Set;
-  parser = Some (Signed (pos 1) (pos most));
-  defaults = default ∷ [];
-}
+-- a number from 1 to `most`
+abbrev pub up_to : ℕ → ValueParser
+up_to most = Signed (pos 1) (pos most)
 
 -- how many workers there are, 4 by default
 abbrev pub workers_rule : Rule
-workers_rule = number_rule (codes "workers") MAX_WORKERS (codes "4")
+workers_rule = option_rule (codes "workers") (up_to MAX_WORKERS) (codes "4")
 
 -- how many reads a worker's piece has at most, 4096 by default
 abbrev pub cut_rule : Rule
-cut_rule = number_rule (codes "cut") MAX_CUT (codes "4096")
+cut_rule = option_rule (codes "cut") (up_to MAX_CUT) (codes "4096")
 
 -- a flag that asks for only the first register that isn't atomic
 abbrev pub first_rule : Rule
 first_rule = record (new_rule (codes "first")) { long = Some (codes "first"); action = Some SetTrue }
 
--- the program, whose own name isn't among the words, and which tells its version
-abbrev pub program : App
-program = record (new_app (codes "regcheck")) { top = record (new_app (codes "regcheck")).top { no_binary_name = true; has_version = true } }
-
 -- the command line that the program takes
 abbrev pub command_line : App
-command_line = with_rule (with_rule (with_rule (with_rule program file_rule) workers_rule) cut_rule) first_rule
-
--- the word `-` stands for standard input, any other for the file of that name
-abbrev pub file_of : Option Text → Option Text
-file_of None = None
-file_of (Some word) = if bytes_eq word (codes "-") then None else Some word
-
--- the file that the words name; standard input where there is none
-unfoldable pub file_named : List Text → Option Text
-file_named words = file_of (first_of (codes "file") (matches_of command_line words))
-
--- the number that a text says in decimal digits
-abbrev pub number_in : Text → ℕ
-number_in text = digits_value 10 (without_leading_plus text)
-
--- the number of workers that the words name, or the default
-unfoldable pub workers_named : List Text → Option ℕ
-workers_named words = option_map number_in (one_of (codes "workers") (matches_of command_line words))
-
--- the cut that the words name, or the default
-unfoldable pub cut_named : List Text → Option ℕ
-cut_named words = option_map number_in (one_of (codes "cut") (matches_of command_line words))
+command_line = with_rule (with_rule (with_rule (with_rule (program (codes "regcheck")) file_rule) workers_rule) cut_rule) first_rule
 
 -- what the parser says of the flag: `true` where the words have it, and else `false`
 unfoldable pub first_given : List Text → Option Text
@@ -69,11 +34,3 @@ first_given words = one_of (codes "first") (matches_of command_line words)
 -- a flag is set where the parser says so, and not set where it says not or nothing
 abbrev pub IsFlag : Option Text → Bool → Type 0
 IsFlag given flag = (given ≡ Some (codes "true") → flag ≡ true) × (given ≡ Some (codes "false") → flag ≡ false) × (given ≡ None → flag ≡ false)
-
--- the command line takes the words, and they ask for neither help nor the version
-unfoldable pub IsTaken : List Text → Type 0
-IsTaken words = takes command_line words ≡ true
-
--- no word is at fault, and none asks for help or the version
-unfoldable pub IsFaultless : List Text → Type 0
-IsFaultless words = fault_of command_line words ≡ []

@@ -1,3 +1,2 @@
-mod DefaultReads
 mod Numbers
 mod OnWords

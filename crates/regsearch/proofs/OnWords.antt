@@ -3,51 +3,64 @@ use Rattle.std.proofs.Common.{◌≡◌, [], ◌∷◌, codes, length, refl, Non
 use Rattle.clap.specs.Words.{fault_of}
 use Rattle.clap.specs.declared.error.kind.ErrorKind.TheVariants.{DisplayHelp, DisplayVersion}
 use Rattle.clap.proofs.OnLiterals.{clap_on_literals}
-use Rattle.regsearch.specs.Words.{IsTaken, command_line, configurations_named, file_named, steps_named, workers_named}
+use Rattle.command_words.specs.Words.{IsTaken, file_named, number_named}
+use Rattle.regsearch.specs.Words.{command_line}
 
 -- no word is standard input
-no_word : IsTaken [] × (file_named [] ≡ None)
+no_word : IsTaken command_line [] × (file_named command_line [] ≡ None)
 unfolding clap_on_literals IsTaken file_named
 no_word = (refl, refl)
 
 -- a word is a file
-one_word : IsTaken (codes "h.jsonl" ∷ []) × (file_named (codes "h.jsonl" ∷ []) ≡ Some (codes "h.jsonl"))
+one_word : IsTaken command_line (codes "h.jsonl" ∷ [])
+    × (file_named command_line (codes "h.jsonl" ∷ []) ≡ Some (codes "h.jsonl"))
 unfolding clap_on_literals IsTaken file_named
 one_word = (refl, refl)
 
 -- `-` is standard input, as no word is, and a file of that name has another
-dash : IsTaken (codes "-" ∷ []) × (file_named (codes "-" ∷ []) ≡ None)
+dash : IsTaken command_line (codes "-" ∷ []) × (file_named command_line (codes "-" ∷ []) ≡ None)
 unfolding clap_on_literals IsTaken file_named
 dash = (refl, refl)
 
 dash_after_options : let words = codes "--workers" ∷ codes "2" ∷ codes "--" ∷ codes "-" ∷ [] in
-    IsTaken words × (file_named words ≡ None) × (workers_named words ≡ Some 2)
-unfolding clap_on_literals IsTaken file_named workers_named
+    IsTaken command_line words × (file_named command_line words ≡ None)
+    × (number_named command_line (codes "workers") words ≡ Some 2)
+unfolding clap_on_literals IsTaken file_named number_named
 dash_after_options = (refl, refl, refl)
 
-file_called_dash : IsTaken (codes "./-" ∷ []) × (file_named (codes "./-" ∷ []) ≡ Some (codes "./-"))
+file_called_dash : IsTaken command_line (codes "./-" ∷ [])
+    × (file_named command_line (codes "./-" ∷ []) ≡ Some (codes "./-"))
 unfolding clap_on_literals IsTaken file_named
 file_called_dash = (refl, refl)
 
 -- where no word says otherwise, there are 4 workers, 10,000,000,000 steps and 65,536 configurations
-default_workers : workers_named [] ≡ Some 4
-unfolding clap_on_literals workers_named
+default_workers : number_named command_line (codes "workers") [] ≡ Some 4
+unfolding clap_on_literals number_named
 default_workers = refl
 
-default_bounds : (steps_named [] ≡ Some 10000000000) × (configurations_named [] ≡ Some 65536)
-unfolding clap_on_literals steps_named configurations_named
+default_bounds : (number_named command_line (codes "steps") [] ≡ Some 10000000000)
+    × (number_named command_line (codes "configurations") [] ≡ Some 65536)
+unfolding clap_on_literals number_named
 default_bounds = (refl, refl)
 
 -- the least numbers
-least : let words = codes "--workers" ∷ codes "1" ∷ codes "--steps" ∷ codes "1" ∷ codes "--configurations" ∷ codes "1" ∷ [] in
-    IsTaken words × (workers_named words ≡ Some 1) × (steps_named words ≡ Some 1) × (configurations_named words ≡ Some 1) × (file_named words ≡ None)
-unfolding clap_on_literals IsTaken workers_named steps_named configurations_named file_named
+least : let words = codes "--workers" ∷ codes "1" ∷ codes "--steps" ∷ codes "1" ∷ codes "--configurations"
+    ∷ codes "1" ∷ [] in
+    IsTaken command_line words × (number_named command_line (codes "workers") words ≡ Some 1)
+    × (number_named command_line (codes "steps") words ≡ Some 1)
+    × (number_named command_line (codes "configurations") words ≡ Some 1)
+    × (file_named command_line words ≡ None)
+unfolding clap_on_literals IsTaken number_named file_named
 least = (refl, refl, refl, refl, refl)
 
 -- the greatest, and a file
-greatest : let words = codes "--workers" ∷ codes "16" ∷ codes "--steps" ∷ codes "1000000000000" ∷ codes "--configurations" ∷ codes "1048576" ∷ codes "h.jsonl" ∷ [] in
-    IsTaken words × (workers_named words ≡ Some 16) × (steps_named words ≡ Some 1000000000000) × (configurations_named words ≡ Some 1048576) × (file_named words ≡ Some (codes "h.jsonl"))
-unfolding clap_on_literals IsTaken workers_named steps_named configurations_named file_named
+greatest : let words = codes "--workers" ∷ codes "16" ∷ codes "--steps" ∷ codes "1000000000000"
+    ∷ codes "--configurations" ∷ codes "1048576" ∷ codes "h.jsonl" ∷ [] in
+    IsTaken command_line words × (number_named command_line (codes "workers") words ≡ Some 16)
+    × (number_named command_line (codes "steps") words ≡ Some 1000000000000)
+    × (number_named command_line (codes "configurations") words ≡ Some 1048576)
+    × (file_named command_line words ≡ Some (codes "h.jsonl"))
+unfolding clap_on_literals IsTaken number_named file_named
 greatest = (refl, refl, refl, refl, refl)
 
 -- numbers past their limits are a fault
@@ -76,7 +89,8 @@ unfolding clap_on_literals
 many_configurations = refl
 
 -- an option stands once at most
-steps_twice : length (fault_of command_line (codes "--steps" ∷ codes "1" ∷ codes "--steps" ∷ codes "1" ∷ [])) ≡ 1
+steps_twice : length (fault_of command_line (codes "--steps" ∷ codes "1" ∷ codes "--steps" ∷ codes "1"
+    ∷ [])) ≡ 1
 unfolding clap_on_literals
 steps_twice = refl
 

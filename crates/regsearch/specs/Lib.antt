@@ -1,3 +1,1 @@
-pub mod Numbers
-pub mod Status
 pub mod Words

@@ -1,8 +1,9 @@
 -- Each call of `arg` adds the rule of its argument.
-use Rattle.std.proofs.Common.{◌≡◌, ◌∙◌, ap₂, rules}
+use Rattle.std.proofs.Common.{◌≡◌, ◌∙◌, ap₂, codes, rules}
 use Rattle.std.proofs.lemmas.Result.{IfOk-weaker}
 use Rattle.clap.specs.Words.{app_of, rule_of, with_rule}
-use Rattle.regsearch.specs.Words.{configurations_rule, file_rule, program, steps_rule, workers_rule}
+use Rattle.command_words.specs.Words.{file_rule, program}
+use Rattle.regsearch.specs.Words.{configurations_rule, steps_rule, workers_rule}
 use Rattle.regsearch.proofs.words.command.Goals as goal
 
 pub returns : goal.returns
@@ -10,10 +11,11 @@ returns c =
     let workers_is : rule_of c.help.result ≡ workers_rule = search rules in
     let steps_is : rule_of c.help-2.result ≡ steps_rule = search rules in
     let configurations_is : rule_of c.help-3.result ≡ configurations_rule = search rules in
-    let begun : app_of c.after_help.result ≡ program = search rules in
-    let with_file : app_of c.in_ok-arg.field-0 ≡ with_rule program file_rule = c.in_ok-arg.ensures.shape c.file.ensures.local ∙ ap₂ with_rule begun c.file.ensures.rule in
-    let with_workers : app_of c.in_ok-arg-2.field-0 ≡ with_rule (with_rule program file_rule) workers_rule =
+    let named = program (codes "regsearch") in
+    let begun : app_of c.after_help.result ≡ named = search rules in
+    let with_file : app_of c.in_ok-arg.field-0 ≡ with_rule named file_rule = c.in_ok-arg.ensures.shape c.file.ensures.local ∙ ap₂ with_rule begun c.file.ensures.rule in
+    let with_workers : app_of c.in_ok-arg-2.field-0 ≡ with_rule (with_rule named file_rule) workers_rule =
     c.in_ok-arg-2.ensures.shape (search rules) ∙ ap₂ with_rule with_file workers_is in
-    let with_steps : app_of c.in_ok-arg-3.field-0 ≡ with_rule (with_rule (with_rule program file_rule) workers_rule) steps_rule =
+    let with_steps : app_of c.in_ok-arg-3.field-0 ≡ with_rule (with_rule (with_rule named file_rule) workers_rule) steps_rule =
     c.in_ok-arg-3.ensures.shape (search rules) ∙ ap₂ with_rule with_workers steps_is in
     IfOk-weaker c.arg-4.result _ _ (λ command added. added.shape (search rules) ∙ ap₂ with_rule with_steps configurations_is) c.arg-4.ensures

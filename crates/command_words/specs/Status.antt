@@ -1,9 +1,8 @@
 -- The exit statuses (this project's profile; README.md has the table).
 use Rattle.std.specs.Prelude.{ℕ, nat_le, ◌&&◌, if◌then◌else◌}
-use Rattle.regsearch.specs.declared.exit_status.Ended.{Ended}
-use Rattle.regsearch.specs.declared.exit_status.Ended.TheVariants.{Atomic, NotAtomic, Unknown, Refused, BadWords}
+use Rattle.command_words.specs.declared.ending.Ended.{Ended}
+use Rattle.command_words.specs.declared.ending.Ended.TheVariants.{Atomic, NotAtomic, Unknown, Refused, BadWords}
 
--- 16 to 18 are failures of input, memory and output, and any other refusal is of the history
 abbrev pub status_of : Ended → ℕ
 status_of Atomic = 0
 status_of NotAtomic = 1

@@ -1,15 +1,16 @@
-//! The exit status.
+//! How a program ends.
 ghost use Rattle.std.specs.Prelude.{◌≡◌};
-ghost use Rattle.regsearch.specs.Status.{status_of};
+ghost use Rattle.command_words.specs.Status.{status_of};
 
-/// How the program ended.
+/// How a program ended.
 #[derive(Clone, Copy, Debug, PartialEq, Eq)]
 pub enum Ended {
     /// Each register is atomic.
     Atomic,
     /// Some register isn't.
     NotAtomic,
-    /// The search gave up on some register, and no register is known not to be atomic.
+    /// The search gave up on some register, and no register is known not to be atomic. A program that always decides never
+    /// ends so.
     Unknown,
     /// There is no report; with the number of the refusal, 1 to 21.
     Refused(u8),

@@ -1,0 +1,3 @@
+mod DefaultReads
+pub mod Found
+pub mod Numbers
