@@ -9,9 +9,8 @@ ghost use Rattle.reg_intake.specs.Pulled.{Gives, GetsNoMore, IsFurther, StopsAt,
 use crate::held::Held;
 use crate::pulled::Pulled;
 use crate::refusal::Refusal;
-use crate::shared::read_shared;
 use byte_ends::Source;
-use history_text::{LineEvent, LineFault, whole_lines};
+use history_text::{LineEvent, LineFault, read_spans, whole_lines};
 use std::alloc::{AllocError, Global};
 use std::thread::Threads;
 
@@ -99,7 +98,7 @@ impl Intake {
         ensures pulled { self.new.pulled ≡ self.old.pulled }
     {
         let whole = whole_lines(alloc, self.held(), self.next_line, self.is_ended())?;
-        let parts = read_shared(rt, alloc, self.held(), &whole.spans)?;
+        let parts = read_spans(rt, alloc, self.held(), &whole.spans)?;
         self.next_line = whole.next_line;
         self.held.forget(whole.byte_count);
         Ok(parts)

@@ -5,7 +5,7 @@
 //! failure go before a faulty line and want of memory. A refusal says by its number why there is no report, and which lines are
 //! to blame. `OutputFailed` is for the floor above, which has the sink.
 //!
-//! Read it in this order: `refusal`; `pulled`, `held`, `shared` and `intake`, where the bytes come in and are read; `reader`,
+//! Read it in this order: `refusal`; `pulled`, `held` and `intake`, where the bytes come in and are read; `reader`,
 //! which reads ahead; `reading`, which has it do so by turns and makes the arena.
 #![tactic(auto)]
 
@@ -15,7 +15,6 @@ mod pulled;
 mod reader;
 mod reading;
 mod refusal;
-mod shared;
 
 pub use reading::arena_of;
 pub use refusal::Refusal;
