@@ -4,10 +4,10 @@
 ghost use Rattle.std.specs.Prelude.{◌≡◌, ◌+◌, ◌-◌, ◌^◌, ◌<◌, ◌≤◌, ℕ, List, [], true, false, flat_map, length, IfOk, IfErr};
 ghost use Rattle.history_text.specs.declared.limits.TheConstants.{MAX_INPUT};
 ghost use Rattle.reg_intake.specs.Intake.{IsHeld, IsReadOf};
-ghost use Rattle.reg_intake.specs.Pulled.{Gives, GetsNoMore, IsFurther, StopsAt, nothing};
+ghost use Rattle.reg_intake.specs.Pulls.{Gives, GetsNoMore, IsFurther, StopsAt, nothing};
 
-use crate::held::Held;
-use crate::pulled::Pulled;
+use crate::buffer::Buffer;
+use crate::pulls::Pulls;
 use crate::refusal::Refusal;
 use byte_ends::Source;
 use history_text::{LineEvent, LineFault, read_spans, whole_lines};
@@ -17,10 +17,10 @@ use std::thread::Threads;
 /// The bytes that are held, behind those whose lines were read.
 #[derive(Drop)]
 pub(crate) struct Intake {
-    held: Held,
+    held: Buffer,
     /// The number of the line at the front of what is held.
     next_line: u32,
-    pulled: Pulled,
+    pulled: Pulls,
 }
 
 impl Intake {
@@ -31,9 +31,9 @@ impl Intake {
         ensures pulled { result.pulled ≡ nothing }
     {
         Intake {
-            held: Held::new(alloc),
+            held: Buffer::new(alloc),
             next_line: 1,
-            pulled: Pulled::nothing(),
+            pulled: Pulls::nothing(),
         }
     }
 

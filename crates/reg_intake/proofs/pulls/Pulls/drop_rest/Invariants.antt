@@ -1,8 +1,8 @@
 -- Each pull gives more, and leaves less to pull.
 use Rattle.std.proofs.Common.{ℕ, List}
-use Rattle.reg_intake.specs.Pulled.{Gives}
+use Rattle.reg_intake.specs.Pulls.{Gives}
 use Rattle.reg_intake.proofs.Pulling.{left_to_pull}
-use Rattle.reg_intake.proofs.pulled.Pulled.drop_rest.Given as goal
+use Rattle.reg_intake.proofs.pulls.Pulls.drop_rest.Given as goal
 
 abbrev pub invariant-loop-self : goal.invariant-loop-self
 invariant-loop-self g l =

@@ -1,10 +1,10 @@
 //! The bytes that were pulled and whose lines aren't read yet, in a buffer that stays as it is. So bytes are pulled to where
-//! they are held, and no room is cleared for them more than once.
+//! they are held, and no room is cleared for them twice.
 ghost use Rattle.std.specs.Prelude.{◌≡◌, ◌-◌, ◌^◌, ◌<◌, ◌≤◌, ◌++◌, ℕ, List, [], false, drop, length, IfOk, IfErr};
 ghost use Rattle.history_text.specs.declared.limits.TheConstants.{MAX_INPUT};
-ghost use Rattle.reg_intake.specs.Pulled.{Gives, GetsNoMore, IsFurther};
+ghost use Rattle.reg_intake.specs.Pulls.{Gives, GetsNoMore, IsFurther};
 
-use crate::pulled::Pulled;
+use crate::pulls::Pulls;
 use crate::refusal::Refusal;
 use byte_ends::Source;
 use std::alloc::Global;
@@ -15,28 +15,28 @@ const PULL: usize = 65_536;
 
 /// The bytes at the front of a buffer. Those behind them mean nothing.
 #[derive(Drop)]
-pub(crate) struct Held {
-    buffer: Vec<u8>,
+pub(crate) struct Buffer {
+    bytes: Vec<u8>,
     count: usize,
 }
 
-impl Model for Held {
+impl Model for Buffer {
     ghost use Rattle.std.specs.Prelude.{◌≤◌, ℕ, List, length, take};
 
     ghost Value = { List ℕ };
 
-    ghost view = { λ h. take h.count h.buffer.items };
+    ghost view = { λ b. take b.count b.bytes.items };
 
-    ghost invariant = { λ h. h.count ≤ length h.buffer.items };
+    ghost invariant = { λ b. b.count ≤ length b.bytes.items };
 }
 
-impl Held {
+impl Buffer {
     /// No bytes.
     pub(crate) fn new(alloc: Global) -> Self
         ensures { result ≡ [] }
     {
-        Held {
-            buffer: Vec::new(alloc),
+        Buffer {
+            bytes: Vec::new(alloc),
             count: 0,
         }
     }
@@ -45,16 +45,16 @@ impl Held {
     pub(crate) fn bytes(&self) -> &[u8]
         ensures { result.now ≡ self.now }
     {
-        &self.buffer[..self.count]
+        &self.bytes[..self.count]
     }
 
-    /// Pulls once, and holds what came behind the bytes.
+    /// Pulls once, and holds what came after the bytes.
     ///
     /// # Errors
-    /// `NoRoom` if memory for a pull was refused, and those of [`Pulled::pull`].
+    /// `NoRoom` if memory for a pull was refused, and those of [`Pulls::pull`].
     pub(crate) fn pull<S: Source>(
         &mut self,
-        pulled: &mut Pulled,
+        pulled: &mut Pulls,
         source: &mut S,
     ) -> Result<(), Refusal>
         requires within { pulled.old.total ≤ MAX_INPUT }
@@ -64,10 +64,10 @@ impl Held {
         ensures further { IfOk result (λ _. IsFurther pulled.old pulled.new) }
         ensures err { IfErr result (GetsNoMore (S.left source.old) (S.left source.new) (S.failed source.old) (S.failed source.new) pulled.old pulled.new) }
     {
-        if self.buffer.len() - self.count < PULL {
-            self.buffer.resize(self.count + PULL, 0)?;
+        if self.bytes.len() - self.count < PULL {
+            self.bytes.resize(self.count + PULL, 0)?;
         }
-        let room = &mut self.buffer[self.count..self.count + PULL];
+        let room = &mut self.bytes[self.count..self.count + PULL];
         let count = pulled.pull(source, room)?;
         self.count += count;
         Ok(())
@@ -78,7 +78,7 @@ impl Held {
         requires { count ≤ length self.old }
         ensures { self.new ≡ drop count self.old }
     {
-        self.buffer.copy_within(count..self.count, 0);
+        self.bytes.copy_within(count..self.count, 0);
         self.count -= count;
     }
 }

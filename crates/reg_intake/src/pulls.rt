@@ -1,7 +1,7 @@
 //! The bytes of a source, a piece at a time, and how many they are.
 ghost use Rattle.std.specs.Prelude.{◌≡◌, ◌-◌, ◌^◌, ◌<◌, ◌≤◌, ℕ, List, true, false, length, take, IfOk, IfErr};
 ghost use Rattle.history_text.specs.declared.limits.TheConstants.{MAX_INPUT};
-ghost use Rattle.reg_intake.specs.Pulled.{Gives, IsFurther, StopsAt, nothing};
+ghost use Rattle.reg_intake.specs.Pulls.{Gives, IsFurther, StopsAt, nothing};
 
 use crate::refusal::Refusal;
 use byte_ends::Source;
@@ -12,17 +12,17 @@ const PIECE: usize = 16_384;
 
 /// How many bytes were pulled, and whether the source has no more.
 #[derive(Clone, Copy)]
-pub(crate) struct Pulled {
+pub(crate) struct Pulls {
     total: usize,
     is_ended: bool,
 }
 
-impl Pulled {
+impl Pulls {
     /// No bytes, of a source that may have some.
     pub(crate) fn nothing() -> Self
         ensures { result ≡ nothing }
     {
-        Pulled {
+        Pulls {
             total: 0,
             is_ended: false,
         }

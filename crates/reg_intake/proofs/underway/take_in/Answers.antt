@@ -6,7 +6,7 @@ use Rattle.reg_arena.specs.Built.{IsBuilt}
 use Rattle.reg_arena.specs.declared.numbering.NumberedLines.{NumberedLines}
 use Rattle.reg_intake.proofs.Growing.{IsGrowing, one-refused, one-taken, refused-grown}
 use Rattle.reg_intake.specs.Underway.{lines_in}
-use Rattle.reg_intake.proofs.reading.take_in.Goals as goal
+use Rattle.reg_intake.proofs.underway.take_in.Goals as goal
 
 pub returns-in_err-built : goal.returns-in_err-built
 returns-in_err-built c =

@@ -4,12 +4,12 @@ use Rattle.reg_arena.specs.declared.numbering.NumberedLines.{NumberedLines}
 use Rattle.std.specs.Prelude.{IfOk}
 use Rattle.reg_intake.proofs.Passing.{passed-on}
 use Rattle.reg_intake.proofs.Turning.{next-of, no-room, stopped-by-next, turn-refused, turned}
-use Rattle.reg_intake.specs.Pulled.{IsFurther}
+use Rattle.reg_intake.specs.Pulls.{IsFurther}
 use Rattle.reg_intake.specs.Refusals.{of_build}
 use Rattle.reg_intake.specs.Underway.{AreNumberedBehind, IsGrown, IsGrownWith, IsReadOn, IsStopped, IsUnderway, lines_in}
-use Rattle.reg_intake.specs.declared.pulled.Pulled.{Pulled}
+use Rattle.reg_intake.specs.declared.pulls.Pulls.{Pulls}
 use Rattle.reg_intake.specs.declared.refusal.Refusal.TheVariants.{NoRoom}
-use Rattle.reg_intake.proofs.reading.Underway.turn.Goals as goal
+use Rattle.reg_intake.proofs.underway.Underway.turn.Goals as goal
 
 pub returns-in_err-fill-clause-err : goal.returns-in_err-fill-clause-err
 returns-in_err-fill-clause-err g c =
@@ -72,7 +72,7 @@ returns-clause-ok g c = λ left failed underway.
 pub returns-clause-further : goal.returns-clause-further
 returns-clause-further g c = λ not_ended.
     let held = ap length c.held-held.ensures in
-    let some = c.block.ensures.0 in
+    let some = c.block_size.ensures.0 in
     subst (IsFurther c.args.intake.now.pulled) (sym c.read_and_take_in-numbered.ensures.pulled) (c.in_ok-fill.ensures.further not_ended (omega (arith, held, some)))
 
 pub returns-clause-last : goal.returns-clause-last
@@ -80,6 +80,6 @@ returns-clause-last g c = λ last.
     let held = c.in_ok-fill.ensures.ok in
     let behind = held.1.given.none_behind last.0 in
     let none = subst (λ r. IfOk r (λ _. c.fill.new.self.held ≡ [] → c.read_and_take_in-numbered.new.reader.unnumbered.items ≡ [])) c.in_ok-numbered.was c.read_and_take_in-numbered.ensures.none in (
-      subst (λ (pulled : Pulled). pulled.is_ended ≡ true) (sym c.read_and_take_in-numbered.ensures.pulled) behind.1,
+      subst (λ (pulled : Pulls). pulled.is_ended ≡ true) (sym c.read_and_take_in-numbered.ensures.pulled) behind.1,
       none (held.1.held ∙ ap₂ (λ (xs ys : List ℕ). xs ++ ys) last.1 behind.0),
     )

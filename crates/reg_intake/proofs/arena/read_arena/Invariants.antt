@@ -2,7 +2,7 @@
 use Rattle.std.proofs.Common.{vec_len}
 use Rattle.reg_intake.specs.Underway.{IsUnderway}
 use Rattle.reg_intake.proofs.Turning.{left_to_do}
-use Rattle.reg_intake.proofs.reading.read_arena.Given as goal
+use Rattle.reg_intake.proofs.arena.read_arena.Given as goal
 
 abbrev pub invariant-loop-reader : goal.invariant-loop-reader
 invariant-loop-reader g l =

@@ -2,8 +2,8 @@
 use Rattle.std.proofs.Common.{◌++◌, take}
 use Rattle.reg_intake.proofs.Passing.{passed-on}
 use Rattle.reg_intake.proofs.Pulling.{gives-more, stops-after}
-use Rattle.reg_intake.specs.Pulled.{StopsAt}
-use Rattle.reg_intake.proofs.pulled.Pulled.drop_rest.Goals as goal
+use Rattle.reg_intake.specs.Pulls.{StopsAt}
+use Rattle.reg_intake.proofs.pulls.Pulls.drop_rest.Goals as goal
 
 pub loop-self-preserved : goal.loop-self-preserved
 loop-self-preserved g c =

@@ -2,9 +2,9 @@
 use Rattle.std.proofs.Common.{◌≡◌, ◌+◌, ◌≤◌, ◌++◌, ℕ, List, length, take, drop, subst, sym, ap, ◌∙◌, arith, append_assoc}
 use Rattle.std.proofs.Math.Seq.{take-append-add}
 use Rattle.std.proofs.lemmas.List.{length-drop, length-take, length-take-le, take-append-le, take-take}
-use Rattle.reg_intake.specs.declared.held.Held.TheInside.{Inside}
-use Rattle.reg_intake.proofs.held.Held.pull.Goals.{then-len-self-lt-PULL+in_ok-resize, else-len-self-lt-PULL}
-use Rattle.reg_intake.proofs.held.Held.pull.Goals as goal
+use Rattle.reg_intake.specs.declared.buffer.Buffer.TheInside.{Inside}
+use Rattle.reg_intake.proofs.buffer.Buffer.pull.Goals.{then-len-self-lt-PULL+in_ok-resize, else-len-self-lt-PULL}
+use Rattle.reg_intake.proofs.buffer.Buffer.pull.Goals as goal
 
 -- the front stays when a list is cut behind it and filled up
 front-of-resized : (xs ys more : List ℕ) (k n : ℕ) → k ≤ length xs → ys ≡ take (k + n) xs ++ more → take k ys ≡ take k xs
@@ -39,17 +39,17 @@ returns-clause-ok g c =
       | then-len-self-lt-PULL+in_ok-resize w ↦ ap (λ (h : Inside). h.count) w.self-inside-is
       | else-len-self-lt-PULL w ↦ ap (λ (h : Inside). h.count) w.self-inside-is
     ] in
-    let kept : take room.count room.buffer.items ≡ take old.count old.buffer.items = elim c.if-len-self-lt-PULL.branch [
-      | then-len-self-lt-PULL+in_ok-resize w ↦ ap (λ (h : Inside). take h.count h.buffer.items) w.self-inside-is
-          ∙ front-of-resized old.buffer.items _ _ old.count _ c.self.invariant w.in_ok-resize.ensures.items
-      | else-len-self-lt-PULL w ↦ ap (λ (h : Inside). take h.count h.buffer.items) w.self-inside-is
+    let kept : take room.count room.bytes.items ≡ take old.count old.bytes.items = elim c.if-len-self-lt-PULL.branch [
+      | then-len-self-lt-PULL+in_ok-resize w ↦ ap (λ (h : Inside). take h.count h.bytes.items) w.self-inside-is
+          ∙ front-of-resized old.bytes.items _ _ old.count _ c.self.invariant w.in_ok-resize.ensures.items
+      | else-len-self-lt-PULL w ↦ ap (λ (h : Inside). take h.count h.bytes.items) w.self-inside-is
     ] in
     let front = ap (take room.count) c.deref_mut.ensures.value ∙ kept ∙ c.self.view_is in
-    let long = ap length front ∙ ap length (sym c.self.view_is) ∙ length-take-le old.count old.buffer.items c.self.invariant ∙ sym same in
+    let long = ap length front ∙ ap length (sym c.self.view_is) ∙ length-take-le old.count old.bytes.items c.self.invariant ∙ sym same in
     let read = c.deref_mut.ensures.len in
     let within = c.in_ok-count.ensures.bound in
     let fits = fits-behind c.deref_mut.result.now room.count _ count long (subst (λ n. count ≤ n) c.pull.auto.piece within) in (
       piece,
       c.in_ok-count.ensures.ok,
-      written-behind (take room.count c.deref_mut.result.now) c.pull.new.piece _ _ room.count count room.buffer.len long within (omega (arith, fits, read)) ∙ ap (λ (xs : List ℕ). xs ++ piece) front,
+      written-behind (take room.count c.deref_mut.result.now) c.pull.new.piece _ _ room.count count room.bytes.len long within (omega (arith, fits, read)) ∙ ap (λ (xs : List ℕ). xs ++ piece) front,
     )

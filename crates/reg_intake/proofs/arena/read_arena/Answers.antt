@@ -10,8 +10,8 @@ use Rattle.reg_intake.proofs.Turning.{ended-ok, first-turn, less-to-do, no-room,
 use Rattle.reg_intake.specs.Refusals.{of_build}
 use Rattle.reg_intake.specs.Underway.{AreNumberedBehind, IsReadOn, IsStopped, lines_in}
 use Rattle.reg_intake.specs.declared.refusal.Refusal.TheVariants.{NoRoom}
-use Rattle.reg_intake.proofs.reading.read_arena.Goals.{then-not-is_ended, else-not-is_ended+then-not-is_empty}
-use Rattle.reg_intake.proofs.reading.read_arena.Goals as goal
+use Rattle.reg_intake.proofs.arena.read_arena.Goals.{then-not-is_ended, else-not-is_ended+then-not-is_empty}
+use Rattle.reg_intake.proofs.arena.read_arena.Goals as goal
 
 pub returns-in_err-read_and_number-clause-err : goal.returns-in_err-read_and_number-clause-err
 returns-in_err-read_and_number-clause-err g c =

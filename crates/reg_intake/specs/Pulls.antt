@@ -3,16 +3,16 @@ use Rattle.std.specs.Prelude.{◌≡◌, ◌⊎◌, ◌+◌, ◌<◌, ◌≤◌,
 use Rattle.std.specs.Io.KnownBytes.{Consumes}
 use Rattle.history_text.specs.declared.limits.TheConstants.{MAX_INPUT}
 use Rattle.reg_intake.specs.Ends.{IsAll}
-use Rattle.reg_intake.specs.declared.pulled.Pulled.{Pulled}
+use Rattle.reg_intake.specs.declared.pulls.Pulls.{Pulls}
 use Rattle.reg_intake.specs.declared.refusal.Refusal.{Refusal}
 use Rattle.reg_intake.specs.declared.refusal.Refusal.TheVariants.{At, TooLong, InputFailed, NoRoom, OutputFailed}
 
 -- nothing was pulled
-abbrev pub nothing : Pulled
+abbrev pub nothing : Pulls
 nothing = record { total = 0; is_ended = false }
 
 -- the source gave these bytes, they are within the limit with those before, and no pull failed; at the end they are all, and behind it there are none
-pub record Gives (left now : Option (List ℕ)) (failed failed_now : ℕ) (old new : Pulled) (bytes : List ℕ) : Type 0 where
+pub record Gives (left now : Option (List ℕ)) (failed failed_now : ℕ) (old new : Pulls) (bytes : List ℕ) : Type 0 where
   pub gave : Consumes left now bytes
   pub counted : new.total ≡ old.total + length bytes
   pub within : new.total ≤ MAX_INPUT
@@ -21,14 +21,14 @@ pub record Gives (left now : Option (List ℕ)) (failed failed_now : ℕ) (old n
   pub no_failure : failed_now ≡ failed
 
 -- the source gave more bytes than an input may have, with those before, and no pull failed
-pub record Exceeds (left now : Option (List ℕ)) (failed failed_now : ℕ) (old : Pulled) : Type 0 where
+pub record Exceeds (left now : Option (List ℕ)) (failed failed_now : ℕ) (old : Pulls) : Type 0 where
   pub bytes : List ℕ
   pub gave : Consumes left now bytes
   pub over : MAX_INPUT < old.total + length bytes
   pub no_failure : failed_now ≡ failed
 
 -- why no more is pulled: there is too much, or a pull failed
-abbrev pub StopsAt : Option (List ℕ) → Option (List ℕ) → ℕ → ℕ → Pulled → Refusal → Type 0
+abbrev pub StopsAt : Option (List ℕ) → Option (List ℕ) → ℕ → ℕ → Pulls → Refusal → Type 0
 StopsAt left now failed failed_now old (At r) = ⊥
 StopsAt left now failed failed_now old TooLong = Exceeds left now failed failed_now old
 StopsAt left now failed failed_now old InputFailed = failed < failed_now
@@ -36,7 +36,7 @@ StopsAt left now failed failed_now old NoRoom = ⊥
 StopsAt left now failed failed_now old OutputFailed = ⊥
 
 -- why no more is got: nothing more is pulled, or memory for more was refused
-abbrev pub GetsNoMore : Option (List ℕ) → Option (List ℕ) → ℕ → ℕ → Pulled → Pulled → Refusal → Type 0
+abbrev pub GetsNoMore : Option (List ℕ) → Option (List ℕ) → ℕ → ℕ → Pulls → Pulls → Refusal → Type 0
 GetsNoMore left now failed failed_now old new (At r) = ⊥
 GetsNoMore left now failed failed_now old new TooLong = Exceeds left now failed failed_now old
 GetsNoMore left now failed failed_now old new InputFailed = failed < failed_now
@@ -44,5 +44,5 @@ GetsNoMore left now failed failed_now old new NoRoom = (bytes : List ℕ) × Giv
 GetsNoMore left now failed failed_now old new OutputFailed = ⊥
 
 -- the end was met, or there are more bytes than before
-abbrev pub IsFurther : Pulled → Pulled → Type 0
+abbrev pub IsFurther : Pulls → Pulls → Type 0
 IsFurther old new = (new.is_ended ≡ true) ⊎ (old.total < new.total)
