@@ -13,7 +13,6 @@ use crate::refusal::Refusal;
 use crate::underway::Underway;
 use byte_ends::Source;
 use history_text::MAX_EVENTS;
-use rayon::current_num_threads;
 use reg_arena::{Arena, HashKey};
 use std::alloc::Global;
 use std::collections::VecDeque;
@@ -52,7 +51,7 @@ fn read_arena<T: Threads + RandomSource + Sync, S: Source>(
     ensures unfailed { IfOk result (λ _. S.failed source.new ≡ S.failed source.old) }
     ensures err { IfErr result (IsStopped (S.left source.old) (S.left source.new) (S.failed source.old) (S.failed source.new) intake.new.pulled) }
 {
-    let is_alone = current_num_threads(rt) == 1;
+    let is_alone = parallel::is_alone(rt);
     intake.fill(source, first_block_size(rt, is_alone))?;
     let key = HashKey::drawn(rt, intake.held());
     let arena = Arena::empty(alloc, key, room_for(intake))?;

@@ -12,12 +12,13 @@ use crate::reader::Reader;
 use crate::refusal::Refusal;
 use byte_ends::Source;
 use history_model::BuildError;
+use parallel::both_mut;
 use reg_arena::{Arena, NumberedLines};
 use std::alloc::{AllocError, Global};
 use std::collections::VecDeque;
 use std::slice::from_ref;
 use std::sync::atomic::{AtomicBool, Ordering};
-use std::thread::{Threads, join_mut};
+use std::thread::Threads;
 
 /// How many parts of lines may wait for the arena once the next ones are read: so many that the thread which builds it has work
 /// while the threads that read start late, and so few that they take little memory. A block of short lines has some six.
@@ -31,7 +32,7 @@ struct Grown {
 }
 
 /// Takes lines into the arena, part by part: all but the last [`MOST_WAITING`] parts, and of those as many as it can until the
-/// next lines are read. The arena is taken out of its place, since `join_mut` only lends its closures what they use.
+/// next lines are read. The arena is taken out of its place, since `both_mut` only lends its closures what they use.
 fn take_in(
     alloc: Global,
     arena: &mut Option<Arena>,
@@ -84,7 +85,7 @@ fn read_and_take_in<T: Threads + Sync>(
         let grown = take_in(alloc, &mut arena, parts, &is_read);
         return (reader.read_on(rt, intake), grown);
     }
-    join_mut(
+    both_mut(
         rt,
         &mut ||
             requires { intake.now.next_line + length intake.now.held ≤ MAX_INPUT + 1 }
