@@ -11,7 +11,7 @@ use Rattle.reg_arena.specs.Numbered.{ArePartsNumbered, lines_of, names_with}
 use Rattle.reg_arena.specs.declared.numbering.NumberedLines.{NumberedLines}
 use Rattle.reg_arena.proofs.Numbered.{names-append, names-lines, parts-at}
 use Rattle.reg_intake.specs.Underway.{AreNumberedBehind, IsGrown, lines_in}
-use Rattle.reg_intake.specs.declared.reading.Grown.{Grown}
+use Rattle.reg_intake.specs.declared.underway.Grown.{Grown}
 
 -- the lines of the parts at the front, and of those behind
 pub lines-split : (parts : List NumberedLines) (count : ℕ) → lines_in (take count parts) ++ lines_in (drop count parts) ≡ lines_in parts

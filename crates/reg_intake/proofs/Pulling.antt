@@ -4,17 +4,17 @@ use Rattle.std.specs.Io.KnownBytes.{Consumes}
 use Rattle.std.proofs.KnownBytes.{Consumes-nil, Consumes-trans}
 use Rattle.history_text.specs.declared.limits.TheConstants.{MAX_INPUT}
 use Rattle.reg_intake.specs.Ends.{IsAll}
-use Rattle.reg_intake.specs.Pulled.{Gives, GetsNoMore, IsFurther, StopsAt}
-use Rattle.reg_intake.specs.declared.pulled.Pulled.{Pulled}
+use Rattle.reg_intake.specs.Pulls.{Gives, GetsNoMore, IsFurther, StopsAt}
+use Rattle.reg_intake.specs.declared.pulls.Pulls.{Pulls}
 use Rattle.reg_intake.specs.declared.refusal.Refusal.{Refusal}
 use Rattle.reg_intake.specs.declared.refusal.Refusal.TheVariants.{At, TooLong, InputFailed, NoRoom, OutputFailed}
 
 -- how much can be pulled yet: nothing behind the end, else at least the pull that meets it
-abbrev pub left_to_pull : Pulled → ℕ
+abbrev pub left_to_pull : Pulls → ℕ
 left_to_pull pulled = cond pulled.is_ended 0 (MAX_INPUT - pulled.total + 1)
 
 -- each pull leaves less
-pub less-to-pull : (old new : Pulled) → old.is_ended ≡ false → new.total ≤ MAX_INPUT → IsFurther old new → left_to_pull new < left_to_pull old
+pub less-to-pull : (old new : Pulls) → old.is_ended ≡ false → new.total ≤ MAX_INPUT → IsFurther old new → left_to_pull new < left_to_pull old
 less-to-pull old new not_ended within further = subst (λ b. left_to_pull new < cond b 0 (MAX_INPUT - old.total + 1)) (sym not_ended) (go new.is_ended further)
   where
     go : (b : Bool) → (b ≡ true) ⊎ (old.total < new.total) → cond b 0 (MAX_INPUT - new.total + 1) < MAX_INPUT - old.total + 1
@@ -23,7 +23,7 @@ less-to-pull old new not_ended within further = subst (λ b. left_to_pull new < 
     go false (inr more) = omega (arith, more, within)
 
 -- nothing is pulled
-pub gives-none : (left : Option (List ℕ)) (failed : ℕ) (old : Pulled) → old.total ≤ MAX_INPUT → Gives left left failed failed old old []
+pub gives-none : (left : Option (List ℕ)) (failed : ℕ) (old : Pulls) → old.total ≤ MAX_INPUT → Gives left left failed failed old old []
 gives-none left failed old within = record {
   gave = Consumes-nil left;
   counted = omega arith;
@@ -40,13 +40,13 @@ all-behind (Some xs) None bytes more gave all = absurd gave
 all-behind (Some xs) (Some ys) bytes more gave all = gave ∙ ap (λ zs. bytes ++ zs) all
 
 -- more behind what was given is more than before
-pub further-behind : (left now : Option (List ℕ)) (failed failed_now : ℕ) (old middle new : Pulled) (bytes : List ℕ) → Gives left now failed failed_now old middle bytes → IsFurther middle new → IsFurther old new
+pub further-behind : (left now : Option (List ℕ)) (failed failed_now : ℕ) (old middle new : Pulls) (bytes : List ℕ) → Gives left now failed failed_now old middle bytes → IsFurther middle new → IsFurther old new
 further-behind left now failed failed_now old middle new bytes before (inl ended) = inl ended
 further-behind left now failed failed_now old middle new bytes before (inr more) = inr (let counted = before.counted in omega (arith, more))
 
-module _ (left mid now : Option (List ℕ)) (failed failed_mid failed_now : ℕ) (old middle : Pulled) (bytes : List ℕ) (before : Gives left mid failed failed_mid old middle bytes) where
+module _ (left mid now : Option (List ℕ)) (failed failed_mid failed_now : ℕ) (old middle : Pulls) (bytes : List ℕ) (before : Gives left mid failed failed_mid old middle bytes) where
   -- more was given behind what was given
-  pub gives-more : (new : Pulled) (more : List ℕ) → Gives mid now failed_mid failed_now middle new more → Gives left now failed failed_now old new (bytes ++ more)
+  pub gives-more : (new : Pulls) (more : List ℕ) → Gives mid now failed_mid failed_now middle new more → Gives left now failed failed_now old new (bytes ++ more)
   gives-more new more after = record {
     gave = Consumes-trans left mid now bytes more before.gave after.gave;
     counted = (let first = before.counted in let second = after.counted in let both = length-append bytes more in omega arith);
@@ -74,7 +74,7 @@ module _ (left mid now : Option (List ℕ)) (failed failed_mid failed_now : ℕ)
   stops-after OutputFailed stops = stops
 
   -- what keeps more from being got does so from the first on
-  pub no-more-after : (new : Pulled) (refusal : Refusal) → GetsNoMore mid now failed_mid failed_now middle new refusal → GetsNoMore left now failed failed_now old new refusal
+  pub no-more-after : (new : Pulls) (refusal : Refusal) → GetsNoMore mid now failed_mid failed_now middle new refusal → GetsNoMore left now failed failed_now old new refusal
   no-more-after new (At r) stops = stops
   no-more-after new TooLong stops = stops-after TooLong stops
   no-more-after new InputFailed stops = stops-after InputFailed stops
@@ -82,7 +82,7 @@ module _ (left mid now : Option (List ℕ)) (failed failed_mid failed_now : ℕ)
   no-more-after new OutputFailed stops = stops
 
 -- what stops a pull keeps more from being got
-pub no-more : (left now : Option (List ℕ)) (failed failed_now : ℕ) (old new : Pulled) (refusal : Refusal) → StopsAt left now failed failed_now old refusal → GetsNoMore left now failed failed_now old new refusal
+pub no-more : (left now : Option (List ℕ)) (failed failed_now : ℕ) (old new : Pulls) (refusal : Refusal) → StopsAt left now failed failed_now old refusal → GetsNoMore left now failed failed_now old new refusal
 no-more left now failed failed_now old new (At r) stops = stops
 no-more left now failed failed_now old new TooLong stops = stops
 no-more left now failed failed_now old new InputFailed stops = stops

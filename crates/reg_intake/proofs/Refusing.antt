@@ -6,9 +6,9 @@ use Rattle.history_model.specs.declared.refusal.LineRefusal.{LineRefusal}
 use Rattle.reg_intake.proofs.Pulling.{gives-more, stops-after}
 use Rattle.reg_intake.specs.Arena.{IsRefusedOf}
 use Rattle.reg_intake.specs.Ends.{IsTooLong}
-use Rattle.reg_intake.specs.Pulled.{Exceeds, Gives, StopsAt, nothing}
+use Rattle.reg_intake.specs.Pulls.{Exceeds, Gives, StopsAt, nothing}
 use Rattle.reg_intake.specs.Underway.{MayChange, IsStopped}
-use Rattle.reg_intake.specs.declared.pulled.Pulled.{Pulled}
+use Rattle.reg_intake.specs.declared.pulls.Pulls.{Pulls}
 use Rattle.reg_intake.specs.declared.refusal.Refusal.{Refusal}
 use Rattle.reg_intake.specs.declared.refusal.Refusal.TheVariants.{At, TooLong, InputFailed, NoRoom, OutputFailed}
 
@@ -41,16 +41,16 @@ may-not-change refusal (inr (inl e)) may_change = subst MayChange e may_change
 may-not-change refusal (inr (inr e)) may_change = subst MayChange e may_change
 
 -- a refusal for which no more is pulled
-pub refused-now : (left now : Option (List ℕ)) (failed failed_now : ℕ) (pulled : Pulled) (refusal : Refusal) → (MayChange refusal → ⊥) → IsStopped left now failed failed_now pulled refusal → IsRefusedOf left failed failed_now refusal
+pub refused-now : (left now : Option (List ℕ)) (failed failed_now : ℕ) (pulled : Pulls) (refusal : Refusal) → (MayChange refusal → ⊥) → IsStopped left now failed failed_now pulled refusal → IsRefusedOf left failed failed_now refusal
 refused-now left now failed failed_now pulled (At r) closed s = absurd (closed tt)
 refused-now left now failed failed_now pulled TooLong closed s = exceeds left now failed failed_now s
 refused-now left now failed failed_now pulled InputFailed closed s = s
 refused-now left now failed failed_now pulled NoRoom closed s = absurd (closed tt)
 refused-now left now failed failed_now pulled OutputFailed closed s = absurd s
 
-module _ (left mid now : Option (List ℕ)) (failed failed_mid failed_now : ℕ) (pulled : Pulled) where
+module _ (left mid now : Option (List ℕ)) (failed failed_mid failed_now : ℕ) (pulled : Pulls) where
   -- a refusal after which the rest was pulled
-  pub refused-after-rest : (dropped : Pulled) (more : List ℕ) (refusal : Refusal) → MayChange refusal → IsStopped left mid failed failed_mid pulled refusal
+  pub refused-after-rest : (dropped : Pulls) (more : List ℕ) (refusal : Refusal) → MayChange refusal → IsStopped left mid failed failed_mid pulled refusal
       → Gives mid now failed_mid failed_now pulled dropped more → dropped.is_ended ≡ true → IsRefusedOf left failed failed_now refusal
   refused-after-rest dropped more (At r) may_change s rest ended =
       let all = gives-more left mid now failed failed_mid failed_now nothing pulled s.0 s.1 dropped more rest in

@@ -16,22 +16,22 @@ use Rattle.reg_intake.proofs.Pulling.{left_to_pull, less-to-pull, gives-more, gi
 use Rattle.reg_intake.specs.Arena.{IsArenaOf}
 use Rattle.reg_intake.specs.Ends.{IsAll}
 use Rattle.reg_intake.specs.Intake.{IsHeld, IsReadOf}
-use Rattle.reg_intake.specs.Pulled.{Gives, GetsNoMore, IsFurther, nothing}
+use Rattle.reg_intake.specs.Pulls.{Gives, GetsNoMore, IsFurther, nothing}
 use Rattle.reg_intake.specs.Refusals.{of_build}
 use Rattle.reg_intake.specs.Underway.{AreNumberedBehind, IsReadOn, IsReadSoFar, IsStopped, IsUnderway, lines_in, waiting}
 use Rattle.reg_intake.specs.declared.intake.Intake.{Intake}
-use Rattle.reg_intake.specs.declared.pulled.Pulled.{Pulled}
+use Rattle.reg_intake.specs.declared.pulls.Pulls.{Pulls}
 use Rattle.reg_intake.specs.declared.reader.Reader.{Reader}
-use Rattle.reg_intake.specs.declared.reading.Underway.{Underway}
+use Rattle.reg_intake.specs.declared.underway.Underway.{Underway}
 use Rattle.reg_intake.specs.declared.refusal.Refusal.{Refusal}
 use Rattle.reg_intake.specs.declared.refusal.Refusal.TheVariants.{At, TooLong, InputFailed, NoRoom, OutputFailed}
 
 -- how much is left to do if so many parts wait: to pull twice as much as is left, since a pull may leave lines to number, and to number those that wait
-abbrev pub left_to_do : Pulled → ℕ → ℕ
+abbrev pub left_to_do : Pulls → ℕ → ℕ
 left_to_do pulled parts = left_to_pull pulled + left_to_pull pulled + min parts 1
 
 -- a turn leaves less to do: less to pull, or at the end no lines that wait
-pub less-to-do : (old new : Pulled) (before after : ℕ) → new.total ≤ MAX_INPUT → (old.is_ended ≡ false → IsFurther old new) → (old.is_ended ≡ true → (0 < before) × (after ≡ 0) × (new.is_ended ≡ true))
+pub less-to-do : (old new : Pulls) (before after : ℕ) → new.total ≤ MAX_INPUT → (old.is_ended ≡ false → IsFurther old new) → (old.is_ended ≡ true → (0 < before) × (after ≡ 0) × (new.is_ended ≡ true))
     → left_to_do new after < left_to_do old before
 less-to-do old new before after within further last = go old.is_ended refl
   where
@@ -56,11 +56,11 @@ pub next-of : (left now : Option (List ℕ)) (failed failed_now : ℕ) (old midd
 next-of left now failed failed_now old middle new bytes read held was_read = record {
   bytes = bytes;
   given = subst (λ pulled. Gives left now failed failed_now old.pulled pulled bytes) (sym was_read.pulled) held.given;
-  lines = λ more may_come. was_read.lines more (subst (λ (pulled : Pulled). MayCome pulled.is_ended more) was_read.pulled may_come)
+  lines = λ more may_come. was_read.lines more (subst (λ (pulled : Pulls). MayCome pulled.is_ended more) was_read.pulled may_come)
       ∙ ap (λ n. lines_from n (middle.held ++ more)) held.line
       ∙ ap (λ xs. lines_from old.next_line (xs ++ more)) held.held
       ∙ ap (lines_from old.next_line) (append_assoc old.held bytes more);
-  end = λ ended. was_read.end (subst (λ (pulled : Pulled). pulled.is_ended ≡ true) was_read.pulled ended);
+  end = λ ended. was_read.end (subst (λ (pulled : Pulls). pulled.is_ended ≡ true) was_read.pulled ended);
   room = (let room = was_read.room in let line = held.line in let longer = ap length held.held in let joined = length-append old.held bytes in omega arith);
 }
 

@@ -4,7 +4,7 @@ use Rattle.history_text.specs.declared.limits.TheConstants.{MAX_INPUT}
 use Rattle.history_text.specs.Lines.{MayCome, lines}
 use Rattle.history_text.specs.Reading.{lines_from}
 use Rattle.history_model.specs.Refusals.{Line}
-use Rattle.reg_intake.specs.Pulled.{Gives}
+use Rattle.reg_intake.specs.Pulls.{Gives}
 use Rattle.reg_intake.specs.declared.intake.Intake.{Intake}
 
 -- what was pulled is within the limit, and the lines before what is held and the bytes held are together no more

@@ -1,6 +1,6 @@
 pub mod Refusals
 pub mod Ends
-pub mod Pulled
+pub mod Pulls
 pub mod Intake
 pub mod Underway
 pub mod Arena

@@ -9,13 +9,13 @@ use Rattle.reg_arena.specs.Built.{IsBuilt}
 use Rattle.reg_arena.specs.Numbered.{ArePartsNumbered, lines_of, names_with}
 use Rattle.reg_arena.specs.declared.numbering.NumberedLines.{NumberedLines}
 use Rattle.reg_intake.specs.Intake.{IsReadOf}
-use Rattle.reg_intake.specs.Pulled.{Exceeds, Gives, nothing}
+use Rattle.reg_intake.specs.Pulls.{Exceeds, Gives, nothing}
 use Rattle.reg_intake.specs.declared.intake.Intake.{Intake}
-use Rattle.reg_intake.specs.declared.pulled.Pulled.{Pulled}
+use Rattle.reg_intake.specs.declared.pulls.Pulls.{Pulls}
 use Rattle.reg_intake.specs.declared.reader.Reader.{Reader}
-use Rattle.reg_intake.specs.declared.reading.Grown.{Grown}
-use Rattle.reg_intake.specs.declared.reading.TheConstants.{MOST_WAITING}
-use Rattle.reg_intake.specs.declared.reading.Underway.{Underway}
+use Rattle.reg_intake.specs.declared.underway.Grown.{Grown}
+use Rattle.reg_intake.specs.declared.underway.TheConstants.{MOST_WAITING}
+use Rattle.reg_intake.specs.declared.underway.Underway.{Underway}
 use Rattle.reg_intake.specs.declared.refusal.Refusal.{Refusal}
 use Rattle.reg_intake.specs.declared.refusal.Refusal.TheVariants.{At, TooLong, InputFailed, NoRoom, OutputFailed}
 
@@ -73,7 +73,7 @@ pub record IsUnderway (left now : Option (List ℕ)) (failed failed_now : ℕ) (
   pub so_far : IsReadSoFar left now failed failed_now bytes (before ++ (lines_in state.ahead.items ++ waiting reader)) intake
 
 -- why no arena is built of what the source gives: of the line that is refused, whatever may come
-abbrev pub IsStopped : Option (List ℕ) → Option (List ℕ) → ℕ → ℕ → Pulled → Refusal → Type 0
+abbrev pub IsStopped : Option (List ℕ) → Option (List ℕ) → ℕ → ℕ → Pulls → Refusal → Type 0
 IsStopped left now failed failed_now pulled (At r) = (bytes : List ℕ) × Gives left now failed failed_now nothing pulled bytes × ((more : List ℕ) → MayCome pulled.is_ended more → IsRefusal (history_lines (bytes ++ more)) r)
 IsStopped left now failed failed_now pulled TooLong = Exceeds left now failed failed_now nothing
 IsStopped left now failed failed_now pulled InputFailed = failed < failed_now

@@ -4,24 +4,23 @@
 ghost use Rattle.std.specs.Prelude.{◌≡◌, ◌+◌, ◌-◌, ◌^◌, ◌<◌, ◌≤◌, ℕ, List, [], true, false, flat_map, length, IfOk, IfErr};
 ghost use Rattle.history_text.specs.declared.limits.TheConstants.{MAX_INPUT};
 ghost use Rattle.reg_intake.specs.Intake.{IsHeld, IsReadOf};
-ghost use Rattle.reg_intake.specs.Pulled.{Gives, GetsNoMore, IsFurther, StopsAt, nothing};
+ghost use Rattle.reg_intake.specs.Pulls.{Gives, GetsNoMore, IsFurther, StopsAt, nothing};
 
-use crate::held::Held;
-use crate::pulled::Pulled;
+use crate::buffer::Buffer;
+use crate::pulls::Pulls;
 use crate::refusal::Refusal;
-use crate::shared::read_shared;
 use byte_ends::Source;
-use history_text::{LineEvent, LineFault, whole_lines};
+use history_text::{LineEvent, LineFault, read_spans, whole_lines};
 use std::alloc::{AllocError, Global};
 use std::thread::Threads;
 
 /// The bytes that are held, behind those whose lines were read.
 #[derive(Drop)]
 pub(crate) struct Intake {
-    held: Held,
+    held: Buffer,
     /// The number of the line at the front of what is held.
     next_line: u32,
-    pulled: Pulled,
+    pulled: Pulls,
 }
 
 impl Intake {
@@ -32,9 +31,9 @@ impl Intake {
         ensures pulled { result.pulled ≡ nothing }
     {
         Intake {
-            held: Held::new(alloc),
+            held: Buffer::new(alloc),
             next_line: 1,
-            pulled: Pulled::nothing(),
+            pulled: Pulls::nothing(),
         }
     }
 
@@ -99,7 +98,7 @@ impl Intake {
         ensures pulled { self.new.pulled ≡ self.old.pulled }
     {
         let whole = whole_lines(alloc, self.held(), self.next_line, self.is_ended())?;
-        let parts = read_shared(rt, alloc, self.held(), &whole.spans)?;
+        let parts = read_spans(rt, alloc, self.held(), &whole.spans)?;
         self.next_line = whole.next_line;
         self.held.forget(whole.byte_count);
         Ok(parts)

@@ -5,17 +5,18 @@
 //! failure go before a faulty line and want of memory. A refusal says by its number why there is no report, and which lines are
 //! to blame. `OutputFailed` is for the floor above, which has the sink.
 //!
-//! Read it in this order: `refusal`; `pulled`, `held`, `shared` and `intake`, where the bytes come in and are read; `reader`,
-//! which reads ahead; `reading`, which has it do so by turns and makes the arena.
+//! Read it in this order: `refusal`; `pulls`, `buffer` and `intake`, where the bytes come in and are read; `reader`, which reads
+//! ahead, and `block`, how much at once; `underway`, which has it do so by turns; and `arena`, which has them all taken in.
 #![tactic(auto)]
 
-mod held;
+mod arena;
+mod block;
+mod buffer;
 mod intake;
-mod pulled;
+mod pulls;
 mod reader;
-mod reading;
 mod refusal;
-mod shared;
+mod underway;
 
-pub use reading::arena_of;
+pub use arena::arena_of;
 pub use refusal::Refusal;

@@ -5,11 +5,12 @@ ghost use Rattle.reg_intake.specs.Underway.{AreNumberedBehind, IsReadOn, lines_i
 
 use crate::intake::Intake;
 use history_text::{LineEvent, LineFault};
+use parallel::both_mut;
 use reg_arena::{HashKey, NumberedLines, Numbering};
 use std::alloc::{AllocError, Global};
 use std::collections::VecDeque;
 use std::mem::replace;
-use std::thread::{Threads, join_mut};
+use std::thread::Threads;
 
 /// What the reading side keeps from turn to turn.
 #[derive(Drop)]
@@ -85,7 +86,7 @@ impl Reader {
             return self.read_and_number(rt, intake);
         }
         let alloc = self.alloc;
-        let (numbered, read) = join_mut(
+        let (numbered, read) = both_mut(
             rt,
             &mut || self.number(),
             &mut ||

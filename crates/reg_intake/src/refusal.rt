@@ -1,6 +1,6 @@
 //! Why there is no report.
 ghost use Rattle.std.specs.Prelude.{◌≡◌};
-ghost use Rattle.reg_intake.specs.Refusals.{number_of, line_of, other_of};
+ghost use Rattle.reg_intake.specs.Refusals.{is_of_input, number_of, line_of, other_of};
 
 use history_model::{BuildError, LineRefusal};
 use history_text::MAX_INPUT;
@@ -62,6 +62,20 @@ impl Refusal {
             Refusal::NoRoom => 17,
             Refusal::OutputFailed => 18,
         }
+    }
+
+    /// Whether it is the input that is refused: 1 to 15 or 19. The other refusals say that the source, memory or the sink failed.
+    pub fn is_of_input(&self) -> bool
+        ensures { result ≡ is_of_input (number_of self.now) }
+    {
+        Refusal::is_number_of_input(self.number())
+    }
+
+    /// Whether the refusal of this number is of the input: 1 to 15 or 19.
+    pub fn is_number_of_input(number: u8) -> bool
+        ensures { result ≡ is_of_input number }
+    {
+        number <= 15 || number == 19
     }
 
     /// The refused line, from 1, if it is a line that is refused.

@@ -2,7 +2,7 @@
 use Rattle.std.proofs.Common.{◌∙◌, ◌++◌, ℕ, List, inr, ap, append_assoc}
 use Rattle.reg_intake.proofs.Passing.{passed-on}
 use Rattle.reg_intake.proofs.Pulling.{further-behind, gives-more, no-more-after}
-use Rattle.reg_intake.specs.Pulled.{GetsNoMore}
+use Rattle.reg_intake.specs.Pulls.{GetsNoMore}
 use Rattle.reg_intake.proofs.intake.Intake.fill.Goals as goal
 
 pub loop-self-preserved : goal.loop-self-preserved

@@ -1,7 +1,7 @@
 -- Each piece is held behind those before it, and leaves less to pull.
 use Rattle.std.proofs.Common.{◌≡◌, ◌⊎◌, ℕ, List, false}
 use Rattle.reg_intake.specs.Intake.{IsHeld}
-use Rattle.reg_intake.specs.Pulled.{IsFurther}
+use Rattle.reg_intake.specs.Pulls.{IsFurther}
 use Rattle.reg_intake.proofs.Pulling.{left_to_pull}
 use Rattle.reg_intake.proofs.intake.Intake.fill.Given as goal
 
