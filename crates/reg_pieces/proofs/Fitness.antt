@@ -1,11 +1,13 @@
 -- A task of a plan can be done.
 use Rattle.std.proofs.Common.{◌≡◌, ℕ, ◌<◌, ◌≤◌, length, slice_get, Option, Some, None, inl, inr, refl, sym, ap, subst, ◌∙◌, arith}
+use Rattle.std.specs.Prelude.{IfSome}
 use Rattle.std.proofs.lemmas.Option.{none-some, same_Some, slice_get_within}
 use Rattle.history_model.specs.History.{History}
 use Rattle.history_model.specs.Lamport.{HasSingleWriter}
 use Rattle.history_model.specs.declared.ids.RegId.{RegId}
 use Rattle.reg_lamport.specs.Reads.{ListedReads}
 use Rattle.history_model.specs.Operations.{register_of}
+use Rattle.reg_pieces.specs.BadReads.{AreFirstBad}
 use Rattle.reg_pieces.specs.Plan.{IsListOf, IsPieceAt, IsPieceOf, IsPlan, IsSomePlan, PlanShown}
 use Rattle.reg_pieces.specs.declared.bad_reads.BadReads.{BadReads}
 use Rattle.reg_pieces.specs.declared.judgement.Judgement.{Judgement}
@@ -106,11 +108,22 @@ module _ (h : History) (plan : PlanShown) (p : IsSomePlan h plan) (number : ℕ)
   pub reads-fit : (register : RegId) (from to : ℕ) → t ≡ Reads register from to → register.0 < length plan.lists
   reads-fit register from to e = list-there h plan (reads-whole register from to e) number t at register from to e
 
-  pub own-part : (register : RegId) (from to : ℕ) → t ≡ Reads register from to → (o : Option ListedReads) → slice_get plan.lists register.0 ≡ Some o → (list : ListedReads) → o ≡ Some list → IsOwnPart h register from to list
-  own-part register from to e = has-part h plan (reads-whole register from to e) number t at register from to e
+  own-part : (register : RegId) (from to : ℕ) → t ≡ Reads register from to → (list : ListedReads) → slice_get plan.lists register.0 ≡ Some (Some list) → IsOwnPart h register from to list
+  own-part register from to e list there = has-part h plan (reads-whole register from to e) number t at register from to e (Some list) there list refl
 
-  pub no-none : (register : RegId) (from to : ℕ) → t ≡ Reads register from to → (o : Option ListedReads) → slice_get plan.lists register.0 ≡ Some o → o ≡ None → ⊥
-  no-none register from to e = has-list h plan (reads-whole register from to e) number t at register from to e
+  -- what is asked of a cut's list, and what is said by it
+  pub cut-listed : (register : RegId) (from to : ℕ) → t ≡ Reads register from to → (o : Option ListedReads) → slice_get plan.lists register.0 ≡ Some o → IfSome o (λ l. IsListOf h l.register (Some l))
+  cut-listed register from to e None there = tt
+  cut-listed register from to e (Some list) there = (own-part register from to e list there).listed
+
+  pub cut-part : (register : RegId) (from to : ℕ) → t ≡ Reads register from to → (o : Option ListedReads) → slice_get plan.lists register.0 ≡ Some o → IfSome o (λ l. (from ≤ to) × (to ≤ length l.entries))
+  cut-part register from to e None there = tt
+  cut-part register from to e (Some list) there = (own-part register from to e list there).part
+
+  pub cut-bad : (register : RegId) (from to : ℕ) → t ≡ Reads register from to → (o : Option ListedReads) → slice_get plan.lists register.0 ≡ Some o → (reads : BadReads)
+      → IfSome o (λ l. AreFirstBad h l.register from to reads) → AreFirstBad h register.0 from to reads
+  cut-bad register from to e None there reads bad = absurd (has-list h plan (reads-whole register from to e) number t at register from to e None there refl)
+  cut-bad register from to e (Some list) there reads bad = subst (λ n. AreFirstBad h n from to reads) (own-part register from to e list there).own bad
 
   pub first-fits : (register : RegId) → t ≡ First register → register.0 < length h.names
   first-fits register e = elim p [

@@ -3,21 +3,20 @@ use Rattle.std.proofs.Common.{◌≡◌, ℕ, zero, suc, ◌+◌, ◌<◌, ◌�
 use Rattle.std.specs.Prelude.{IfSome}
 use Rattle.std.proofs.lemmas.Bool.{false≢true}
 use Rattle.std.proofs.lemmas.List.Elements.{All-append}
-use Rattle.std.proofs.lemmas.Option.{get_or_from_slice_get, same_Some, slice_get_within}
+use Rattle.std.proofs.lemmas.Option.{get_or_from_slice_get, slice_get_within}
 use Rattle.std.proofs.lemmas.List.{length_push}
 use Rattle.job_board.specs.Numbers.{times}
 use Rattle.job_board.specs.Seats.{BoardValue, SeatValue}
 use Rattle.job_board.specs.declared.view.View.{View}
 use Rattle.job_board.proofs.Times.{times-append}
 use Rattle.history_model.specs.History.{History}
-use Rattle.reg_pieces.specs.Plan.{IsFirstPlan, IsPieceOf, PlanShown}
-use Rattle.reg_pieces.specs.Slots.{AreDone, AreSlots, AreWithin, IsFull, with_pieces}
+use Rattle.reg_pieces.specs.Plan.{IsFirstPlan, PlanShown}
+use Rattle.reg_pieces.specs.Slots.{AreDone, IsDoneAt, PiecesShown, with_pieces}
 use Rattle.reg_pieces.specs.Work.{Flags, HasWorked, faulty_numbers, numbers_of}
 use Rattle.reg_pieces.specs.Workers.{ClosesWhole, IsHandedBack, IsJoined, IsNewSeat, view_with, weight_back, weight_of_all, weight_so_far}
-use Rattle.reg_pieces.specs.declared.piece.Piece.{Piece}
 use Rattle.reg_pieces.specs.declared.tasks.Task.{Task}
 use Rattle.reg_pieces.specs.declared.worker.Worked.{Worked}
-use Rattle.reg_pieces.proofs.Putting.{with-full}
+use Rattle.reg_pieces.proofs.Putting.{with-done}
 use Rattle.reg_pieces.proofs.Searching.{searched-seat}
 use Rattle.history_model.proofs.Lists.{slice_get-push}
 
@@ -93,39 +92,40 @@ pub weight-with : (before : Option SeatValue) (seat : SeatValue) → (view_with 
 weight-with None seat = omega arith
 weight-with (Some one) seat = refl
 
-exhausted-with : (board : BoardValue) (slots : List (Option Piece)) (refused : Bool) (before : Option SeatValue) (seat : SeatValue) → IfSome before (IsJoined board slots refused) → refused ≡ false → seat.view.exhausted ≡ true → (view_with before seat).exhausted ≡ true
-exhausted-with board slots refused None seat j f t = t
-exhausted-with board slots refused (Some one) seat j f t = ap (λ b. b || seat.view.exhausted) (j.exhausted f)
+module _ (h : History) (plan : PlanShown) (board : BoardValue) (pieces : PiecesShown) (refused : Bool) where
+  exhausted-with : (before : Option SeatValue) (seat : SeatValue) → IfSome before (IsJoined h plan.tasks board pieces refused) → refused ≡ false → seat.view.exhausted ≡ true → (view_with before seat).exhausted ≡ true
+  exhausted-with None seat j f t = t
+  exhausted-with (Some one) seat j f t = ap (λ b. b || seat.view.exhausted) (j.exhausted f)
 
-drawn-with : (board : BoardValue) (slots : List (Option Piece)) (refused : Bool) (before : Option SeatValue) (seat : SeatValue) (n : ℕ) → IfSome before (IsJoined board slots refused) → refused ≡ false → 0 < times n (view_with before seat).drawn → (0 < times n seat.view.drawn) ⊎ IsFull slots n
-drawn-with board slots refused None seat n j f l = inl l
-drawn-with board slots refused (Some one) seat n j f l = go (times n one.view.drawn) refl (omega (arith, l, times-append n one.view.drawn seat.view.drawn))
-  where
-    go : (k : ℕ) → times n one.view.drawn ≡ k → 0 < times n one.view.drawn + times n seat.view.drawn → (0 < times n seat.view.drawn) ⊎ IsFull slots n
-    go zero e p = inl (omega (arith, e, p))
-    go (suc k) e p = inr (j.full f n (omega (arith, e)))
+  drawn-with : (before : Option SeatValue) (seat : SeatValue) (n : ℕ) → IfSome before (IsJoined h plan.tasks board pieces refused) → refused ≡ false → 0 < times n (view_with before seat).drawn
+      → (0 < times n seat.view.drawn) ⊎ IsDoneAt h plan.tasks pieces n
+  drawn-with None seat n j f l = inl l
+  drawn-with (Some one) seat n j f l = go (times n one.view.drawn) refl (omega (arith, l, times-append n one.view.drawn seat.view.drawn))
+    where
+      go : (k : ℕ) → times n one.view.drawn ≡ k → 0 < times n one.view.drawn + times n seat.view.drawn → (0 < times n seat.view.drawn) ⊎ IsDoneAt h plan.tasks pieces n
+      go zero e p = inl (omega (arith, e, p))
+      go (suc k) e p = inr (j.full f n (omega (arith, e)))
 
--- a worker's seat and what it did are put to those before
-pub one-joined : (h : History) (plan : PlanShown) (board : BoardValue) (slots : List (Option Piece)) (refused : Bool) (before : Option SeatValue) (w : Worked) (joined : SeatValue) (flag : Bool) → IsHandedBack h plan board w → AreWithin (length slots) w.done.items → IfSome before (IsJoined board slots refused)
-    → joined.board ≡ board.id → joined.view ≡ view_with before w.seat → (flag ≡ false → (refused ≡ false) × (w.refused ≡ false)) → IsJoined board (with_pieces slots w.done.items) flag joined
-one-joined h plan board slots refused before w joined flag back within j here view both = record {
-  here = here;
-  exhausted = λ f. ap (λ v. v.exhausted) view ∙ exhausted-with board slots refused before w.seat j (both f).0 (back.exhausted (both f).1);
-  full = λ f n l. with-full slots w.done.items n within
-      (elim (drawn-with board slots refused before w.seat n j (both f).0 (subst (λ (v : View). 0 < times n v.drawn) view l)) [
-        | inl p ↦ inl (subst (λ xs. 0 < times n xs) (back.drawn (both f).1) p)
-        | inr full ↦ inr full
-      ]);
-}
+  -- a worker's seat and what it did are put to those before
+  pub one-joined : (before : Option SeatValue) (w : Worked) (joined : SeatValue) (flag : Bool) → IsHandedBack h plan board w → length pieces.judgements ≡ length plan.tasks → length pieces.reads ≡ length plan.tasks
+      → IfSome before (IsJoined h plan.tasks board pieces refused) → joined.board ≡ board.id → joined.view ≡ view_with before w.seat → (flag ≡ false → (refused ≡ false) × (w.refused ≡ false))
+      → IsJoined h plan.tasks board (with_pieces pieces w.done.items) flag joined
+  one-joined before w joined flag back judgements reads j here view both = record {
+    here = here;
+    exhausted = λ f. ap (λ v. v.exhausted) view ∙ exhausted-with before w.seat j (both f).0 (back.exhausted (both f).1);
+    full = λ f n l t at.
+        let drawn : (0 < times n (numbers_of w.done.items)) ⊎ IsDoneAt h plan.tasks pieces n =
+        elim (drawn-with before w.seat n j (both f).0 (subst (λ (v : View). 0 < times n v.drawn) view l)) [
+          | inl p ↦ inl (subst (λ xs. 0 < times n xs) (back.drawn (both f).1) p)
+          | inr kept ↦ inr kept
+        ] in
+        with-done h plan.tasks pieces w.done.items n judgements reads back.pieces drawn t at;
+  }
 
--- all slots are full once the board is closed
-pub closed-full : (board : BoardValue) (slots : List (Option Piece)) (refused : Bool) (whole : Option SeatValue) (jobs least : ℕ) → IfSome whole (IsJoined board slots refused) → ClosesWhole jobs whole least → refused ≡ false → (n : ℕ) → n < jobs → IsFull slots n
-closed-full board slots refused None jobs least j c f n l = absurd c
-closed-full board slots refused (Some seat) jobs least j c f n l = j.full f n (c.0 (j.exhausted f) n l)
+  -- each task has what is done for it once the board is closed
+  pub closed-full : (whole : Option SeatValue) (jobs least : ℕ) → IfSome whole (IsJoined h plan.tasks board pieces refused) → ClosesWhole jobs whole least → refused ≡ false → (n : ℕ) → n < jobs → IsDoneAt h plan.tasks pieces n
+  closed-full None jobs least j c f n l = absurd c
+  closed-full (Some seat) jobs least j c f n l = j.full f n (c.0 (j.exhausted f) n l)
 
--- what each slot has once all numbers were drawn
-pub all-done : (h : History) (tasks : List Task) (slots : List (Option Piece)) → AreSlots h tasks slots → ((n : ℕ) → n < length tasks → IsFull slots n) → AreDone h tasks slots
-all-done h tasks slots a full i t l at =
-    let f = full i (slice_get_within tasks i t at) in
-    let done = a i f.0 f.1 in
-    (f.0, f.1, subst (λ (u : Task). IsPieceOf h u f.0) (same_Some _ _ (sym done.1 ∙ at)) done.2)
+pub all-done : (h : History) (tasks : List Task) (pieces : PiecesShown) → ((n : ℕ) → n < length tasks → IsDoneAt h tasks pieces n) → AreDone h tasks pieces
+all-done h tasks pieces done i t l at = done i (slice_get_within tasks i t at) t at

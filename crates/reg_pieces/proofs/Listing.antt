@@ -1,40 +1,40 @@
 -- The lists of the registers, by whatever thread each was made, are those of the registers by number.
-use Rattle.std.proofs.Common.{◌≡◌, ℕ, zero, suc, ◌+◌, List, [], ◌∷◌, length, map, slice_get, Option, Some, Result, Ok, Err, Vec, Global, refl, sym, ap, subst, arith}
-use Rattle.std.specs.Prelude.{IfOk, MatchResult, Contains}
-use Rattle.std.specs.List.{AllZip, range_with_len}
-use Rattle.std.proofs.lemmas.Option.{none-some, same_Some}
+use Rattle.std.proofs.Common.{◌≡◌, ℕ, zero, suc, List, [], ◌∷◌, length, slice_get, Option, Some, Result, Ok, Err, IfOk, refl, sym, ap, subst, ◌∙◌}
+use Rattle.std.specs.List.{AllZip}
+use Rattle.std.proofs.lemmas.Option.{none-some, same_Some, slice_get_within}
 use Rattle.history_model.specs.History.{History}
+use Rattle.history_model.specs.declared.ids.RegId.{RegId}
 use Rattle.reg_lamport.specs.Reads.{ListedReads}
-use Rattle.reg_pieces.specs.Plan.{AreLists, IsListOf}
+use Rattle.reg_pieces.specs.Plan.{AreLists, AreRegisters, IsListOf}
 
-module _ (h : History) (E : Type 0) where
-  -- a list that was made is that of the register of this number
-  abbrev IsMade : ℕ → Result (Option ListedReads) E → Type 0
-  IsMade r made = IfOk made (IsListOf h r)
+-- what follows from what is said of success
+pub ok-then : {T E : Type 0} (P Q : T → Type 0) (r : Result T E) → IfOk r P → ((x : T) → P x → Q x) → IfOk r Q
+ok-then P Q (Ok x) p f = f x p
+ok-then P Q (Err e) p f = tt
 
-  -- each list is that of its register, counted from r on
-  abbrev AreOf : ℕ → List (Option ListedReads) → Type 0
-  AreOf r lists = (i : ℕ) (list : Option ListedReads) → slice_get lists i ≡ Some list → IsListOf h (r + i) list
+module _ (h : History) where
+  -- a list is that of its register
+  abbrev pub IsOwnList : RegId → Option ListedReads → Type 0
+  IsOwnList register list = IsListOf h register.0 list
 
-  all_made : (r n : ℕ) (lists : List (Option ListedReads)) → AllZip IsMade (range_with_len r n) (map Ok lists) → (length lists ≡ n) × AreOf r lists
-  all_made r zero [] each = (refl, λ i list q. absurd (none-some _ q))
-  all_made r zero (l ∷ lists) each = absurd each
-  all_made r (suc n) [] each = absurd each
-  all_made r (suc n) (l ∷ lists) each = let rest = all_made (r + 1) n lists each.1 in (ap suc rest.0, one_more rest.1)
-    where
-      one_more : AreOf (r + 1) lists → AreOf r (l ∷ lists)
-      one_more rest zero list q = let z : r ≡ r + 0 = omega arith in subst (λ m. IsListOf h m list) z (subst (IsListOf h r) (same_Some _ _ q) each.0)
-      one_more rest (suc i) list q = let z : r + 1 + i ≡ r + suc i = omega arith in subst (λ m. IsListOf h m list) z (rest i list q)
+  as-many : (registers : List RegId) (lists : List (Option ListedReads)) → AllZip IsOwnList registers lists → length lists ≡ length registers
+  as-many [] [] own = refl
+  as-many [] (l ∷ lists) own = absurd own
+  as-many (r ∷ registers) [] own = absurd own
+  as-many (r ∷ registers) (l ∷ lists) own = ap suc (as-many registers lists own.1)
 
-  pub lists-made : (each : List (Result (Option ListedReads) E)) (made : Result (Vec (Option ListedReads) Global) E)
-      → AllZip IsMade (range_with_len 0 (length h.names)) each
-      → MatchResult made (λ v. (lists : List (Option ListedReads)) × (each ≡ map Ok lists) × (v.items ≡ lists)) (λ e. Contains each (Err e))
-      → IfOk made (λ v. AreLists h v.items)
-  lists-made each (Ok v) is got =
-      let all = all_made 0 (length h.names) got.0 (subst (AllZip IsMade (range_with_len 0 (length h.names))) got.1 is) in
-      let lists : AreLists h got.0 = record {
-        registers = all.0;
-        each = λ r list q. let z : 0 + r ≡ r = omega arith in subst (λ m. IsListOf h m list) z (all.1 r list q);
-      } in
-      subst (AreLists h) (sym got.2) lists
-  lists-made each (Err e) is got = tt
+  own-list : (registers : List RegId) (lists : List (Option ListedReads)) → AllZip IsOwnList registers lists → (i : ℕ) (list : Option ListedReads) → slice_get lists i ≡ Some list
+      → (r : RegId) × (slice_get registers i ≡ Some r) × IsListOf h r.0 list
+  own-list [] [] own i list e = absurd (none-some _ e)
+  own-list [] (l ∷ lists) own i list e = absurd own
+  own-list (r ∷ registers) [] own i list e = absurd own
+  own-list (r ∷ registers) (l ∷ lists) own zero list e = (r, refl, subst (IsListOf h r.0) (same_Some _ _ e) own.0)
+  own-list (r ∷ registers) (l ∷ lists) own (suc i) list e = own-list registers lists own.1 i list e
+
+  pub lists-made : (registers : List RegId) (lists : List (Option ListedReads)) → AreRegisters h registers → AllZip IsOwnList registers lists → AreLists h lists
+  lists-made registers lists all own = record {
+    registers = as-many registers lists own ∙ all.count;
+    each = λ i list e.
+        let k = own-list registers lists own i list e in
+        subst (λ n. IsListOf h n list) (sym (all.each i k.0 k.1)) k.2;
+  }

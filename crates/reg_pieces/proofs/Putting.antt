@@ -1,71 +1,94 @@
 -- What is done is put into its slot, and a worker has done one piece more.
-use Rattle.std.proofs.Common.{◌≡◌, ℕ, zero, suc, ◌==◌, ◌+◌, ◌<◌, ◌⊎◌, false, List, [], ◌∷◌, ◌++◌, length, set, slice_get, Option, Some, Result, Ok, Err, inl, inr, refl, sym, ap, subst, ◌∙◌, arith}
+use Rattle.std.proofs.Common.{◌≡◌, ℕ, suc, ◌==◌, ◌+◌, ◌<◌, ◌⊎◌, false, List, [], ◌∷◌, ◌++◌, length, slice_get, Some, Result, Ok, Err, inl, inr, refl, sym, ap, subst, ◌∙◌, arith}
 use Rattle.std.specs.Result.{OnOk, is_err}
 use Rattle.std.proofs.lemmas.List.{length-set}
 use Rattle.std.proofs.lemmas.Option.{same_Some, slice_get_within}
 use Rattle.std.proofs.lemmas.Bool.{cases_Bool, eqb-true, eqb-false, false≢true}
 use Rattle.job_board.specs.Numbers.{one_if, times}
 use Rattle.history_model.specs.History.{History}
-use Rattle.reg_pieces.specs.Plan.{IsPieceAt}
-use Rattle.reg_pieces.specs.Slots.{AreSlots, AreWithin, IsFull, with_pieces}
+use Rattle.reg_pieces.specs.Plan.{IsPieceAt, IsPieceOf}
+use Rattle.reg_pieces.specs.Slots.{AreWithin, IsDoneAt, IsKept, PiecesShown, with_piece, with_pieces}
 use Rattle.reg_pieces.specs.Work.{AddsPiece, ArePieces, numbers_of}
 use Rattle.reg_pieces.specs.declared.piece.Piece.{Piece}
+use Rattle.reg_pieces.specs.declared.piece.Piece.TheVariants as piece
 use Rattle.reg_pieces.specs.declared.tasks.Task.{Task}
+use Rattle.reg_pieces.specs.declared.tasks.Task.TheVariants.{Judge, Reads, First}
 use Rattle.reg_pieces.proofs.Pushed.{push-cases, front-get}
 use Rattle.history_model.proofs.Lists.{slice_get-set, slice_get-set_other}
 
 -- ---- one piece in its slot
 
-set-get : {X : Type 0} (xs : List X) (i : ℕ) (y z : X) → slice_get (set xs i y) i ≡ Some z → y ≡ z
-set-get [] i y z e = absurd (cc e)
-set-get (x ∷ xs) zero y z e = same_Some y z e
-set-get (x ∷ xs) (suc i) y z e = set-get xs i y z e
+pub judgements-count : (pieces : PiecesShown) (n : ℕ) (p : Piece) → length (with_piece pieces n p).judgements ≡ length pieces.judgements
+judgements-count pieces n (piece.Judged judgement) = length-set pieces.judgements n judgement
+judgements-count pieces n (piece.Reads reads) = refl
+judgements-count pieces n piece.Clean = refl
+judgements-count pieces n piece.Skipped = refl
 
-put-slot : (h : History) (tasks : List Task) (slots : List (Option Piece)) (number : ℕ) (p : Piece) → IsPieceAt h tasks number p → AreSlots h tasks slots → AreSlots h tasks (set slots number (Some p))
-put-slot h tasks slots number p done s i q g = elim (cases_Bool (i == number)) [
-  | inl t ↦
-      let n = eqb-true i number t in
-      let same : p ≡ q = same_Some _ _ (set-get slots number (Some p) (Some q) (ap (slice_get (set slots number (Some p))) (sym n) ∙ g)) in
-      subst (λ k. IsPieceAt h tasks k q) (sym n) (subst (IsPieceAt h tasks number) same done)
-  | inr f ↦ s i q (sym (slice_get-set_other slots number i (Some p) (eqb-false i number f)) ∙ g)
-]
+pub reads-count : (pieces : PiecesShown) (n : ℕ) (p : Piece) → length (with_piece pieces n p).reads ≡ length pieces.reads
+reads-count pieces n (piece.Judged judgement) = refl
+reads-count pieces n (piece.Reads reads) = length-set pieces.reads n reads
+reads-count pieces n piece.Clean = refl
+reads-count pieces n piece.Skipped = refl
 
-put-here : (slots : List (Option Piece)) (number : ℕ) (p : Piece) (n : ℕ) → number < length slots → number ≡ n → IsFull (set slots number (Some p)) n
-put-here slots number p n l e = (p, ap (slice_get (set slots number (Some p))) (sym e) ∙ slice_get-set slots number (Some p) l)
+judgements-beside : (pieces : PiecesShown) (n : ℕ) (p : Piece) (m : ℕ) → (m ≡ n → ⊥) → slice_get (with_piece pieces n p).judgements m ≡ slice_get pieces.judgements m
+judgements-beside pieces n (piece.Judged judgement) m d = slice_get-set_other pieces.judgements n m judgement d
+judgements-beside pieces n (piece.Reads reads) m d = refl
+judgements-beside pieces n piece.Clean m d = refl
+judgements-beside pieces n piece.Skipped m d = refl
 
-put-beside : (slots : List (Option Piece)) (number : ℕ) (p : Piece) (n : ℕ) → number < length slots → IsFull slots n → IsFull (set slots number (Some p)) n
-put-beside slots number p n l full = elim (cases_Bool (n == number)) [
-  | inl t ↦ put-here slots number p n l (sym (eqb-true n number t))
-  | inr f ↦ (full.0, slice_get-set_other slots number n (Some p) (eqb-false n number f) ∙ full.1)
-]
+reads-beside : (pieces : PiecesShown) (n : ℕ) (p : Piece) (m : ℕ) → (m ≡ n → ⊥) → slice_get (with_piece pieces n p).reads m ≡ slice_get pieces.reads m
+reads-beside pieces n (piece.Judged judgement) m d = refl
+reads-beside pieces n (piece.Reads reads) m d = slice_get-set_other pieces.reads n m reads d
+reads-beside pieces n piece.Clean m d = refl
+reads-beside pieces n piece.Skipped m d = refl
+
+kept-here : (h : History) (pieces : PiecesShown) (n : ℕ) (p : Piece) (t : Task) → n < length pieces.judgements → n < length pieces.reads → IsPieceOf h t p → IsKept h n (with_piece pieces n p) t
+kept-here h pieces n p (Judge r) j k done = subst (λ q. IsKept h n (with_piece pieces n q) (Judge r)) (sym done.1) (done.0, slice_get-set pieces.judgements n done.0 j, done.2)
+kept-here h pieces n p (Reads r from to) j k done = subst (λ q. IsKept h n (with_piece pieces n q) (Reads r from to)) (sym done.1) (done.0, slice_get-set pieces.reads n done.0 k, done.2)
+kept-here h pieces n p (First r) j k done = tt
+
+kept-beside : (h : History) (pieces : PiecesShown) (n : ℕ) (p : Piece) (m : ℕ) (t : Task) → (m ≡ n → ⊥) → IsKept h m pieces t → IsKept h m (with_piece pieces n p) t
+kept-beside h pieces n p m (Judge r) d kept = (kept.0, judgements-beside pieces n p m d ∙ kept.1, kept.2)
+kept-beside h pieces n p m (Reads r from to) d kept = (kept.0, reads-beside pieces n p m d ∙ kept.1, kept.2)
+kept-beside h pieces n p m (First r) d kept = tt
 
 -- ---- all that a worker did
 
-pub put-one-more : (slots : List (Option Piece)) (done : List (ℕ × Piece)) (number : ℕ) (p : Piece) → with_pieces slots (done ++ (number, p) ∷ []) ≡ with_pieces (set slots number (Some p)) done
-put-one-more slots [] number p = refl
-put-one-more slots (d ∷ done) number p = ap (λ xs. set xs d.0 (Some d.1)) (put-one-more slots done number p)
+pub put-one-more : (pieces : PiecesShown) (done : List (ℕ × Piece)) (number : ℕ) (p : Piece) → with_pieces pieces (done ++ (number, p) ∷ []) ≡ with_pieces (with_piece pieces number p) done
+put-one-more pieces [] number p = refl
+put-one-more pieces (d ∷ done) number p = ap (λ x. with_piece x d.0 d.1) (put-one-more pieces done number p)
 
-pub length-with : (slots : List (Option Piece)) (done : List (ℕ × Piece)) → length (with_pieces slots done) ≡ length slots
-length-with slots [] = refl
-length-with slots (d ∷ done) = length-set (with_pieces slots done) d.0 (Some d.1) ∙ length-with slots done
+pub all-judgements-count : (pieces : PiecesShown) (done : List (ℕ × Piece)) → length (with_pieces pieces done).judgements ≡ length pieces.judgements
+all-judgements-count pieces [] = refl
+all-judgements-count pieces (d ∷ done) = judgements-count (with_pieces pieces done) d.0 d.1 ∙ all-judgements-count pieces done
 
-pub with-slots : (h : History) (tasks : List Task) (slots : List (Option Piece)) (done : List (ℕ × Piece)) → ArePieces h tasks done → AreSlots h tasks slots → AreSlots h tasks (with_pieces slots done)
-with-slots h tasks slots [] a s = s
-with-slots h tasks slots (d ∷ done) a s = put-slot h tasks (with_pieces slots done) d.0 d.1 (a 0 d refl) (with-slots h tasks slots done (λ i x e. a (suc i) x e) s)
+pub all-reads-count : (pieces : PiecesShown) (done : List (ℕ × Piece)) → length (with_pieces pieces done).reads ≡ length pieces.reads
+all-reads-count pieces [] = refl
+all-reads-count pieces (d ∷ done) = reads-count (with_pieces pieces done) d.0 d.1 ∙ all-reads-count pieces done
 
--- a slot is full where its piece is among what is done, or it was full before
-pub with-full : (slots : List (Option Piece)) (done : List (ℕ × Piece)) (n : ℕ) → AreWithin (length slots) done → (0 < times n (numbers_of done)) ⊎ IsFull slots n → IsFull (with_pieces slots done) n
-with-full slots [] n w (inl l) = absurd (omega (arith, l))
-with-full slots [] n w (inr full) = full
-with-full slots (d ∷ done) n w k =
-    let inside = subst (λ m. d.0 < m) (sym (length-with slots done)) (w 0 d refl) in
-    let rest = with-full slots done n (λ i x e. w (suc i) x e) in
+-- a task has what is done for it in its slot where its piece is among what is done, or it had it before
+pub with-done : (h : History) (tasks : List Task) (pieces : PiecesShown) (done : List (ℕ × Piece)) (n : ℕ) → length pieces.judgements ≡ length tasks → length pieces.reads ≡ length tasks → ArePieces h tasks done
+    → (0 < times n (numbers_of done)) ⊎ IsDoneAt h tasks pieces n → (t : Task) → slice_get tasks n ≡ Some t → IsKept h n (with_pieces pieces done) t
+with-done h tasks pieces [] n j k a (inl l) t at = absurd (omega (arith, l))
+with-done h tasks pieces [] n j k a (inr kept) t at = kept t at
+with-done h tasks pieces (d ∷ done) n j k a c t at =
+    let one : IsPieceAt h tasks d.0 d.1 = a 0 d refl in
+    let inside = slice_get_within tasks d.0 one.0 one.1 in
+    let before = with_pieces pieces done in
+    let judgements = all-judgements-count pieces done in
+    let reads = all-reads-count pieces done in
     elim (cases_Bool (d.0 == n)) [
-      | inl t ↦ put-here (with_pieces slots done) d.0 d.1 n inside (eqb-true d.0 n t)
-      | inr f ↦ put-beside (with_pieces slots done) d.0 d.1 n inside (rest (elim k [
-        | inl l ↦ inl (omega (arith, subst (λ b. 0 < one_if b + times n (numbers_of done)) f l))
-        | inr full ↦ inr full
-      ]))
+      | inl e ↦
+          let here : d.0 ≡ n = eqb-true d.0 n e in
+          let same : one.0 ≡ t = same_Some _ _ (sym one.1 ∙ (ap (slice_get tasks) here ∙ at)) in
+          subst (λ m. IsKept h m (with_piece before d.0 d.1) t) here
+          (kept-here h before d.0 d.1 t (omega (arith, inside, judgements, j)) (omega (arith, inside, reads, k)) (subst (λ u. IsPieceOf h u d.1) same one.2))
+      | inr f ↦
+          let rest : (0 < times n (numbers_of done)) ⊎ IsDoneAt h tasks pieces n = elim c [
+            | inl l ↦ inl (omega (arith, subst (λ b. 0 < one_if b + times n (numbers_of done)) f l))
+            | inr kept ↦ inr kept
+          ] in
+          kept-beside h before d.0 d.1 n t (λ q. eqb-false d.0 n f (sym q)) (with-done h tasks pieces done n j k (λ i x e. a (suc i) x e) rest t at)
     ]
 
 pub pieces-within : (h : History) (tasks : List Task) (done : List (ℕ × Piece)) → ArePieces h tasks done → AreWithin (length tasks) done

@@ -14,6 +14,6 @@ AreFirstBad h r from to reads = IsFirstBadNamed h r Safe from to reads.safe × I
 abbrev pub no_reads : BadReads
 no_reads = record { safe = None; regular = None }
 
--- those of two parts, of which the second comes behind
+-- those of two parts, in order
 abbrev pub joint_reads : BadReads → BadReads → BadReads
 joint_reads reads later = record { safe = option_or reads.safe later.safe; regular = option_or reads.regular later.regular }

@@ -1,5 +1,5 @@
 -- Whether a register is atomic.
-use Rattle.std.specs.Prelude.{List, Bool, true, false}
+use Rattle.std.specs.Prelude.{List, [], Bool, true, false}
 use Rattle.history_model.specs.Legal.{IsAtomic}
 use Rattle.history_model.specs.Operations.{Operation}
 use Rattle.reg_zones.specs.Faults.{IsFault}
@@ -13,6 +13,10 @@ use Rattle.reg_pieces.specs.declared.piece.Piece.TheVariants.{Judged, Reads, Cle
 abbrev pub IsJudged : List Operation → Judgement → Type 0
 IsJudged ops (Order order) = IsAtomic ops × IsOrder ops order
 IsJudged ops (Faulty fault) = (IsAtomic ops → ⊥) × IsFault ops fault
+
+-- what stands where no judgement is: the order of no operations
+abbrev pub no_judgement : Judgement
+no_judgement = Order []
 
 -- that the operations are atomic, or the fault of others; nothing is said of a register that was skipped
 abbrev pub IsLookedAt : List Operation → Piece → Type 0

@@ -1,5 +1,6 @@
 pub mod Settings
 pub mod Judged
+pub mod Looks
 pub mod BadReads
 pub mod Plan
 pub mod Work

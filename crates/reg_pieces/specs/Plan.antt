@@ -3,6 +3,7 @@ use Rattle.std.specs.Prelude.{◌≡◌, ℕ, suc, ◌<◌, ◌≤◌, ◌+◌, 
 use Rattle.job_board.specs.declared.limits.TheConstants.{MAX_JOBS}
 use Rattle.history_model.specs.History.{History}
 use Rattle.history_model.specs.Lamport.{HasSingleWriter}
+use Rattle.history_model.specs.declared.ids.RegId.{RegId}
 use Rattle.reg_lamport.specs.Reads.{IsReadList, ListedReads}
 use Rattle.reg_pieces.specs.BadReads.{AreFirstBad}
 use Rattle.reg_pieces.specs.Judged.{IsJudged, IsLookedAt}
@@ -29,6 +30,11 @@ IsListOf h r (Some list) = HasSingleWriter (register_of h r) × (list.register �
 pub record AreLists (h : History) (lists : List (Option ListedReads)) : Type 0 where
   pub registers : length lists ≡ length h.names
   pub each : (r : ℕ) (list : Option ListedReads) → slice_get lists r ≡ Some list → IsListOf h r list
+
+-- all registers, in order
+pub record AreRegisters (h : History) (registers : List RegId) : Type 0 where
+  pub count : length registers ≡ length h.names
+  pub each : (i : ℕ) (r : RegId) → slice_get registers i ≡ Some r → i ≡ r.0
 
 -- the reads of register r numbered from `from` up to and without `len`, in cuts of that many, the last perhaps shorter
 abbrev pub AreCuts : ℕ → ℕ → ℕ → ℕ → List Task → Type 0

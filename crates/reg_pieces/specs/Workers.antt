@@ -9,9 +9,8 @@ use Rattle.history_model.specs.Legal.{IsAtomic}
 use Rattle.history_model.specs.Operations.{register_of}
 use Rattle.history_model.specs.declared.ids.RegId.{RegId}
 use Rattle.reg_pieces.specs.Plan.{IsFirstPlan, PlanShown}
-use Rattle.reg_pieces.specs.Slots.{IsFull}
+use Rattle.reg_pieces.specs.Slots.{IsDoneAt, PiecesShown}
 use Rattle.reg_pieces.specs.Work.{ArePieces, IsSeatFor, numbers_of}
-use Rattle.reg_pieces.specs.declared.piece.Piece.{Piece}
 use Rattle.reg_pieces.specs.declared.tasks.Task.{Task}
 use Rattle.reg_pieces.specs.declared.worker.Worked.{Worked}
 
@@ -60,11 +59,11 @@ abbrev pub view_with : Option SeatValue → SeatValue → View
 view_with None seat = seat.view
 view_with (Some before) seat = joint_view before.view seat.view
 
--- Seats of this board that were made into one: where no worker was refused memory, each number that they drew has its slot full, and no number was left.
-pub record IsJoined (board : BoardValue) (slots : List (Option Piece)) (refused : Bool) (seat : SeatValue) : Type 0 where
+-- Seats of this board that were made into one: where no worker was refused memory, each number that they drew has what is done for its task in its slot, and no number was left.
+pub record IsJoined (h : History) (tasks : List Task) (board : BoardValue) (pieces : PiecesShown) (refused : Bool) (seat : SeatValue) : Type 0 where
   pub here : seat.board ≡ board.id
   pub exhausted : refused ≡ false → seat.view.exhausted ≡ true
-  pub full : refused ≡ false → (n : ℕ) → 0 < times n seat.view.drawn → IsFull slots n
+  pub full : refused ≡ false → (n : ℕ) → 0 < times n seat.view.drawn → IsDoneAt h tasks pieces n
 
 -- Seats of this board that were made into one: where no worker was refused memory, no number was left, and this is known of all that they drew.
 pub record IsJoinedSearch (h : History) (board : BoardValue) (refused : Bool) (seat : SeatValue) : Type 0 where

@@ -1,5 +1,5 @@
 //! The first reads of a register that aren't safe or regular.
-ghost use Rattle.std.specs.Prelude.{◌≡◌, ◌≤◌, length, Some};
+ghost use Rattle.std.specs.Prelude.{◌≡◌, ◌≤◌, length, IfSome, Some};
 ghost use Rattle.reg_pieces.specs.BadReads.{AreFirstBad, joint_reads, no_reads};
 ghost use Rattle.reg_pieces.specs.Plan.{IsListOf};
 
@@ -25,7 +25,7 @@ impl BadReads {
         }
     }
 
-    /// With those of reads that come behind.
+    /// With those of later reads.
     pub fn or(self, later: BadReads) -> BadReads
         ensures { result ≡ joint_reads self later }
     {
@@ -44,6 +44,23 @@ impl BadReads {
         BadReads {
             safe: first_bad(arena, list, from, to, Level::Safe),
             regular: first_bad(arena, list, from, to, Level::Regular),
+        }
+    }
+
+    /// Of a cut of a register's reads; none if they aren't listed.
+    pub(crate) fn of_cut(
+        arena: &Arena,
+        list: &Option<ReadList>,
+        from: usize,
+        to: usize,
+    ) -> BadReads
+        requires list { IfSome list.now (λ l. IsListOf arena.now l.register (Some l)) }
+        requires part { IfSome list.now (λ l. (from ≤ to) × (to ≤ length l.entries)) }
+        ensures { IfSome list.now (λ l. AreFirstBad arena.now l.register from to result) }
+    {
+        match list {
+            Some(list) => BadReads::among(arena, list, from, to),
+            None => BadReads::none(),
         }
     }
 }

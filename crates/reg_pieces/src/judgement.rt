@@ -1,7 +1,7 @@
 //! Whether a register is atomic, with its order or its fault.
-ghost use Rattle.std.specs.Prelude.{◌<◌, length, IfOk};
+ghost use Rattle.std.specs.Prelude.{◌≡◌, ◌<◌, length, IfOk};
 ghost use Rattle.history_model.specs.Operations.{register_of};
-ghost use Rattle.reg_pieces.specs.Judged.{IsJudged};
+ghost use Rattle.reg_pieces.specs.Judged.{IsJudged, no_judgement};
 
 use crate::order::Order;
 use history_model::RegId;
@@ -18,10 +18,19 @@ pub enum Judgement {
     Faulty(Fault),
 }
 
+impl Judgement {
+    /// The order of no operations, which stands where no judgement is.
+    pub(crate) fn none(alloc: Global) -> Judgement
+        ensures { result ≡ no_judgement }
+    {
+        Judgement::Order(Order::new(Vec::new(alloc)))
+    }
+}
+
 /// The canonical order of a register that is atomic, or else its fault.
 ///
 /// # Errors
-/// If memory was refused; the arena is as before.
+/// Out of memory; the arena is as before.
 pub fn judge(alloc: Global, arena: &Arena, register: RegId) -> Result<Judgement, AllocError>
     requires { register.0 < length arena.now.names }
     ensures { IfOk result (IsJudged (register_of arena.now register.0)) }

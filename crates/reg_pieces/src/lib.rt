@@ -7,15 +7,16 @@
 //! the first register that isn't atomic, with one piece a register. Neither the number of workers nor the [`Gate`] that
 //! they pass changes what is given.
 //!
-//! Read it in this order: `settings`; `tasks` and `planning`, which number the work; `order`, `judgement`, `bad_reads` and
-//! `piece`, what is done for one number; `gate` and `worker`; `pieces`, where what is done is kept; `workers`, all of it at
-//! once; `finding`.
+//! Read it in this order: `settings`; `tasks` and `planning`, which number the work; `order`, `judgement`, `bad_reads`, `look`
+//! and `piece`, what is done for one number; `gate` and `worker`; `pieces`, where what is done is kept; `workers`, all of it at
+//! once; `first_search`, which looks for the first register that isn't atomic.
 #![tactic(auto)]
 
 mod bad_reads;
-mod finding;
+mod first_search;
 mod gate;
 mod judgement;
+mod look;
 mod order;
 mod piece;
 mod pieces;
@@ -26,7 +27,7 @@ mod worker;
 mod workers;
 
 pub use bad_reads::BadReads;
-pub use finding::first_faulty;
+pub use first_search::first_faulty;
 pub use gate::{Gate, OpenGate};
 pub use judgement::{Judgement, judge};
 pub use order::Order;

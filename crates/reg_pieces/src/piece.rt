@@ -1,15 +1,12 @@
 //! What is done for one piece of work.
-ghost use Rattle.std.specs.Prelude.{◌≡◌, ◌<◌, length, IfOk};
-ghost use Rattle.reg_pieces.specs.Judged.{IsLookedAt, is_faulty};
-ghost use Rattle.history_model.specs.Operations.{register_of};
+ghost use Rattle.std.specs.Prelude.{◌<◌, length, IfOk};
 ghost use Rattle.reg_pieces.specs.Plan.{IsPieceAt, IsSomePlan};
 
 use crate::bad_reads::BadReads;
 use crate::judgement::{Judgement, judge};
+use crate::look::look_at;
 use crate::tasks::{Plan, Task};
-use history_model::RegId;
 use reg_arena::Arena;
-use reg_zones::sweep;
 use std::alloc::{AllocError, Global};
 
 /// What is done for one piece of work.
@@ -25,30 +22,6 @@ pub enum Piece {
     Skipped,
 }
 
-impl Piece {
-    /// Whether it is a fault.
-    pub(crate) fn is_faulty(&self) -> bool
-        ensures { result ≡ is_faulty self.now }
-    {
-        matches!(self, Piece::Judged(Judgement::Faulty(_)))
-    }
-}
-
-/// Whether a register is atomic. `least` is the lowest number that a look found.
-pub(crate) fn look_at(arena: &Arena, register: RegId, least: u64) -> Piece
-    requires { register.0 < length arena.now.names }
-    ensures looked { IsLookedAt (register_of arena.now register.0) result }
-    ensures skipped { result ≡ Piece.Skipped → least < register.0 }
-{
-    if least < u64::from(register.0) {
-        return Piece::Skipped;
-    }
-    match sweep(arena, register) {
-        Ok(()) => Piece::Clean,
-        Err(fault) => Piece::Judged(Judgement::Faulty(fault)),
-    }
-}
-
 /// Does the piece of this number, as if no lower register were known that isn't atomic.
 pub(crate) fn piece_at(
     alloc: Global,
@@ -62,10 +35,12 @@ pub(crate) fn piece_at(
 {
     match plan.task(number) {
         Task::Judge(register) => Ok(Piece::Judged(judge(alloc, arena, register)?)),
-        Task::Reads { register, from, to } => match plan.list(register) {
-            Some(list) => Ok(Piece::Reads(BadReads::among(arena, list, from, to))),
-            None => unreachable!(),
-        },
-        Task::First(register) => Ok(look_at(arena, register, u64::from(register.0))),
+        Task::Reads { register, from, to } => {
+            let list = plan.list(register);
+            Ok(Piece::Reads(BadReads::of_cut(arena, list, from, to)))
+        }
+        Task::First(register) => {
+            Ok(look_at(arena, register, u64::from(register.0)).into_piece())
+        }
     }
 }

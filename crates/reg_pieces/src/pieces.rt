@@ -1,53 +1,78 @@
 //! What is done, by its number.
-ghost use Rattle.std.specs.Prelude.{◌≡◌, ◌<◌, length, set, slice_get, IfOk, Some, None};
-ghost use Rattle.reg_pieces.specs.Slots.{AreEmpty, AreWithin, HasJudged, HasReads, with_pieces};
+ghost use Rattle.std.specs.Prelude.{◌≡◌, ◌<◌, length, slice_get, IfOk, Some};
+ghost use Rattle.reg_pieces.specs.Slots.{AreWithin, with_judgement, with_piece, with_pieces, with_reads, without_judgement};
 
 use crate::bad_reads::BadReads;
 use crate::judgement::Judgement;
 use crate::piece::Piece;
 use std::alloc::{AllocError, Global};
 use std::marker::Model;
+use std::mem::replace;
 
-/// What is done for the pieces of a plan, each in the slot of its number; contracts see it as the list of the slots. A slot
-/// is empty before its piece is done, and after it was taken.
+/// What is done for the pieces of a plan: the judgements and the bad reads of cuts, each kind in slots of its own, by number;
+/// contracts see the two lists. Where nothing is done, a slot holds the order of no operations, or no bad reads.
 #[derive(Drop)]
 pub struct Pieces {
-    slots: Vec<Option<Piece>>,
+    judgements: Vec<Judgement>,
+    reads: Vec<BadReads>,
 }
 
 impl Model for Pieces {
-    ghost use Rattle.std.specs.Prelude.{List, Option};
-    ghost use Rattle.reg_pieces.specs.declared.piece.Piece.{Piece};
+    ghost use Rattle.reg_pieces.specs.Slots.{PiecesShown};
 
-    ghost Value = { List (Option Piece) };
+    ghost Value = { PiecesShown };
 
-    ghost view = { λ p. p.slots.items };
+    ghost view = { λ p. record { judgements = p.judgements.items; reads = p.reads.items } };
 }
 
 impl Pieces {
-    /// So many slots, all of them empty.
+    /// `count` slots of each kind, with nothing done.
     pub(crate) fn empty(alloc: Global, count: u64) -> Result<Pieces, AllocError>
-        ensures count { IfOk result (λ pieces. length pieces ≡ count) }
-        ensures empty { IfOk result AreEmpty }
+        ensures judgements { IfOk result (λ pieces. length pieces.judgements ≡ count) }
+        ensures reads { IfOk result (λ pieces. length pieces.reads ≡ count) }
     {
-        let mut slots = Vec::with_capacity(alloc, count as usize)?;
+        let mut judgements = Vec::with_capacity(alloc, count as usize)?;
+        let mut reads = Vec::with_capacity(alloc, count as usize)?;
         for _ in 0..count {
-            slots.push(None)?;
+            judgements.push(Judgement::none(alloc))?;
+            reads.push(BadReads::none())?;
         }
-        Ok(Pieces { slots })
+        Ok(Pieces { judgements, reads })
     }
 
-    /// Puts a piece into its slot.
-    fn put(&mut self, number: u64, piece: Piece)
-        requires { number < length self.old }
-        ensures { self.new ≡ set self.old number (Some piece) }
+    /// Puts a judgement into its slot.
+    fn put_judgement(&mut self, number: u64, judgement: Judgement)
+        requires { number < length self.old.judgements }
+        ensures { self.new ≡ with_judgement self.old number judgement }
     {
-        self.slots[number as usize] = Some(piece);
+        self.judgements[number as usize] = judgement;
+    }
+
+    /// Puts the first bad reads of a cut into their slot.
+    fn put_reads(&mut self, number: u64, reads: BadReads)
+        requires { number < length self.old.reads }
+        ensures { self.new ≡ with_reads self.old number reads }
+    {
+        self.reads[number as usize] = reads;
+    }
+
+    /// Puts a piece into its slot. A look at a register leaves nothing to keep.
+    fn put(&mut self, number: u64, piece: Piece)
+        requires judgements { number < length self.old.judgements }
+        requires reads { number < length self.old.reads }
+        ensures { self.new ≡ with_piece self.old number piece }
+    {
+        match piece {
+            Piece::Judged(judgement) => self.put_judgement(number, judgement),
+            Piece::Reads(reads) => self.put_reads(number, reads),
+            Piece::Clean | Piece::Skipped => {}
+        }
     }
 
     /// Puts what a worker did into its slots.
     pub(crate) fn put_all(&mut self, mut done: Vec<(u64, Piece)>)
-        requires { AreWithin (length self.old) done.items }
+        requires judgements { AreWithin (length self.old.judgements) done.items }
+        requires reads { AreWithin (length self.old.reads) done.items }
         ensures { self.new ≡ with_pieces self.old done.items }
     {
         while let Some((number, piece)) = done.pop() {
@@ -55,36 +80,21 @@ impl Pieces {
         }
     }
 
-    /// Takes out what is in a slot.
-    fn take(&mut self, number: usize) -> Option<Piece>
-        requires { number < length self.old }
-        ensures piece { slice_get self.old number ≡ Some result }
-        ensures left { self.new ≡ set self.old number None }
-    {
-        self.slots[number].take()
-    }
-
     /// Takes the judgement of a register out of its slot.
     pub fn take_judged(&mut self, number: usize) -> Judgement
-        requires { HasJudged self.old number }
-        ensures piece { slice_get self.old number ≡ Some (Some (Piece.Judged result)) }
-        ensures left { self.new ≡ set self.old number None }
+        requires { number < length self.old.judgements }
+        ensures judgement { slice_get self.old.judgements number ≡ Some result }
+        ensures left { self.new ≡ without_judgement self.old number }
     {
-        match self.take(number) {
-            Some(Piece::Judged(judgement)) => judgement,
-            _ => unreachable!(),
-        }
+        let alloc = *self.judgements.allocator();
+        replace(&mut self.judgements[number], Judgement::none(alloc))
     }
 
-    /// Takes the first bad reads of a cut out of their slot.
-    pub fn take_reads(&mut self, number: usize) -> BadReads
-        requires { HasReads self.old number }
-        ensures piece { slice_get self.old number ≡ Some (Some (Piece.Reads result)) }
-        ensures left { self.new ≡ set self.old number None }
+    /// The first bad reads of a cut.
+    pub fn bad_reads(&self, number: usize) -> BadReads
+        requires { number < length self.now.reads }
+        ensures { slice_get self.now.reads number ≡ Some result }
     {
-        match self.take(number) {
-            Some(Piece::Reads(reads)) => reads,
-            _ => unreachable!(),
-        }
+        self.reads[number]
     }
 }

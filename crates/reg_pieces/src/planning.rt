@@ -2,12 +2,12 @@
 ghost use Rattle.std.specs.Prelude.{◌<◌, ◌≤◌, length, IfOk, OnOk};
 ghost use Rattle.history_text.specs.declared.limits.TheConstants.{MAX_EVENTS};
 ghost use Rattle.job_board.specs.declared.limits.TheConstants.{MAX_JOBS};
-ghost use Rattle.reg_pieces.specs.Plan.{AddsCuts, AreLists, IsFirstPlan, IsListOf, IsPlan, IsPlanBy, IsSomePlan};
+ghost use Rattle.reg_pieces.specs.Plan.{AddsCuts, AreLists, AreRegisters, IsFirstPlan, IsListOf, IsPlan, IsPlanBy, IsSomePlan};
 
 use crate::settings::Settings;
 use crate::tasks::{Plan, Task};
 use history_model::RegId;
-use rayon::prelude::*;
+use parallel::map_each;
 use reg_arena::Arena;
 use reg_lamport::{ReadList, reads, single_writer};
 use std::alloc::{AllocError, Global};
@@ -16,7 +16,7 @@ use std::thread::Threads;
 /// The completed reads of a register, if it has a single writer.
 ///
 /// # Errors
-/// If memory was refused; the arena is as before.
+/// Out of memory; the arena is as before.
 pub fn list_of(
     alloc: Global,
     arena: &Arena,
@@ -43,6 +43,18 @@ fn lists(alloc: Global, arena: &Arena) -> Result<Vec<Option<ReadList>>, AllocErr
     Ok(lists)
 }
 
+/// All registers, in order.
+fn registers(alloc: Global, arena: &Arena) -> Result<Vec<RegId>, AllocError>
+    ensures { IfOk result (λ registers. AreRegisters arena.now registers.items) }
+{
+    let count = arena.register_count();
+    let mut registers = Vec::with_capacity(alloc, count as usize)?;
+    for number in 0..count {
+        registers.push(RegId(number))?;
+    }
+    Ok(registers)
+}
+
 /// The same lists, made by several threads.
 fn lists_in_parts(
     rt: &(impl Threads + Sync),
@@ -51,19 +63,20 @@ fn lists_in_parts(
 ) -> Result<Vec<Option<ReadList>>, AllocError>
     ensures { IfOk result (λ lists. AreLists arena.now lists.items) }
 {
+    let registers = registers(alloc, arena)?;
     // A register may have many reads, so even one is worth a thread.
-    (0..arena.register_count())
-        .into_par_iter()
-        .with_min_len(1)
-        .map(
-            |number: u32| -> Result<Option<ReadList>, AllocError>
-                ensures { IfOk result (IsListOf arena.entry.now number) }
-            { list_of(alloc, arena, RegId(number)) },
-        )
-        .collect::<Result<Vec<Option<ReadList>>, AllocError>>(rt, alloc)?
+    map_each(
+        rt,
+        alloc,
+        &registers,
+        1,
+        |register: &RegId| -> Result<Option<ReadList>, AllocError>
+            ensures { IfOk result (IsListOf arena.entry.now register.now.0) }
+        { list_of(alloc, arena, *register) },
+    )
 }
 
-/// Adds a task for each cut of so many reads of a register.
+/// Adds a task for each cut of a register's reads. A cut has `cut` reads, the last one perhaps fewer.
 fn add_cuts(
     tasks: &mut Vec<Task>,
     register: RegId,
@@ -93,7 +106,7 @@ fn few_events(arena: &Arena)
     let _count = arena.event_count();
 }
 
-/// The pieces of work of a whole report, in cuts of so many reads of these lists.
+/// The pieces of work of a whole report, from the lists of reads.
 fn whole_plan(
     alloc: Global,
     arena: &Arena,
@@ -138,7 +151,7 @@ fn first_plan(alloc: Global, arena: &Arena) -> Result<Plan, AllocError>
 /// The pieces of work of a history. It starts no thread.
 ///
 /// # Errors
-/// If memory was refused; the arena is as before.
+/// Out of memory; the arena is as before.
 pub fn plan(alloc: Global, arena: &Arena, settings: Settings) -> Result<Plan, AllocError>
     ensures by { IfOk result (IsPlanBy arena.now settings.cut settings.first) }
     ensures some { IfOk result (IsSomePlan arena.now) }
@@ -154,7 +167,7 @@ pub fn plan(alloc: Global, arena: &Arena, settings: Settings) -> Result<Plan, Al
 /// The same pieces of work, with the reads of the registers listed by several threads.
 ///
 /// # Errors
-/// If memory was refused; the arena is as before.
+/// Out of memory; the arena is as before.
 pub fn plan_in_parts<R: Threads + Sync>(
     rt: &R,
     alloc: Global,

@@ -6,7 +6,8 @@ ghost use Rattle.reg_pieces.specs.Plan.{IsSomePlan};
 ghost use Rattle.reg_pieces.specs.Work.{AddsPiece, AddsRegister, HasWorked, IsSeatFor, KeepsSeat};
 
 use crate::gate::Gate;
-use crate::piece::{Piece, look_at, piece_at};
+use crate::look::look_at;
+use crate::piece::{Piece, piece_at};
 use crate::tasks::Plan;
 use history_model::RegId;
 use job_board::{Board, Seat};
@@ -20,7 +21,7 @@ pub struct Worked {
     pub seat: Seat,
     /// The pieces that it did, each with its number, in the order in which it drew them.
     pub done: Vec<(u64, Piece)>,
-    /// Whether memory was refused: then the piece that it drew last isn't among those done.
+    /// Whether it ran out of memory: then the piece that it drew last isn't among those done.
     pub refused: bool,
 }
 
@@ -59,16 +60,16 @@ fn do_register(
     ensures err { IsErr result → (done.new.items ≡ done.old.items) × (seat.new.view.flagged ≡ seat.old.view.flagged) }
 {
     let least = board.look(seat);
-    let looked = look_at(arena, RegId(number as u32), least);
-    let faulty = looked.is_faulty();
-    done.push((number, looked))?;
+    let look = look_at(arena, RegId(number as u32), least);
+    let faulty = look.is_faulty();
+    done.push((number, look.into_piece()))?;
     if faulty {
         board.flag(seat, number);
     }
     Ok(())
 }
 
-/// One worker: it draws a piece, passes the gate with its number and does it, until no piece is left or memory is refused.
+/// One worker: it draws a piece, passes the gate with its number and does it, until no piece is left or memory runs out.
 /// It takes no right to start threads or to wait.
 pub fn work<G: Gate>(
     alloc: Global,

@@ -2,7 +2,7 @@
 ghost use Rattle.std.specs.Prelude.{◌≡◌, ◌≤◌, All, IfOk, IfSome, length};
 ghost use Rattle.job_board.specs.declared.limits.TheConstants.{FULL_WEIGHT};
 ghost use Rattle.reg_pieces.specs.Plan.{IsPlan, IsSomePlan};
-ghost use Rattle.reg_pieces.specs.Slots.{AreDone, AreEmpty};
+ghost use Rattle.reg_pieces.specs.Slots.{AreDone};
 ghost use Rattle.reg_pieces.specs.Work.{HasWorked};
 ghost use Rattle.reg_pieces.specs.Workers.{ClosesWhole, IsHandedBack, IsNewSeat, view_with, weight_back, weight_of_all, weight_so_far};
 
@@ -12,9 +12,10 @@ use crate::settings::Settings;
 use crate::tasks::Plan;
 use crate::worker::{Worked, work};
 use job_board::{Board, Seat};
+use parallel::map_jobs;
 use reg_arena::Arena;
 use std::alloc::{AllocError, Global};
-use std::thread::{self, Threads};
+use std::thread::Threads;
 
 /// As many seats of a board, made of one that has drawn nothing: all of weight 1 but the last.
 pub(crate) fn seats_of(
@@ -56,7 +57,7 @@ pub(crate) fn all_work<R: Threads + Sync, G: Gate + Sync>(
     ensures back { IfOk result (λ back. All (IsHandedBack arena.now plan.now board.now) back.items) }
     ensures weight { IfOk result (λ back. weight_back back.items ≡ weight_of_all seats.items) }
 {
-    thread::map_vec(
+    map_jobs(
         rt,
         seats,
         &|seat| -> Worked
@@ -95,11 +96,10 @@ pub(crate) fn closed(board: Board<Global>, whole: Option<Seat>) -> u64
     unreachable!()
 }
 
-/// What all workers did, by number, put into slots that are empty. Their seats are made one again, and the board is
-/// closed.
+/// What all workers did, put into the slots of its numbers. Their seats are joined, and the board is closed.
 ///
 /// # Errors
-/// If memory was refused to a worker.
+/// Out of memory, if a worker was.
 fn gathered(
     arena: &Arena,
     plan: &Plan,
@@ -108,8 +108,8 @@ fn gathered(
     mut back: Vec<Worked>,
 ) -> Result<Pieces, AllocError>
     requires jobs { board.jobs ≡ length plan.now.tasks }
-    requires count { length pieces ≡ length plan.now.tasks }
-    requires empty { AreEmpty pieces }
+    requires judgements { length pieces.judgements ≡ length plan.now.tasks }
+    requires reads { length pieces.reads ≡ length plan.now.tasks }
     requires back { All (IsHandedBack arena.now plan.now board) back.items }
     requires weight { weight_back back.items ≡ FULL_WEIGHT }
     ensures { IfOk result (AreDone arena.now plan.now.tasks) }
@@ -128,7 +128,7 @@ fn gathered(
 /// Has as many workers as the settings say do all pieces of a plan at once, past the gate.
 ///
 /// # Errors
-/// If memory was refused, here or to a worker; what was done is dropped.
+/// Out of memory, here or in a worker; what was done is dropped.
 pub fn do_pieces<R: Threads + Sync, G: Gate + Sync>(
     rt: &R,
     alloc: Global,

@@ -1,20 +1,18 @@
 -- The pieces of one register are put together, and those of the next stand behind them.
 use Rattle.std.proofs.Common.{◌≡◌, ℕ, zero, suc, ◌+◌, ◌-◌, ◌<◌, min, List, [], ◌∷◌, ◌++◌, length, drop, drop-drop, slice_get, Option, Some, None, refl, sym, ap, subst, ◌∙◌, arith}
 use Rattle.std.proofs.Math.Seq.{drop-append_seam}
-use Rattle.std.proofs.lemmas.Option.{slice_get_within}
+use Rattle.std.proofs.lemmas.Option.{same_Some, slice_get_within}
 use Rattle.history_model.specs.History.{History}
 use Rattle.reg_lamport.specs.Reads.{ListedReads}
 use Rattle.reg_pieces.specs.Judged.{IsJudged}
 use Rattle.reg_report.specs.Cuts.{HasCutsOf, HasTasks, cuts_ahead}
 use Rattle.history_model.specs.Operations.{register_of}
 use Rattle.reg_pieces.specs.Plan.{AreCuts, AreCutsOf, AreTasks, PlanShown}
-use Rattle.reg_pieces.specs.Slots.{AreDoneFrom, HasJudged}
+use Rattle.reg_pieces.specs.Slots.{AreDoneFrom, IsKept, PiecesShown}
 use Rattle.reg_pieces.specs.declared.judgement.Judgement.{Judgement}
-use Rattle.reg_pieces.specs.declared.piece.Piece.{Piece}
-use Rattle.reg_pieces.specs.declared.piece.Piece.TheVariants.{Judged}
 use Rattle.reg_pieces.specs.declared.tasks.Task.{Task}
 use Rattle.reg_pieces.specs.declared.tasks.Task.TheVariants.{Judge}
-use Rattle.reg_report.proofs.Cutting.{drop-head, taken-piece}
+use Rattle.reg_report.proofs.Cutting.{drop-head}
 
 -- what stands at a place of a list, and behind it
 there : {X : Type 0} (xs : List X) (i : ℕ) → i < length xs → (x : X) × (slice_get xs i ≡ Some x) × (drop i xs ≡ x ∷ drop (suc i) xs)
@@ -35,9 +33,6 @@ cuts-counted : (cut r : ℕ) (list : Option ListedReads) (cuts rest : List Task)
 cuts-counted cut r None cuts rest c z = ap (λ cs. cuts_ahead (cs ++ rest)) c ∙ (z ∙ sym (ap length c))
 cuts-counted cut r (Some list) cuts rest c z = all-ahead cut r 0 (length list.entries) cuts rest c z
 
-same-judgement : (x y : Judgement) → Judged x ≡ Judged y → x ≡ y
-same-judgement x y e = cc e
-
 module _ (h : History) (cut r start : ℕ) (plan : PlanShown) (inside : r < length plan.lists) (a : AreTasks cut r (drop r plan.lists) (drop start plan.tasks)) where
   list : (o : Option ListedReads) × (slice_get plan.lists r ≡ Some o) × (drop r plan.lists ≡ o ∷ drop (r + 1) plan.lists)
   list = let k = there plan.lists r inside in let z : suc r ≡ r + 1 = omega arith in (k.0, k.1, k.2 ∙ ap (λ n. k.0 ∷ drop n plan.lists) z)
@@ -52,13 +47,14 @@ module _ (h : History) (cut r start : ℕ) (plan : PlanShown) (inside : r < leng
   inside-tasks = slice_get_within plan.tasks start (Judge (record { 0 = r })) head.0
 
   -- the first piece judges the register
-  pub judged-stands : (slots : List (Option Piece)) → AreDoneFrom start h plan.tasks slots → HasJudged slots start
-  judged-stands slots a = let d = a start (Judge (record { 0 = r })) (omega arith) head.0 in (d.2.0, d.1 ∙ ap (λ x. Some (Some x)) d.2.1)
+  judged : (pieces : PiecesShown) → AreDoneFrom start h plan.tasks pieces → IsKept h start pieces (Judge (record { 0 = r }))
+  judged pieces a = a start (Judge (record { 0 = r })) (omega arith) head.0
 
-  pub judged-there : (slots : List (Option Piece)) (judgement : Judgement) → AreDoneFrom start h plan.tasks slots → slice_get slots start ≡ Some (Some (Judged judgement)) → IsJudged (register_of h r) judgement
-  judged-there slots judgement a e =
-      let p = taken-piece h plan.tasks start (Judge (record { 0 = r })) slots head.0 a (Judged judgement) e in
-      subst (IsJudged (register_of h r)) (sym (same-judgement judgement p.0 p.1)) p.2
+  pub judged-stands : (pieces : PiecesShown) → AreDoneFrom start h plan.tasks pieces → start < length pieces.judgements
+  judged-stands pieces a = let d = judged pieces a in slice_get_within pieces.judgements start d.0 d.1
+
+  pub judged-there : (pieces : PiecesShown) (judgement : Judgement) → AreDoneFrom start h plan.tasks pieces → slice_get pieces.judgements start ≡ Some judgement → IsJudged (register_of h r) judgement
+  judged-there pieces judgement a e = let d = judged pieces a in subst (IsJudged (register_of h r)) (same_Some _ _ (sym d.1 ∙ e)) d.2
 
   -- then come the cuts of its reads
   none-behind : cuts_ahead at.1 ≡ 0

@@ -1,5 +1,5 @@
 -- The first bad reads of a register are put together cut by cut.
-use Rattle.std.proofs.Common.{◌≡◌, ℕ, zero, suc, ◌+◌, ◌-◌, ◌<◌, ◌≤◌, min, List, [], ◌∷◌, ◌++◌, drop, length, set, slice_get, Option, Some, None, true, false, refl, sym, ap, subst, ◌∙◌, arith}
+use Rattle.std.proofs.Common.{◌≡◌, ℕ, zero, suc, ◌+◌, ◌-◌, ◌<◌, ◌≤◌, min, List, [], ◌∷◌, ◌++◌, drop, length, slice_get, Some, true, false, refl, sym, ap, subst, ◌∙◌, arith}
 use Rattle.std.proofs.lemmas.Bool.{false≢true}
 use Rattle.std.proofs.lemmas.Option.{same_Some, slice_get_within}
 use Rattle.history_model.specs.History.{History}
@@ -7,11 +7,10 @@ use Rattle.reg_lamport.specs.declared.level.Level.TheVariants.{Safe, Regular}
 use Rattle.reg_lamport.proofs.Cuts.{named-cuts-join}
 use Rattle.reg_report.specs.Cuts.{HasCuts, cuts_ahead}
 use Rattle.reg_pieces.specs.BadReads.{AreFirstBad, joint_reads, no_reads}
-use Rattle.reg_pieces.specs.Plan.{AreCuts, IsPieceOf, is_cut}
-use Rattle.reg_pieces.specs.Slots.{AreDoneFrom, HasReads}
+use Rattle.reg_pieces.specs.Judged.{no_judgement}
+use Rattle.reg_pieces.specs.Plan.{AreCuts, is_cut}
+use Rattle.reg_pieces.specs.Slots.{AreDoneFrom, IsKept, PiecesShown, without_judgement}
 use Rattle.reg_pieces.specs.declared.bad_reads.BadReads.{BadReads}
-use Rattle.reg_pieces.specs.declared.piece.Piece.{Piece}
-use Rattle.reg_pieces.specs.declared.piece.Piece.TheVariants as piece
 use Rattle.reg_pieces.specs.declared.tasks.Task.{Task}
 use Rattle.reg_pieces.specs.declared.tasks.Task.TheVariants.{Judge, Reads, First}
 use Rattle.history_model.proofs.Lists.{slice_get-set_other}
@@ -26,17 +25,16 @@ head-dropped (x ∷ xs) (suc i) y ys e = head-dropped xs i y ys e
 pub drop-head : {X : Type 0} (xs : List X) (i : ℕ) (y : X) (ys : List X) → drop i xs ≡ y ∷ ys → (slice_get xs i ≡ Some y) × (drop (i + 1) xs ≡ ys)
 drop-head xs i y ys e = let k = head-dropped xs i y ys e in let z : suc i ≡ i + 1 = omega arith in (k.0, ap (λ n. drop n xs) (sym z) ∙ k.1)
 
--- ---- a piece is taken
+-- ---- a judgement is taken
 
 -- what stands behind it stays
-pub done-behind : (h : History) (tasks : List Task) (n : ℕ) (old new : List (Option Piece)) → new ≡ set old n None → AreDoneFrom n h tasks old → AreDoneFrom (n + 1) h tasks new
-done-behind h tasks n old new e a i t l at =
-    let d = a i t (omega (arith, l)) at in
-    (d.0, ap (λ xs. slice_get xs i) e ∙ (slice_get-set_other old n i None (λ q. absurd (omega (arith, q, l))) ∙ d.1), d.2)
-
-module _ (h : History) (tasks : List Task) (n : ℕ) (t : Task) (slots : List (Option Piece)) (at : slice_get tasks n ≡ Some t) (a : AreDoneFrom n h tasks slots) where
-  pub taken-piece : (p : Piece) → slice_get slots n ≡ Some (Some p) → IsPieceOf h t p
-  taken-piece p e = let d = a n t (omega arith) at in subst (IsPieceOf h t) (same_Some _ _ (same_Some _ _ (sym d.1 ∙ e))) d.2
+pub done-behind : (h : History) (tasks : List Task) (n : ℕ) (old new : PiecesShown) → new ≡ without_judgement old n → AreDoneFrom n h tasks old → AreDoneFrom (n + 1) h tasks new
+done-behind h tasks n old new e a i t l at = subst (λ x. IsKept h i x t) (sym e) (go t (a i t (omega (arith, l)) at))
+  where
+    go : (u : Task) → IsKept h i old u → IsKept h i (without_judgement old n) u
+    go (Judge r) kept = (kept.0, slice_get-set_other old.judgements n i no_judgement (λ q. absurd (omega (arith, q, l))) ∙ kept.1, kept.2)
+    go (Reads r from to) kept = kept
+    go (First r) kept = kept
 
 -- ---- the cuts that tasks begin with
 
@@ -63,24 +61,21 @@ cut-more h r from to first reads l f b = (
   named-cuts-join h r Regular 0 from to first.regular reads.regular (omega arith) l b.1 f.1,
 )
 
-same-reads : (x y : BadReads) → piece.Reads x ≡ piece.Reads y → x ≡ y
-same-reads x y e = cc e
-
 -- what is put together of a list of so many reads, whose cuts stand from `start` on, once those before number `next` are taken
-pub record IsPutTogether (h : History) (tasks : List Task) (r len start next : ℕ) (first : BadReads) (slots : List (Option Piece)) : Type 0 where
+pub record IsPutTogether (h : History) (tasks : List Task) (r len start next : ℕ) (first : BadReads) (pieces : PiecesShown) : Type 0 where
   pub cut : ℕ
   pub from : ℕ
   pub more : List Task
   pub rest : List Task
   pub bad : AreFirstBad h r 0 from first
-  pub filled : AreDoneFrom next h tasks slots
+  pub filled : AreDoneFrom next h tasks pieces
   pub cuts : AreCuts cut r from len more
   pub ahead : drop next tasks ≡ more ++ rest
   pub ends : cuts_ahead rest ≡ 0
   pub counted : next + cuts_ahead (drop next tasks) ≡ start + cuts_ahead (drop start tasks)
 
-pub together-starts : (h : History) (tasks : List Task) (r len start : ℕ) (slots : List (Option Piece)) → HasCuts r len (drop start tasks) → AreDoneFrom start h tasks slots → IsPutTogether h tasks r len start start no_reads slots
-together-starts h tasks r len start slots has a = record {
+pub together-starts : (h : History) (tasks : List Task) (r len start : ℕ) (pieces : PiecesShown) → HasCuts r len (drop start tasks) → AreDoneFrom start h tasks pieces → IsPutTogether h tasks r len start start no_reads pieces
+together-starts h tasks r len start pieces has a = record {
   cut = has.0;
   from = 0;
   more = has.1;
@@ -93,7 +88,7 @@ together-starts h tasks r len start slots has a = record {
   counted = refl;
 }
 
-module _ (h : History) (tasks : List Task) (r len start next : ℕ) (first : BadReads) (slots : List (Option Piece)) (t : IsPutTogether h tasks r len start next first slots) (is : is_cut (slice_get tasks next) ≡ true) where
+module _ (h : History) (tasks : List Task) (r len start next : ℕ) (first : BadReads) (pieces : PiecesShown) (t : IsPutTogether h tasks r len start next first pieces) (is : is_cut (slice_get tasks next) ≡ true) where
   -- the next task is the next cut
   next-cut : (to : ℕ) × (ms : List Task) × (t.from ≤ to) × (slice_get tasks next ≡ Some (Reads (record { 0 = r }) t.from to)) × AreCuts t.cut r to len ms × (drop (next + 1) tasks ≡ ms ++ t.rest)
   next-cut = go t.more t.cuts t.ahead
@@ -103,25 +98,27 @@ module _ (h : History) (tasks : List Task) (r len start next : ℕ) (first : Bad
       go [] c e = let one = cut-ahead tasks next is in let none = t.ends in absurd (omega (arith, one, ap cuts_ahead e, none))
       go (u ∷ ms) c e = let k = drop-head tasks next u (ms ++ t.rest) e in (t.from + min (len - t.from) t.cut, ms, omega arith, k.0 ∙ ap (λ z. Some z) c.1, c.2, k.1)
 
-  pub cut-stands : HasReads slots next
-  cut-stands = let d = t.filled next (Reads (record { 0 = r }) t.from next-cut.0) (omega arith) next-cut.3 in (d.2.0, d.1 ∙ ap (λ x. Some (Some x)) d.2.1)
+  next-reads : (reads : BadReads) × (slice_get pieces.reads next ≡ Some reads) × AreFirstBad h r t.from next-cut.0 reads
+  next-reads = t.filled next (Reads (record { 0 = r }) t.from next-cut.0) (omega arith) next-cut.3
+
+  pub cut-stands : next < length pieces.reads
+  cut-stands = slice_get_within pieces.reads next next-reads.0 next-reads.1
 
   pub inside : next < length tasks
   inside = slice_get_within tasks next (Reads (record { 0 = r }) t.from next-cut.0) next-cut.3
 
-  reads-fit : (reads : BadReads) → slice_get slots next ≡ Some (Some (piece.Reads reads)) → AreFirstBad h r 0 next-cut.0 (joint_reads first reads)
+  reads-fit : (reads : BadReads) → slice_get pieces.reads next ≡ Some reads → AreFirstBad h r 0 next-cut.0 (joint_reads first reads)
   reads-fit reads e =
-      let p = taken-piece h tasks next (Reads (record { 0 = r }) t.from next-cut.0) slots next-cut.3 t.filled (piece.Reads reads) e in
-      cut-more h r t.from next-cut.0 first reads next-cut.2 (subst (AreFirstBad h r t.from next-cut.0) (sym (same-reads reads p.0 p.1)) p.2) t.bad
+      cut-more h r t.from next-cut.0 first reads next-cut.2 (subst (AreFirstBad h r t.from next-cut.0) (same_Some _ _ (sym next-reads.1 ∙ e)) next-reads.2) t.bad
 
-  pub together-goes-on : (reads : BadReads) (new : List (Option Piece)) → slice_get slots next ≡ Some (Some (piece.Reads reads)) → new ≡ set slots next None → IsPutTogether h tasks r len start (next + 1) (joint_reads first reads) new
-  together-goes-on reads new e f = record {
+  pub together-goes-on : (reads : BadReads) → slice_get pieces.reads next ≡ Some reads → IsPutTogether h tasks r len start (next + 1) (joint_reads first reads) pieces
+  together-goes-on reads e = record {
     cut = t.cut;
     from = next-cut.0;
     more = next-cut.1;
     rest = t.rest;
     bad = reads-fit reads e;
-    filled = done-behind h tasks next slots new f t.filled;
+    filled = λ i u l at. t.filled i u (omega (arith, l)) at;
     cuts = next-cut.4;
     ahead = next-cut.5;
     ends = t.ends;
@@ -132,8 +129,8 @@ module _ (h : History) (tasks : List Task) (r len start next : ℕ) (first : Bad
         omega (arith, one, same, t.counted);
   }
 
-pub together-ends : (h : History) (tasks : List Task) (r len start next : ℕ) (first : BadReads) (slots : List (Option Piece)) → IsPutTogether h tasks r len start next first slots → is_cut (slice_get tasks next) ≡ false → AreFirstBad h r 0 len first × (next ≡ start + cuts_ahead (drop start tasks))
-together-ends h tasks r len start next first slots t is = (
+pub together-ends : (h : History) (tasks : List Task) (r len start next : ℕ) (first : BadReads) (pieces : PiecesShown) → IsPutTogether h tasks r len start next first pieces → is_cut (slice_get tasks next) ≡ false → AreFirstBad h r 0 len first × (next ≡ start + cuts_ahead (drop start tasks))
+together-ends h tasks r len start next first pieces t is = (
   subst (λ n. AreFirstBad h r 0 n first) (go t.more t.cuts t.ahead) t.bad,
   (let none = no-cut-ahead tasks next is in omega (arith, none, t.counted)),
 )

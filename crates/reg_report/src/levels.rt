@@ -82,20 +82,19 @@ fn first_bad_of(
     arena: &Arena,
     plan: &Plan,
     list: &ReadList,
-    pieces: &mut Pieces,
+    pieces: &Pieces,
     start: usize,
 ) -> (BadReads, usize)
     requires plan { (cut : ℕ) × IsPlan arena.now cut plan.now }
-    requires done { AreDoneFrom start arena.now plan.now.tasks pieces.old }
+    requires done { AreDoneFrom start arena.now plan.now.tasks pieces.now }
     requires cuts { HasCuts list.now.register (length list.now.entries) (drop start plan.now.tasks) }
     ensures first { AreFirstBad arena.now list.now.register 0 (length list.now.entries) result.0 }
     ensures next { result.1 ≡ start + cuts_ahead (drop start plan.now.tasks) }
-    ensures done { AreDoneFrom result.1 arena.now plan.now.tasks pieces.new }
 {
     let mut first = BadReads::none();
     let mut next = start;
     while plan.is_cut(next) {
-        first = first.or(pieces.take_reads(next));
+        first = first.or(pieces.bad_reads(next));
         next += 1;
     }
     (first, next)
@@ -106,16 +105,15 @@ pub(crate) fn levels_of(
     arena: &Arena,
     plan: &Plan,
     register: RegId,
-    pieces: &mut Pieces,
+    pieces: &Pieces,
     start: usize,
 ) -> (Levels, usize)
     requires register { register.0 < length arena.now.names }
     requires plan { (cut : ℕ) × IsPlan arena.now cut plan.now }
-    requires done { AreDoneFrom start arena.now plan.now.tasks pieces.old }
+    requires done { AreDoneFrom start arena.now plan.now.tasks pieces.now }
     requires cuts { HasCutsOf register.0 plan.now (drop start plan.now.tasks) }
     ensures levels { AreLevels (register_of arena.now register.0) result.0 }
     ensures next { result.1 ≡ start + cuts_ahead (drop start plan.now.tasks) }
-    ensures done { AreDoneFrom result.1 arena.now plan.now.tasks pieces.new }
 {
     match plan.list(register) {
         None => (several_writers(), start),

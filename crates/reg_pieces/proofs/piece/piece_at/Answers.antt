@@ -1,30 +1,25 @@
-use Rattle.std.proofs.Common.{refl, subst}
-use Rattle.reg_pieces.specs.BadReads.{AreFirstBad}
+use Rattle.std.proofs.Common.{refl, subst, sym}
+use Rattle.history_model.specs.Operations.{register_of}
+use Rattle.reg_pieces.specs.Judged.{IsLookedAt}
 use Rattle.reg_pieces.specs.declared.tasks.Task.TheVariants.{Judge, Reads, First}
-use Rattle.reg_pieces.proofs.Fitness.{first-fits, judge-fits, no-none, own-part, piece-done, reads-fit}
+use Rattle.reg_pieces.proofs.Fitness.{cut-bad, cut-listed, cut-part, first-fits, judge-fits, piece-done, reads-fit}
 use Rattle.reg_pieces.proofs.piece.piece_at.Goals as goal
 
 pub judge-requires : goal.judge-requires
 judge-requires c =
     judge-fits c.args.arena.now c.args.plan.now c.requires.plan c.args.number c.task.result c.task.ensures c.in-Judge.register c.in-Judge.is
 
-pub list-requires : goal.list-requires
-list-requires c =
+pub list-list-requires : goal.list-list-requires
+list-list-requires c =
     reads-fit c.args.arena.now c.args.plan.now c.requires.plan c.args.number c.task.result c.task.ensures c.in-Reads.register c.in-Reads.from c.in-Reads.to c.in-Reads.is
 
-pub among-requires-clause-list : goal.among-requires-clause-list
-among-requires-clause-list c =
-    let own = own-part c.args.arena.now c.args.plan.now c.requires.plan c.args.number c.task.result c.task.ensures c.in-Reads.register c.in-Reads.from c.in-Reads.to c.in-Reads.is c.list.result.now c.list.ensures c.in-Some.list c.in-Some.is in
-    own.listed
+pub of_cut-requires-clause-list : goal.of_cut-requires-clause-list
+of_cut-requires-clause-list c =
+    cut-listed c.args.arena.now c.args.plan.now c.requires.plan c.args.number c.task.result c.task.ensures c.in-Reads.register c.in-Reads.from c.in-Reads.to c.in-Reads.is c.list-list.result.now c.list-list.ensures
 
-pub among-requires-clause-part : goal.among-requires-clause-part
-among-requires-clause-part c =
-    let own = own-part c.args.arena.now c.args.plan.now c.requires.plan c.args.number c.task.result c.task.ensures c.in-Reads.register c.in-Reads.from c.in-Reads.to c.in-Reads.is c.list.result.now c.list.ensures c.in-Some.list c.in-Some.is in
-    own.part
-
-pub unreachable-requires : goal.unreachable-requires
-unreachable-requires c =
-    no-none c.args.arena.now c.args.plan.now c.requires.plan c.args.number c.task.result c.task.ensures c.in-Reads.register c.in-Reads.from c.in-Reads.to c.in-Reads.is c.list.result.now c.list.ensures c.in-None.is
+pub of_cut-requires-clause-part : goal.of_cut-requires-clause-part
+of_cut-requires-clause-part c =
+    cut-part c.args.arena.now c.args.plan.now c.requires.plan c.args.number c.task.result c.task.ensures c.in-Reads.register c.in-Reads.from c.in-Reads.to c.in-Reads.is c.list-list.result.now c.list-list.ensures
 
 pub look_at-requires : goal.look_at-requires
 look_at-requires c =
@@ -34,12 +29,12 @@ pub returns-in_ok-judge-in-Judge : goal.returns-in_ok-judge-in-Judge
 returns-in_ok-judge-in-Judge c =
     piece-done c.args.arena.now c.args.plan.now c.requires.plan c.args.number c.task.result c.task.ensures (Judge c.in-Judge.register) _ c.in-Judge.is (c.in_ok-judge-in-Judge.field-0, refl, c.in_ok-judge-in-Judge.ensures)
 
-pub returns-in-Some : goal.returns-in-Some
-returns-in-Some c =
-    let own = own-part c.args.arena.now c.args.plan.now c.requires.plan c.args.number c.task.result c.task.ensures c.in-Reads.register c.in-Reads.from c.in-Reads.to c.in-Reads.is c.list.result.now c.list.ensures c.in-Some.list c.in-Some.is in
-    piece-done c.args.arena.now c.args.plan.now c.requires.plan c.args.number c.task.result c.task.ensures (Reads c.in-Reads.register c.in-Reads.from c.in-Reads.to) _ c.in-Reads.is
-    (c.among.result, refl, subst (λ n. AreFirstBad c.args.arena.now n c.in-Reads.from c.in-Reads.to c.among.result) own.own c.among.ensures)
+pub returns-in-Reads : goal.returns-in-Reads
+returns-in-Reads c =
+    let bad = cut-bad c.args.arena.now c.args.plan.now c.requires.plan c.args.number c.task.result c.task.ensures c.in-Reads.register c.in-Reads.from c.in-Reads.to c.in-Reads.is c.list-list.result.now c.list-list.ensures c.of_cut.result c.of_cut.ensures in
+    piece-done c.args.arena.now c.args.plan.now c.requires.plan c.args.number c.task.result c.task.ensures (Reads c.in-Reads.register c.in-Reads.from c.in-Reads.to) _ c.in-Reads.is (c.of_cut.result, refl, bad)
 
 pub returns-in-First : goal.returns-in-First
 returns-in-First c =
-    piece-done c.args.arena.now c.args.plan.now c.requires.plan c.args.number c.task.result c.task.ensures (First c.in-First.register) _ c.in-First.is c.look_at.ensures.looked
+    let looked = subst (IsLookedAt (register_of c.args.arena.now c.in-First.register.0)) (sym c.into_piece.ensures) c.look_at.ensures.looked in
+    piece-done c.args.arena.now c.args.plan.now c.requires.plan c.args.number c.task.result c.task.ensures (First c.in-First.register) c.into_piece.result c.in-First.is looked

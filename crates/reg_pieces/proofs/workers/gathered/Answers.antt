@@ -1,25 +1,32 @@
 use Rattle.std.proofs.Common.{◌≡◌, ◌∙◌, false, length, sym, ap, subst, arith}
 use Rattle.std.proofs.lemmas.Bool.{false≢true}
-use Rattle.reg_pieces.specs.Slots.{AreSlots, AreWithin}
+use Rattle.reg_pieces.specs.Slots.{AreWithin, PiecesShown}
 use Rattle.reg_pieces.specs.Workers.{IsHandedBack, IsJoined, weight_back}
 use Rattle.reg_pieces.proofs.Gathering.{all-done, back-push, closed-full, first-ones, last-one, one-joined, weight-with}
-use Rattle.reg_pieces.proofs.Putting.{length-with, pieces-within, with-slots}
+use Rattle.reg_pieces.proofs.Putting.{all-judgements-count, all-reads-count, pieces-within}
 use Rattle.reg_pieces.proofs.workers.gathered.Goals as goal
 use Rattle.reg_pieces.proofs.workers.gathered.Goals.{then-refused, else-refused}
 
-pub put_all-requires : goal.put_all-requires
-put_all-requires c =
+pub put_all-requires-clause-judgements : goal.put_all-requires-clause-judgements
+put_all-requires-clause-judgements c =
     let h = c.args.arena.now in
-    let tasks = c.args.plan.now.tasks in
     let l = c.loop-worked in
     let w = c.in-Some.worked in
     let one = last-one (IsHandedBack h c.args.plan.now c.args.board) l.back.items c.pop.new.self.items w c.in-Some.ensures.items l.invariant.back in
-    subst (λ n. AreWithin n w.done.items) (sym l.invariant.count) (pieces-within h tasks w.done.items one.pieces)
+    subst (λ n. AreWithin n w.done.items) (sym l.invariant.judgements) (pieces-within h c.args.plan.now.tasks w.done.items one.pieces)
+
+pub put_all-requires-clause-reads : goal.put_all-requires-clause-reads
+put_all-requires-clause-reads c =
+    let h = c.args.arena.now in
+    let l = c.loop-worked in
+    let w = c.in-Some.worked in
+    let one = last-one (IsHandedBack h c.args.plan.now c.args.board) l.back.items c.pop.new.self.items w c.in-Some.ensures.items l.invariant.back in
+    subst (λ n. AreWithin n w.done.items) (sym l.invariant.reads) (pieces-within h c.args.plan.now.tasks w.done.items one.pieces)
 
 pub loop-worked-preserved : goal.loop-worked-preserved
 loop-worked-preserved c =
     let h = c.args.arena.now in
-    let tasks = c.args.plan.now.tasks in
+    let plan = c.args.plan.now in
     let board = c.args.board in
     let l = c.loop-worked in
     let w = c.in-Some.worked in
@@ -27,23 +34,24 @@ loop-worked-preserved c =
     let popped = c.in-Some.ensures.items in
     let put = c.put_all.ensures in
     let seat = c.joined.result in
-    let one = last-one (IsHandedBack h c.args.plan.now board) l.back.items rest w popped l.invariant.back in
-    let within = subst (λ n. AreWithin n w.done.items) (sym l.invariant.count) (pieces-within h tasks w.done.items one.pieces) in
+    let one = last-one (IsHandedBack h plan board) l.back.items rest w popped l.invariant.back in
     let both : c.if-refused.refused ≡ false → (l.refused ≡ false) × (w.refused ≡ false) = λ f. elim c.if-refused.branch [
       | then-refused k ↦ absurd (false≢true (sym f ∙ (k.refused-is ∙ k.if-refused.true)))
       | else-refused k ↦ (k.if-refused.false, sym k.refused-is ∙ f)
     ] in
     record {
-      back = first-ones (IsHandedBack h c.args.plan.now board) l.back.items rest w popped l.invariant.back;
+      back = first-ones (IsHandedBack h plan board) l.back.items rest w popped l.invariant.back;
       weight = omega (arith, ap (λ v. v.weight) c.joined.ensures.view, weight-with l.whole w.seat, ap weight_back popped, back-push rest w, l.invariant.weight);
-      slots = subst (AreSlots h tasks) (sym put) (with-slots h tasks l.pieces w.done.items one.pieces l.invariant.slots);
-      count = ap length put ∙ (length-with l.pieces w.done.items ∙ l.invariant.count);
-      whole = subst (λ slots. IsJoined board slots c.if-refused.refused seat) (sym put)
-          (one-joined h c.args.plan.now board l.pieces l.refused l.whole w seat c.if-refused.refused one within l.invariant.whole c.joined.ensures.board c.joined.ensures.view both);
+      judgements = ap (λ (x : PiecesShown). length x.judgements) put ∙ (all-judgements-count l.pieces w.done.items ∙ l.invariant.judgements);
+      reads = ap (λ (x : PiecesShown). length x.reads) put ∙ (all-reads-count l.pieces w.done.items ∙ l.invariant.reads);
+      whole = subst (λ (x : PiecesShown). IsJoined h plan.tasks board x c.if-refused.refused seat) (sym put)
+          (one-joined h plan board l.pieces l.refused l.whole w seat c.if-refused.refused one l.invariant.judgements l.invariant.reads l.invariant.whole c.joined.ensures.board c.joined.ensures.view both);
     }
 
 pub returns-else-refused-2 : goal.returns-else-refused-2
 returns-else-refused-2 c =
+    let h = c.args.arena.now in
+    let plan = c.args.plan.now in
     let l = c.loop-worked in
-    let full = closed-full c.args.board l.pieces l.refused l.whole c.args.board.jobs c.closed.result l.invariant.whole c.closed.ensures c.if-refused-2.false in
-    all-done c.args.arena.now c.args.plan.now.tasks l.pieces l.invariant.slots (λ n inside. full n (omega (arith, inside, c.requires.jobs)))
+    let full = closed-full h plan c.args.board l.pieces l.refused l.whole c.args.board.jobs c.closed.result l.invariant.whole c.closed.ensures c.if-refused-2.false in
+    all-done h plan.tasks l.pieces (λ n inside. full n (omega (arith, inside, c.requires.jobs)))

@@ -21,8 +21,13 @@ levels_of-next-requires-clause-cuts c =
 
 pub returns-clause-judged : goal.returns-clause-judged
 returns-clause-judged c =
-    judged-there c.args.arena.now c.requires.tasks.0 c.args.register.0 c.args.start c.args.plan.now (subst (λ n. c.args.register.0 < n) (sym c.requires.plan.1.registers) c.requires.register) c.requires.tasks.1 c.args.pieces.now c.take_judged-judged.result c.requires.done c.take_judged-judged.ensures.piece
+    judged-there c.args.arena.now c.requires.tasks.0 c.args.register.0 c.args.start c.args.plan.now (subst (λ n. c.args.register.0 < n) (sym c.requires.plan.1.registers) c.requires.register) c.requires.tasks.1 c.args.pieces.now c.take_judged-judged.result c.requires.done c.take_judged-judged.ensures.judgement
 
 pub returns-clause-tasks : goal.returns-clause-tasks
 returns-clause-tasks c =
     next-there c.args.arena.now c.requires.tasks.0 c.args.register.0 c.args.start c.args.plan.now (subst (λ n. c.args.register.0 < n) (sym c.requires.plan.1.registers) c.requires.register) c.requires.tasks.1 c.levels_of-next.result.1 c.levels_of-next.ensures.next
+
+pub returns-clause-done : goal.returns-clause-done
+returns-clause-done c =
+    let behind = done-behind c.args.arena.now c.args.plan.now.tasks c.args.start c.args.pieces.now c.take_judged-judged.new.self c.take_judged-judged.ensures.left c.requires.done in
+    λ i t l at. behind i t (omega (arith, l, c.levels_of-next.ensures.next)) at

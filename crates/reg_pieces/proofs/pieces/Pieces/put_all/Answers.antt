@@ -1,7 +1,6 @@
-use Rattle.std.proofs.Common.{◌∙◌, length, Some, sym, ap, subst}
-use Rattle.std.proofs.lemmas.List.{length-set}
-use Rattle.reg_pieces.specs.Slots.{AreWithin, with_pieces}
-use Rattle.reg_pieces.proofs.Putting.{put-one-more, rest-within}
+use Rattle.std.proofs.Common.{◌∙◌, length, sym, ap, subst}
+use Rattle.reg_pieces.specs.Slots.{AreWithin, PiecesShown, with_pieces}
+use Rattle.reg_pieces.proofs.Putting.{judgements-count, put-one-more, reads-count, rest-within}
 use Rattle.reg_pieces.proofs.pieces.Pieces.put_all.Goals as goal
 
 pub loop-number-preserved : goal.loop-number-preserved
@@ -10,9 +9,10 @@ loop-number-preserved c =
     let n = c.in-Some.number in
     let p = c.in-Some.piece in
     let rest = c.pop.new.self.items in
-    let slots = c.put.ensures in
+    let put = c.put.ensures in
     let popped = c.in-Some.ensures.items in
     record {
-      within = subst (λ k. AreWithin k rest) (sym (ap length slots ∙ length-set l.self n (Some p))) (rest-within (length l.self) l.done.items rest (n, p) popped l.invariant.within);
-      put = ap (λ xs. with_pieces xs rest) slots ∙ (sym (put-one-more l.self rest n p) ∙ (sym (ap (with_pieces l.self) popped) ∙ l.invariant.put));
+      judgements = subst (λ k. AreWithin k rest) (sym (ap (λ (x : PiecesShown). length x.judgements) put ∙ judgements-count l.self n p)) (rest-within (length l.self.judgements) l.done.items rest (n, p) popped l.invariant.judgements);
+      reads = subst (λ k. AreWithin k rest) (sym (ap (λ (x : PiecesShown). length x.reads) put ∙ reads-count l.self n p)) (rest-within (length l.self.reads) l.done.items rest (n, p) popped l.invariant.reads);
+      put = ap (λ (x : PiecesShown). with_pieces x rest) put ∙ (sym (put-one-more l.self rest n p) ∙ (sym (ap (with_pieces l.self) popped) ∙ l.invariant.put));
     }

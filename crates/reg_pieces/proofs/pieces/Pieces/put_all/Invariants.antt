@@ -4,7 +4,8 @@ use Rattle.reg_pieces.proofs.pieces.Pieces.put_all.Given as goal
 
 abbrev pub invariant-loop-number : goal.invariant-loop-number
 invariant-loop-number l = record {
-  within : AreWithin (length l.self) l.done.items;
+  judgements : AreWithin (length l.self.judgements) l.done.items;
+  reads : AreWithin (length l.self.reads) l.done.items;
   put : with_pieces l.self l.done.items ≡ with_pieces l.initial.self l.fn.done.items;
 }
 

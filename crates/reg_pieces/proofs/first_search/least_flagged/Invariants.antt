@@ -2,7 +2,7 @@ use Rattle.std.proofs.Common.{◌≡◌, ◌+◌, All, length}
 use Rattle.std.specs.Prelude.{IfSome}
 use Rattle.job_board.specs.declared.limits.TheConstants.{FULL_WEIGHT}
 use Rattle.reg_pieces.specs.Workers.{IsHandedBack, IsJoinedSearch, weight_back, weight_so_far}
-use Rattle.reg_pieces.proofs.finding.least_flagged.Given as goal
+use Rattle.reg_pieces.proofs.first_search.least_flagged.Given as goal
 
 abbrev pub invariant-loop-worked : goal.invariant-loop-worked
 invariant-loop-worked l = record {

@@ -3,8 +3,8 @@ use Rattle.std.proofs.lemmas.Bool.{false≢true}
 use Rattle.reg_pieces.specs.Workers.{IsHandedBack, weight_back}
 use Rattle.reg_pieces.proofs.Gathering.{back-push, first-ones, last-one, weight-with}
 use Rattle.reg_pieces.proofs.Searching.{closed-found, search-joined}
-use Rattle.reg_pieces.proofs.finding.least_flagged.Goals as goal
-use Rattle.reg_pieces.proofs.finding.least_flagged.Goals.{then-refused, else-refused}
+use Rattle.reg_pieces.proofs.first_search.least_flagged.Goals as goal
+use Rattle.reg_pieces.proofs.first_search.least_flagged.Goals.{then-refused, else-refused}
 
 pub loop-worked-preserved : goal.loop-worked-preserved
 loop-worked-preserved c =

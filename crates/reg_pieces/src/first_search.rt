@@ -1,4 +1,4 @@
-//! The first register that isn't atomic, found by all workers at once.
+//! The search for the first register that isn't atomic, by all workers at once.
 ghost use Rattle.std.specs.Prelude.{◌≡◌, All, IfOk, length};
 ghost use Rattle.job_board.specs.declared.limits.TheConstants.{FULL_WEIGHT};
 ghost use Rattle.reg_pieces.specs.Plan.{IsFirstPlan};
@@ -15,11 +15,11 @@ use reg_arena::Arena;
 use std::alloc::{AllocError, Global};
 use std::thread::Threads;
 
-/// The lowest number that the workers flagged, or the number of registers. Their seats are made one again, and the board is
+/// The lowest number that the workers flagged, or the number of registers. Their seats are joined, and the board is
 /// closed.
 ///
 /// # Errors
-/// If memory was refused to a worker.
+/// Out of memory, if a worker was.
 fn least_flagged(
     arena: &Arena,
     plan: &Plan,
@@ -46,7 +46,7 @@ fn least_flagged(
 /// if each register is atomic. Neither the number of workers nor the gate changes the answer.
 ///
 /// # Errors
-/// If memory was refused, here or to a worker.
+/// Out of memory, here or in a worker.
 pub fn first_faulty<R: Threads + Sync, G: Gate + Sync>(
     rt: &R,
     alloc: Global,
