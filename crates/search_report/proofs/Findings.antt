@@ -1,6 +1,5 @@
 -- What is found of each register makes the lines of all registers.
-use Rattle.std.proofs.Common.{◌≡◌, ℕ, zero, suc, ◌+◌, ◌<◌, ◌≤◌, drop, List, [], ◌∷◌, ◌++◌, length, map, slice_get, Result, Ok, Err, Some, Vec, Global, inl, inr, refl, sym, ap, subst, ◌∙◌, arith}
-use Rattle.std.specs.Prelude.{IfOk, MatchResult, Contains}
+use Rattle.std.proofs.Common.{◌≡◌, ℕ, zero, suc, ◌+◌, ◌<◌, ◌≤◌, drop, List, [], ◌∷◌, ◌++◌, length, slice_get, Some, Vec, Global, inl, inr, refl, sym, ap, subst, ◌∙◌, arith}
 use Rattle.std.specs.List.{AllZip}
 use Rattle.std.proofs.lemmas.Bool.{cases_eq, cases_lt}
 use Rattle.std.proofs.lemmas.List.{length_push}
@@ -8,27 +7,9 @@ use Rattle.std.proofs.lemmas.Option.{same_Some, slice_get_within}
 use Rattle.history_model.proofs.Lists.{slice_get-push, slice_get-push_other, slice_get_inside}
 use Rattle.cas_model.specs.declared.operation.Operation.{Operation}
 use Rattle.cas_history.specs.declared.history.History.{History}
-use Rattle.search_report.specs.Registers.{AreFindings, AreFirstLines, IsFinding, IsLine}
+use Rattle.search_report.specs.Registers.{AreFirstLines, IsFinding, IsLine}
 use Rattle.search_report.specs.declared.register.Finding.{Finding}
 use Rattle.search_text.specs.declared.report.RegisterReport.{RegisterReport}
-
--- the finding that was made of a register is one of it
-abbrev IsMade : (E : Type 0) → List ℕ → Vec Operation Global → Result Finding E → Type 0
-IsMade E lines ops made = IfOk made (IsFinding lines ops.items)
-
-all_made : (E : Type 0) (lines : List ℕ) (registers : List (Vec Operation Global)) (findings : List Finding) → AllZip (IsMade E lines) registers (map Ok findings) → AllZip (λ (ops : Vec Operation Global) finding. IsFinding lines ops.items finding) registers findings
-all_made E lines [] [] each = tt
-all_made E lines [] (finding ∷ findings) each = absurd each
-all_made E lines (ops ∷ registers) [] each = absurd each
-all_made E lines (ops ∷ registers) (finding ∷ findings) each = (each.0, all_made E lines registers findings each.1)
-
-pub findings-made : (E : Type 0) (h : History) (each : List (Result Finding E)) (made : Result (Vec Finding Global) E)
-    → AllZip (IsMade E h.lines.items) h.registers.items each
-    → MatchResult made (λ v. (findings : List Finding) × (each ≡ map Ok findings) × (v.items ≡ findings)) (λ e. Contains each (Err e))
-    → IfOk made (λ v. AreFindings h v.items)
-findings-made E h each (Ok v) is got =
-    subst (AreFindings h) (sym got.2) (all_made E h.lines.items h.registers.items got.0 (subst (AllZip (IsMade E h.lines.items) h.registers.items) got.1 is))
-findings-made E h each (Err e) is got = tt
 
 pub no-line : (h : History) → AreFirstLines h 0 []
 no-line h = record { count_is = refl; each = λ r report at. let l = slice_get_within [] r report at in absurd (omega (arith, l)) }

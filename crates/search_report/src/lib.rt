@@ -11,15 +11,15 @@
 //! [`check_alone`] gives the report's values for bytes at hand, by the calling thread alone, and [`text`] their bytes.
 //!
 //! Read it in this order: `settings`; `lines`, `counts` and `register`, the line of one register; `registers`, those of all,
-//! shared among workers or by one thread; `history`, the report; `pushed` and `whole`, from source to sink; `alone`, from bytes
+//! shared among workers or by one thread; `history`, the report; `delivery` and `whole`, from source to sink; `alone`, from bytes
 //! to the report; `wording`, why there is no report.
 #![tactic(auto)]
 
 mod alone;
 mod counts;
+mod delivery;
 mod history;
 mod lines;
-mod pushed;
 mod register;
 mod registers;
 mod settings;

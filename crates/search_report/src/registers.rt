@@ -1,5 +1,5 @@
 //! What is found of all registers, by workers that share them or by one thread, and their lines.
-ghost use Rattle.std.specs.Prelude.{◌≡◌, ◌<◌, ℕ, List, length, IfOk};
+ghost use Rattle.std.specs.Prelude.{◌≡◌, ℕ, List, length, IfOk};
 ghost use Rattle.cas_model.specs.declared.operation.Operation.{Operation as AnOperation};
 ghost use Rattle.search_report.specs.Registers.{AreFindings, AreFindingsOf, AreFirstLines, IsFinding, IsLine};
 
@@ -9,17 +9,10 @@ use cas_history::History;
 use cas_model::Operation;
 use cas_search::Bounds;
 use history_text::Name;
-use rayon::prelude::*;
+use parallel::map_each;
 use search_text::RegisterReport;
 use std::alloc::{AllocError, Global};
 use std::thread::Threads;
-
-/// At least how many registers are one piece of the work, so that there are about as many pieces as workers.
-fn share(count: usize, workers: u32) -> usize
-    ensures { 0 < result }
-{
-    (count / (workers as usize).max(1)).max(1)
-}
 
 /// What is found of each register, in order, by workers that share the registers.
 pub(crate) fn findings(
@@ -32,16 +25,17 @@ pub(crate) fn findings(
 {
     let lines = history.lines.as_slice();
     let bounds = settings.bounds();
-    history
-        .registers
-        .par_iter()
-        .with_min_len(share(history.registers.len(), settings.workers()))
-        .map(
-            |ops: &Vec<Operation>| -> Result<Finding, AllocError>
-                ensures { IfOk result (IsFinding lines.entry.now ops.now.items) }
-            { found(alloc, lines, ops, bounds) },
-        )
-        .collect::<Result<Vec<Finding>, AllocError>>(rt, alloc)?
+    let registers = history.registers.as_slice();
+    let share = registers.len() / (settings.workers() as usize).max(1);
+    map_each(
+        rt,
+        alloc,
+        registers,
+        share,
+        |ops: &Vec<Operation>| -> Result<Finding, AllocError>
+            ensures { IfOk result (IsFinding lines.entry.now ops.now.items) }
+        { found(alloc, lines, ops, bounds) },
+    )
 }
 
 /// What is found of each register with these operations, in order, by this thread.

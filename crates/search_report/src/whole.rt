@@ -6,8 +6,8 @@ ghost use Rattle.search_intake.specs.Input.{IsRefusedOf};
 ghost use Rattle.search_report.specs.Answer.{IsAnswerText};
 ghost use Rattle.search_report.specs.Run.{IsOfInput, IsRefusedWhole, Reports, ReportsBeginning, TellsAtomic};
 
+use crate::delivery::deliver;
 use crate::history::report;
-use crate::pushed::deliver;
 use crate::settings::Settings;
 use byte_ends::{Sink, Source};
 use search_intake::{Refusal, history_of};

@@ -1,7 +1,7 @@
 -- A beginning of the bytes is out, and no push has failed.
 use Rattle.std.proofs.Common.{◌≡◌, ◌-◌, ◌≤◌, length, take}
 use Rattle.std.specs.Io.KnownBytes.{Appends}
-use Rattle.search_report.proofs.pushed.push_all.Given as goal
+use Rattle.search_report.proofs.delivery.push_all.Given as goal
 
 abbrev pub invariant-loop-at : goal.invariant-loop-at
 invariant-loop-at g l =
