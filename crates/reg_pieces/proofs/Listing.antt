@@ -1,7 +1,7 @@
 -- The lists of the registers, by whatever thread each was made, are those of the registers by number.
 use Rattle.std.proofs.Common.{◌≡◌, ℕ, zero, suc, List, [], ◌∷◌, length, slice_get, Option, Some, Result, Ok, Err, IfOk, refl, sym, ap, subst, ◌∙◌}
 use Rattle.std.specs.List.{AllZip}
-use Rattle.std.proofs.lemmas.Option.{none-some, same_Some, slice_get_within}
+use Rattle.std.proofs.lemmas.Option.{none-some, same_Some}
 use Rattle.history_model.specs.History.{History}
 use Rattle.history_model.specs.declared.ids.RegId.{RegId}
 use Rattle.reg_lamport.specs.Reads.{ListedReads}

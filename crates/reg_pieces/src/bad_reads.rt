@@ -48,12 +48,7 @@ impl BadReads {
     }
 
     /// Of a cut of a register's reads; none if they aren't listed.
-    pub(crate) fn of_cut(
-        arena: &Arena,
-        list: &Option<ReadList>,
-        from: usize,
-        to: usize,
-    ) -> BadReads
+    pub(crate) fn of_cut(arena: &Arena, list: &Option<ReadList>, from: usize, to: usize) -> BadReads
         requires list { IfSome list.now (λ l. IsListOf arena.now l.register (Some l)) }
         requires part { IfSome list.now (λ l. (from ≤ to) × (to ≤ length l.entries)) }
         ensures { IfSome list.now (λ l. AreFirstBad arena.now l.register from to result) }
