@@ -10,8 +10,11 @@ use Rattle.reg_intake.specs.Intake.{IsReadOf}
 use Rattle.reg_intake.specs.declared.intake.Intake.{Intake}
 
 -- the whole lines are read, and their bytes are forgotten
-pub read-of : (old new : Intake) (whole : WholeLines) (read : List Line) → AreWhole old.held old.next_line old.pulled.is_ended whole → AreReadWhole old.held old.next_line old.pulled.is_ended whole
-    → read ≡ map (reading_of old.held) whole.spans.items → new.held ≡ drop whole.byte_count old.held → new.next_line ≡ whole.next_line → new.pulled ≡ old.pulled → IsReadOf old new read
+pub read-of : (old new : Intake) (whole : WholeLines) (read : List Line)
+    → AreWhole old.held old.next_line old.pulled.is_ended whole
+    → AreReadWhole old.held old.next_line old.pulled.is_ended whole
+    → read ≡ map (reading_of old.held) whole.spans.items → new.held ≡ drop whole.byte_count old.held
+    → new.next_line ≡ whole.next_line → new.pulled ≡ old.pulled → IsReadOf old new read
 read-of old new whole read are are_read is left line pulled = record {
   lines = λ more may_come.
       ap₂ (λ xs ys. read ++ lines_from xs (ys ++ more)) line left
@@ -19,6 +22,8 @@ read-of old new whole read are are_read is left line pulled = record {
       ∙ are_read.readings more may_come;
   one_left = ap lines left ∙ are.one_left ∙ ap (λ xs. xs ∷ []) (sym left);
   end = λ ended. left ∙ ap (λ n. drop n old.held) (are.end ended) ∙ drop-length old.held;
-  room = (let few = are.few in let within = are.within in let shorter = ap length left in let rest = length-drop whole.byte_count old.held in omega (arith, line));
+  room =
+      (let few = are.few in let within = are.within in let shorter = ap length left in
+      let rest = length-drop whole.byte_count old.held in omega (arith, line));
   pulled = pulled;
 }

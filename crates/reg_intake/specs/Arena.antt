@@ -16,7 +16,9 @@ pub record IsArenaOf (input : List ℕ) (arena : History) : Type 0 where
 
 -- why there is no arena of all the bytes that a source had left
 abbrev pub IsRefusedOf : Option (List ℕ) → ℕ → ℕ → Refusal → Type 0
-IsRefusedOf left failed failed_now (At r) = (bytes : List ℕ) × IsAll left bytes × (length bytes ≤ MAX_INPUT) × IsRefusal (history_lines bytes) r × (failed_now ≡ failed)
+IsRefusedOf left failed failed_now (At r) =
+    (bytes : List ℕ) × IsAll left bytes × (length bytes ≤ MAX_INPUT) × IsRefusal (history_lines bytes) r
+    × (failed_now ≡ failed)
 IsRefusedOf left failed failed_now TooLong = IsTooLong left × (failed_now ≡ failed)
 IsRefusedOf left failed failed_now InputFailed = failed < failed_now
 IsRefusedOf left failed failed_now NoRoom = IsWithinLimit left × (failed_now ≡ failed)

@@ -11,8 +11,10 @@ use Rattle.reg_intake.specs.declared.refusal.Refusal.TheVariants.{At, TooLong, I
 abbrev pub nothing : Pulls
 nothing = record { total = 0; is_ended = false }
 
--- the source gave these bytes, they are within the limit with those before, and no pull failed; at the end they are all, and behind it there are none
-pub record Gives (left now : Option (List ℕ)) (failed failed_now : ℕ) (old new : Pulls) (bytes : List ℕ) : Type 0 where
+-- the source gave these bytes, they are within the limit with those before, and no pull failed; at the end
+-- they are all, and after it there are none
+pub record Gives (left now : Option (List ℕ)) (failed failed_now : ℕ) (old new : Pulls)
+    (bytes : List ℕ) : Type 0 where
   pub gave : Consumes left now bytes
   pub counted : new.total ≡ old.total + length bytes
   pub within : new.total ≤ MAX_INPUT
@@ -40,7 +42,8 @@ abbrev pub GetsNoMore : Option (List ℕ) → Option (List ℕ) → ℕ → ℕ 
 GetsNoMore left now failed failed_now old new (At r) = ⊥
 GetsNoMore left now failed failed_now old new TooLong = Exceeds left now failed failed_now old
 GetsNoMore left now failed failed_now old new InputFailed = failed < failed_now
-GetsNoMore left now failed failed_now old new NoRoom = (bytes : List ℕ) × Gives left now failed failed_now old new bytes
+GetsNoMore left now failed failed_now old new NoRoom =
+    (bytes : List ℕ) × Gives left now failed failed_now old new bytes
 GetsNoMore left now failed failed_now old new OutputFailed = ⊥
 
 -- the end was met, or there are more bytes than before

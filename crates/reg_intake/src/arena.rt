@@ -13,18 +13,19 @@ use crate::refusal::Refusal;
 use crate::underway::Underway;
 use byte_ends::Source;
 use history_text::MAX_EVENTS;
+use parallel::is_alone;
 use reg_arena::{Arena, HashKey};
 use std::alloc::Global;
 use std::collections::VecDeque;
 use std::random::RandomSource;
 use std::thread::Threads;
 
-/// The fewest bytes of an event, as of `{"process":1,"event":"crash"}` with its line feed. A fail may have one less, but its
-/// call has many more.
+/// The fewest bytes of an event, as of `{"process":1,"event":"crash"}` with its line feed. A fail may have
+/// one less, but its call has many more.
 const SHORTEST_EVENT: usize = 30;
 
-/// For how many events an arena gets room: as many as the bytes that are held could say, if the source has no more, else as
-/// many as a history may have. Room that no event fills is never touched.
+/// For how many events an arena gets room: as many as the bytes that are held could say, if the source has no
+/// more, else as many as a history may have. Room that no event fills is never touched.
 fn room_for(intake: &Intake) -> usize {
     if intake.is_ended() {
         intake.held().len() / SHORTEST_EVENT + 1
@@ -51,7 +52,7 @@ fn read_arena<T: Threads + RandomSource + Sync, S: Source>(
     ensures unfailed { IfOk result (λ _. S.failed source.new ≡ S.failed source.old) }
     ensures err { IfErr result (IsStopped (S.left source.old) (S.left source.new) (S.failed source.old) (S.failed source.new) intake.new.pulled) }
 {
-    let is_alone = parallel::is_alone(rt);
+    let is_alone = is_alone(rt);
     intake.fill(source, first_block_size(rt, is_alone))?;
     let key = HashKey::drawn(rt, intake.held());
     let arena = Arena::empty(alloc, key, room_for(intake))?;
@@ -65,8 +66,8 @@ fn read_arena<T: Threads + RandomSource + Sync, S: Source>(
     Ok(arena.with_lines(alloc, ahead.make_contiguous())?)
 }
 
-/// The refusal of all that the source gives, from the one that was met first. If that is of a line or the want of memory, the
-/// rest is pulled and dropped, so that too long an input and a failure are known as such.
+/// The refusal of all that the source gives, from the one that was met first. If that is of a line, or memory
+/// ran out, the rest is pulled and dropped, so that too long an input and a failure are known as such.
 fn refusal_of_all<S: Source>(source: &mut S, intake: &mut Intake, first: Refusal) -> Refusal
     requires { MayChange first → (intake.old.pulled.total ≤ MAX_INPUT) × (S.failed source.old < 2 ^ 64 - 1) }
     ensures { (left : Option (List ℕ)) (failed : ℕ) → IsStopped left (S.left source.old) failed (S.failed source.old) intake.old.pulled first → IsRefusedOf left failed (S.failed source.new) result }

@@ -1,5 +1,5 @@
-//! The bytes that were pulled and whose lines aren't read yet, in a buffer that stays as it is. So bytes are pulled to where
-//! they are held, and no room is cleared for them twice.
+//! The bytes that were pulled and whose lines aren't read yet, in a buffer that stays as it is. So bytes are
+//! pulled to where they are held, and no room is cleared for them twice.
 ghost use Rattle.std.specs.Prelude.{◌≡◌, ◌-◌, ◌^◌, ◌<◌, ◌≤◌, ◌++◌, ℕ, List, [], false, drop, length, IfOk, IfErr};
 ghost use Rattle.history_text.specs.declared.limits.TheConstants.{MAX_INPUT};
 ghost use Rattle.reg_intake.specs.Pulls.{Gives, GetsNoMore, IsFurther};
@@ -13,7 +13,7 @@ use std::marker::Model;
 /// How many bytes are pulled at once: as many as a pipe of Linux holds.
 const PULL: usize = 65_536;
 
-/// The bytes at the front of a buffer. Those behind them mean nothing.
+/// The bytes at the front of a buffer. Those after them mean nothing.
 #[derive(Drop)]
 pub(crate) struct Buffer {
     bytes: Vec<u8>,
@@ -73,7 +73,7 @@ impl Buffer {
         Ok(())
     }
 
-    /// Forgets so many bytes at the front.
+    /// Forgets `count` bytes at the front.
     pub(crate) fn forget(&mut self, count: usize)
         requires { count ≤ length self.old }
         ensures { self.new ≡ drop count self.old }

@@ -1,6 +1,6 @@
 //! The bytes that were pulled and whose lines aren't read yet.
 //!
-//! While the source may have more, what stands behind the last line feed is held back, since it may go on.
+//! While the source may have more, what comes after the last line feed is held back, since it may go on.
 ghost use Rattle.std.specs.Prelude.{◌≡◌, ◌+◌, ◌-◌, ◌^◌, ◌<◌, ◌≤◌, ℕ, List, [], true, false, flat_map, length, IfOk, IfErr};
 ghost use Rattle.history_text.specs.declared.limits.TheConstants.{MAX_INPUT};
 ghost use Rattle.reg_intake.specs.Intake.{IsHeld, IsReadOf};
@@ -14,7 +14,7 @@ use history_text::{LineEvent, LineFault, read_spans, whole_lines};
 use std::alloc::{AllocError, Global};
 use std::thread::Threads;
 
-/// The bytes that are held, behind those whose lines were read.
+/// The bytes that are held, which come after those whose lines were read.
 #[derive(Drop)]
 pub(crate) struct Intake {
     held: Buffer,
@@ -51,11 +51,11 @@ impl Intake {
         self.pulled.is_ended()
     }
 
-    /// Pulls until so many bytes are held, or the source has no more.
+    /// Pulls until `enough` bytes are held, or the source has no more.
     ///
     /// # Errors
-    /// `InputFailed` if a pull failed, `TooLong` if there are more bytes than the limit of an input, and `NoRoom` if memory for
-    /// a pull was refused.
+    /// `InputFailed` if a pull failed, `TooLong` if there are more bytes than the limit of an input, and
+    /// `NoRoom` if memory for a pull was refused.
     pub(crate) fn fill<S: Source>(&mut self, source: &mut S, enough: usize) -> Result<(), Refusal>
         requires within { self.old.pulled.total ≤ MAX_INPUT }
         requires failures { S.failed source.old < 2 ^ 64 - 1 }
@@ -83,11 +83,11 @@ impl Intake {
         self.pulled.drop_rest(source)
     }
 
-    /// Reads the whole lines that are held, by several threads, and forgets their bytes. Gives what they say, in parts, one behind
-    /// the other.
+    /// Reads the whole lines that are held, by several threads, and forgets their bytes. Gives what they say,
+    /// in parts, in order.
     ///
     /// # Errors
-    /// The want of memory.
+    /// `AllocError` if memory ran out.
     pub(crate) fn read<T: Threads + Sync>(
         &mut self,
         rt: &T,

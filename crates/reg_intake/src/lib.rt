@@ -1,12 +1,14 @@
 //! From the bytes of a source to the arena of their history, or the refusal.
 //!
-//! What the floor above may rely on: [`arena_of`] pulls all the bytes of a source, and gives the arena of their history; or it answers
-//! a [`Refusal`]: that of the first faulty line, too long an input, a source that failed, or want of memory. Too long an input and a
-//! failure go before a faulty line and want of memory. A refusal says by its number why there is no report, and which lines are
-//! to blame. `OutputFailed` is for the floor above, which has the sink.
+//! What the floor above may rely on: [`arena_of`] pulls all the bytes of a source, and gives the arena of
+//! their history; or it answers a [`Refusal`]: that of the first faulty line, too long an input, a source
+//! that failed, or memory that ran out. Too long an input and a failure go before a faulty line and before
+//! memory. A refusal says by its number why there is no report, and which lines are to blame. `OutputFailed`
+//! is for the floor above, which has the sink.
 //!
-//! Read it in this order: `refusal`; `pulls`, `buffer` and `intake`, where the bytes come in and are read; `reader`, which reads
-//! ahead, and `block`, how much at once; `underway`, which has it do so by turns; and `arena`, which has them all taken in.
+//! Read it in this order: `refusal`; `pulls`, `buffer` and `intake`, where the bytes come in and are read;
+//! `reader`, which reads ahead, and `block`, how much at once; `underway`, which has it do so by turns; and
+//! `arena`, which has them all taken in.
 #![tactic(auto)]
 
 mod arena;

@@ -7,7 +7,8 @@ use crate::refusal::Refusal;
 use byte_ends::Source;
 use history_text::MAX_INPUT;
 
-/// How many bytes are pulled at once if they are to be dropped. They lie on the stack, of which a caller may have little.
+/// How many bytes are pulled at once if they are to be dropped. They lie on the stack, of which a caller may
+/// have little.
 const PIECE: usize = 16_384;
 
 /// How many bytes were pulled, and whether the source has no more.

@@ -22,7 +22,8 @@ pub(crate) struct Reader {
     numbering: Numbering,
     /// The lines that were read last, in parts. They have no numbers yet.
     pub(crate) unnumbered: Vec<Vec<Result<LineEvent, LineFault>>>,
-    /// The lines that were taken in last. They are dropped here, so that the thread which builds the arena needn't.
+    /// The lines that were taken in last. They are dropped here, so that the thread which builds the arena
+    /// needn't.
     pub(crate) spent: VecDeque<NumberedLines>,
 }
 
@@ -69,8 +70,8 @@ impl Reader {
         self.number()
     }
 
-    /// Has another thread number the lines that were read, and meanwhile reads the whole lines that are held. On one processor,
-    /// or if nothing is held, it numbers what it reads at once.
+    /// Has another thread number the lines that were read, and meanwhile reads the whole lines that are held.
+    /// On one processor, or if nothing is held, it numbers what it reads at once.
     pub(crate) fn read_on<T: Threads + Sync>(
         &mut self,
         rt: &T,

@@ -10,7 +10,8 @@ use thiserror::Error;
 /// Why there is no report. Nothing was written then, but for `OutputFailed`.
 #[derive(Clone, Copy, Debug, PartialEq, Eq, Error)]
 pub enum Refusal {
-    /// 1 to 14 or 19: the history isn't well formed. Its first faulty line is refused, for the lowest-numbered reason that applies there.
+    /// 1 to 14 or 19: the history isn't well formed. Its first faulty line is refused, for the
+    /// lowest-numbered reason that applies there.
     #[error(transparent)]
     At(LineRefusal),
     /// 15: the input is longer than its limit, [`MAX_INPUT`].
@@ -64,7 +65,8 @@ impl Refusal {
         }
     }
 
-    /// Whether it is the input that is refused: 1 to 15 or 19. The other refusals say that the source, memory or the sink failed.
+    /// Whether it is the input that is refused: 1 to 15 or 19. The other refusals say that the source, memory
+    /// or the sink failed.
     pub fn is_of_input(&self) -> bool
         ensures { result ≡ is_of_input (number_of self.now) }
     {

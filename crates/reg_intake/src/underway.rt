@@ -1,5 +1,5 @@
-//! An arena underway: while the lines of one block are taken in, those of the next are numbered, and those of the one after
-//! are read.
+//! An arena underway: while the lines of one block are taken in, those of the next are numbered, and those of
+//! the one after are read.
 ghost use Rattle.std.specs.Prelude.{◌≡◌, ◌+◌, ◌-◌, ◌^◌, ◌<◌, ◌≤◌, ◌++◌, ℕ, List, [], Option, Some, true, false, drop, length, IfOk, IfErr};
 ghost use Rattle.history_text.specs.declared.limits.TheConstants.{MAX_INPUT};
 ghost use Rattle.reg_intake.specs.Intake.{FitsLimit};
@@ -20,19 +20,21 @@ use std::slice::from_ref;
 use std::sync::atomic::{AtomicBool, Ordering};
 use std::thread::Threads;
 
-/// How many parts of lines may wait for the arena once the next ones are read: so many that the thread which builds it has work
-/// while the threads that read start late, and so few that they take little memory. A block of short lines has some six.
+/// How many parts of lines may wait for the arena once the next ones are read: so many that the thread which
+/// builds it has work while the threads that read start late, and so few that they take little memory. A
+/// block of short lines has some six.
 const MOST_WAITING: usize = 4;
 
-/// An arena, and how many parts of the lines behind it were taken into it.
+/// An arena, and how many parts of the lines after it were taken into it.
 #[derive(Drop)]
 struct Grown {
     arena: Arena,
     count: usize,
 }
 
-/// Takes lines into the arena, part by part: all but the last [`MOST_WAITING`] parts, and of those as many as it can until the
-/// next lines are read. The arena is taken out of its place, since `both_mut` only lends its closures what they use.
+/// Takes lines into the arena, part by part: all but the last [`MOST_WAITING`] parts, and of those as many as
+/// it can until the next lines are read. The arena is taken out of its place, since `both_mut` only lends its
+/// closures what they use.
 fn take_in(
     alloc: Global,
     arena: &mut Option<Arena>,
@@ -58,8 +60,8 @@ fn take_in(
     })
 }
 
-/// Has another thread read on, and meanwhile takes in the lines that have numbers. On one processor it does one after the
-/// other, and takes in all.
+/// Has another thread read on, and meanwhile takes in the lines that have numbers. On one processor it does
+/// one after the other, and takes in all.
 fn read_and_take_in<T: Threads + Sync>(
     rt: &T,
     intake: &mut Intake,
@@ -105,7 +107,7 @@ pub(crate) struct Underway {
     pub(crate) ahead: VecDeque<NumberedLines>,
 }
 
-/// Moves the parts behind so many out of the list, and those that were numbered behind them.
+/// Moves the parts after the first `count` out of the list, and puts those that were numbered now after them.
 fn still_ahead(
     ahead: &mut VecDeque<NumberedLines>,
     count: usize,
@@ -120,10 +122,12 @@ fn still_ahead(
 }
 
 impl Underway {
-    /// Pulls the next bytes, and has their lines read while those that were read before are numbered and taken in.
+    /// Pulls the next bytes, and has their lines read while those that were read before are numbered and
+    /// taken in.
     ///
     /// # Errors
-    /// `InputFailed` or `TooLong` if pulling stopped, else `NoRoom` if memory was refused, else `At` for a refused line.
+    /// `InputFailed` or `TooLong` if pulling stopped, else `NoRoom` if memory was refused, else `At` for a
+    /// refused line.
     pub(crate) fn turn<T: Threads + Sync, S: Source>(
         self,
         rt: &T,

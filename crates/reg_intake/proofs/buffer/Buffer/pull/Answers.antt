@@ -1,4 +1,4 @@
--- The bytes that came stand behind those before them, in a buffer that may have grown.
+-- The bytes that came stand after those before them, in a buffer that may have grown.
 use Rattle.std.proofs.Common.{◌≡◌, ◌+◌, ◌≤◌, ◌++◌, ℕ, List, length, take, drop, subst, sym, ap, ◌∙◌, arith, append_assoc}
 use Rattle.std.proofs.Math.Seq.{take-append-add}
 use Rattle.std.proofs.lemmas.List.{length-drop, length-take, length-take-le, take-append-le, take-take}
@@ -6,13 +6,17 @@ use Rattle.reg_intake.specs.declared.buffer.Buffer.TheInside.{Inside}
 use Rattle.reg_intake.proofs.buffer.Buffer.pull.Goals.{then-len-self-lt-PULL+in_ok-resize, else-len-self-lt-PULL}
 use Rattle.reg_intake.proofs.buffer.Buffer.pull.Goals as goal
 
--- the front stays when a list is cut behind it and filled up
-front-of-resized : (xs ys more : List ℕ) (k n : ℕ) → k ≤ length xs → ys ≡ take (k + n) xs ++ more → take k ys ≡ take k xs
+-- the front stays when a list is cut after it and filled up
+front-of-resized : (xs ys more : List ℕ) (k n : ℕ) → k ≤ length xs → ys ≡ take (k + n) xs ++ more
+    → take k ys ≡ take k xs
 front-of-resized xs ys more k n within resized =
-    ap (take k) resized ∙ take-append-le k (take (k + n) xs) more (let long = length-take (k + n) xs in omega (arith, within)) ∙ take-take k (k + n) xs (omega arith)
+    ap (take k) resized
+    ∙ take-append-le k (take (k + n) xs) more (let long = length-take (k + n) xs in omega (arith, within))
+    ∙ take-take k (k + n) xs (omega arith)
 
--- what is written behind the front stands behind it, whatever follows
-written-behind : (front piece rest tail : List ℕ) (k n long : ℕ) → length front ≡ k → n ≤ length piece → k + n ≤ long → take (k + n) (take long ((front ++ (piece ++ rest)) ++ tail)) ≡ front ++ take n piece
+-- what is written after the front stands after it, whatever follows
+written-behind : (front piece rest tail : List ℕ) (k n long : ℕ) → length front ≡ k → n ≤ length piece
+    → k + n ≤ long → take (k + n) (take long ((front ++ (piece ++ rest)) ++ tail)) ≡ front ++ take n piece
 written-behind front piece rest tail k n long at within fits =
     take-take (k + n) long ((front ++ (piece ++ rest)) ++ tail) fits
     ∙ ap (take (k + n)) (append_assoc front (piece ++ rest) tail)
@@ -21,8 +25,9 @@ written-behind front piece rest tail k n long at within fits =
     ∙ ap (λ xs. front ++ take n xs) (append_assoc piece rest tail)
     ∙ ap (λ xs. front ++ xs) (take-append-le n piece (rest ++ tail) within)
 
--- what is no longer than a part behind the front ends within the list
-fits-behind : (xs : List ℕ) (k m n : ℕ) → length (take k xs) ≡ k → n ≤ length (take m (drop k xs)) → k + n ≤ length xs
+-- what is no longer than a part after the front ends within the list
+fits-behind : (xs : List ℕ) (k m n : ℕ) → length (take k xs) ≡ k → n ≤ length (take m (drop k xs))
+    → k + n ≤ length xs
 fits-behind xs k m n at within =
     let front = length-take k xs in
     let part = length-take m (drop k xs) in
@@ -39,17 +44,25 @@ returns-clause-ok g c =
       | then-len-self-lt-PULL+in_ok-resize w ↦ ap (λ (h : Inside). h.count) w.self-inside-is
       | else-len-self-lt-PULL w ↦ ap (λ (h : Inside). h.count) w.self-inside-is
     ] in
-    let kept : take room.count room.bytes.items ≡ take old.count old.bytes.items = elim c.if-len-self-lt-PULL.branch [
-      | then-len-self-lt-PULL+in_ok-resize w ↦ ap (λ (h : Inside). take h.count h.bytes.items) w.self-inside-is
+    let kept : take room.count room.bytes.items ≡ take old.count old.bytes.items =
+    elim c.if-len-self-lt-PULL.branch [
+      | then-len-self-lt-PULL+in_ok-resize w ↦ ap
+          (λ (h : Inside). take h.count h.bytes.items) w.self-inside-is
           ∙ front-of-resized old.bytes.items _ _ old.count _ c.self.invariant w.in_ok-resize.ensures.items
       | else-len-self-lt-PULL w ↦ ap (λ (h : Inside). take h.count h.bytes.items) w.self-inside-is
     ] in
     let front = ap (take room.count) c.deref_mut.ensures.value ∙ kept ∙ c.self.view_is in
-    let long = ap length front ∙ ap length (sym c.self.view_is) ∙ length-take-le old.count old.bytes.items c.self.invariant ∙ sym same in
+    let long =
+    ap length front ∙ ap length (sym c.self.view_is)
+    ∙ length-take-le old.count old.bytes.items c.self.invariant ∙ sym same in
     let read = c.deref_mut.ensures.len in
     let within = c.in_ok-count.ensures.bound in
-    let fits = fits-behind c.deref_mut.result.now room.count _ count long (subst (λ n. count ≤ n) c.pull.auto.piece within) in (
+    let fits =
+    fits-behind c.deref_mut.result.now room.count _ count long
+    (subst (λ n. count ≤ n) c.pull.auto.piece within) in (
       piece,
       c.in_ok-count.ensures.ok,
-      written-behind (take room.count c.deref_mut.result.now) c.pull.new.piece _ _ room.count count room.bytes.len long within (omega (arith, fits, read)) ∙ ap (λ (xs : List ℕ). xs ++ piece) front,
+      written-behind
+          (take room.count c.deref_mut.result.now) c.pull.new.piece _ _ room.count count room.bytes.len long
+          within (omega (arith, fits, read)) ∙ ap (λ (xs : List ℕ). xs ++ piece) front,
     )

@@ -11,7 +11,13 @@ returns-clause-read g c =
     let old = c.args.self.now in
     let whole = c.in_ok-whole.whole in
     read-of old _ whole _
-    (subst (λ (bytes : List ℕ). AreWhole bytes old.next_line old.pulled.is_ended whole) c.held.ensures (subst (λ (ended : Bool). AreWhole c.held.result.now old.next_line ended whole) c.is_ended.ensures c.in_ok-whole.ensures.whole))
-    (subst (λ (bytes : List ℕ). AreReadWhole bytes old.next_line old.pulled.is_ended whole) c.held.ensures (subst (λ (ended : Bool). AreReadWhole c.held.result.now old.next_line ended whole) c.is_ended.ensures c.in_ok-whole.ensures.readings))
-    (c.in_ok-parts.ensures ∙ ap₂ (λ (bytes : List ℕ) (spans : List Span). map (reading_of bytes) spans) c.held-2.ensures c.deref.ensures.value)
+    (subst (λ (bytes : List ℕ). AreWhole bytes old.next_line old.pulled.is_ended whole) c.held.ensures
+    (subst (λ (ended : Bool). AreWhole c.held.result.now old.next_line ended whole) c.is_ended.ensures
+    c.in_ok-whole.ensures.whole))
+    (subst (λ (bytes : List ℕ). AreReadWhole bytes old.next_line old.pulled.is_ended whole) c.held.ensures
+    (subst (λ (ended : Bool). AreReadWhole c.held.result.now old.next_line ended whole) c.is_ended.ensures
+    c.in_ok-whole.ensures.readings))
+    (c.in_ok-parts.ensures
+    ∙ ap₂ (λ (bytes : List ℕ) (spans : List Span). map
+    (reading_of bytes) spans) c.held-2.ensures c.deref.ensures.value)
     c.forget.ensures refl refl

@@ -15,5 +15,7 @@ pub returns-in_err-pull-clause-err : goal.returns-in_err-pull-clause-err
 returns-in_err-pull-clause-err g c =
     let before = c.loop-self.invariant in
     let e = c.in_err-pull.field-0.0 in
-    passed-on (StopsAt (g.S.Source.left c.args.source.now) (g.S.Source.left c.pull.new.source) (g.S.Source.failed c.args.source.now) (g.S.Source.failed c.pull.new.source) c.args.self.now)
-    e c.from_residual.result c.from_residual.ensures.1 (stops-after _ _ _ _ _ _ _ _ before.0 before.1 e c.in_err-pull.ensures.err)
+    passed-on (StopsAt (g.S.Source.left c.args.source.now) (g.S.Source.left c.pull.new.source)
+    (g.S.Source.failed c.args.source.now) (g.S.Source.failed c.pull.new.source) c.args.self.now)
+    e c.from_residual.result c.from_residual.ensures.1
+    (stops-after _ _ _ _ _ _ _ _ before.0 before.1 e c.in_err-pull.ensures.err)
