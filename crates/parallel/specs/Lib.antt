@@ -1,0 +1,2 @@
+-- What the contracts of parallel steps say.
+pub mod Parts
