@@ -29,12 +29,17 @@ use std::alloc::{AllocError, Global};
 
 /// What a register's line says of whether it is atomic.
 #[derive(Drop)]
-pub(crate) struct Atomicity {
-    pub(crate) atomic: bool,
-    pub(crate) fault: Option<FaultLines>,
-    pub(crate) inversion: Option<(u32, u32)>,
-    pub(crate) order: Option<Lines>,
-    pub(crate) points: Option<Lines>,
+enum Atomicity {
+    /// Its canonical order and the points, by lines.
+    Yes {
+        order: Lines,
+        points: Lines,
+    },
+    /// Why it isn't, and if it is regular, a new-old inversion.
+    No {
+        fault: FaultLines,
+        inversion: Option<(u32, u32)>,
+    },
 }
 
 /// The order and its points by lines.
@@ -48,14 +53,9 @@ fn ordered(
     ensures { (regular : _) → IfOk result (IsAtomicityShown arena.now (register_of arena.now register.0) regular) }
 {
     told(arena);
-    let lines = order_lines(alloc, arena, order.as_slice())?;
-    let points = point_lines(alloc, arena, order.as_slice())?;
-    Ok(Atomicity {
-        atomic: true,
-        fault: None,
-        inversion: None,
-        order: Some(lines),
-        points: Some(points),
+    Ok(Atomicity::Yes {
+        order: order_lines(alloc, arena, order.as_slice())?,
+        points: point_lines(alloc, arena, order.as_slice())?,
     })
 }
 
@@ -95,12 +95,9 @@ fn faulty(arena: &Arena, register: RegId, fault: Fault, regular: LevelAnswer) ->
     requires regular { IsLevelAnswer Regular (register_of arena.now register.0) regular }
     ensures { IsAtomicityShown arena.now (register_of arena.now register.0) regular.verdict result }
 {
-    Atomicity {
-        atomic: false,
-        fault: Some(fault_lines(arena, fault)),
+    Atomicity::No {
+        fault: fault_lines(arena, fault),
         inversion: inversion_lines(arena, register, fault, regular),
-        order: None,
-        points: None,
     }
 }
 
@@ -122,7 +119,7 @@ fn atomicity_of(
     }
 }
 
-/// The line of a register, from what is found of it, or want of memory.
+/// The line of a register, from what is found of it, or an error if memory runs out.
 pub(crate) fn register_report(
     alloc: Global,
     arena: &Arena,
@@ -138,7 +135,11 @@ pub(crate) fn register_report(
         tally,
     } = finding;
     let name = Name::new(alloc, arena.name(*register))?;
-    let said = atomicity_of(alloc, arena, *register, judged, levels.regular)?;
+    let atomicity = atomicity_of(alloc, arena, *register, judged, levels.regular)?;
+    let (atomic, fault, inversion, order, points) = match atomicity {
+        Atomicity::Yes { order, points } => (true, None, None, Some(order), Some(points)),
+        Atomicity::No { fault, inversion } => (false, Some(fault), inversion, None, None),
+    };
     Ok(RegReport {
         register: name,
         writes: tally.writes,
@@ -148,10 +149,10 @@ pub(crate) fn register_report(
         regular: levels.regular.verdict,
         safe_read: levels.safe.read,
         regular_read: levels.regular.read,
-        atomic: said.atomic,
-        fault: said.fault,
-        inversion: said.inversion,
-        order: said.order,
-        points: said.points,
+        atomic,
+        fault,
+        inversion,
+        order,
+        points,
     })
 }
