@@ -6,7 +6,7 @@ use Rattle.std.proofs.lemmas.List.{length_push}
 use Rattle.std.proofs.lemmas.Option.{same_Some, slice_get-get_or, slice_get_read, slice_get_within}
 use Rattle.history_model.specs.History.{History}
 use Rattle.reg_pieces.proofs.Pushed.{push-cases}
-use Rattle.reg_report.specs.FoundText.{AreLinesOf}
+use Rattle.reg_report.specs.ReportText.{AreLinesOf}
 use Rattle.reg_report.specs.Meaning.{IsRegisterReport}
 use Rattle.reg_report.specs.Registers.{AreFindings, AreFirstFindings, AreFirstLines, AreLines, IsFinding}
 use Rattle.reg_report.specs.declared.findings.Finding.{Finding}

@@ -1,4 +1,4 @@
--- What is made of the parts of a list, one behind the other, is what is made of the whole list.
+-- What is made of the parts of a list, in order, is what is made of the whole list.
 use Rattle.std.proofs.Common.{◌≡◌, ℕ, ◌<◌, List, [], ◌∷◌, ◌++◌, map, Result, Ok, Err, Vec, Global, ap, sym, subst, ◌∙◌}
 use Rattle.std.specs.Prelude.{IfOk, MatchResult, Contains, flat_map}
 use Rattle.std.specs.List.{AllZip}

@@ -17,7 +17,7 @@ mod OrderLines
 mod Atomic
 mod Counting
 mod Found
-mod FoundText
+mod FindingsText
 mod SummaryText
 mod OneReport
 mod Cutting

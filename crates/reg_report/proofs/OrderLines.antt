@@ -20,7 +20,7 @@ use Rattle.reg_zones.proofs.Points.{after_call, reached, placed-In}
 use Rattle.reg_zones.proofs.Registers.{cases_process}
 use Rattle.reg_report.specs.Lines.{HasCall, HasPoint, HaveCalls, HavePoints, call_of, line_if_called, call_line, point_line, lines_by}
 use Rattle.reg_report.specs.Meaning.{line_at, lines_of, points_of, without_initial}
-use Rattle.reg_report.specs.Told.{IsTold}
+use Rattle.reg_report.specs.ArenaLaws.{ObeysLaws}
 use Rattle.history_model.proofs.Recorded.{of_register-In}
 
 slice_get-line : (events : List Event) (i : ℕ) (e : Event) → slice_get events i ≡ Some e → get_or (map (λ e. e.line) events) i 0 ≡ e.line
@@ -32,7 +32,7 @@ slice_get-line (x ∷ events) (suc i) e s = slice_get-line events i e s
 pub line_at-event : (events : List Event) (t i : ℕ) (e : Event) → t - 2 ≡ i → slice_get events i ≡ Some e → line_at events t ≡ e.line
 line_at-event events t i e q s = ap (λ n. get_or (map (λ (y : Event). y.line) events) n 0) q ∙ slice_get-line events i e s
 
-module _ (h : History) (t : IsTold h) where
+module _ (h : History) (t : ObeysLaws h) where
   -- an operation that a process called has its call among the events, at or after time 2
   called : (o : Operation) (p : ℕ) → In o (operations h) → o.process ≡ Some p → (o.call - 2 < length h.events) × (2 ≤ o.call) × (line_at h.events (o.call - 2 + 2) ≡ o.line)
   called o p i e =

@@ -7,12 +7,12 @@ ghost use Rattle.reg_report.specs.Registers.{AreFindings, AreGatheredIfAtomic, A
 
 use crate::findings::Finding;
 use crate::lists::{Lines, Registers};
-use crate::merged::merge_gathered;
+use crate::merged_order::merge_gathered;
 use crate::merged_lines::merged_lines_in_parts;
 use crate::order_lines::order_lines;
 use crate::register::register_report;
 use crate::report::{RegReport, Report};
-use crate::told::told;
+use crate::arena_laws::arena_laws;
 use rayon::prelude::*;
 use reg_arena::Arena;
 use reg_pieces::Judgement;
@@ -59,7 +59,7 @@ fn register_reports_in_parts(
         .collect::<Result<Vec<RegReport>, AllocError>>(rt, alloc)?
 }
 
-/// For how many operations the orders of all registers need room.
+/// How many operations the orders of all registers have.
 fn room_for_orders(findings: &[Finding]) -> usize {
     let mut room: usize = 0;
     for finding in findings {
@@ -70,7 +70,7 @@ fn room_for_orders(findings: &[Finding]) -> usize {
     room
 }
 
-/// The orders of all registers, one behind the other, or nothing if one of them has a fault.
+/// The orders of all registers, one after another, or nothing if one of them has a fault.
 fn orders_of(
     alloc: Global,
     arena: &Arena,
@@ -113,7 +113,7 @@ fn whole_order(
     requires { AreFindings arena.now findings.now }
     ensures { IfOk result (λ order. IsWholeAtomicity arena.now (is_some order) order) }
 {
-    told(arena);
+    arena_laws(arena);
     match merged_order(alloc, arena, findings)? {
         None => Ok(None),
         Some(merged) => Ok(Some(order_lines(alloc, arena, &merged)?)),
@@ -130,14 +130,14 @@ pub(crate) fn whole_order_in_parts(
     requires { AreFindings arena.now findings.now }
     ensures { IfOk result (λ order. IsWholeAtomicity arena.now (is_some order) order) }
 {
-    told(arena);
+    arena_laws(arena);
     match orders_of(alloc, arena, findings)? {
         None => Ok(None),
         Some(operations) => Ok(Some(merged_lines_in_parts(rt, alloc, arena, &operations)?)),
     }
 }
 
-/// The report with these lines, this order and so many operations.
+/// The report with these lines, this order and this number of operations.
 fn report_of(arena: &Arena, regs: Vec<RegReport>, order: Option<Lines>, operations: u32) -> Report
     requires regs { AreLines arena.now regs.items }
     requires order { IsWholeAtomicity arena.now (is_some order) order }
@@ -153,7 +153,7 @@ fn report_of(arena: &Arena, regs: Vec<RegReport>, order: Option<Lines>, operatio
     }
 }
 
-/// The report of a history, from what is found of its registers and the number of its operations, or want of memory.
+/// The report of a history, from what is found of its registers and the number of its operations.
 pub(crate) fn history_report(
     alloc: Global,
     arena: &Arena,

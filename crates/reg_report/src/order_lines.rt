@@ -45,7 +45,7 @@ pub(crate) fn order_lines_in_parts(
     joined(alloc, &parts, order.len())
 }
 
-/// The lines of an order in parts, one behind the other, each found by one thread.
+/// The lines of an order in parts, in order, each found by one thread.
 fn lines_in_parts(
     rt: &(impl Threads + Sync),
     alloc: Global,
@@ -68,7 +68,7 @@ fn lines_in_parts(
         .collect::<Result<Vec<Lines>, AllocError>>(rt, alloc)?
 }
 
-/// Parts one behind the other, with room for as many lines as `count`.
+/// The lines of all parts, in order, with room for `count` of them.
 pub(crate) fn joined(alloc: Global, parts: &[Lines], count: usize) -> Result<Lines, AllocError>
     ensures { IfOk result (λ lines. lines ≡ flat_map (λ part. part) parts.now) }
 {

@@ -6,7 +6,7 @@ ghost use Rattle.history_model.specs.Lamport.{HasSingleWriter};
 ghost use Rattle.reg_lamport.specs.declared.level.Level.TheVariants.{Regular};
 ghost use Rattle.reg_zones.specs.Faults.{IsFault};
 ghost use Rattle.reg_zones.specs.Inversions.{IsRegular};
-ghost use Rattle.reg_report.specs.Levels.{IsLevelAnswer};
+ghost use Rattle.reg_report.specs.Levels.{IsLevelFinding};
 ghost use Rattle.reg_report.specs.Meaning.{IsInversionAnswer, IsRegisterReport};
 ghost use Rattle.reg_report.specs.Registers.{IsFinding};
 ghost use Rattle.reg_report.specs.declared.report.Verdict.TheVariants.{Yes};
@@ -14,11 +14,11 @@ ghost use Rattle.history_model.specs.Operations.{register_of};
 
 use crate::fault_lines::{fault_lines, lines};
 use crate::findings::Finding;
-use crate::levels::LevelAnswer;
+use crate::levels::LevelFinding;
 use crate::lists::Lines;
 use crate::order_lines::{order_lines, point_lines};
 use crate::report::{FaultLines, RegReport, Verdict};
-use crate::told::told;
+use crate::arena_laws::arena_laws;
 use history_model::RegId;
 use history_text::Name;
 use reg_arena::Arena;
@@ -52,7 +52,7 @@ fn ordered(
     requires { IsJudged (register_of arena.now register.0) (Judgement.Order order.now) }
     ensures { (regular : _) → IfOk result (IsAtomicityShown arena.now (register_of arena.now register.0) regular) }
 {
-    told(arena);
+    arena_laws(arena);
     Ok(Atomicity::Yes {
         order: order_lines(alloc, arena, order.as_slice())?,
         points: point_lines(alloc, arena, order.as_slice())?,
@@ -66,7 +66,7 @@ fn inverted(arena: &Arena, register: RegId, fault: Fault) -> Option<(u32, u32)>
     requires regular { IsRegular (register_of arena.now register.0) }
     ensures { IsInversionAnswer arena.now (register_of arena.now register.0) false Yes result }
 {
-    told(arena);
+    arena_laws(arena);
     inversions_decide();
     Some(lines(arena, inversion_of(&fault)?))
 }
@@ -76,10 +76,10 @@ fn inversion_lines(
     arena: &Arena,
     register: RegId,
     fault: Fault,
-    regular: LevelAnswer,
+    regular: LevelFinding,
 ) -> Option<(u32, u32)>
     requires fault { IsFault (register_of arena.now register.0) fault }
-    requires regular { IsLevelAnswer Regular (register_of arena.now register.0) regular }
+    requires regular { IsLevelFinding Regular (register_of arena.now register.0) regular }
     ensures { IsInversionAnswer arena.now (register_of arena.now register.0) false regular.verdict result }
 {
     match regular.verdict {
@@ -90,9 +90,9 @@ fn inversion_lines(
 }
 
 /// The fault by lines. `regular` is what is said of regular.
-fn faulty(arena: &Arena, register: RegId, fault: Fault, regular: LevelAnswer) -> Atomicity
+fn faulty(arena: &Arena, register: RegId, fault: Fault, regular: LevelFinding) -> Atomicity
     requires judged { IsJudged (register_of arena.now register.0) (Judgement.Faulty fault) }
-    requires regular { IsLevelAnswer Regular (register_of arena.now register.0) regular }
+    requires regular { IsLevelFinding Regular (register_of arena.now register.0) regular }
     ensures { IsAtomicityShown arena.now (register_of arena.now register.0) regular.verdict result }
 {
     Atomicity::No {
@@ -107,10 +107,10 @@ fn atomicity_of(
     arena: &Arena,
     register: RegId,
     judged: &Judgement,
-    regular: LevelAnswer,
+    regular: LevelFinding,
 ) -> Result<Atomicity, AllocError>
     requires judged { IsJudged (register_of arena.now register.0) judged.now }
-    requires regular { IsLevelAnswer Regular (register_of arena.now register.0) regular }
+    requires regular { IsLevelFinding Regular (register_of arena.now register.0) regular }
     ensures { IfOk result (IsAtomicityShown arena.now (register_of arena.now register.0) regular.verdict) }
 {
     match judged {
@@ -119,7 +119,7 @@ fn atomicity_of(
     }
 }
 
-/// The line of a register, from what is found of it, or an error if memory runs out.
+/// The line of a register, from what is found of it.
 pub(crate) fn register_report(
     alloc: Global,
     arena: &Arena,

@@ -5,7 +5,7 @@ ghost use Rattle.reg_report.specs.SummaryText.{yes_or_no_text, beginning_text, e
 ghost use Rattle.reg_report.specs.Text.{line_text, summary_json};
 
 use crate::report::Report;
-use crate::written::summary_line;
+use crate::bytes::summary_line;
 use itoa::Buffer;
 use rayon::prelude::*;
 use std::alloc::{AllocError, Global};
@@ -14,7 +14,7 @@ use std::thread::Threads;
 /// How many numbers of a long order one thread writes at a time.
 const PART: usize = 16_384;
 
-/// The numbers, each behind a comma.
+/// The numbers, each after a comma.
 fn text_of(alloc: Global, numbers: &[u32]) -> Result<Vec<u8>, AllocError>
     ensures { IfOk result (λ text. text.items ≡ numbers_text numbers.now) }
 {
@@ -66,7 +66,7 @@ fn beginning(alloc: Global, report: &Report, first: u32) -> Result<Vec<u8>, Allo
     Ok(text.into_bytes())
 }
 
-/// The last line from behind the numbers of its order on, and its line feed.
+/// The rest of the last line, after the numbers of its order, and its line feed.
 fn end(alloc: Global, registers: u32) -> Result<Vec<u8>, AllocError>
     ensures { IfOk result (λ text. text.items ≡ end_text registers) }
 {
@@ -103,7 +103,7 @@ fn unordered(alloc: Global, report: &Report) -> Result<Vec<Vec<u8>>, AllocError>
     Ok(parts)
 }
 
-/// The last line of a report and its line feed in parts, in order, or an error if memory runs out.
+/// The last line of a report and its line feed in parts, in order.
 pub(crate) fn summary_text(
     rt: &(impl Threads + Sync),
     alloc: Global,
