@@ -1,18 +1,13 @@
 -- The text of the registers' lines, made part by part from what is found of them, is that of all their lines.
-use Rattle.std.proofs.Common.{◌≡◌, ◌∙◌, ℕ, suc, ◌+◌, ◌<◌, List, [], ◌∷◌, ◌++◌, length, map, take, get_or, Result, Ok, Err, Vec, Global, refl, sym, ap, subst, flat_map, append-nil, arith}
-use Rattle.std.specs.Prelude.{All, IfOk, MatchResult, Contains}
+use Rattle.std.proofs.Common.{◌≡◌, ◌∙◌, ℕ, suc, ◌+◌, ◌<◌, List, [], ◌∷◌, ◌++◌, length, take, get_or, Vec, Global, refl, sym, ap, subst, flat_map, append-nil, arith}
 use Rattle.std.specs.List.{AllZip}
 use Rattle.std.proofs.Math.Seq.{take-suc}
 use Rattle.std.proofs.lemmas.List.Concat.{flat_map-append}
-use Rattle.std.proofs.lemmas.Option.{slice_get-get_or}
-use Rattle.rayon.specs.Lists.{chunks_of}
-use Rattle.rayon.proofs.ListFacts.{AllZip-append}
-use Rattle.rayon.proofs.ToStd.{chunks_of-concat}
 use Rattle.serde_json.specs.Written.{compact_text}
 use Rattle.history_model.specs.History.{History}
 use Rattle.reg_report.specs.ReportText.{IsLinesText, IsTextOf}
 use Rattle.reg_report.specs.Meaning.{IsRegisterReport}
-use Rattle.reg_report.specs.Registers.{AreFindings, IsFinding}
+use Rattle.reg_report.specs.Registers.{AreFindings}
 use Rattle.reg_report.specs.Text.{line_text, register_json, registers_text, report_text, summary_json}
 use Rattle.reg_report.specs.declared.findings.Finding.{Finding}
 use Rattle.reg_report.specs.declared.report.RegReport.{RegReport}
@@ -22,18 +17,20 @@ use Rattle.reg_report.proofs.Joined.{lines-append}
 use Rattle.reg_report.proofs.Pushing.{bytes-of}
 
 module _ (h : History) where
-  -- what is found of all registers is so, one by one
-  pub all-found : (findings : List Finding) → AreFindings h findings → All (IsFinding h) findings
-  all-found findings a i d inside = (a.each i (get_or findings i d) (slice_get-get_or findings i d inside)).1
-
   abbrev Fits : Finding → RegReport → Type 0
   Fits finding reg = IsRegisterReport h finding.register.0 reg
+
+  both-fit : (fs gs : List Finding) (rs ss : List RegReport) → AllZip Fits fs rs → AllZip Fits gs ss → AllZip Fits (fs ++ gs) (rs ++ ss)
+  both-fit [] gs [] ss a b = b
+  both-fit [] gs (r ∷ rs) ss a b = absurd a
+  both-fit (f ∷ fs) gs [] ss a b = absurd a
+  both-fit (f ∷ fs) gs (r ∷ rs) ss a b = (a.0, both-fit fs gs rs ss a.1 b)
 
   -- two texts, one after the other
   texts-joined : (fs gs : List Finding) (bs cs : List ℕ) → IsTextOf h fs bs → IsTextOf h gs cs → IsTextOf h (fs ++ gs) (bs ++ cs)
   texts-joined fs gs bs cs a b = (
     a.0 ++ b.0,
-    AllZip-append Fits fs gs a.0 b.0 a.1 b.1,
+    both-fit fs gs a.0 b.0 a.1 b.1,
     ap (λ l. l ++ cs) a.2 ∙ (ap (λ l. registers_text a.0 ++ l) b.2 ∙ sym (lines-append a.0 b.0)),
   )
 
@@ -49,30 +46,21 @@ module _ (h : History) where
       let more : take (i + 1) findings ≡ take i findings ++ d ∷ [] = ap (λ n. take n findings) next ∙ (take-suc findings i d inside ∙ ap (λ x. take i findings ++ x ∷ []) (sym at)) in
       subst (λ fs. IsTextOf h fs new) (sym more) (subst (IsTextOf h (take i findings ++ d ∷ [])) (sym made) (texts-joined (take i findings) (d ∷ []) out (bytes ++ 10 ∷ []) before here))
 
-  module _ (E : Type 0) where
-    -- a text that was made is that of its part
-    abbrev IsMade : List Finding → Result (Vec ℕ Global) E → Type 0
-    IsMade part made = IfOk made (λ bytes. IsTextOf h part bytes.items)
+  all_made : (parts : List (List Finding)) (texts : List (Vec ℕ Global)) → AllZip (λ (part : List Finding) (text : Vec ℕ Global). IsTextOf h part text.items) parts texts
+      → IsTextOf h (flat_map (λ (part : List Finding). part) parts) (bytes-of texts)
+  all_made [] [] each = ([], tt, refl)
+  all_made [] (text ∷ texts) each = absurd each
+  all_made (part ∷ parts) [] each = absurd each
+  all_made (part ∷ parts) (text ∷ texts) each =
+      texts-joined part (flat_map (λ (one : List Finding). one) parts) text.items (bytes-of texts) each.0 (all_made parts texts each.1)
 
-    all_made : (parts : List (List Finding)) (texts : List (Vec ℕ Global)) → AllZip IsMade parts (map Ok texts) → IsTextOf h (flat_map (λ (part : List Finding). part) parts) (flat_map (λ (text : Vec ℕ Global). text.items) texts)
-    all_made [] [] each = ([], tt, refl)
-    all_made [] (text ∷ texts) each = absurd each
-    all_made (part ∷ parts) [] each = absurd each
-    all_made (part ∷ parts) (text ∷ texts) each =
-        texts-joined part (flat_map (λ (one : List Finding). one) parts) text.items (flat_map (λ (one : Vec ℕ Global). one.items) texts) each.0 (all_made parts texts each.1)
-
-    -- the texts of the parts of what is found of all registers are the text of all their lines
-    pub texts-made : (size : ℕ) (findings : List Finding) (each : List (Result (Vec ℕ Global) E)) (made : Result (Vec (Vec ℕ Global) Global) E)
-        → 0 < size
-        → AreFindings h findings
-        → AllZip IsMade (chunks_of size findings) each
-        → MatchResult made (λ v. (texts : List (Vec ℕ Global)) × (each ≡ map Ok texts) × (v.items ≡ texts)) (λ e. Contains each (Err e))
-        → IfOk made (λ v. IsLinesText h (flat_map (λ text. text.items) v.items))
-    texts-made size findings each (Ok v) pos a is got =
-        let parts = all_made (chunks_of size findings) got.0 (subst (AllZip IsMade (chunks_of size findings)) got.1 is) in
-        let whole = subst (λ fs. IsTextOf h fs (flat_map (λ (text : Vec ℕ Global). text.items) got.0)) (chunks_of-concat size findings pos) parts in
-        (whole.0, lines-of h findings whole.0 a whole.1, ap (flat_map (λ (text : Vec ℕ Global). text.items)) got.2 ∙ whole.2)
-    texts-made size findings each (Err e) pos a is got = tt
+  -- the texts of the parts of what is found of all registers are the text of all their lines
+  pub texts-made : (findings : List Finding) (parts : List (List Finding)) (texts : List (Vec ℕ Global))
+      → AreFindings h findings → flat_map (λ (part : List Finding). part) parts ≡ findings
+      → AllZip (λ (part : List Finding) (text : Vec ℕ Global). IsTextOf h part text.items) parts texts → IsLinesText h (bytes-of texts)
+  texts-made findings parts texts a is each =
+      let whole = subst (λ fs. IsTextOf h fs (bytes-of texts)) is (all_made parts texts each) in
+      (whole.0, lines-of h findings whole.0 a whole.1, whole.2)
 
 -- the summary's parts behind those of the registers' lines
 pub summary-behind : (parts more all : List (Vec ℕ Global)) (report : Report)

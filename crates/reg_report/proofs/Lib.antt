@@ -1,7 +1,7 @@
 mod Fields
 mod Following
 mod Joined
-mod InParts
+mod Results
 mod Tallying
 mod Naming
 mod MergedLines

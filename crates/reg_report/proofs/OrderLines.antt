@@ -1,9 +1,7 @@
 -- The lines of an order by names are those of its operations, and its calls and points are events.
 use Rattle.std.proofs.Common.{◌≡◌, ℕ, zero, suc, ◌+◌, ◌-◌, ◌<◌, ◌≤◌, cond, List, [], ◌∷◌, ◌++◌, append_assoc, drop, length, map, get_or, slice_get, Option, Some, None, is_some, inl, inr, refl, sym, ap, subst, ◌∙◌, arith}
-use Rattle.std.proofs.lemmas.Option.{same_Some, slice_get_within, slice_get-get_or}
+use Rattle.std.proofs.lemmas.Option.{slice_get_within, slice_get-get_or}
 use Rattle.std.proofs.lemmas.List.{drop_more}
-use Rattle.history_text.proofs.InOrder.{parts-All}
-use Rattle.rayon.specs.Lists.{chunks_of}
 use Rattle.history_model.specs.Lists.{In}
 use Rattle.history_model.specs.History.{History}
 use Rattle.history_model.specs.Operations.{Operation, operations, register_of}
@@ -135,11 +133,3 @@ line-apart (Called i) n xs ys = refl
 pub lines-append : (line : Placed → ℕ) (xs ys : List Placed) → lines_by line (xs ++ ys) ≡ lines_by line xs ++ lines_by line ys
 lines-append line [] ys = refl
 lines-append line (x ∷ xs) ys = ap (line_if_called x.oper (line x)) (lines-append line xs ys) ∙ line-apart x.oper (line x) (lines_by line xs) (lines_by line ys)
-
--- the calls of an order's parts are events too
-pub part-calls : (h : History) (size : ℕ) (order : List Placed) → HaveCalls h order → (k : ℕ) (d : List Placed) → k < length (chunks_of size order) → HaveCalls h (get_or (chunks_of size order) k d)
-part-calls h size order has k d within i x at =
-    let each = parts-All (λ (y : Placed). HasCall h y.oper) size order (λ j e l. has j (get_or order j e) (slice_get-get_or order j e l)) k d within in
-    let part = get_or (chunks_of size order) k d in
-    let inside = slice_get_within part i x at in
-    subst (λ (y : Placed). HasCall h y.oper) (same_Some _ _ (sym (slice_get-get_or part i x inside) ∙ at)) (each i x inside)

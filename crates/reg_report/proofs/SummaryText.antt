@@ -35,7 +35,7 @@ three-parts report n ns is =
     let count = decimal report.operations in
     let many = decimal report.registers in
     let line : List ℕ → List ℕ → List ℕ = λ answer numbers.
-        (codes "{\"atomic\":" ++ (answer ++ (codes ",\"operations\":" ++ (count ++ (codes ",\"order\":[" ++ ((decimal n ++ numbers) ++ (codes ",\"registers\":" ++ (many ++ 125 ∷ [])))))))) ++ 10 ∷ [] in
+    (codes "{\"atomic\":" ++ (answer ++ (codes ",\"operations\":" ++ (count ++ (codes ",\"order\":[" ++ ((decimal n ++ numbers) ++ (codes ",\"registers\":" ++ (many ++ 125 ∷ [])))))))) ++ 10 ∷ [] in
     rw is (
     ap (λ answer. line answer (items_text true (items_of (map number_json ns)))) (yes_or_no-quoted report.atomic)
     ∙ (ap (line (34 ∷ (yes_or_no_text report.atomic ++ 34 ∷ []))) (later-numbers ns)

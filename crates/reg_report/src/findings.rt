@@ -13,10 +13,11 @@ ghost use Rattle.reg_report.specs.Tally.{AreCallCounts, AreTallies};
 use crate::levels::{Levels, levels_of};
 use crate::tally::{CallCounts, Tally, count_calls};
 use history_model::RegId;
+use parallel::both;
 use reg_arena::Arena;
 use reg_pieces::{Gate, Judgement, Pieces, Plan, Settings, do_pieces, plan_in_parts};
 use std::alloc::{AllocError, Global};
-use std::thread::{Threads, join};
+use std::thread::Threads;
 
 /// What is found of one register: all that its line says.
 #[derive(Drop)]
@@ -92,7 +93,7 @@ pub(crate) fn find<R: Threads + Sync, G: Gate + Sync>(
     ensures { IfOk result (λ found. AreFindings arena.now found.0.items × (found.1 ≡ length (calls arena.now.events))) }
 {
     let plan = plan_in_parts(rt, alloc, arena, settings)?;
-    let (counts, pieces) = join(
+    let (counts, pieces) = both(
         rt,
         || -> Result<CallCounts, AllocError>
             ensures { IfOk result (AreCallCounts arena.entry.now) }

@@ -8,6 +8,7 @@ ghost use Rattle.reg_report.specs.Meaning.{IsWholeAtomicity};
 ghost use Rattle.reg_report.specs.Registers.{AreFindings, IsFinding};
 ghost use Rattle.reg_report.specs.Text.{line_text, summary_json};
 
+use crate::bytes::{put_line, register_line};
 use crate::findings::Finding;
 use crate::history::whole_order_in_parts;
 use crate::lists::{Lines, Registers};
@@ -16,16 +17,10 @@ use crate::register::register_report;
 use crate::report::Report;
 use crate::report_text::ReportText;
 use crate::summary_text::summary_text;
-use crate::bytes::{put_line, register_line};
-use rayon::current_num_threads;
-use rayon::prelude::*;
+use parallel::{REGISTER_PARTS, both, map_parts, share_size};
 use reg_arena::Arena;
 use std::alloc::{AllocError, Global};
-use std::thread::{Threads, join};
-
-/// At most how many parts the lines of many registers are made in: enough for each thread to have some, and so few that they
-/// cost little beside the lines.
-const PARTS: usize = 64;
+use std::thread::Threads;
 
 /// The lines of some registers, one after another, each written before the next is made.
 fn lines_text(alloc: Global, arena: &Arena, findings: &[Finding]) -> Result<Vec<u8>, AllocError>
@@ -45,11 +40,10 @@ fn lines_text(alloc: Global, arena: &Arena, findings: &[Finding]) -> Result<Vec<
 fn part_size(rt: &impl Threads, count: usize) -> usize
     ensures { 0 < result }
 {
-    if count < PARTS {
-        let others = current_num_threads(rt).saturating_sub(1).max(1);
-        (count / others).max(1)
+    if count < REGISTER_PARTS {
+        share_size(rt, count, 1)
     } else {
-        count / PARTS + 1
+        count / REGISTER_PARTS + 1
     }
 }
 
@@ -63,17 +57,16 @@ fn lines_in_parts(
     requires { AreFindings arena.now findings.now }
     ensures { IfOk result (λ parts. IsLinesText arena.now (flat_map (λ part. part.items) parts.items)) }
 {
-    // A register's line may be long, so even one part is worth a thread.
-    findings
-        .par_chunks(part_size(rt, findings.len()))
-        .with_min_len(1)
-        .map(
-            |part: &[Finding]| -> Result<Vec<u8>, AllocError>
-                requires { All (IsFinding arena.now) part.now }
-                ensures { IfOk result (λ bytes. IsTextOf arena.entry.now part.now bytes.items) }
-            { lines_text(alloc, arena, part) },
-        )
-        .collect::<Result<Vec<Vec<u8>>, AllocError>>(rt, alloc)?
+    map_parts(
+        rt,
+        alloc,
+        findings,
+        part_size(rt, findings.len()),
+        |part: &[Finding]| -> Result<Vec<u8>, AllocError>
+            requires { All (IsFinding arena.now) part.now }
+            ensures { IfOk result (λ bytes. IsTextOf arena.entry.now part.now bytes.items) }
+        { lines_text(alloc, arena, part) },
+    )
 }
 
 /// The merged order, if each register is atomic, and beside it the registers' lines in parts.
@@ -87,7 +80,7 @@ fn order_and_lines<T: Threads + Sync>(
     ensures order { IfOk result (λ made. IsWholeAtomicity arena.now (is_some made.0) made.0) }
     ensures lines { IfOk result (λ made. IsLinesText arena.now (flat_map (λ part. part.items) made.1.items)) }
 {
-    let (order, lines) = join(
+    let (order, lines) = both(
         rt,
         || -> Result<Option<Lines>, AllocError>
             requires { IsSync T.row × AreFindings arena.now findings.now }
@@ -112,7 +105,7 @@ fn summary_beside_drop<T: Threads + Sync>(
 ) -> Result<Vec<Vec<u8>>, AllocError>
     ensures { IfOk result (λ parts. flat_map (λ part. part.items) parts.items ≡ line_text (summary_json report.now)) }
 {
-    let (parts, ()) = join(
+    let (parts, ()) = both(
         rt,
         || -> Result<Vec<Vec<u8>>, AllocError>
             requires { IsSync T.row }

@@ -5,20 +5,20 @@ ghost use Rattle.history_model.specs.Operations.{calls};
 ghost use Rattle.reg_report.specs.Meaning.{IsRegisterReport, IsReport, IsWholeAtomicity};
 ghost use Rattle.reg_report.specs.Registers.{AreFindings, AreGatheredIfAtomic, AreLines, IsFinding, IsMergedIfAtomic};
 
+use crate::arena_laws::arena_laws;
 use crate::findings::Finding;
 use crate::lists::{Lines, Registers};
-use crate::merged_order::merge_gathered;
 use crate::merged_lines::merged_lines_in_parts;
+use crate::merged_order::merge_gathered;
 use crate::order_lines::order_lines;
 use crate::register::register_report;
 use crate::report::{RegReport, Report};
-use crate::arena_laws::arena_laws;
-use rayon::prelude::*;
+use parallel::{both, map_each};
 use reg_arena::Arena;
 use reg_pieces::Judgement;
 use reg_zones::Placed;
 use std::alloc::{AllocError, Global};
-use std::thread::{Threads, join};
+use std::thread::Threads;
 
 /// The lines of all registers, in the order of their first calls.
 fn register_reports(
@@ -47,16 +47,16 @@ fn register_reports_in_parts(
     ensures { IfOk result (λ regs. AreLines arena.now regs.items) }
 {
     // A register's line may be long, so even one is worth a thread.
-    findings
-        .par_iter()
-        .with_min_len(1)
-        .map(
-            |finding: &Finding| -> Result<RegReport, AllocError>
-                requires { IsFinding arena.now finding.now }
-                ensures { IfOk result (IsRegisterReport arena.entry.now finding.now.register.0) }
-            { register_report(alloc, arena, finding) },
-        )
-        .collect::<Result<Vec<RegReport>, AllocError>>(rt, alloc)?
+    map_each(
+        rt,
+        alloc,
+        findings,
+        1,
+        |finding: &Finding| -> Result<RegReport, AllocError>
+            requires { IsFinding arena.now finding.now }
+            ensures { IfOk result (IsRegisterReport arena.entry.now finding.now.register.0) }
+        { register_report(alloc, arena, finding) },
+    )
 }
 
 /// How many operations the orders of all registers have.
@@ -181,7 +181,7 @@ pub(crate) fn history_report_in_parts<R: Threads + Sync>(
     requires operations { operations ≡ length (calls arena.now.events) }
     ensures { IfOk result (IsReport arena.now) }
 {
-    let (order, regs) = join(
+    let (order, regs) = both(
         rt,
         || -> Result<Option<Lines>, AllocError>
             requires { IsSync R.row × AreFindings arena.now findings.now }

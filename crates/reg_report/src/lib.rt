@@ -49,8 +49,8 @@ mod whole;
 mod wording;
 
 pub use alone::check_alone;
-pub use bytes::text;
 pub use byte_ends::{FromReader, FromWriter, IoFail, MemSink, MemSource, Sink, Source};
+pub use bytes::text;
 pub use lists::{Lines, Registers};
 pub use merged_order::merge;
 pub use outcome::Outcome;

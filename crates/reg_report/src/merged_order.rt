@@ -3,8 +3,8 @@ ghost use Rattle.std.specs.Prelude.{◌≡◌, length, IfOk};
 ghost use Rattle.std.specs.List.{flat_map};
 ghost use Rattle.reg_report.specs.Merged.{AreGathered, AreOrders, IsMergedAnswer};
 
-use crate::by_point::by_point;
 use crate::arena_laws::arena_laws;
+use crate::by_point::by_point;
 use reg_arena::Arena;
 use reg_pieces::Order;
 use reg_zones::Placed;

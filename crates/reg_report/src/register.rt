@@ -12,13 +12,13 @@ ghost use Rattle.reg_report.specs.Registers.{IsFinding};
 ghost use Rattle.reg_report.specs.declared.report.Verdict.TheVariants.{Yes};
 ghost use Rattle.history_model.specs.Operations.{register_of};
 
+use crate::arena_laws::arena_laws;
 use crate::fault_lines::{fault_lines, lines};
 use crate::findings::Finding;
 use crate::levels::LevelFinding;
 use crate::lists::Lines;
 use crate::order_lines::{order_lines, point_lines};
 use crate::report::{FaultLines, RegReport, Verdict};
-use crate::arena_laws::arena_laws;
 use history_model::RegId;
 use history_text::Name;
 use reg_arena::Arena;

@@ -2,11 +2,11 @@
 ghost use Rattle.std.specs.Prelude.{◌≡◌, true, IfOk};
 ghost use Rattle.reg_report.specs.ReportText.{IsReportText};
 
+use crate::bytes::text;
 use crate::findings::find;
 use crate::findings_text::whole_text;
 use crate::first::report_of_first;
 use crate::outcome::Outcome;
-use crate::bytes::text;
 use reg_arena::Arena;
 use reg_pieces::{Gate, Settings};
 use std::alloc::{AllocError, Global};

@@ -4,15 +4,12 @@ ghost use Rattle.std.specs.Prelude.{◌≡◌, ◌∷◌, Some, flat_map, IfOk};
 ghost use Rattle.reg_report.specs.SummaryText.{yes_or_no_text, beginning_text, end_text, numbers_text};
 ghost use Rattle.reg_report.specs.Text.{line_text, summary_json};
 
-use crate::report::Report;
 use crate::bytes::summary_line;
+use crate::report::Report;
 use itoa::Buffer;
-use rayon::prelude::*;
+use parallel::{NUMBERS, map_parts};
 use std::alloc::{AllocError, Global};
 use std::thread::Threads;
-
-/// How many numbers of a long order one thread writes at a time.
-const PART: usize = 16_384;
 
 /// The numbers, each after a comma.
 fn text_of(alloc: Global, numbers: &[u32]) -> Result<Vec<u8>, AllocError>
@@ -35,16 +32,15 @@ fn text_in_parts(
 ) -> Result<Vec<Vec<u8>>, AllocError>
     ensures { IfOk result (λ parts. flat_map (λ part. part.items) parts.items ≡ numbers_text numbers.now) }
 {
-    // A part is long, so even one is worth a thread.
-    numbers
-        .par_chunks(PART)
-        .with_min_len(1)
-        .map(
-            |part: &[u32]| -> Result<Vec<u8>, AllocError>
-                ensures { IfOk result (λ text. text.items ≡ numbers_text part.now) }
-            { text_of(alloc, part) },
-        )
-        .collect::<Result<Vec<Vec<u8>>, AllocError>>(rt, alloc)?
+    map_parts(
+        rt,
+        alloc,
+        numbers,
+        NUMBERS,
+        |part: &[u32]| -> Result<Vec<u8>, AllocError>
+            ensures { IfOk result (λ text. text.items ≡ numbers_text part.now) }
+        { text_of(alloc, part) },
+    )
 }
 
 fn yes_or_no(yes: bool) -> &'static str
@@ -59,8 +55,7 @@ fn beginning(alloc: Global, report: &Report, first: u32) -> Result<Vec<u8>, Allo
 {
     let atomic = yes_or_no(report.atomic);
     let operations = report.operations;
-    let text = format!(
-        in alloc;
+    let text = format!(in alloc;
         r#"{{"atomic":"{atomic}","operations":{operations},"order":[{first}"#
     )?;
     Ok(text.into_bytes())

@@ -3,9 +3,9 @@ ghost use Rattle.std.specs.Prelude.{◌≡◌, ◌≢◌, ◌⊎◌, ◌-◌, �
 ghost use Rattle.history_text.specs.declared.limits.TheConstants.{MAX_INPUT};
 ghost use Rattle.reg_report.specs.Run.{IsOfInput, IsRefusedWhole, Reports, ReportsBeginning, TellsAtomic};
 
-use crate::report_text::text_by;
 use crate::outcome::Outcome;
 use crate::output::deliver;
+use crate::report_text::text_by;
 use byte_ends::{Sink, Source};
 use reg_intake::{Refusal, arena_of};
 use reg_pieces::{Gate, Settings};

@@ -3,8 +3,8 @@ use Rattle.std.specs.Prelude.{MatchBool}
 use Rattle.reg_pieces.specs.Plan.{IsFirstPlan, IsPlan}
 use Rattle.reg_report.proofs.findings.find.Goals as goal
 
-pub join-counts-requires-after_bounds : goal.join-counts-requires-after_bounds
-join-counts-requires-after_bounds g c κs within =
+pub both-counts-requires-after_bounds : goal.both-counts-requires-after_bounds
+both-counts-requires-after_bounds g c κs within =
     let whole = subst (λ first. MatchBool first (IsFirstPlan c.args.arena.now c.in_ok-plan.plan) (IsPlan c.args.arena.now c.args.settings.cut c.in_ok-plan.plan)) c.requires c.in_ok-plan.ensures.by in
     (tt, ((search rules, whole), (search rules, search rules)))
 
