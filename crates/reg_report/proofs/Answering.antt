@@ -38,7 +38,7 @@ pub refused-by-build : {A : Type 0} (first : Bool) (input : List ℕ) (lines : L
 refused-by-build first input lines e (Ok a) within same refused passed = absurd passed
 refused-by-build first input lines e (Err refusal) within same refused passed = subst (IsRefused first input) (sym passed) (refused-within first input e within (subst (λ ls. IsBuildError ls e) same refused))
 
--- the want of memory that is passed on
+-- running out of memory, which is passed on
 pub refused-without-memory : {A : Type 0} (first : Bool) (input : List ℕ) (r : Result A Refusal) → IsErrAnd r (λ refusal. refusal ≡ NoRoom) → IfErr r (IsRefused first input)
 refused-without-memory first input (Ok a) passed = absurd passed
 refused-without-memory first input (Err refusal) passed = inl passed

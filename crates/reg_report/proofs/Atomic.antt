@@ -14,7 +14,7 @@ use Rattle.reg_report.specs.Lines.{HaveCalls, HavePoints, call_line, point_line,
 use Rattle.reg_report.specs.Meaning.{IsAtomicity, IsWholeAtomicity}
 use Rattle.reg_report.specs.Merged.{AreFirstOrders, AreGathered, IsMergedAnswer}
 use Rattle.reg_report.specs.Registers.{IsSomeNotAtomic}
-use Rattle.reg_report.specs.Told.{IsTold}
+use Rattle.reg_report.specs.ArenaLaws.{ObeysLaws}
 use Rattle.reg_pieces.specs.declared.judgement.Judgement.TheVariants.{Order}
 use Rattle.reg_pieces.proofs.Pushed.{push-cases}
 use Rattle.reg_report.proofs.OrderLines.{calls-lines, points-lines, calls-there, points-there, placed-inside}
@@ -22,7 +22,7 @@ use Rattle.reg_report.proofs.Locality.{each}
 
 -- ---- one register
 
-module _ (h : History) (t : IsTold h) (r : ℕ) (order : List Placed) (x : IsOrder (register_of h r) order) where
+module _ (h : History) (t : ObeysLaws h) (r : ℕ) (order : List Placed) (x : IsOrder (register_of h r) order) where
   inside : (y : PlacedOperation) → In y (placed x.order) → In y.operation (operations h)
   inside = placed-inside h t r x.order x.legal.completion.only
 
@@ -70,7 +70,7 @@ one-gathered-more h n gathered order a x = (
   ap (λ g. g ++ order) a.2 ∙ sym (flat_map-append (λ (o : List Placed). o) a.0 (order ∷ []) ∙ ap (λ t. flat_map (λ (o : List Placed). o) a.0 ++ t) (append-nil order)),
 )
 
-module _ (h : History) (t : IsTold h) where
+module _ (h : History) (t : ObeysLaws h) where
   pub merged-calls : (answer : List Placed) → IsMergedAnswer h answer → HaveCalls h answer
   merged-calls answer m = subst (HaveCalls h) (sym m.is) (calls-there h t m.merged (λ x i. m.whole.legal.completion.only x.operation (In-map (λ (y : PlacedOperation). y.operation) x m.merged i)))
 

@@ -1,12 +1,10 @@
 -- What is found of each register makes the lines of all registers.
-use Rattle.std.proofs.Common.{◌≡◌, ℕ, zero, suc, ◌+◌, ◌<◌, List, [], ◌∷◌, ◌++◌, length, map, slice_get, get_or, Result, Ok, Err, Some, Vec, Global, inl, inr, refl, sym, ap, subst, ◌∙◌, arith}
-use Rattle.std.specs.Prelude.{IfOk, MatchResult, Contains}
-use Rattle.std.specs.List.{AllZip}
+use Rattle.std.proofs.Common.{◌≡◌, ℕ, zero, suc, ◌+◌, ◌<◌, List, [], ◌∷◌, ◌++◌, length, slice_get, get_or, Some, inl, inr, refl, sym, ap, subst, ◌∙◌, arith}
 use Rattle.std.proofs.lemmas.List.{length_push}
 use Rattle.std.proofs.lemmas.Option.{same_Some, slice_get-get_or, slice_get_read, slice_get_within}
 use Rattle.history_model.specs.History.{History}
 use Rattle.reg_pieces.proofs.Pushed.{push-cases}
-use Rattle.reg_report.specs.FoundText.{AreLinesOf}
+use Rattle.reg_report.specs.ReportText.{AreLinesOf}
 use Rattle.reg_report.specs.Meaning.{IsRegisterReport}
 use Rattle.reg_report.specs.Registers.{AreFindings, AreFirstFindings, AreFirstLines, AreLines, IsFinding}
 use Rattle.reg_report.specs.declared.findings.Finding.{Finding}
@@ -63,23 +61,3 @@ module _ (h : History) where
         lines = all.0 ∙ a.count;
         each = λ r reg q. let f = all.1 r reg q in subst (λ m. IsRegisterReport h m reg) (a.each r f.0 f.1).0 f.2;
       }
-
-  module _ (E : Type 0) where
-    -- a line that was made is that of the finding's register
-    abbrev IsMade : Finding → Result RegReport E → Type 0
-    IsMade finding made = IfOk made (IsRegisterReport h finding.register.0)
-
-    all_made : (findings : List Finding) (regs : List RegReport) → AllZip IsMade findings (map Ok regs) → AreLinesOf h findings regs
-    all_made [] [] each = tt
-    all_made [] (reg ∷ regs) each = absurd each
-    all_made (finding ∷ findings) [] each = absurd each
-    all_made (finding ∷ findings) (reg ∷ regs) each = (each.0, all_made findings regs each.1)
-
-    pub lines-made : (findings : List Finding) (each : List (Result RegReport E)) (made : Result (Vec RegReport Global) E)
-        → AreFindings h findings
-        → AllZip IsMade findings each
-        → MatchResult made (λ v. (regs : List RegReport) × (each ≡ map Ok regs) × (v.items ≡ regs)) (λ e. Contains each (Err e))
-        → IfOk made (λ v. AreLines h v.items)
-    lines-made findings each (Ok v) a is got =
-        subst (AreLines h) (sym got.2) (lines-of findings got.0 a (all_made findings got.0 (subst (AllZip IsMade findings) got.1 is)))
-    lines-made findings each (Err e) a is got = tt

@@ -14,14 +14,14 @@ use Rattle.reg_report.specs.Answer.{IsAnswer, IsAnswerToLines, outcome_of}
 use Rattle.reg_report.specs.First.{AreFoundLines, IsReportBy}
 use Rattle.reg_report.specs.Meaning.{IsRegisterReport, IsWholeAtomicity}
 use Rattle.reg_report.specs.Run.{IsOutcome}
-use Rattle.reg_report.specs.Told.{IsTold}
+use Rattle.reg_report.specs.ArenaLaws.{ObeysLaws}
 use Rattle.reg_report.specs.declared.outcome.Outcome.TheVariants.{Atomic, NotAtomic}
 use Rattle.reg_intake.specs.declared.refusal.Refusal.TheVariants.{TooLong}
 use Rattle.reg_report.specs.declared.report.RegReport.{RegReport}
 use Rattle.reg_report.specs.declared.report.Report.{Report}
 use Rattle.reg_report.proofs.Locality.{each, nothing_atomic}
 
-module _ (h : History) (t : IsTold h) (found : Option RegId) (regs : List RegReport) (f : IsFirstFound h found) where
+module _ (h : History) (t : ObeysLaws h) (found : Option RegId) (regs : List RegReport) (f : IsFirstFound h found) where
   pub no-line : found ≡ None → regs ≡ [] → AreFoundLines h (is_none found) regs
   no-line e q = subst (λ o. AreFoundLines h (is_none o) regs) (sym e) (whole, q)
     where

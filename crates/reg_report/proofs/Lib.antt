@@ -1,7 +1,7 @@
 mod Fields
 mod Following
 mod Joined
-mod InParts
+mod Results
 mod Tallying
 mod Naming
 mod MergedLines
@@ -17,7 +17,7 @@ mod OrderLines
 mod Atomic
 mod Counting
 mod Found
-mod FoundText
+mod FindingsText
 mod SummaryText
 mod OneReport
 mod Cutting

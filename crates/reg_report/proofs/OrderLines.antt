@@ -1,9 +1,7 @@
 -- The lines of an order by names are those of its operations, and its calls and points are events.
 use Rattle.std.proofs.Common.{◌≡◌, ℕ, zero, suc, ◌+◌, ◌-◌, ◌<◌, ◌≤◌, cond, List, [], ◌∷◌, ◌++◌, append_assoc, drop, length, map, get_or, slice_get, Option, Some, None, is_some, inl, inr, refl, sym, ap, subst, ◌∙◌, arith}
-use Rattle.std.proofs.lemmas.Option.{same_Some, slice_get_within, slice_get-get_or}
+use Rattle.std.proofs.lemmas.Option.{slice_get_within, slice_get-get_or}
 use Rattle.std.proofs.lemmas.List.{drop_more}
-use Rattle.history_text.proofs.InOrder.{parts-All}
-use Rattle.rayon.specs.Lists.{chunks_of}
 use Rattle.history_model.specs.Lists.{In}
 use Rattle.history_model.specs.History.{History}
 use Rattle.history_model.specs.Operations.{Operation, operations, register_of}
@@ -20,7 +18,7 @@ use Rattle.reg_zones.proofs.Points.{after_call, reached, placed-In}
 use Rattle.reg_zones.proofs.Registers.{cases_process}
 use Rattle.reg_report.specs.Lines.{HasCall, HasPoint, HaveCalls, HavePoints, call_of, line_if_called, call_line, point_line, lines_by}
 use Rattle.reg_report.specs.Meaning.{line_at, lines_of, points_of, without_initial}
-use Rattle.reg_report.specs.Told.{IsTold}
+use Rattle.reg_report.specs.ArenaLaws.{ObeysLaws}
 use Rattle.history_model.proofs.Recorded.{of_register-In}
 
 slice_get-line : (events : List Event) (i : ℕ) (e : Event) → slice_get events i ≡ Some e → get_or (map (λ e. e.line) events) i 0 ≡ e.line
@@ -32,7 +30,7 @@ slice_get-line (x ∷ events) (suc i) e s = slice_get-line events i e s
 pub line_at-event : (events : List Event) (t i : ℕ) (e : Event) → t - 2 ≡ i → slice_get events i ≡ Some e → line_at events t ≡ e.line
 line_at-event events t i e q s = ap (λ n. get_or (map (λ (y : Event). y.line) events) n 0) q ∙ slice_get-line events i e s
 
-module _ (h : History) (t : IsTold h) where
+module _ (h : History) (t : ObeysLaws h) where
   -- an operation that a process called has its call among the events, at or after time 2
   called : (o : Operation) (p : ℕ) → In o (operations h) → o.process ≡ Some p → (o.call - 2 < length h.events) × (2 ≤ o.call) × (line_at h.events (o.call - 2 + 2) ≡ o.line)
   called o p i e =
@@ -135,11 +133,3 @@ line-apart (Called i) n xs ys = refl
 pub lines-append : (line : Placed → ℕ) (xs ys : List Placed) → lines_by line (xs ++ ys) ≡ lines_by line xs ++ lines_by line ys
 lines-append line [] ys = refl
 lines-append line (x ∷ xs) ys = ap (line_if_called x.oper (line x)) (lines-append line xs ys) ∙ line-apart x.oper (line x) (lines_by line xs) (lines_by line ys)
-
--- the calls of an order's parts are events too
-pub part-calls : (h : History) (size : ℕ) (order : List Placed) → HaveCalls h order → (k : ℕ) (d : List Placed) → k < length (chunks_of size order) → HaveCalls h (get_or (chunks_of size order) k d)
-part-calls h size order has k d within i x at =
-    let each = parts-All (λ (y : Placed). HasCall h y.oper) size order (λ j e l. has j (get_or order j e) (slice_get-get_or order j e l)) k d within in
-    let part = get_or (chunks_of size order) k d in
-    let inside = slice_get_within part i x at in
-    subst (λ (y : Placed). HasCall h y.oper) (same_Some _ _ (sym (slice_get-get_or part i x inside) ∙ at)) (each i x inside)

@@ -1,4 +1,4 @@
--- A beginning that was pushed, and the next of it; parts that were pushed one behind the other.
+-- A beginning that was pushed, and the next of it; parts that were pushed in order.
 use Rattle.std.proofs.Common.{◌≡◌, ◌∙◌, ℕ, suc, ◌+◌, ◌-◌, ◌<◌, ◌≤◌, List, [], ◌∷◌, ◌++◌, Vec, Global, length, take, drop, get_or, flat_map, Option, ap, sym, subst, arith, append_assoc, append-nil, length-drop}
 use Rattle.std.proofs.Math.Seq.{take-add, take-append-add, take-suc}
 use Rattle.std.proofs.lemmas.List.{take_all, take-append-drop, take-append-le}
@@ -16,7 +16,7 @@ Appends-next a b c whole i n le before next =
     let added = Appends-trans a b c (take i whole) (take n (drop i whole)) before (subst (λ z. Appends b c (take n z)) same next) in
     subst (λ z. Appends a c z) (sym (take-add i n whole)) added
 
--- the bytes of parts, one behind the other
+-- the bytes of parts, in order
 abbrev pub bytes-of : List (Vec ℕ Global) → List ℕ
 bytes-of parts = flat_map (λ (part : Vec ℕ Global). part.items) parts
 

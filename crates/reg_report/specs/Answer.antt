@@ -33,6 +33,6 @@ outcome_of report = cond report.atomic Atomic NotAtomic
 abbrev pub IsAnswerText : Bool → List ℕ → List ℕ → Outcome → Type 0
 IsAnswerText first input bytes told = (report : Report) × IsAnswer first input (Ok report) × (bytes ≡ report_text report) × (told ≡ outcome_of report)
 
--- why there is no answer: the refusal is the answer, or memory was refused
+-- why there is no answer: the refusal is the answer, or memory ran out
 abbrev pub IsRefused : Bool → List ℕ → Refusal → Type 0
 IsRefused first input refusal = (refusal ≡ NoRoom) ⊎ IsAnswer first input (Err refusal)

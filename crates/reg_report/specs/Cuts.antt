@@ -12,7 +12,7 @@ cuts_ahead (Judge r ∷ ts) = 0
 cuts_ahead (Reads r from to ∷ ts) = suc (cuts_ahead ts)
 cuts_ahead (First r ∷ ts) = 0
 
--- the tasks begin with all cuts of so many reads of register r, and no other
+-- the tasks begin with all cuts of `len` reads of register r, and no other
 abbrev pub HasCuts : ℕ → ℕ → List Task → Type 0
 HasCuts r len tasks = (cut : ℕ) × (cuts : List Task) × (rest : List Task) × AreCuts cut r 0 len cuts × (tasks ≡ cuts ++ rest) × (cuts_ahead rest ≡ 0)
 

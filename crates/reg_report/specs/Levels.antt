@@ -4,12 +4,12 @@ use Rattle.history_model.specs.Operations.{Operation}
 use Rattle.reg_lamport.specs.declared.level.Level.{Level}
 use Rattle.reg_lamport.specs.declared.level.Level.TheVariants.{Safe, Regular}
 use Rattle.reg_report.specs.Meaning.{IsVerdict}
-use Rattle.reg_report.specs.declared.levels.LevelAnswer.{LevelAnswer}
+use Rattle.reg_report.specs.declared.levels.LevelFinding.{LevelFinding}
 use Rattle.reg_report.specs.declared.levels.Levels.{Levels}
 
-abbrev pub IsLevelAnswer : Level → List Operation → LevelAnswer → Type 0
-IsLevelAnswer level ops a = IsVerdict level ops a.verdict a.read
+abbrev pub IsLevelFinding : Level → List Operation → LevelFinding → Type 0
+IsLevelFinding level ops a = IsVerdict level ops a.verdict a.read
 
 pub record AreLevels (ops : List Operation) (answers : Levels) : Type 0 where
-  pub at_safe : IsLevelAnswer Safe ops answers.safe
-  pub at_regular : IsLevelAnswer Regular ops answers.regular
+  pub at_safe : IsLevelFinding Safe ops answers.safe
+  pub at_regular : IsLevelFinding Regular ops answers.regular

@@ -4,7 +4,7 @@ pub mod ByPoint
 pub mod Merged
 pub mod Meaning
 pub mod First
-pub mod Told
+pub mod ArenaLaws
 pub mod Lines
 pub mod Tally
 pub mod Named
@@ -12,7 +12,7 @@ pub mod Levels
 pub mod Atomicity
 pub mod Registers
 pub mod Answer
-pub mod FoundText
+pub mod ReportText
 pub mod SummaryText
 pub mod Ends
 pub mod Run

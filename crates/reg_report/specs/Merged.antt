@@ -37,7 +37,7 @@ pub record AreFirstOrders (h : History) (n : ℕ) (orders : List (List Placed)) 
 abbrev pub AreOrders : History → List (List Placed) → Type 0
 AreOrders h orders = AreFirstOrders h (length h.names) orders
 
--- the canonical orders of the registers below n, one behind the other
+-- the canonical orders of the registers below n, one after another
 abbrev pub AreGathered : History → ℕ → List Placed → Type 0
 AreGathered h n gathered = (orders : List (List Placed)) × AreFirstOrders h n orders × (gathered ≡ flat_map (λ order. order) orders)
 

@@ -43,7 +43,7 @@ AreLines h regs = AreFirstLines h (length h.names) regs
 abbrev pub IsSomeNotAtomic : History → Type 0
 IsSomeNotAtomic h = (r : ℕ) × (r < length h.names) × (IsAtomic (register_of h r) → ⊥)
 
--- the canonical orders of all registers, one behind the other, or one of these isn't atomic
+-- the canonical orders of all registers, one after another, or one of these isn't atomic
 abbrev pub AreGatheredIfAtomic : History → Option (Vec Placed Global) → Type 0
 AreGatheredIfAtomic h (Some gathered) = AreGathered h (length h.names) gathered.items
 AreGatheredIfAtomic h None = IsSomeNotAtomic h

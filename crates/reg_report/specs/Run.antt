@@ -14,7 +14,7 @@ use Rattle.reg_report.specs.declared.outcome.Outcome.TheVariants.{Atomic, NotAto
 use Rattle.reg_intake.specs.declared.refusal.Refusal.{Refusal}
 use Rattle.reg_intake.specs.declared.refusal.Refusal.TheVariants.{At, TooLong, InputFailed, NoRoom, OutputFailed}
 
--- a refusal of the input itself, and of no failure or want of memory
+-- a refusal of the input itself: no failure, and memory didn't run out
 abbrev pub IsOfInput : Refusal → Type 0
 IsOfInput (At r) = Unit {0}
 IsOfInput TooLong = Unit {0}

@@ -5,7 +5,7 @@ ghost use Rattle.reg_report.specs.Answer.{IsAnswer, IsRefused};
 ghost use Rattle.reg_report.specs.Meaning.{IsReport};
 
 use crate::history::history_report;
-use crate::one_by_one::find_one_by_one;
+use crate::lone_thread::find_one_by_one;
 use crate::report::Report;
 use history_text::{MAX_INPUT, read_lines_alone};
 use reg_arena::Arena;

@@ -1,20 +1,23 @@
 //! What is found of each register, from which its line and the merged order are made.
-ghost use Rattle.std.specs.Prelude.{◌≡◌, ◌+◌, ◌<◌, ℕ, length, IfOk};
-ghost use Rattle.history_model.specs.Operations.{register_of};
+ghost use Rattle.std.specs.Prelude.{◌≡◌, ◌+◌, ◌<◌, ℕ, false, length, IfOk};
+ghost use Rattle.std.specs.Thread.{IsSync};
+ghost use Rattle.history_model.specs.Operations.{calls, register_of};
 ghost use Rattle.reg_pieces.specs.Judged.{IsJudged};
 ghost use Rattle.reg_pieces.specs.Plan.{IsPlan};
 ghost use Rattle.reg_pieces.specs.Slots.{AreDone, AreDoneFrom};
 ghost use Rattle.reg_report.specs.Cuts.{HasTasks};
 ghost use Rattle.reg_report.specs.Levels.{AreLevels};
 ghost use Rattle.reg_report.specs.Registers.{AreFindings};
-ghost use Rattle.reg_report.specs.Tally.{AreTallies};
+ghost use Rattle.reg_report.specs.Tally.{AreCallCounts, AreTallies};
 
 use crate::levels::{Levels, levels_of};
-use crate::tally::Tally;
+use crate::tally::{CallCounts, Tally, count_calls};
 use history_model::RegId;
+use parallel::both;
 use reg_arena::Arena;
-use reg_pieces::{Judgement, Pieces, Plan};
+use reg_pieces::{Gate, Judgement, Pieces, Plan, Settings, do_pieces, plan_in_parts};
 use std::alloc::{AllocError, Global};
+use std::thread::Threads;
 
 /// What is found of one register: all that its line says.
 #[derive(Drop)]
@@ -48,7 +51,7 @@ fn register_pieces(
 }
 
 /// What is found of all registers, in the order of their first calls, from what is done for each piece of the plan.
-pub(crate) fn findings(
+fn findings(
     alloc: Global,
     arena: &Arena,
     plan: &Plan,
@@ -75,4 +78,35 @@ pub(crate) fn findings(
         next = after;
     }
     Ok(findings)
+}
+
+/// What is found of all registers, and how many operations there are: workers do the pieces of the plan, and meanwhile another
+/// thread counts the calls that didn't fail.
+pub(crate) fn find<R: Threads + Sync, G: Gate + Sync>(
+    rt: &R,
+    alloc: Global,
+    arena: &Arena,
+    settings: Settings,
+    gate: &G,
+) -> Result<(Vec<Finding>, u32), AllocError>
+    requires { settings.first ≡ false }
+    ensures { IfOk result (λ found. AreFindings arena.now found.0.items × (found.1 ≡ length (calls arena.now.events))) }
+{
+    let plan = plan_in_parts(rt, alloc, arena, settings)?;
+    let (counts, pieces) = both(
+        rt,
+        || -> Result<CallCounts, AllocError>
+            ensures { IfOk result (AreCallCounts arena.entry.now) }
+        { count_calls(alloc, arena) },
+        || -> Result<Pieces, AllocError>
+            requires { IsSync R.row × IsPlan arena.now settings.cut plan }
+            ensures { IfOk result (AreDone arena.entry.now plan.tasks) }
+        { do_pieces(rt, alloc, arena, &plan, settings, gate) },
+    );
+    let CallCounts {
+        operations,
+        tallies,
+    } = counts?;
+    let findings = findings(alloc, arena, &plan, pieces?, &tallies)?;
+    Ok((findings, operations))
 }

@@ -5,12 +5,12 @@ ghost use Rattle.reg_report.specs.First.{AreFoundLines, IsFirstReport};
 ghost use Rattle.reg_report.specs.Meaning.{IsRegisterReport};
 ghost use Rattle.reg_report.specs.Tally.{AreTallies};
 
+use crate::arena_laws::arena_laws;
 use crate::lists::Registers;
-use crate::one_by_one::finding_of;
+use crate::lone_thread::finding_of;
 use crate::register::register_report;
 use crate::report::{RegReport, Report};
 use crate::tally::{Tally, count_calls};
-use crate::told::told;
 use history_model::RegId;
 use reg_arena::Arena;
 use reg_pieces::{Gate, Settings, first_faulty, plan_in_parts};
@@ -43,7 +43,7 @@ fn first_lines(
     requires tallies { AreTallies arena.now tallies.now }
     ensures { IfOk result (AreFoundLines arena.now (is_none found)) }
 {
-    told(arena);
+    arena_laws(arena);
     let mut regs = Vec::new(alloc);
     match found {
         Some(register) => {

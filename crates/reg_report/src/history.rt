@@ -5,20 +5,20 @@ ghost use Rattle.history_model.specs.Operations.{calls};
 ghost use Rattle.reg_report.specs.Meaning.{IsRegisterReport, IsReport, IsWholeAtomicity};
 ghost use Rattle.reg_report.specs.Registers.{AreFindings, AreGatheredIfAtomic, AreLines, IsFinding, IsMergedIfAtomic};
 
+use crate::arena_laws::arena_laws;
 use crate::findings::Finding;
 use crate::lists::{Lines, Registers};
-use crate::merged::merge_gathered;
 use crate::merged_lines::merged_lines_in_parts;
+use crate::merged_order::merge_gathered;
 use crate::order_lines::order_lines;
 use crate::register::register_report;
 use crate::report::{RegReport, Report};
-use crate::told::told;
-use rayon::prelude::*;
+use parallel::{both, map_each};
 use reg_arena::Arena;
 use reg_pieces::Judgement;
 use reg_zones::Placed;
 use std::alloc::{AllocError, Global};
-use std::thread::{Threads, join};
+use std::thread::Threads;
 
 /// The lines of all registers, in the order of their first calls.
 fn register_reports(
@@ -47,19 +47,19 @@ fn register_reports_in_parts(
     ensures { IfOk result (λ regs. AreLines arena.now regs.items) }
 {
     // A register's line may be long, so even one is worth a thread.
-    findings
-        .par_iter()
-        .with_min_len(1)
-        .map(
-            |finding: &Finding| -> Result<RegReport, AllocError>
-                requires { IsFinding arena.now finding.now }
-                ensures { IfOk result (IsRegisterReport arena.entry.now finding.now.register.0) }
-            { register_report(alloc, arena, finding) },
-        )
-        .collect::<Result<Vec<RegReport>, AllocError>>(rt, alloc)?
+    map_each(
+        rt,
+        alloc,
+        findings,
+        1,
+        |finding: &Finding| -> Result<RegReport, AllocError>
+            requires { IsFinding arena.now finding.now }
+            ensures { IfOk result (IsRegisterReport arena.entry.now finding.now.register.0) }
+        { register_report(alloc, arena, finding) },
+    )
 }
 
-/// For how many operations the orders of all registers need room.
+/// How many operations the orders of all registers have.
 fn room_for_orders(findings: &[Finding]) -> usize {
     let mut room: usize = 0;
     for finding in findings {
@@ -70,7 +70,7 @@ fn room_for_orders(findings: &[Finding]) -> usize {
     room
 }
 
-/// The orders of all registers, one behind the other, or nothing if one of them has a fault.
+/// The orders of all registers, one after another, or nothing if one of them has a fault.
 fn orders_of(
     alloc: Global,
     arena: &Arena,
@@ -113,7 +113,7 @@ fn whole_order(
     requires { AreFindings arena.now findings.now }
     ensures { IfOk result (λ order. IsWholeAtomicity arena.now (is_some order) order) }
 {
-    told(arena);
+    arena_laws(arena);
     match merged_order(alloc, arena, findings)? {
         None => Ok(None),
         Some(merged) => Ok(Some(order_lines(alloc, arena, &merged)?)),
@@ -130,14 +130,14 @@ pub(crate) fn whole_order_in_parts(
     requires { AreFindings arena.now findings.now }
     ensures { IfOk result (λ order. IsWholeAtomicity arena.now (is_some order) order) }
 {
-    told(arena);
+    arena_laws(arena);
     match orders_of(alloc, arena, findings)? {
         None => Ok(None),
         Some(operations) => Ok(Some(merged_lines_in_parts(rt, alloc, arena, &operations)?)),
     }
 }
 
-/// The report with these lines, this order and so many operations.
+/// The report with these lines, this order and this number of operations.
 fn report_of(arena: &Arena, regs: Vec<RegReport>, order: Option<Lines>, operations: u32) -> Report
     requires regs { AreLines arena.now regs.items }
     requires order { IsWholeAtomicity arena.now (is_some order) order }
@@ -153,7 +153,7 @@ fn report_of(arena: &Arena, regs: Vec<RegReport>, order: Option<Lines>, operatio
     }
 }
 
-/// The report of a history, from what is found of its registers and the number of its operations, or want of memory.
+/// The report of a history, from what is found of its registers and the number of its operations.
 pub(crate) fn history_report(
     alloc: Global,
     arena: &Arena,
@@ -181,7 +181,7 @@ pub(crate) fn history_report_in_parts<R: Threads + Sync>(
     requires operations { operations ≡ length (calls arena.now.events) }
     ensures { IfOk result (IsReport arena.now) }
 {
-    let (order, regs) = join(
+    let (order, regs) = both(
         rt,
         || -> Result<Option<Lines>, AllocError>
             requires { IsSync R.row × AreFindings arena.now findings.now }

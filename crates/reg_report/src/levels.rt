@@ -4,7 +4,7 @@ ghost use Rattle.history_model.specs.Lamport.{HasSingleWriter};
 ghost use Rattle.reg_lamport.specs.Levels.{IsFirstBadNamed};
 ghost use Rattle.reg_lamport.specs.Reads.{IsReadList};
 ghost use Rattle.reg_report.specs.Cuts.{HasCuts, HasCutsOf, cuts_ahead};
-ghost use Rattle.reg_report.specs.Levels.{AreLevels, IsLevelAnswer};
+ghost use Rattle.reg_report.specs.Levels.{AreLevels, IsLevelFinding};
 ghost use Rattle.history_model.specs.Operations.{register_of};
 ghost use Rattle.reg_pieces.specs.BadReads.{AreFirstBad};
 ghost use Rattle.reg_pieces.specs.Plan.{IsListOf, IsPlan};
@@ -19,7 +19,7 @@ use reg_pieces::{BadReads, Pieces, Plan};
 
 /// What is said of one level: the verdict, and if it is no, the line of the read that breaks the level.
 #[derive(Clone, Copy, Debug, PartialEq, Eq)]
-pub(crate) struct LevelAnswer {
+pub(crate) struct LevelFinding {
     pub(crate) verdict: Verdict,
     pub(crate) read: Option<u32>,
 }
@@ -27,23 +27,23 @@ pub(crate) struct LevelAnswer {
 /// What is said of both levels.
 #[derive(Clone, Copy, Debug, PartialEq, Eq)]
 pub(crate) struct Levels {
-    pub(crate) safe: LevelAnswer,
-    pub(crate) regular: LevelAnswer,
+    pub(crate) safe: LevelFinding,
+    pub(crate) regular: LevelFinding,
 }
 
 /// One level of a register with a single writer, by the first of its listed reads that breaks it.
-fn level_answer(arena: &Arena, list: &ReadList, level: Level, first: Option<EvId>) -> LevelAnswer
+fn level_finding(arena: &Arena, list: &ReadList, level: Level, first: Option<EvId>) -> LevelFinding
     requires list { IsReadList arena.now list.now }
     requires writer { HasSingleWriter (register_of arena.now list.now.register) }
     requires first { IsFirstBadNamed arena.now list.now.register level 0 (length list.now.entries) first }
-    ensures { IsLevelAnswer level (register_of arena.now list.now.register) result }
+    ensures { IsLevelFinding level (register_of arena.now list.now.register) result }
 {
     match first {
-        Some(read) => LevelAnswer {
+        Some(read) => LevelFinding {
             verdict: Verdict::No,
             read: Some(line(arena, Oper::Called(read))),
         },
-        None => LevelAnswer {
+        None => LevelFinding {
             verdict: Verdict::Yes,
             read: None,
         },
@@ -57,8 +57,8 @@ pub(crate) fn listed_levels(arena: &Arena, list: &ReadList, first: BadReads) -> 
     ensures { AreLevels (register_of arena.now list.now.register) result }
 {
     Levels {
-        safe: level_answer(arena, list, Level::Safe, first.safe),
-        regular: level_answer(arena, list, Level::Regular, first.regular),
+        safe: level_finding(arena, list, Level::Safe, first.safe),
+        regular: level_finding(arena, list, Level::Regular, first.regular),
     }
 }
 
@@ -66,7 +66,7 @@ pub(crate) fn listed_levels(arena: &Arena, list: &ReadList, first: BadReads) -> 
 pub(crate) fn several_writers() -> Levels
     ensures { (r : _) → (HasSingleWriter r → ⊥) → AreLevels r result }
 {
-    let several = LevelAnswer {
+    let several = LevelFinding {
         verdict: Verdict::SeveralWriters,
         read: None,
     };

@@ -8,52 +8,51 @@
 //! `byte_ends`, and [`Refusal`] from `reg_intake`. [`laws`] says why the whole history is atomic exactly if each of its registers
 //! is, and that a history has one report.
 //!
-//! To read, from the arena on, which `reg_intake` makes: `answered`, which has the report made as bytes, as `checked` does as
-//! values, from a slice as a source (`slice`), and `alone` without threads; below them `find`, which has `reg_pieces` do the work
-//! and `tally` count the calls; `findings`, which puts what is done together, with `levels`, and `one_by_one`, where one thread
-//! does all; `found_text`, which writes each register's line as soon as it is made, with `summary_text` for the last line, or
-//! `history`, which makes the report's values. If the first register that isn't atomic is all that is asked for, `first` has
-//! `reg_pieces` look for it. `register` makes the line of one register, with `fault_lines` and `order_lines`, and `merged` the
-//! order of all, with `by_point`; `merged_lines` finds that order's lines by several threads. Then come `report` with `lists`,
-//! `send` and `written`, and `pushed`, `outcome` and `whole` at last. `wording` says why there is no report, and `told` asks the
-//! arena for what its laws say.
+//! To read, from the arena on, which `reg_intake` makes: `report_text`, which has the report made as bytes, as `report_values` does as
+//! values, from a slice as a source (`slice`), and `alone` without threads; below them `findings`, which has `reg_pieces` do the
+//! work and `tally` count the calls, and puts together what was found of each register, with `levels`, and `lone_thread`, where
+//! one thread does all; `findings_text`, which writes each register's line as soon as it is made, with `summary_text` for the
+//! last line, or `history`, which makes the report's values. If the first register that isn't atomic is all that is asked for,
+//! `first` has `reg_pieces` look for it. `register` makes the line of one register, with `fault_lines` and `order_lines`, and
+//! `merged_order` the order of all, with `by_point`; `merged_lines` finds that order's lines by several threads. Then come
+//! `report` with `lists`, `send` and `bytes`, and `output`, `outcome` and `whole` at last. `wording` says why there is no report,
+//! and `arena_laws` which laws the arena's history obeys.
 #![tactic(auto)]
 
 mod alone;
-mod answered;
+mod arena_laws;
 mod by_point;
-mod checked;
+mod bytes;
 mod fault_lines;
-mod find;
 mod findings;
+mod findings_text;
 mod first;
-mod found_text;
 mod history;
 pub mod laws;
 mod levels;
 mod lists;
-mod merged;
+mod lone_thread;
 mod merged_lines;
-mod one_by_one;
+mod merged_order;
 mod order_lines;
 mod outcome;
-mod pushed;
+mod output;
 mod register;
 mod report;
+mod report_text;
+mod report_values;
 mod send;
 mod slice;
 mod summary_text;
 mod tally;
-mod told;
 mod whole;
 mod wording;
-mod written;
 
 pub use alone::check_alone;
 pub use byte_ends::{FromReader, FromWriter, IoFail, MemSink, MemSource, Sink, Source};
-pub use checked::check;
+pub use bytes::text;
 pub use lists::{Lines, Registers};
-pub use merged::merge;
+pub use merged_order::merge;
 pub use outcome::Outcome;
 pub use reg_intake::Refusal;
 pub use reg_pieces::{
@@ -61,6 +60,6 @@ pub use reg_pieces::{
     Worked, plan, work,
 };
 pub use report::{FaultLines, RegReport, Report, Verdict};
+pub use report_values::check;
 pub use whole::run;
 pub use wording::message;
-pub use written::text;

@@ -4,14 +4,11 @@ ghost use Rattle.reg_report.specs.Lines.{HaveCalls, HavePoints, call_line, point
 
 use crate::lists::Lines;
 use history_model::{EvId, Oper};
-use rayon::prelude::*;
+use parallel::{OPERATIONS, map_parts};
 use reg_arena::Arena;
 use reg_zones::Placed;
 use std::alloc::{AllocError, Global};
 use std::thread::Threads;
-
-/// How many operations of a long order one thread turns into lines at a time.
-const PART: usize = 16_384;
 
 /// The operations of an order by the lines of their calls, without the initial writes.
 pub(crate) fn order_lines(
@@ -41,34 +38,20 @@ pub(crate) fn order_lines_in_parts(
     requires { HaveCalls arena.now order.now }
     ensures { IfOk result (λ lines. lines ≡ lines_by (call_line arena.now.events) order.now) }
 {
-    let parts = lines_in_parts(rt, alloc, arena, order)?;
+    let parts = map_parts(
+        rt,
+        alloc,
+        order,
+        OPERATIONS,
+        |part: &[Placed]| -> Result<Lines, AllocError>
+            requires { HaveCalls arena.now part.now }
+            ensures { IfOk result (λ lines. lines ≡ lines_by (call_line arena.entry.now.events) part.now) }
+        { order_lines(alloc, arena, part) },
+    )?;
     joined(alloc, &parts, order.len())
 }
 
-/// The lines of an order in parts, one behind the other, each found by one thread.
-fn lines_in_parts(
-    rt: &(impl Threads + Sync),
-    alloc: Global,
-    arena: &Arena,
-    order: &[Placed],
-) -> Result<Vec<Lines>, AllocError>
-    requires { HaveCalls arena.now order.now }
-    ensures { IfOk result (λ parts. flat_map (λ part. part) parts.items ≡ lines_by (call_line arena.now.events) order.now) }
-{
-    // A part is long, so even one is worth a thread.
-    order
-        .par_chunks(PART)
-        .with_min_len(1)
-        .map(
-            |part: &[Placed]| -> Result<Lines, AllocError>
-                requires { HaveCalls arena.now part.now }
-                ensures { IfOk result (λ lines. lines ≡ lines_by (call_line arena.entry.now.events) part.now) }
-            { order_lines(alloc, arena, part) },
-        )
-        .collect::<Result<Vec<Lines>, AllocError>>(rt, alloc)?
-}
-
-/// Parts one behind the other, with room for as many lines as `count`.
+/// The lines of all parts, in order, with room for `count` of them.
 pub(crate) fn joined(alloc: Global, parts: &[Lines], count: usize) -> Result<Lines, AllocError>
     ensures { IfOk result (λ lines. lines ≡ flat_map (λ part. part) parts.now) }
 {

@@ -6,19 +6,19 @@ ghost use Rattle.history_model.specs.Lamport.{HasSingleWriter};
 ghost use Rattle.reg_lamport.specs.declared.level.Level.TheVariants.{Regular};
 ghost use Rattle.reg_zones.specs.Faults.{IsFault};
 ghost use Rattle.reg_zones.specs.Inversions.{IsRegular};
-ghost use Rattle.reg_report.specs.Levels.{IsLevelAnswer};
+ghost use Rattle.reg_report.specs.Levels.{IsLevelFinding};
 ghost use Rattle.reg_report.specs.Meaning.{IsInversionAnswer, IsRegisterReport};
 ghost use Rattle.reg_report.specs.Registers.{IsFinding};
 ghost use Rattle.reg_report.specs.declared.report.Verdict.TheVariants.{Yes};
 ghost use Rattle.history_model.specs.Operations.{register_of};
 
+use crate::arena_laws::arena_laws;
 use crate::fault_lines::{fault_lines, lines};
 use crate::findings::Finding;
-use crate::levels::LevelAnswer;
+use crate::levels::LevelFinding;
 use crate::lists::Lines;
 use crate::order_lines::{order_lines, point_lines};
 use crate::report::{FaultLines, RegReport, Verdict};
-use crate::told::told;
 use history_model::RegId;
 use history_text::Name;
 use reg_arena::Arena;
@@ -29,12 +29,17 @@ use std::alloc::{AllocError, Global};
 
 /// What a register's line says of whether it is atomic.
 #[derive(Drop)]
-pub(crate) struct Atomicity {
-    pub(crate) atomic: bool,
-    pub(crate) fault: Option<FaultLines>,
-    pub(crate) inversion: Option<(u32, u32)>,
-    pub(crate) order: Option<Lines>,
-    pub(crate) points: Option<Lines>,
+enum Atomicity {
+    /// Its canonical order and the points, by lines.
+    Yes {
+        order: Lines,
+        points: Lines,
+    },
+    /// Why it isn't, and if it is regular, a new-old inversion.
+    No {
+        fault: FaultLines,
+        inversion: Option<(u32, u32)>,
+    },
 }
 
 /// The order and its points by lines.
@@ -47,15 +52,10 @@ fn ordered(
     requires { IsJudged (register_of arena.now register.0) (Judgement.Order order.now) }
     ensures { (regular : _) → IfOk result (IsAtomicityShown arena.now (register_of arena.now register.0) regular) }
 {
-    told(arena);
-    let lines = order_lines(alloc, arena, order.as_slice())?;
-    let points = point_lines(alloc, arena, order.as_slice())?;
-    Ok(Atomicity {
-        atomic: true,
-        fault: None,
-        inversion: None,
-        order: Some(lines),
-        points: Some(points),
+    arena_laws(arena);
+    Ok(Atomicity::Yes {
+        order: order_lines(alloc, arena, order.as_slice())?,
+        points: point_lines(alloc, arena, order.as_slice())?,
     })
 }
 
@@ -66,7 +66,7 @@ fn inverted(arena: &Arena, register: RegId, fault: Fault) -> Option<(u32, u32)>
     requires regular { IsRegular (register_of arena.now register.0) }
     ensures { IsInversionAnswer arena.now (register_of arena.now register.0) false Yes result }
 {
-    told(arena);
+    arena_laws(arena);
     inversions_decide();
     Some(lines(arena, inversion_of(&fault)?))
 }
@@ -76,10 +76,10 @@ fn inversion_lines(
     arena: &Arena,
     register: RegId,
     fault: Fault,
-    regular: LevelAnswer,
+    regular: LevelFinding,
 ) -> Option<(u32, u32)>
     requires fault { IsFault (register_of arena.now register.0) fault }
-    requires regular { IsLevelAnswer Regular (register_of arena.now register.0) regular }
+    requires regular { IsLevelFinding Regular (register_of arena.now register.0) regular }
     ensures { IsInversionAnswer arena.now (register_of arena.now register.0) false regular.verdict result }
 {
     match regular.verdict {
@@ -90,17 +90,14 @@ fn inversion_lines(
 }
 
 /// The fault by lines. `regular` is what is said of regular.
-fn faulty(arena: &Arena, register: RegId, fault: Fault, regular: LevelAnswer) -> Atomicity
+fn faulty(arena: &Arena, register: RegId, fault: Fault, regular: LevelFinding) -> Atomicity
     requires judged { IsJudged (register_of arena.now register.0) (Judgement.Faulty fault) }
-    requires regular { IsLevelAnswer Regular (register_of arena.now register.0) regular }
+    requires regular { IsLevelFinding Regular (register_of arena.now register.0) regular }
     ensures { IsAtomicityShown arena.now (register_of arena.now register.0) regular.verdict result }
 {
-    Atomicity {
-        atomic: false,
-        fault: Some(fault_lines(arena, fault)),
+    Atomicity::No {
+        fault: fault_lines(arena, fault),
         inversion: inversion_lines(arena, register, fault, regular),
-        order: None,
-        points: None,
     }
 }
 
@@ -110,10 +107,10 @@ fn atomicity_of(
     arena: &Arena,
     register: RegId,
     judged: &Judgement,
-    regular: LevelAnswer,
+    regular: LevelFinding,
 ) -> Result<Atomicity, AllocError>
     requires judged { IsJudged (register_of arena.now register.0) judged.now }
-    requires regular { IsLevelAnswer Regular (register_of arena.now register.0) regular }
+    requires regular { IsLevelFinding Regular (register_of arena.now register.0) regular }
     ensures { IfOk result (IsAtomicityShown arena.now (register_of arena.now register.0) regular.verdict) }
 {
     match judged {
@@ -122,7 +119,7 @@ fn atomicity_of(
     }
 }
 
-/// The line of a register, from what is found of it, or want of memory.
+/// The line of a register, from what is found of it.
 pub(crate) fn register_report(
     alloc: Global,
     arena: &Arena,
@@ -138,7 +135,11 @@ pub(crate) fn register_report(
         tally,
     } = finding;
     let name = Name::new(alloc, arena.name(*register))?;
-    let said = atomicity_of(alloc, arena, *register, judged, levels.regular)?;
+    let atomicity = atomicity_of(alloc, arena, *register, judged, levels.regular)?;
+    let (atomic, fault, inversion, order, points) = match atomicity {
+        Atomicity::Yes { order, points } => (true, None, None, Some(order), Some(points)),
+        Atomicity::No { fault, inversion } => (false, Some(fault), inversion, None, None),
+    };
     Ok(RegReport {
         register: name,
         writes: tally.writes,
@@ -148,10 +149,10 @@ pub(crate) fn register_report(
         regular: levels.regular.verdict,
         safe_read: levels.safe.read,
         regular_read: levels.regular.read,
-        atomic: said.atomic,
-        fault: said.fault,
-        inversion: said.inversion,
-        order: said.order,
-        points: said.points,
+        atomic,
+        fault,
+        inversion,
+        order,
+        points,
     })
 }

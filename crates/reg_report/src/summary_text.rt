@@ -1,22 +1,17 @@
 //! The last line of a report in parts. It is long if every register is atomic, so several threads write the numbers of its
 //! order.
-ghost use Rattle.std.specs.Prelude.{◌≡◌, [], ◌∷◌, Some, flat_map, IfOk};
-ghost use Rattle.reg_report.specs.SummaryText.{numbers_text};
+ghost use Rattle.std.specs.Prelude.{◌≡◌, ◌∷◌, Some, flat_map, IfOk};
+ghost use Rattle.reg_report.specs.SummaryText.{yes_or_no_text, beginning_text, end_text, numbers_text};
 ghost use Rattle.reg_report.specs.Text.{line_text, summary_json};
 
-use crate::lists::{Lines, Registers};
+use crate::bytes::summary_line;
 use crate::report::Report;
-use crate::written::summary_line;
 use itoa::Buffer;
-use memchr::memrchr;
-use rayon::prelude::*;
+use parallel::{NUMBERS, map_parts};
 use std::alloc::{AllocError, Global};
 use std::thread::Threads;
 
-/// How many numbers of a long order one thread writes at a time.
-const PART: usize = 16_384;
-
-/// The numbers, each behind a comma.
+/// The numbers, each after a comma.
 fn text_of(alloc: Global, numbers: &[u32]) -> Result<Vec<u8>, AllocError>
     ensures { IfOk result (λ text. text.items ≡ numbers_text numbers.now) }
 {
@@ -29,7 +24,7 @@ fn text_of(alloc: Global, numbers: &[u32]) -> Result<Vec<u8>, AllocError>
     Ok(text)
 }
 
-/// The same text in parts, one behind the other, each written by one thread.
+/// The same text in parts, in order, each written by one thread.
 fn text_in_parts(
     rt: &(impl Threads + Sync),
     alloc: Global,
@@ -37,36 +32,44 @@ fn text_in_parts(
 ) -> Result<Vec<Vec<u8>>, AllocError>
     ensures { IfOk result (λ parts. flat_map (λ part. part.items) parts.items ≡ numbers_text numbers.now) }
 {
-    // A part is long, so even one is worth a thread.
-    numbers
-        .par_chunks(PART)
-        .with_min_len(1)
-        .map(
-            |part: &[u32]| -> Result<Vec<u8>, AllocError>
-                ensures { IfOk result (λ text. text.items ≡ numbers_text part.now) }
-            { text_of(alloc, part) },
-        )
-        .collect::<Result<Vec<Vec<u8>>, AllocError>>(rt, alloc)?
+    map_parts(
+        rt,
+        alloc,
+        numbers,
+        NUMBERS,
+        |part: &[u32]| -> Result<Vec<u8>, AllocError>
+            ensures { IfOk result (λ text. text.items ≡ numbers_text part.now) }
+        { text_of(alloc, part) },
+    )
 }
 
-/// The report whose summary is the same but for its order, which has one operation alone. It has no registers' lines.
-fn shortened(alloc: Global, report: &Report, line: u32) -> Result<Report, AllocError>
-    ensures operations { IfOk result (λ short. short.operations ≡ report.now.operations) }
-    ensures registers { IfOk result (λ short. short.registers ≡ report.now.registers) }
-    ensures atomic { IfOk result (λ short. short.atomic ≡ report.now.atomic) }
-    ensures order { IfOk result (λ short. short.order ≡ Some (line ∷ [])) }
+fn yes_or_no(yes: bool) -> &'static str
+    ensures { result.now ≡ yes_or_no_text yes }
 {
-    Ok(Report {
-        regs: Registers::new(Vec::new(alloc)),
-        operations: report.operations,
-        registers: report.registers,
-        atomic: report.atomic,
-        order: Some(Lines::new(vec![in alloc; line]?)),
-    })
+    if yes { "yes" } else { "no" }
 }
 
-/// The last line and its line feed in parts, if the report has an order: a line with the first operation alone, cut before the
-/// order's bracket, which is its last, and the numbers of the others between.
+/// The last line up to the first number of its order.
+fn beginning(alloc: Global, report: &Report, first: u32) -> Result<Vec<u8>, AllocError>
+    ensures { IfOk result (λ text. text.items ≡ beginning_text report.now.atomic report.now.operations first) }
+{
+    let atomic = yes_or_no(report.atomic);
+    let operations = report.operations;
+    let text = format!(in alloc;
+        r#"{{"atomic":"{atomic}","operations":{operations},"order":[{first}"#
+    )?;
+    Ok(text.into_bytes())
+}
+
+/// The rest of the last line, after the numbers of its order, and its line feed.
+fn end(alloc: Global, registers: u32) -> Result<Vec<u8>, AllocError>
+    ensures { IfOk result (λ text. text.items ≡ end_text registers) }
+{
+    let text = format!(in alloc; "],\"registers\":{registers}}}\n")?;
+    Ok(text.into_bytes())
+}
+
+/// The last line and its line feed in parts, if the report has an order that begins with the operation `first`.
 fn ordered(
     rt: &(impl Threads + Sync),
     alloc: Global,
@@ -77,16 +80,10 @@ fn ordered(
     requires { report.now.order ≡ Some (first ∷ others.now) }
     ensures { IfOk result (λ parts. flat_map (λ part. part.items) parts.items ≡ line_text (summary_json report.now)) }
 {
-    let mut front = summary_line(alloc, &shortened(alloc, report, first)?)?;
-    front.push(b'\n')?;
-    let Some(bracket) = memrchr(b']', &front) else {
-        unreachable!()
-    };
-    let behind = front.split_off(bracket)?;
     let mut parts = Vec::new(alloc);
-    parts.push(front)?;
+    parts.push(beginning(alloc, report, first)?)?;
     parts.append(&mut text_in_parts(rt, alloc, others)?)?;
-    parts.push(behind)?;
+    parts.push(end(alloc, report.registers)?)?;
     Ok(parts)
 }
 
@@ -101,7 +98,7 @@ fn unordered(alloc: Global, report: &Report) -> Result<Vec<Vec<u8>>, AllocError>
     Ok(parts)
 }
 
-/// The last line of a report and its line feed in parts, one behind the other, or want of memory.
+/// The last line of a report and its line feed in parts, in order.
 pub(crate) fn summary_text(
     rt: &(impl Threads + Sync),
     alloc: Global,

@@ -3,7 +3,7 @@ ghost use Rattle.std.specs.Prelude.{◌≡◌, ◌<◌, length, replicate, set, 
 ghost use Rattle.reg_report.specs.Tally.{AreCallCounts, HasRoom, counted, no_calls};
 ghost use Rattle.reg_report.specs.declared.tally.Tally.{Tally as ATally};
 
-use crate::told::told;
+use crate::arena_laws::arena_laws;
 use history_model::{EvId, Op, Oper};
 use history_text::OpKind;
 use reg_arena::Arena;
@@ -18,7 +18,7 @@ pub(crate) struct Tally {
 }
 
 impl Tally {
-    /// One call more.
+    /// The tally with one more call.
     fn and(self, op: &Op) -> Tally
         requires { HasRoom self }
         ensures { result ≡ counted op.now self }
@@ -51,7 +51,7 @@ pub(crate) struct CallCounts {
     pub(crate) tallies: Vec<Tally>,
 }
 
-/// So many registers without calls.
+/// The tallies of `count` registers without calls.
 fn none_counted(alloc: Global, count: u32) -> Result<Vec<Tally>, AllocError>
     ensures { IfOk result (λ tallies. tallies.items ≡ replicate count no_calls) }
 {
@@ -82,7 +82,7 @@ fn add(tallies: &mut Vec<Tally>, op: &Op)
 pub(crate) fn count_calls(alloc: Global, arena: &Arena) -> Result<CallCounts, AllocError>
     ensures { IfOk result (AreCallCounts arena.now) }
 {
-    told(arena);
+    arena_laws(arena);
     let mut tallies = none_counted(alloc, arena.register_count())?;
     let mut operations = 0;
     for number in 0..arena.event_count() {

@@ -3,9 +3,9 @@ ghost use Rattle.std.specs.Prelude.{◌≡◌, ◌≢◌, ◌⊎◌, ◌-◌, �
 ghost use Rattle.history_text.specs.declared.limits.TheConstants.{MAX_INPUT};
 ghost use Rattle.reg_report.specs.Run.{IsOfInput, IsRefusedWhole, Reports, ReportsBeginning, TellsAtomic};
 
-use crate::answered::text_by;
 use crate::outcome::Outcome;
-use crate::pushed::deliver;
+use crate::output::deliver;
+use crate::report_text::text_by;
 use byte_ends::{Sink, Source};
 use reg_intake::{Refusal, arena_of};
 use reg_pieces::{Gate, Settings};
@@ -20,7 +20,7 @@ use std::thread::Threads;
 /// - `InputFailed`: a pull failed. It is answered for no other reason.
 /// - `TooLong`: there were more bytes than an input may have, whatever memory there is.
 /// - `At`: the history isn't well formed.
-/// - `NoRoom`: memory was refused.
+/// - `NoRoom`: memory ran out.
 /// - `OutputFailed`: a push or the flush failed, and a beginning of the report is out. It is answered for no other reason.
 pub fn run<T: Threads + RandomSource + Sync, R: Source, W: Sink, G: Gate + Sync>(
     rt: &T,

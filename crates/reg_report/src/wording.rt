@@ -3,7 +3,10 @@
 use reg_intake::Refusal;
 use std::alloc::{AllocError, Global};
 
-/// The one line, without its line end, that says why there is no report, or want of memory.
+/// The one line, without its line end, that says why there is no report.
+///
+/// # Errors
+/// If memory runs out.
 pub fn message(alloc: Global, refusal: &Refusal) -> Result<String, AllocError> {
     format!(in alloc; "{refusal}")
 }

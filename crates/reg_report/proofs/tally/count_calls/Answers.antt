@@ -20,7 +20,7 @@ op-requires c =
 pub add-requires-clause-within : goal.add-requires-clause-within
 add-requires-clause-within c =
     let o = c.op.ensures in
-    let within = c.told.ensures.numbered o.0 o.1.one in
+    let within = c.arena_laws.ensures.numbered o.0 o.1.one in
     let register = ap (λ (x : Op). x.register.0) o.2 in
     omega (arith, within, register, c.loop-number.invariant.tallies.count)
 
@@ -41,7 +41,7 @@ loop-number-preserved c =
           let register = ap (λ (x : Op). x.register.0) o.2 in
           record {
             operations = subst (λ k. IsCount h.events k (n + 1)) (sym w.operations-is) (count-call h.events c.loop-number.operations n x.0 operations x.1 (sym is ∙ w.if-begins.true));
-            tallies = rw w.tallies-is (counting-adds h n c.loop-number.tallies.items w.add.new.tallies.items x.0 o.0 w.op.result tallies x.1 (sym is ∙ w.if-begins.true) o.1 o.2 (rw register at w.add.ensures) (c.told.ensures.numbered o.0 o.1.one));
+            tallies = rw w.tallies-is (counting-adds h n c.loop-number.tallies.items w.add.new.tallies.items x.0 o.0 w.op.result tallies x.1 (sym is ∙ w.if-begins.true) o.1 o.2 (rw register at w.add.ensures) (c.arena_laws.ensures.numbered o.0 o.1.one));
           }
       | else-begins w ↦
           record {

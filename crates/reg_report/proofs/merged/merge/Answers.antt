@@ -1,4 +1,0 @@
-use Rattle.reg_report.proofs.merged.merge.Goals as goal
-
-pub merge_gathered-requires : goal.merge_gathered-requires
-merge_gathered-requires c = (c.args.orders.now, c.requires, c.in_ok-gathered.ensures)

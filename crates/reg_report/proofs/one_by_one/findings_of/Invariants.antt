@@ -1,5 +1,0 @@
-use Rattle.reg_report.specs.Registers.{AreFirstFindings}
-use Rattle.reg_report.proofs.one_by_one.findings_of.Given as goal
-
-abbrev pub invariant-loop-number : goal.invariant-loop-number
-invariant-loop-number l = AreFirstFindings l.arena l.number l.findings.items
