@@ -88,7 +88,7 @@ impl Events {
 
     /// The history of the events.
     ///
-    /// The error is the want of memory.
+    /// The error says that memory ran out.
     pub fn history(self, alloc: Global) -> Result<History, AllocError>
         ensures { IfOk result (IsHistoryOf self) }
     {

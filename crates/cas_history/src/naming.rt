@@ -57,7 +57,7 @@ impl Naming {
 
     /// One more name, which comes last if it is new.
     ///
-    /// The error is the want of memory; the names are as they were then.
+    /// The error says that memory ran out; the names are as they were then.
     fn add(&mut self, alloc: Global, name: &Name) -> Result<(), AllocError>
         requires { length self.old < MAX_EVENTS }
         ensures { OnOk result (self.new ≡ with_name self.old name.now) }

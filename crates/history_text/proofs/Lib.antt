@@ -1,6 +1,5 @@
 pub mod Ascending
 pub mod Cut
-pub mod InOrder
 pub mod Numbered
 pub mod Reading
 mod Rows

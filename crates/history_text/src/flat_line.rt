@@ -20,7 +20,7 @@ use std::alloc::{AllocError, Global};
 
 /// The event of a flat line. `None` tells nothing of the line.
 ///
-/// The error is the want of memory; nothing is kept then.
+/// The error says that memory ran out; nothing is kept then.
 pub(crate) fn flat_event(
     alloc: Global,
     bytes: &[u8],

@@ -33,7 +33,7 @@ pub struct WholeLines {
 /// The lines that are not blank, in order. Blank lines have no span and still count; a line is blank
 /// if it holds nothing but spaces, tabs and carriage returns.
 ///
-/// The error is the want of memory; nothing is kept then.
+/// The error says that memory ran out; nothing is kept then.
 pub fn lines_of(alloc: Global, bytes: &[u8]) -> Result<Vec<Span>, AllocError>
     requires { length bytes.now ≤ MAX_INPUT }
     ensures lines { IfOk result (λ v. v.items ≡ line_spans bytes.now) }
@@ -46,7 +46,7 @@ pub fn lines_of(alloc: Global, bytes: &[u8]) -> Result<Vec<Span>, AllocError>
 /// The whole lines at the front of some bytes, of which the first has number `first`. A line is whole if its line feed is
 /// there. If `is_ended`, the input ends with these bytes, and the last line is whole without one.
 ///
-/// The error is the want of memory; nothing is kept then.
+/// The error says that memory ran out; nothing is kept then.
 pub fn whole_lines(
     alloc: Global,
     bytes: &[u8],

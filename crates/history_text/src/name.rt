@@ -87,7 +87,7 @@ impl Hash for Name {
 impl Name {
     /// The name of the register `text`.
     ///
-    /// The error is the want of memory; nothing is kept then.
+    /// The error says that memory ran out; nothing is kept then.
     pub fn new(alloc: Global, text: &str) -> Result<Self, AllocError>
         requires { IsName text.now }
         ensures { IfOk result (λ n. n ≡ text.now) }

@@ -57,7 +57,7 @@ impl OptionalName {
 
     /// The name `text`.
     ///
-    /// The error is the want of memory; nothing is kept then.
+    /// The error says that memory ran out; nothing is kept then.
     pub fn new(alloc: Global, text: &str) -> Result<Self, AllocError>
         requires { IsName text.now }
         ensures { IfOk result (λ n. n ≡ Some text.now) }

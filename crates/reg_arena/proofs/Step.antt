@@ -330,7 +330,7 @@ fail-call events ev o kind w register value h = record {
       ∙ ap (option_and_then (λ (v : Val). option_map (λ (r : RegId). (r.0, v)) ev.register)) (h.value ∙ sym value));
 }
 
--- want of memory says nothing of the event
+-- out of memory says nothing of the event
 pub memory-step : (es : List LineEvent) (e : LineEvent) (h : History) (r : Result (Unit {0}) BuildError) → IsErrAnd r (λ x. x ≡ Memory) → IsStep es e (step_result h r)
 memory-step es e h (Ok x) p = absurd p
 memory-step es e h (Err x) p = subst (λ (x : BuildError). IsStep es e (Err x)) (sym p) tt

@@ -35,7 +35,7 @@ AreNumbered names (line ∷ lines) (number ∷ numbers) = IsNumbered names (name
 abbrev pub lines_of : NumberedLines → List Line
 lines_of part = part.lines.items
 
--- the same of parts, one behind the other
+-- the same of parts, in order
 abbrev pub ArePartsNumbered : List (List ℕ) → List NumberedLines → Type 0
 ArePartsNumbered names [] = Unit {0}
 ArePartsNumbered names (part ∷ parts) = AreNumbered names (lines_of part) part.numbers.items × ArePartsNumbered (names_with names (lines_of part)) parts

@@ -45,7 +45,7 @@ impl Arena {
     /// The arena of no lines, with room for as many events as `count`, or for [`MAX_EVENTS`] if that is less. The key is that of its hashes.
     ///
     /// # Errors
-    /// The want of memory.
+    /// Out of memory.
     pub fn empty(alloc: Global, key: HashKey, count: usize) -> Result<Self, AllocError>
         ensures built { IfOk result (IsBuilt []) }
         ensures names { IfOk result (λ a. a.names ≡ []) }
@@ -55,7 +55,7 @@ impl Arena {
     }
 
     /// The arena with the events of more lines behind the others, or the refusal of the first faulty one of these, with the lowest number that applies
-    /// there. The lines come in parts, one behind the other, and have the numbers of their registers by the names so far, as [`Numbering`] gives them.
+    /// there. The lines come in parts, in order, and have the numbers of their registers by the names so far, as [`Numbering`] gives them.
     ///
     /// # Errors
     /// `Refused` if the history isn't well formed, whatever stands behind these lines, and `Memory` if memory was refused; what was built is then dropped.

@@ -44,10 +44,10 @@ impl Numbering {
         }
     }
 
-    /// Lines in parts, one behind the other, with the numbers of the registers that they call.
+    /// Lines in parts, in order, with the numbers of the registers that they call.
     ///
     /// # Errors
-    /// The want of memory; the lines are then dropped, and the numbering is of no more use.
+    /// Out of memory; the lines are then dropped, and the numbering is of no more use.
     pub fn number_parts(
         &mut self,
         alloc: Global,

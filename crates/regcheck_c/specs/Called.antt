@@ -48,7 +48,7 @@ IsPut report old new answer = (answer ≡ answer_of_report (length old) report) 
 abbrev pub IsRefusal : Refusal → List ℕ → List ℕ → Answer → Type 0
 IsRefusal refusal old new answer = (answer ≡ answer_of_refusal refusal) × (new ≡ old)
 
--- an input was answered: by its report, or by its refusal or for want of memory
+-- an input was answered: by its report, or by its refusal or because memory ran out
 abbrev pub IsAnswered : List ℕ → List ℕ → List ℕ → Answer → Type 0
 IsAnswered input old new answer =
     ((report : Report) × IsAnswer false input (Ok report) × IsPut report old new answer)

@@ -2,7 +2,7 @@
 use search_intake::Refusal;
 use std::alloc::{AllocError, Global};
 
-/// The one line, without its line end, that says why there is no report, or want of memory.
+/// The one line, without its line end, that says why there is no report, or out of memory.
 pub fn message(alloc: Global, refusal: &Refusal) -> Result<String, AllocError> {
     format!(in alloc; "{refusal}")
 }

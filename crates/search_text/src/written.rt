@@ -47,7 +47,7 @@ fn register_lines(alloc: Global, regs: &[RegisterReport]) -> Result<Vec<u8>, All
     Ok(out)
 }
 
-/// The bytes of a report: a line of compact JSON for each register, then the summary, or want of memory.
+/// The bytes of a report: a line of compact JSON for each register, then the summary, or out of memory.
 pub fn text(alloc: Global, report: &Report) -> Result<Vec<u8>, AllocError>
     ensures { IfOk result (λ bytes. bytes.items ≡ report_text report.now) }
 {

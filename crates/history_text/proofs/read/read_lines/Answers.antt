@@ -1,4 +1,4 @@
--- The parts, one behind the other, are the lines of the definition.
+-- The parts, in order, are the lines of the definition.
 use Rattle.std.proofs.Common.{◌≡◌, ◌++◌, [], ap, sym, subst, flat_map, map, ◌∙◌}
 use Rattle.std.proofs.lemmas.List.{append_assoc, append-nil, nil_from_length}
 use Rattle.history_text.specs.Reading.{IsAscending, history_lines, reading_of}
