@@ -51,8 +51,8 @@ pub struct FromWriter<W: Write + Drop> {
 }
 
 impl<W: Write + Drop> FromWriter<W> {
-    /// A sink over this writer, which hasn't failed. A write that is interrupted is tried again, and one that takes
-    /// none of some bytes is a failure.
+    /// A sink over this writer, which hasn't failed. A write that is interrupted is tried again, and one
+    /// that takes none of some bytes is a failure.
     pub fn new(inner: W) -> FromWriter<W>
         ensures { result ≡ sink_over inner }
     {

@@ -7,7 +7,8 @@ ghost use Rattle.byte_ends.specs.Ends.{Counts};
 #[derive(Clone, Copy, Debug, PartialEq, Eq)]
 pub struct IoFail;
 
-/// What bytes come from. It counts its failures, and contracts see the bytes that it has left, if it tells them.
+/// What bytes come from. It counts its failures, and contracts see the
+/// bytes that it has left, if it tells them.
 pub trait Source {
     // The bytes that it has left, if it tells them.
     ghost left: { Self → Option (List ℕ) } = { λ _. None };
@@ -15,8 +16,8 @@ pub trait Source {
     // How many times it has failed.
     ghost failed: { Self → ℕ };
 
-    /// Takes some of the bytes that are left to the front of the slice, and says how many. None, into a slice that
-    /// isn't empty, is the end.
+    /// Takes some of the bytes that are left to the front of the slice, and says how many. None,
+    /// into a slice that isn't empty, is the end.
     ///
     /// # Errors
     /// `IoFail` if no byte could be had; then none is lost, and the failures are one more.

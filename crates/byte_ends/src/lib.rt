@@ -1,9 +1,9 @@
-//! Sources of bytes and sinks for them, whose contracts tell what a source has left, what a sink has taken, and how often
-//! each has failed.
+//! Sources of bytes and sinks for them, whose contracts tell what a source has left, what a sink
+//! has taken, and how often each has failed.
 //!
-//! What the floor above may rely on: whoever works with any [`Source`] and any [`Sink`] works with every reader, by
-//! [`FromReader`], with every writer, by [`FromWriter`], and with memory, by [`MemSource`] and [`MemSink`], which give and
-//! take little at a time and fail if they are told to.
+//! What the floor above may rely on: whoever works with any [`Source`] and any [`Sink`] works with every
+//! reader, by [`FromReader`], with every writer, by [`FromWriter`], and with memory, by [`MemSource`] and
+//! [`MemSink`], which give and take little at a time and fail if they are told to.
 //!
 //! Read it in this order: `ends`, the two traits; `adapters`; `mem_source` and `mem_sink`.
 #![tactic(auto)]

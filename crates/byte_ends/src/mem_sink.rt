@@ -1,5 +1,6 @@
 //! A sink over memory, which takes its bytes in pieces and fails when it is full.
-ghost use Rattle.std.specs.Prelude.{◌≡◌, ◌<◌, ◌≤◌, ◌-◌, ◌^◌, ◌↔◌, [], false, min, Some, IfOk, IsErr, IsTrue, OnOk, length};
+ghost use Rattle.std.specs.Prelude.{◌≡◌, ◌<◌, ◌≤◌, ◌-◌, ◌^◌, ◌↔◌, [], false, min};
+ghost use Rattle.std.specs.Prelude.{Some, IfOk, IsErr, IsTrue, OnOk, length};
 ghost use Rattle.std.specs.Io.KnownBytes.{Keeps, WriteAppends};
 ghost use Rattle.byte_ends.specs.Ends.{Counts};
 
@@ -24,14 +25,21 @@ impl Model for MemSink {
 
     ghost Value = { MemoryTaken };
 
-    ghost view = { λ s. record { taken = take s.used s.buffer.items; room = length s.buffer.items; step = s.step; flush_fails = s.flush_fails; flushed = s.flushed; failures = s.failures } };
+    ghost view = { λ s. record {
+      taken = take s.used s.buffer.items;
+      room = length s.buffer.items;
+      step = s.step;
+      flush_fails = s.flush_fails;
+      flushed = s.flushed;
+      failures = s.failures;
+    } };
 
     ghost invariant = { λ s. (s.used ≤ length s.buffer.items) × (0 < s.step) };
 }
 
 impl MemSink {
-    /// A sink with memory for `room` bytes, which takes up to `step` of them at a push, and fails at each flush if
-    /// `flush_fails`.
+    /// A sink with memory for `room` bytes, which takes up to `step` of them at a push,
+    /// and fails at each flush if `flush_fails`.
     ///
     /// # Errors
     /// `AllocError` if memory was refused.
@@ -42,7 +50,14 @@ impl MemSink {
         flush_fails: bool,
     ) -> Result<MemSink, AllocError>
         requires { 0 < step }
-        ensures { IfOk result (λ sink. sink ≡ record { taken = []; room = room; step = step; flush_fails = flush_fails; flushed = false; failures = 0 }) }
+        ensures { IfOk result (λ sink. sink ≡ record {
+          taken = [];
+          room = room;
+          step = step;
+          flush_fails = flush_fails;
+          flushed = false;
+          failures = 0;
+        }) }
     {
         Ok(MemSink {
             buffer: vec![in alloc; 0u8; room]?,
@@ -76,10 +91,12 @@ impl Sink for MemSink {
         ensures bytes { WriteAppends (Some self.old.taken) (Some self.new.taken) result bytes.now }
         ensures failures { Counts self.old.failures self.new.failures result }
         ensures told { IsErr result ↔ ((0 < length bytes.now) × (self.old.room ≤ length self.old.taken)) }
-        ensures much { IfOk result (λ count. count ≡ min self.old.step (min (length bytes.now) (self.old.room - length self.old.taken))) }
+        ensures much { IfOk result (λ count.
+            count ≡ min self.old.step (min (length bytes.now) (self.old.room - length self.old.taken))) }
         ensures unflushed { IfOk result (λ _. self.new.flushed ≡ false) }
         ensures kept { IsErr result → self.new.flushed ≡ self.old.flushed }
-        ensures stays { (self.new.room ≡ self.old.room) × (self.new.step ≡ self.old.step) × (self.new.flush_fails ≡ self.old.flush_fails) }
+        ensures stays { (self.new.room ≡ self.old.room) × (self.new.step ≡ self.old.step)
+            × (self.new.flush_fails ≡ self.old.flush_fails) }
     {
         let free = self.buffer.len() - self.used;
         let count = self.step.min(bytes.len()).min(free);
@@ -101,7 +118,8 @@ impl Sink for MemSink {
         ensures kept { IsErr result → self.new.flushed ≡ self.old.flushed }
         ensures failures { Counts self.old.failures self.new.failures result }
         ensures told { IsErr result ↔ IsTrue self.old.flush_fails }
-        ensures stays { (self.new.room ≡ self.old.room) × (self.new.step ≡ self.old.step) × (self.new.flush_fails ≡ self.old.flush_fails) }
+        ensures stays { (self.new.room ≡ self.old.room) × (self.new.step ≡ self.old.step)
+            × (self.new.flush_fails ≡ self.old.flush_fails) }
     {
         if self.flush_fails {
             self.failures += 1;

@@ -21,14 +21,19 @@ impl<'a> Model for MemSource<'a> {
 
     ghost Value = { MemoryLeft };
 
-    ghost view = { λ s. record { left = s.rest.now; step = s.step; fails_in = s.fails_in; failures = s.failures } };
+    ghost view = { λ s. record {
+      left = s.rest.now;
+      step = s.step;
+      fails_in = s.fails_in;
+      failures = s.failures;
+    } };
 
     ghost invariant = { λ s. 0 < s.step };
 }
 
 impl<'a> MemSource<'a> {
-    /// A source of these bytes, which gives up to `step` of them at a pull, and fails at the pull `fail_at` alone,
-    /// counted from 1.
+    /// A source of these bytes, which gives up to `step` of them at a pull, and fails at
+    /// the pull `fail_at` alone, counted from 1.
     pub fn new(bytes: &'a [u8], step: usize, fail_at: Option<u64>) -> MemSource<'a>
         requires { 0 < step }
         ensures { result ≡ record { left = bytes.entry.now; step = step; fails_in = fail_at; failures = 0 } }
@@ -53,7 +58,8 @@ impl Source for MemSource<'_> {
         ensures bytes { ReadConsumes (Some self.old.left) (Some self.new.left) result into.new }
         ensures failures { Counts self.old.failures self.new.failures result }
         ensures told { IsErr result ↔ (self.old.fails_in ≡ Some 1) }
-        ensures much { IfOk result (λ count. count ≡ min self.old.step (min (length into.new) (length self.old.left))) }
+        ensures much { IfOk result (λ count.
+            count ≡ min self.old.step (min (length into.new) (length self.old.left))) }
         ensures nearer { self.new.fails_in ≡ option_map (λ pulls. pulls - 1) self.old.fails_in }
         ensures stays { self.new.step ≡ self.old.step }
     {

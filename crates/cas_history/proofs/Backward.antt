@@ -1,5 +1,6 @@
 -- The calls from the last event back, and the next event of each process.
-use Rattle.std.proofs.Common.{◌≡◌, ℕ, ◌+◌, zero, suc, cond, Bool, true, false, List, [], ◌∷◌, ◌++◌, drop, slice_get, reverse, Option, Some, None, sym, ap, ◌∙◌, arith, eqb, option_map}
+use Rattle.std.proofs.Common.{◌≡◌, ℕ, ◌+◌, zero, suc, cond, Bool, true, false, List, [], ◌∷◌, ◌++◌, drop}
+use Rattle.std.proofs.Common.{slice_get, reverse, Option, Some, None, sym, ap, ◌∙◌, arith, eqb, option_map}
 use Rattle.std.specs.Ordering.{is_eq, nat_cmp}
 use Rattle.std.proofs.lemmas.List.{reverse-append}
 use Rattle.cas_text.specs.declared.event.CasEvent.{CasEvent}
@@ -8,12 +9,14 @@ use Rattle.cas_history.specs.History.{calls_from, next_of, operation_at, option_
 use Rattle.cas_history.specs.Kept.{event_at}
 use Rattle.cas_history.proofs.Kept.{same_key}
 
-drop-at : {X : Type 0} (xs : List X) (i : ℕ) (x : X) → slice_get xs i ≡ Some x → drop i xs ≡ x ∷ drop (suc i) xs
+drop-at : {X : Type 0} (xs : List X) (i : ℕ) (x : X) → slice_get xs i ≡ Some x
+    → drop i xs ≡ x ∷ drop (suc i) xs
 drop-at [] i x h = absurd (cc (h))
 drop-at (y ∷ xs) zero x h = let same : y ≡ x = cc (h) in ap (λ z. z ∷ xs) same
 drop-at (y ∷ xs) (suc i) x h = drop-at xs i x h
 
-module _ (names : List (List ℕ)) (events : List CasEvent) (i : ℕ) (e : CasEvent) (at : slice_get events i ≡ Some e) where
+module _ (names : List (List ℕ)) (events : List CasEvent) (i : ℕ) (e : CasEvent)
+    (at : slice_get events i ≡ Some e) where
   one_less : suc i ≡ i + 1
   one_less = omega arith
 
@@ -21,13 +24,19 @@ module _ (names : List (List ℕ)) (events : List CasEvent) (i : ℕ) (e : CasEv
   later = omega arith
 
   -- the calls with those of one event more at the front
-  pub calls-step : (made : List Operation) (o : Option Operation) → reverse made ≡ calls_from names (i + 1 + 2) (drop (i + 1) events)
+  pub calls-step : (made : List Operation) (o : Option Operation)
+      → reverse made ≡ calls_from names (i + 1 + 2) (drop (i + 1) events)
       → o ≡ operation_at names (i + 2) e (next_of e.process (i + 1 + 2) (drop (i + 1) events))
       → reverse (made ++ option_list o) ≡ calls_from names (i + 2) (drop i events)
   calls-step made o so_far is =
       put o
-      ∙ (ap (λ os. option_list o ++ os) (so_far ∙ (ap (λ s. calls_from names s (drop (i + 1) events)) (sym later) ∙ ap (λ n. calls_from names (suc (i + 2)) (drop n events)) (sym one_less)))
-      ∙ (ap (λ o. option_list o ++ calls_from names (suc (i + 2)) (drop (suc i) events)) (is ∙ (ap (λ s. operation_at names (i + 2) e (next_of e.process s (drop (i + 1) events))) (sym later) ∙ ap (λ n. operation_at names (i + 2) e (next_of e.process (suc (i + 2)) (drop n events))) (sym one_less)))
+      ∙ (ap (λ os. option_list o ++ os) (so_far
+      ∙ (ap (λ s. calls_from names s (drop (i + 1) events)) (sym later)
+      ∙ ap (λ n. calls_from names (suc (i + 2)) (drop n events)) (sym one_less)))
+      ∙ (ap (λ o. option_list o ++ calls_from names (suc (i + 2)) (drop (suc i) events)) (is
+      ∙ (ap (λ s. operation_at names (i + 2) e (next_of e.process s (drop (i + 1) events))) (sym later)
+      ∙ ap (λ n. operation_at names (i + 2) e (next_of e.process (suc (i + 2)) (drop n events)))
+      (sym one_less)))
       ∙ ap (calls_from names (i + 2)) (sym (drop-at events i e at))))
     where
       put : (o : Option Operation) → reverse (made ++ option_list o) ≡ option_list o ++ reverse made
@@ -35,7 +44,8 @@ module _ (names : List (List ℕ)) (events : List CasEvent) (i : ℕ) (e : CasEv
       put (Some a) = reverse-append made (a ∷ [])
 
   -- the next event of each process, with this one
-  pub next-step : (old new : ℕ → Option ℕ) → ((p : ℕ) → next_of p (i + 1 + 2) (drop (i + 1) events) ≡ event_at events (old p))
+  pub next-step : (old new : ℕ → Option ℕ)
+      → ((p : ℕ) → next_of p (i + 1 + 2) (drop (i + 1) events) ≡ event_at events (old p))
       → ((p : ℕ) → new p ≡ cond (is_eq (nat_cmp e.process p)) (Some i) (old p))
       → (p : ℕ) → next_of p (i + 2) (drop i events) ≡ event_at events (new p)
   next-step old new so_far is p =
@@ -43,6 +53,10 @@ module _ (names : List (List ℕ)) (events : List CasEvent) (i : ℕ) (e : CasEv
       ∙ (go (eqb e.process p)
       ∙ ap (event_at events) (sym (is p ∙ ap (λ b. cond b (Some i) (old p)) (same_key e.process p))))
     where
-      go : (b : Bool) → cond b (Some (i + 2, e)) (next_of p (suc (i + 2)) (drop (suc i) events)) ≡ event_at events (cond b (Some i) (old p))
+      go : (b : Bool)
+          → cond b (Some (i + 2, e)) (next_of p (suc (i + 2)) (drop (suc i) events))
+          ≡ event_at events (cond b (Some i) (old p))
       go true = ap (option_map (λ (e : CasEvent). (i + 2, e))) (sym at)
-      go false = ap (λ s. next_of p s (drop (suc i) events)) later ∙ (ap (λ n. next_of p (i + 1 + 2) (drop n events)) one_less ∙ so_far p)
+      go false =
+          ap (λ s. next_of p s (drop (suc i) events)) later
+          ∙ (ap (λ n. next_of p (i + 1 + 2) (drop n events)) one_less ∙ so_far p)

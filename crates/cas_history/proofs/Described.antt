@@ -1,5 +1,7 @@
 -- What stands where among the events: the next event of a process, and the events of a call and of its reply.
-use Rattle.std.proofs.Common.{◌≡◌, ℕ, zero, suc, ◌+◌, ◌<◌, cond, Bool, true, false, List, [], ◌∷◌, slice_get, Option, Some, None, option_map, inl, inr, refl, sym, ap, ◌∙◌, arith, eqb, bytes_eq}
+use Rattle.std.proofs.Common.{◌≡◌, ℕ, zero, suc, ◌+◌, ◌<◌, cond, Bool, true, false}
+use Rattle.std.proofs.Common.{List, [], ◌∷◌, slice_get, Option, Some, None, option_map}
+use Rattle.std.proofs.Common.{inl, inr, refl, sym, ap, ◌∙◌, arith, eqb, bytes_eq}
 use Rattle.std.specs.List.{position_or_len}
 use Rattle.std.proofs.lemmas.Bool.{eqb-true, eq-eqb, false≢true}
 use Rattle.history_model.specs.Lists.{In}
@@ -7,7 +9,8 @@ use Rattle.history_model.proofs.Lists.{append-In}
 use Rattle.cas_text.specs.declared.event.CasEvent.{CasEvent}
 use Rattle.cas_model.specs.declared.operation.Operation.{Operation}
 use Rattle.cas_history.specs.Events.{Called, Replied, called_by, replied_by}
-use Rattle.cas_history.specs.History.{calls_from, has_failed, next_of, operation, operation_if, option_list, reply_in}
+use Rattle.cas_history.specs.History.{calls_from, has_failed, next_of, operation}
+use Rattle.cas_history.specs.History.{operation_if, option_list, reply_in}
 
 -- ---- the next event of a process
 
@@ -18,11 +21,13 @@ pub record IsNextAt (p s : ℕ) (es : List CasEvent) (next : ℕ × CasEvent) : 
   pub process : next.1.process ≡ p
   pub between : (k : ℕ) (g : CasEvent) → k < place → slice_get es k ≡ Some g → g.process ≡ p → ⊥
 
-pub next-at : (p s : ℕ) (es : List CasEvent) (next : ℕ × CasEvent) → next_of p s es ≡ Some next → IsNextAt p s es next
+pub next-at : (p s : ℕ) (es : List CasEvent) (next : ℕ × CasEvent) → next_of p s es ≡ Some next
+    → IsNextAt p s es next
 next-at p s [] next h = absurd (cc (h))
 next-at p s (e ∷ es) next h = go (eqb e.process p) refl h (next-at p (suc s) es next)
   where
-    go : (b : Bool) → eqb e.process p ≡ b → cond b (Some (s, e)) (next_of p (suc s) es) ≡ Some next → (next_of p (suc s) es ≡ Some next → IsNextAt p (suc s) es next) → IsNextAt p s (e ∷ es) next
+    go : (b : Bool) → eqb e.process p ≡ b → cond b (Some (s, e)) (next_of p (suc s) es) ≡ Some next
+        → (next_of p (suc s) es ≡ Some next → IsNextAt p (suc s) es next) → IsNextAt p s (e ∷ es) next
     go true d k rest =
         let q : (s, e) ≡ next = cc (k) in
         record {
@@ -35,10 +40,20 @@ next-at p s (e ∷ es) next h = go (eqb e.process p) refl h (next-at p (suc s) e
     go false d k rest = further (rest k)
       where
         further : IsNextAt p (suc s) es next → IsNextAt p s (e ∷ es) next
-        further r = record { place = suc r.place; there = r.there; time = omega (arith, r.time); process = r.process; between = later }
+        further r = record {
+          place = suc r.place;
+          there = r.there;
+          time = omega (arith, r.time);
+          process = r.process;
+          between = later;
+        }
           where
-            later : (k : ℕ) (g : CasEvent) → k < suc r.place → slice_get (e ∷ es) k ≡ Some g → g.process ≡ p → ⊥
-            later zero g l at same = let q : e ≡ g = cc (at) in false≢true (sym d ∙ eq-eqb e.process p (ap (λ (g : CasEvent). g.process) q ∙ same))
+            later : (k : ℕ) (g : CasEvent) → k < suc r.place → slice_get (e ∷ es) k ≡ Some g
+                → g.process ≡ p → ⊥
+            later zero g l at same =
+                let q : e ≡ g =
+                cc (at) in false≢true (sym d
+                ∙ eq-eqb e.process p (ap (λ (g : CasEvent). g.process) q ∙ same))
             later (suc k) g l at same = r.between k g (omega (arith, l)) at same
 
 -- ---- a call and its reply
@@ -53,7 +68,8 @@ pub record IsReplyAt (s : ℕ) (es : List CasEvent) (i : ℕ) (e : CasEvent) (t 
   pub process : event.process ≡ e.process
   pub replied : Replied
   pub replies : replied_by event.happening ≡ Some replied
-  pub between : (k : ℕ) (g : CasEvent) → i < k → k < place → slice_get es k ≡ Some g → g.process ≡ e.process → ⊥
+  pub between : (k : ℕ) (g : CasEvent) → i < k → k < place → slice_get es k ≡ Some g
+      → g.process ≡ e.process → ⊥
 
 -- a is the operation of a call among the events, the first of which has time s
 pub record IsCallAt (names : List (List ℕ)) (s : ℕ) (es : List CasEvent) (a : Operation) : Type 0 where
@@ -67,16 +83,19 @@ pub record IsCallAt (names : List (List ℕ)) (s : ℕ) (es : List CasEvent) (a 
   pub reply : (t : ℕ) → a.reply ≡ Some t → IsReplyAt s es place event t
 
 -- the operation that an event begins
-record Begins (names : List (List ℕ)) (s : ℕ) (e : CasEvent) (next : Option (ℕ × CasEvent)) (o : Option Called) (a : Operation) : Type 0 where
+record Begins (names : List (List ℕ)) (s : ℕ) (e : CasEvent) (next : Option (ℕ × CasEvent))
+    (o : Option Called) (a : Operation) : Type 0 where
   call : Called
   calls : o ≡ Some call
   is : a ≡ operation names s e call next
 
-begins-of : (names : List (List ℕ)) (s : ℕ) (e : CasEvent) (next : Option (ℕ × CasEvent)) (o : Option Called) (a : Operation) → In a (option_list (operation_if o names s e next)) → Begins names s e next o a
+begins-of : (names : List (List ℕ)) (s : ℕ) (e : CasEvent) (next : Option (ℕ × CasEvent)) (o : Option Called)
+    (a : Operation) → In a (option_list (operation_if o names s e next)) → Begins names s e next o a
 begins-of names s e next None a h = absurd h
 begins-of names s e next (Some call) a h = go (has_failed next) h
   where
-    go : (b : Bool) → In a (option_list (cond b None (Some (operation names s e call next)))) → Begins names s e next (Some call) a
+    go : (b : Bool) → In a (option_list (cond b None (Some (operation names s e call next))))
+        → Begins names s e next (Some call) a
     go true h = absurd h
     go false (inl q) = record { call = call; calls = refl; is = q }
     go false (inr h) = absurd h
@@ -88,16 +107,20 @@ record IsReplyIn (next : Option (ℕ × CasEvent)) (t : ℕ) : Type 0 where
   replied : Replied
   replies : replied_by found.1.happening ≡ Some replied
 
-reply-of : (next : Option (ℕ × CasEvent)) (t : ℕ) → option_map (λ (reply : ℕ × Replied). reply.0) (reply_in next) ≡ Some t → IsReplyIn next t
+reply-of : (next : Option (ℕ × CasEvent)) (t : ℕ)
+    → option_map (λ (reply : ℕ × Replied). reply.0) (reply_in next) ≡ Some t → IsReplyIn next t
 reply-of None t h = absurd (cc (h))
 reply-of (Some n) t h = go (replied_by n.1.happening) refl h
   where
-    go : (o : Option Replied) → replied_by n.1.happening ≡ o → option_map (λ (reply : ℕ × Replied). reply.0) (option_map (λ (reply : Replied). (n.0, reply)) o) ≡ Some t → IsReplyIn (Some n) t
+    go : (o : Option Replied) → replied_by n.1.happening ≡ o
+        → option_map (λ (reply : ℕ × Replied). reply.0) (option_map (λ (reply : Replied). (n.0, reply)) o)
+        ≡ Some t → IsReplyIn (Some n) t
     go None d h = absurd (cc (h))
     go (Some reply) d h = record { found = n; next_is = refl; time = cc (h); replied = reply; replies = d }
 
 -- the first event's call
-first-call : (names : List (List ℕ)) (s : ℕ) (e : CasEvent) (es : List CasEvent) (a : Operation) → Begins names s e (next_of e.process (suc s) es) (called_by e.happening) a → IsCallAt names s (e ∷ es) a
+first-call : (names : List (List ℕ)) (s : ℕ) (e : CasEvent) (es : List CasEvent) (a : Operation)
+    → Begins names s e (next_of e.process (suc s) es) (called_by e.happening) a → IsCallAt names s (e ∷ es) a
 first-call names s e es a b = record {
   place = zero;
   event = e;
@@ -106,34 +129,74 @@ first-call names s e es a b = record {
   called = b.call;
   calls = b.calls;
   register = ap (λ (a : Operation). a.register.0) b.is;
-  reply = λ t h. by_next t (reply-of (next_of e.process (suc s) es) t (sym (ap (λ (a : Operation). a.reply) b.is) ∙ h));
+  reply =
+      λ t h. by_next t
+      (reply-of (next_of e.process (suc s) es) t (sym (ap (λ (a : Operation). a.reply) b.is) ∙ h));
 }
   where
     by_next : (t : ℕ) → IsReplyIn (next_of e.process (suc s) es) t → IsReplyAt s (e ∷ es) zero e t
     by_next t r = at (next-at e.process (suc s) es r.found r.next_is)
       where
         at : IsNextAt e.process (suc s) es r.found → IsReplyAt s (e ∷ es) zero e t
-        at n = record { place = suc n.place; event = r.found.1; there = n.there; time = omega (arith, r.time, n.time); order = omega arith; process = n.process; replied = r.replied; replies = r.replies; between = earlier }
+        at n = record {
+          place = suc n.place;
+          event = r.found.1;
+          there = n.there;
+          time = omega (arith, r.time, n.time);
+          order = omega arith;
+          process = n.process;
+          replied = r.replied;
+          replies = r.replies;
+          between = earlier;
+        }
           where
-            earlier : (k : ℕ) (g : CasEvent) → 0 < k → k < suc n.place → slice_get (e ∷ es) k ≡ Some g → g.process ≡ e.process → ⊥
+            earlier : (k : ℕ) (g : CasEvent) → 0 < k → k < suc n.place → slice_get (e ∷ es) k ≡ Some g
+                → g.process ≡ e.process → ⊥
             earlier zero g l m at same = omega (arith, l)
             earlier (suc k) g l m at same = n.between k g (omega (arith, m)) at same
 
 -- the calls of the later events stand one place further
-later-reply : (s : ℕ) (e : CasEvent) (es : List CasEvent) (i : ℕ) (c : CasEvent) (t : ℕ) → IsReplyAt (suc s) es i c t → IsReplyAt s (e ∷ es) (suc i) c t
-later-reply s e es i c t r = record { place = suc r.place; event = r.event; there = r.there; time = omega (arith, r.time); order = omega (arith, r.order); process = r.process; replied = r.replied; replies = r.replies; between = earlier }
+later-reply : (s : ℕ) (e : CasEvent) (es : List CasEvent) (i : ℕ) (c : CasEvent) (t : ℕ)
+    → IsReplyAt (suc s) es i c t → IsReplyAt s (e ∷ es) (suc i) c t
+later-reply s e es i c t r = record {
+  place = suc r.place;
+  event = r.event;
+  there = r.there;
+  time = omega (arith, r.time);
+  order = omega (arith, r.order);
+  process = r.process;
+  replied = r.replied;
+  replies = r.replies;
+  between = earlier;
+}
   where
-    earlier : (k : ℕ) (g : CasEvent) → suc i < k → k < suc r.place → slice_get (e ∷ es) k ≡ Some g → g.process ≡ c.process → ⊥
+    earlier : (k : ℕ) (g : CasEvent) → suc i < k → k < suc r.place → slice_get (e ∷ es) k ≡ Some g
+        → g.process ≡ c.process → ⊥
     earlier zero g l m at same = omega (arith, l)
     earlier (suc k) g l m at same = r.between k g (omega (arith, l)) (omega (arith, m)) at same
 
-later-call : (names : List (List ℕ)) (s : ℕ) (e : CasEvent) (es : List CasEvent) (a : Operation) → IsCallAt names (suc s) es a → IsCallAt names s (e ∷ es) a
-later-call names s e es a c = record { place = suc c.place; event = c.event; there = c.there; time = omega (arith, c.time); called = c.called; calls = c.calls; register = c.register; reply = λ t h. later-reply s e es c.place c.event t (c.reply t h) }
+later-call : (names : List (List ℕ)) (s : ℕ) (e : CasEvent) (es : List CasEvent) (a : Operation)
+    → IsCallAt names (suc s) es a → IsCallAt names s (e ∷ es) a
+later-call names s e es a c = record {
+  place = suc c.place;
+  event = c.event;
+  there = c.there;
+  time = omega (arith, c.time);
+  called = c.called;
+  calls = c.calls;
+  register = c.register;
+  reply = λ t h. later-reply s e es c.place c.event t (c.reply t h);
+}
 
 -- each operation is that of a call
-pub described : (names : List (List ℕ)) (s : ℕ) (es : List CasEvent) (a : Operation) → In a (calls_from names s es) → IsCallAt names s es a
+pub described : (names : List (List ℕ)) (s : ℕ) (es : List CasEvent) (a : Operation)
+    → In a (calls_from names s es) → IsCallAt names s es a
 described names s [] a h = absurd h
-described names s (e ∷ es) a h = elim (append-In a (option_list (operation_if (called_by e.happening) names s e (next_of e.process (suc s) es))) (calls_from names (suc s) es) h) [
-  | inl i ↦ first-call names s e es a (begins-of names s e (next_of e.process (suc s) es) (called_by e.happening) a i)
-  | inr i ↦ later-call names s e es a (described names (suc s) es a i)
-]
+described names s (e ∷ es) a h =
+    elim (append-In a
+    (option_list (operation_if (called_by e.happening) names s e (next_of e.process (suc s) es)))
+    (calls_from names (suc s) es) h) [
+      | inl i ↦ first-call names s e es a
+          (begins-of names s e (next_of e.process (suc s) es) (called_by e.happening) a i)
+      | inr i ↦ later-call names s e es a (described names (suc s) es a i)
+    ]

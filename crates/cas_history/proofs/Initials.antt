@@ -1,5 +1,7 @@
 -- Each register has its initial write, and no other register has an operation.
-use Rattle.std.proofs.Common.{◌≡◌, ℕ, zero, suc, ◌<◌, ◌≤◌, cond, not, Bool, true, false, List, [], ◌∷◌, ◌++◌, length, slice_get, Option, Some, None, option_map, inl, inr, refl, sym, ap, subst, ◌∙◌, arith, eqb}
+use Rattle.std.proofs.Common.{◌≡◌, ℕ, zero, suc, ◌<◌, ◌≤◌, cond, not, Bool, true, false, List}
+use Rattle.std.proofs.Common.{[], ◌∷◌, ◌++◌, length, slice_get, Option, Some, None, option_map}
+use Rattle.std.proofs.Common.{inl, inr, refl, sym, ap, subst, ◌∙◌, arith, eqb}
 use Rattle.std.specs.Prelude.{bytes_eq, filter_map}
 use Rattle.std.specs.List.{cons_option}
 use Rattle.std.proofs.lemmas.Bool.{eqb-true, eqb-false}
@@ -23,7 +25,8 @@ none-initial : (n r : ℕ) → n ≤ r → of_register r (initial_writes n) ≡ 
 none-initial zero r l = refl
 none-initial (suc n) r l = go (eqb n r) refl (none-initial n r (omega (arith, l)))
   where
-    go : (b : Bool) → eqb n r ≡ b → of_register r (initial_writes n) ≡ [] → cond b (initial_write n ∷ of_register r (initial_writes n)) (of_register r (initial_writes n)) ≡ []
+    go : (b : Bool) → eqb n r ≡ b → of_register r (initial_writes n) ≡ []
+        → cond b (initial_write n ∷ of_register r (initial_writes n)) (of_register r (initial_writes n)) ≡ []
     go true d rest = absurd (omega (arith, eqb-true n r d, l))
     go false d rest = rest
 
@@ -31,10 +34,13 @@ one-initial : (n r : ℕ) → r < n → of_register r (initial_writes n) ≡ ini
 one-initial zero r l = absurd (omega (arith, l))
 one-initial (suc n) r l = go (eqb n r) refl (one-initial n r)
   where
-    go : (b : Bool) → eqb n r ≡ b → (r < n → of_register r (initial_writes n) ≡ initial_write r ∷ []) → cond b (initial_write n ∷ of_register r (initial_writes n)) (of_register r (initial_writes n)) ≡ initial_write r ∷ []
+    go : (b : Bool) → eqb n r ≡ b → (r < n → of_register r (initial_writes n) ≡ initial_write r ∷ [])
+        → cond b (initial_write n ∷ of_register r (initial_writes n)) (of_register r (initial_writes n))
+        ≡ initial_write r ∷ []
     go true d rest =
         let q = eqb-true n r d in
-        ap (λ ops. initial_write n ∷ ops) (none-initial n r (omega (arith, q))) ∙ ap (λ k. initial_write k ∷ []) q
+        ap (λ ops. initial_write n ∷ ops) (none-initial n r (omega (arith, q)))
+        ∙ ap (λ k. initial_write k ∷ []) q
     go false d rest = rest (let apart = eqb-false n r d in omega (arith, apart, l))
 
 -- ---- the names that are called are names of registers
@@ -48,22 +54,35 @@ In-first (x ∷ names) name (inr i) = go (bytes_eq name x) refl (In-first names 
     go true d rest = inl ((bytes_eq-Decides name x).0 d)
     go false d rest = inr (In-filter (λ n. not (bytes_eq n x)) name (first_names names) rest (ap not d))
 
-called-In : (events : List CasEvent) (i : ℕ) (e : CasEvent) (call : Called) → slice_get events i ≡ Some e → called_by e.happening ≡ Some call
-    → In call.register (filter_map (λ (e : CasEvent). option_map (λ (call : Called). call.register) (called_by e.happening)) events)
+called-In : (events : List CasEvent) (i : ℕ) (e : CasEvent) (call : Called) → slice_get events i ≡ Some e
+    → called_by e.happening ≡ Some call
+    → In call.register
+    (filter_map (λ (e : CasEvent).
+    option_map (λ (call : Called). call.register) (called_by e.happening)) events)
 called-In [] i e call at h = absurd (cc (at))
 called-In (x ∷ events) zero e call at h =
     let same : x ≡ e = cc (at) in
-    subst (λ o. In call.register (cons_option (option_map (λ (call : Called). call.register) o) (filter_map (λ (e : CasEvent). option_map (λ (call : Called). call.register) (called_by e.happening)) events)))
+    subst (λ o. In call.register
+    (cons_option (option_map (λ (call : Called). call.register) o)
+    (filter_map (λ (e : CasEvent). option_map (λ (call : Called). call.register) (called_by e.happening))
+    events)))
     (sym (ap (λ (e : CasEvent). called_by e.happening) same ∙ h))
     (inl refl)
 called-In (x ∷ events) (suc i) e call at h = go (called_by x.happening) (called-In events i e call at h)
   where
-    go : (o : Option Called) → In call.register (filter_map (λ (e : CasEvent). option_map (λ (call : Called). call.register) (called_by e.happening)) events)
-        → In call.register (cons_option (option_map (λ (call : Called). call.register) o) (filter_map (λ (e : CasEvent). option_map (λ (call : Called). call.register) (called_by e.happening)) events))
+    go : (o : Option Called)
+        → In call.register
+        (filter_map (λ (e : CasEvent).
+        option_map (λ (call : Called). call.register) (called_by e.happening)) events)
+        → In call.register
+        (cons_option (option_map (λ (call : Called). call.register) o)
+        (filter_map (λ (e : CasEvent).
+        option_map (λ (call : Called). call.register) (called_by e.happening)) events))
     go None k = k
     go (Some c) k = inr k
 
-call-register : (events : List CasEvent) (a : Operation) → In a (calls events) → a.register.0 < length (register_names events)
+call-register : (events : List CasEvent) (a : Operation) → In a (calls events)
+    → a.register.0 < length (register_names events)
 call-register events a i =
     let c = described (register_names events) 2 events a i in
     let known = In-first _ c.called.register (called-In events c.place c.event c.called c.there c.calls) in
@@ -71,17 +90,21 @@ call-register events a i =
 
 -- ---- all operations
 
-pub named : (events : List CasEvent) (r : ℕ) → r < length (register_names events) → of_register r (operations events) ≡ initial_write r ∷ calls_of events r
+pub named : (events : List CasEvent) (r : ℕ) → r < length (register_names events)
+    → of_register r (operations events) ≡ initial_write r ∷ calls_of events r
 named events r l =
     filter-append (is_of r) (initial_writes (length (register_names events))) (calls events)
     ∙ ap (λ ops. ops ++ calls_of events r) (one-initial (length (register_names events)) r l)
 
-pub none : (events : List CasEvent) (r : ℕ) → (r < length (register_names events) → ⊥) → of_register r (operations events) ≡ []
+pub none : (events : List CasEvent) (r : ℕ) → (r < length (register_names events) → ⊥)
+    → of_register r (operations events) ≡ []
 none events r out =
     filter-append (is_of r) (initial_writes (length (register_names events))) (calls events)
-    ∙ (ap (λ ops. ops ++ calls_of events r) (none-initial (length (register_names events)) r (omega (arith, out)))
+    ∙ (ap (λ ops. ops
+    ++ calls_of events r) (none-initial (length (register_names events)) r (omega (arith, out)))
     ∙ filter-none (is_of r) (calls events) (λ a i. go a i (is_of r a) refl))
   where
     go : (a : Operation) → In a (calls events) → (b : Bool) → is_of r a ≡ b → b ≡ false
-    go a i true d = absurd (out (let q = eqb-true a.register.0 r d in omega (arith, q, call-register events a i)))
+    go a i true d =
+        absurd (out (let q = eqb-true a.register.0 r d in omega (arith, q, call-register events a i)))
     go a i false d = refl

@@ -1,5 +1,7 @@
 -- The places of the last events, as one more event is taken in.
-use Rattle.std.proofs.Common.{◌≡◌, ℕ, ◌<◌, cond, Bool, true, false, List, [], ◌∷◌, ◌++◌, length, slice_get, Option, Some, None, refl, sym, ap, ◌∙◌, arith, eqb, nat_lt, option_and_then, length-append}
+use Rattle.std.proofs.Common.{◌≡◌, ℕ, ◌<◌, cond, Bool, true, false, List, [], ◌∷◌, ◌++◌}
+use Rattle.std.proofs.Common.{length, slice_get, Option, Some, None, refl, sym, ap, ◌∙◌}
+use Rattle.std.proofs.Common.{arith, eqb, nat_lt, option_and_then, length-append}
 use Rattle.std.specs.Option.{option_or}
 use Rattle.std.specs.Ordering.{is_eq, nat_cmp}
 use Rattle.std.specs.declared.cmp.Ordering.TheVariants.{Less, Equal, Greater}
@@ -10,41 +12,53 @@ use Rattle.history_model.proofs.Lists.{slice_get-push, slice_get-push_other}
 use Rattle.cas_text.specs.declared.event.CasEvent.{CasEvent}
 use Rattle.cas_history.specs.Events.{is_of_process, last_event}
 use Rattle.cas_history.specs.Kept.{IsKept}
-use Rattle.cas_history.specs.Refusals.{event_reason, call_while_open, end_without_call, reply_disagrees, fail_disagrees, reply_without_value, too_many}
+use Rattle.cas_history.specs.Refusals.{event_reason, call_while_open, end_without_call, reply_disagrees}
+use Rattle.cas_history.specs.Refusals.{fail_disagrees, reply_without_value, too_many}
 
 -- the test of a map's keys is that of the processes
 pub same_key : (a b : ℕ) → is_eq (nat_cmp a b) ≡ eqb a b
 same_key a b = go (nat_lt a b) refl (eqb a b) refl
   where
-    go : (l : Bool) → nat_lt a b ≡ l → (e : Bool) → eqb a b ≡ e → is_eq (cond l Less (cond e Equal Greater)) ≡ e
+    go : (l : Bool) → nat_lt a b ≡ l → (e : Bool) → eqb a b ≡ e
+        → is_eq (cond l Less (cond e Equal Greater)) ≡ e
     go true l true e = absurd (omega (arith, ltb-true a b l, eqb-true a b e))
     go true l false e = refl
     go false l true e = refl
     go false l false e = refl
 
-pub last-push : {X : Type 0} (test : X → Bool) (xs : List X) (y : X) → last_with test (xs ++ y ∷ []) ≡ cond (test y) (Some y) (last_with test xs)
+pub last-push : {X : Type 0} (test : X → Bool) (xs : List X) (y : X)
+    → last_with test (xs ++ y ∷ []) ≡ cond (test y) (Some y) (last_with test xs)
 last-push test [] y = refl
 last-push {X} test (x ∷ xs) y =
     ap (λ o. option_or o (cond (test x) (Some x) None)) (last-push test xs y)
     ∙ go (test y)
   where
-    go : (b : Bool) → option_or (cond b (Some y) (last_with test xs)) (cond (test x) (Some x) None) ≡ cond b (Some y) (option_or (last_with test xs) (cond (test x) (Some x) None))
+    go : (b : Bool)
+        → option_or (cond b (Some y) (last_with test xs)) (cond (test x) (Some x) None)
+        ≡ cond b (Some y) (option_or (last_with test xs) (cond (test x) (Some x) None))
     go true = refl
     go false = refl
 
 -- one more event: its process has its last event there
-pub kept-push : (events : List CasEvent) (e : CasEvent) (old new : ℕ → Option ℕ) → IsKept events old → length events < MAX_EVENTS
-    → ((p : ℕ) → new p ≡ cond (is_eq (nat_cmp e.process p)) (Some (length events)) (old p)) → IsKept (events ++ e ∷ []) new
+pub kept-push : (events : List CasEvent) (e : CasEvent) (old new : ℕ → Option ℕ) → IsKept events old
+    → length events < MAX_EVENTS
+    → ((p : ℕ) → new p ≡ cond (is_eq (nat_cmp e.process p)) (Some (length events)) (old p))
+    → IsKept (events ++ e ∷ []) new
 kept-push events e old new k room is = record {
   few = omega (arith, room, length-append events (e ∷ []));
-  last = λ p. last-push (is_of_process p) events e ∙ (found p (eqb e.process p) (old p) refl ∙ ap (option_and_then (slice_get (events ++ e ∷ []))) (sym (at p)));
+  last =
+      λ p. last-push (is_of_process p) events e
+      ∙ (found p (eqb e.process p) (old p) refl
+      ∙ ap (option_and_then (slice_get (events ++ e ∷ []))) (sym (at p)));
   within = λ p i h. inside p i (eqb e.process p) (old p) refl (sym (at p) ∙ h);
 }
   where
     at : (p : ℕ) → new p ≡ cond (eqb e.process p) (Some (length events)) (old p)
     at p = is p ∙ ap (λ b. cond b (Some (length events)) (old p)) (same_key e.process p)
 
-    found : (p : ℕ) (b : Bool) (o : Option ℕ) → old p ≡ o → cond b (Some e) (last_event events p) ≡ option_and_then (slice_get (events ++ e ∷ [])) (cond b (Some (length events)) o)
+    found : (p : ℕ) (b : Bool) (o : Option ℕ) → old p ≡ o
+        → cond b (Some e) (last_event events p) ≡ option_and_then (slice_get (events ++ e ∷ []))
+        (cond b (Some (length events)) o)
     found p true o q = sym (slice_get-push events e)
     found p false None q = k.last p ∙ ap (option_and_then (slice_get events)) q
     found p false (Some i) q =
@@ -52,8 +66,10 @@ kept-push events e old new k room is = record {
         ∙ (ap (option_and_then (slice_get events)) q
         ∙ sym (slice_get-push_other events e i (λ same. omega (arith, k.within p i q, same))))
 
-    inside : (p i : ℕ) (b : Bool) (o : Option ℕ) → old p ≡ o → cond b (Some (length events)) o ≡ Some i → i < length (events ++ e ∷ [])
-    inside p i true o q h = let same : length events ≡ i = cc (h) in omega (arith, same, length-append events (e ∷ []))
+    inside : (p i : ℕ) (b : Bool) (o : Option ℕ) → old p ≡ o → cond b (Some (length events)) o ≡ Some i
+        → i < length (events ++ e ∷ [])
+    inside p i true o q h =
+        let same : length events ≡ i = cc (h) in omega (arith, same, length-append events (e ∷ []))
     inside p i false o q h = omega (arith, k.within p i (q ∙ h), length-append events (e ∷ []))
 
 or-second : {A : Type 0} (a b : Option A) → option_or a b ≡ None → b ≡ None
@@ -65,7 +81,8 @@ or-first None b h = refl
 or-first (Some x) b h = absurd (cc (h))
 
 -- an event without a reason has a place
-pub room : (count : ℕ) (last : Option CasEvent) (e : CasEvent) → event_reason count last e ≡ None → count < MAX_EVENTS
+pub room : (count : ℕ) (last : Option CasEvent) (e : CasEvent) → event_reason count last e ≡ None
+    → count < MAX_EVENTS
 room count last e h =
     let h2 = or-second (call_while_open last e) _ h in
     let h3 = or-second (end_without_call last e) _ h2 in

@@ -14,7 +14,8 @@ use Rattle.cas_model.specs.declared.act.Act.TheVariants.{Read, Cas, Miss}
 use Rattle.cas_model.specs.declared.operation.Operation.{Operation}
 use Rattle.cas_history.specs.History.{calls_of, register_names}
 use Rattle.cas_history.specs.Refusals.{event_reason, event_refusal}
-use Rattle.cas_history.specs.declared.refusal.Reason.TheVariants.{OpenCall, NoOpenCall, Disagreement, NoValue, TooMany, AfterCrash, NoOk}
+use Rattle.cas_history.specs.declared.refusal.Reason.TheVariants.{OpenCall, NoOpenCall, Disagreement}
+use Rattle.cas_history.specs.declared.refusal.Reason.TheVariants.{NoValue, TooMany, AfterCrash, NoOk}
 
 abbrev event : ℕ → ℕ → Happening → CasEvent
 event line process happening = record { line = line; process = process; happening = happening }
@@ -37,7 +38,8 @@ failed = Fail (record { op = None; register = None; value = None })
 
 -- ---- reasons
 
--- a cas's reply without `ok`, or with another than true and false; behind a write's or a read's call `ok` doesn't count
+-- a cas's reply without `ok`, or with another than true and false; behind a
+-- write's or a read's call `ok` doesn't count
 no_ok : event_reason 1 (Some (event 1 1 (swap (codes "x") Null 1))) (event 2 1 (said ok.Absent)) ≡ Some NoOk
 no_ok = refl
 
@@ -47,24 +49,30 @@ other_ok = refl
 missed : event_reason 1 (Some (event 1 1 (swap (codes "x") Null 1))) (event 2 1 (said ok.False)) ≡ None
 missed = refl
 
-write_without_ok : event_reason 1 (Some (event 1 1 (Call (codes "x") (asked.Write (pos 1))))) (event 2 1 (said ok.Other)) ≡ None
+write_without_ok : event_reason 1 (Some (event 1 1 (Call (codes "x") (asked.Write (pos 1)))))
+    (event 2 1 (said ok.Other)) ≡ None
 write_without_ok = refl
 
 -- of two reasons the least number: the value 7 disagrees with a cas, and there is no `ok`
-value_before_ok : event_reason 1 (Some (event 1 1 (swap (codes "x") Null 1))) (event 2 1 (gave (Int (pos 7)))) ≡ Some Disagreement
+value_before_ok : event_reason 1 (Some (event 1 1 (swap (codes "x") Null 1))) (event 2 1 (gave (Int (pos 7))))
+    ≡ Some Disagreement
 value_before_ok = refl
 
 -- a reply to a cas may give the value null, and name its operation and its register
-null_and_names : event_reason 1 (Some (event 1 1 (swap (codes "x") Null 1))) (event 2 1 (Reply (record { op = Some word.Cas; register = Some (codes "x"); value = Some Null }) ok.True)) ≡ None
+null_and_names : event_reason 1 (Some (event 1 1 (swap (codes "x") Null 1)))
+    (event 2 1 (Reply (record { op = Some word.Cas; register = Some (codes "x"); value = Some Null })
+    ok.True)) ≡ None
 null_and_names = refl
 
-other_word : event_reason 1 (Some (event 1 1 (swap (codes "x") Null 1))) (event 2 1 (Fail (record { op = Some word.Write; register = None; value = None }))) ≡ Some Disagreement
+other_word : event_reason 1 (Some (event 1 1 (swap (codes "x") Null 1)))
+    (event 2 1 (Fail (record { op = Some word.Write; register = None; value = None }))) ≡ Some Disagreement
 other_word = refl
 
 no_value : event_reason 1 (Some (event 1 1 (read (codes "x")))) (event 2 1 (said ok.True)) ≡ Some NoValue
 no_value = refl
 
-twice_open : event_reason 1 (Some (event 1 1 (read (codes "x")))) (event 2 1 (swap (codes "x") Null 1)) ≡ Some (OpenCall 1)
+twice_open : event_reason 1 (Some (event 1 1 (read (codes "x")))) (event 2 1 (swap (codes "x") Null 1))
+    ≡ Some (OpenCall 1)
 twice_open = refl
 
 not_open : event_reason 2 (Some (event 2 1 (said ok.True))) (event 3 1 failed) ≡ Some NoOpenCall
@@ -83,18 +91,30 @@ another_process = refl
 
 -- ---- operations
 
--- a cas that took place, one that missed, one that failed, and one without a reply; a read of what the first gave
+-- a cas that took place, one that missed, one that failed, and one
+-- without a reply; a read of what the first gave
 abbrev small : List CasEvent
-small = event 1 1 (swap (codes "y") Null 1) ∷ event 2 2 (swap (codes "y") Null 2) ∷ event 3 1 (said ok.True) ∷ event 4 3 (swap (codes "x") Null 3) ∷ event 5 2 (said ok.False) ∷ event 6 3 failed
-    ∷ event 7 2 (swap (codes "y") (Int (pos 1)) 4) ∷ event 8 1 (read (codes "y")) ∷ event 9 1 (gave (Int (pos 1))) ∷ []
+small =
+    event 1 1 (swap (codes "y") Null 1) ∷ event 2 2 (swap (codes "y") Null 2) ∷ event 3 1 (said ok.True)
+    ∷ event 4 3 (swap (codes "x") Null 3) ∷ event 5 2 (said ok.False) ∷ event 6 3 failed
+    ∷ event 7 2 (swap (codes "y") (Int (pos 1)) 4) ∷ event 8 1 (read (codes "y"))
+    ∷ event 9 1 (gave (Int (pos 1))) ∷ []
 
 small_names : register_names small ≡ codes "y" ∷ codes "x" ∷ []
 small_names = refl
 
 abbrev done : ℕ → ℕ → Option ℕ → ℕ → Act → Operation
-done line call reply process act = record { line = line; call = call; reply = reply; process = Some process; register = record { 0 = 0 }; act = act }
+done line call reply process act = record {
+  line = line;
+  call = call;
+  reply = reply;
+  process = Some process;
+  register = record { 0 = 0 };
+  act = act;
+}
 
-small_calls : calls_of small 0 ≡ done 1 2 (Some 4) 1 (Cas Null (pos 1)) ∷ done 2 3 (Some 6) 2 (Miss Null) ∷ done 7 8 None 2 (Cas (Int (pos 1)) (pos 4)) ∷ done 8 9 (Some 10) 1 (Read (Some (Int (pos 1)))) ∷ []
+small_calls : calls_of small 0 ≡ done 1 2 (Some 4) 1 (Cas Null (pos 1)) ∷ done 2 3 (Some 6) 2 (Miss Null)
+    ∷ done 7 8 None 2 (Cas (Int (pos 1)) (pos 4)) ∷ done 8 9 (Some 10) 1 (Read (Some (Int (pos 1)))) ∷ []
 small_calls = refl
 
 failed_left_out : calls_of small 1 ≡ []

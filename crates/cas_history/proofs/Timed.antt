@@ -11,16 +11,19 @@ use Rattle.cas_model.proofs.Operations.{of_register-In}
 use Rattle.cas_history.specs.Events.{Called, Replied, called_by, replied_by}
 use Rattle.cas_history.specs.History.{calls, calls_of, register_names}
 use Rattle.cas_history.specs.Timed.{AreTimedCalls}
-use Rattle.cas_history.proofs.Ascending.{Ascends, ascends-calls, ascends-filter, in_order, not_before, same-call}
+use Rattle.cas_history.proofs.Ascending.{Ascends, ascends-calls, ascends-filter}
+use Rattle.cas_history.proofs.Ascending.{in_order, not_before, same-call}
 use Rattle.cas_history.proofs.Described.{IsCallAt, described}
 
-call-or-reply : (h : Happening) (call : Called) (reply : Replied) → called_by h ≡ Some call → replied_by h ≡ Some reply → ⊥
+call-or-reply : (h : Happening) (call : Called) (reply : Replied) → called_by h ≡ Some call
+    → replied_by h ≡ Some reply → ⊥
 call-or-reply (Call name asked) call reply c r = cc (r)
 call-or-reply (Reply parts ok) call reply c r = cc (c)
 call-or-reply (Fail parts) call reply c r = cc (c)
 call-or-reply Crash call reply c r = cc (c)
 
-one-event : (es : List CasEvent) (i j : ℕ) (e f : CasEvent) → slice_get es i ≡ Some e → slice_get es j ≡ Some f → i ≡ j → e ≡ f
+one-event : (es : List CasEvent) (i j : ℕ) (e f : CasEvent) → slice_get es i ≡ Some e
+    → slice_get es j ≡ Some f → i ≡ j → e ≡ f
 one-event es i j e f p q same = let h : Some e ≡ Some f = sym p ∙ (ap (slice_get es) same ∙ q) in cc (h)
 
 module _ (events : List CasEvent) where
@@ -33,28 +36,47 @@ module _ (events : List CasEvent) where
   life : (a : Operation) (t : ℕ) → In a (calls events) → a.reply ≡ Some t → a.call < t
   life a t i h = let c = all a i in let r = c.reply t h in omega (arith, c.time, r.time, r.order)
 
-  apart : (a b : Operation) (t : ℕ) → In a (calls events) → In b (calls events) → a.reply ≡ Some t → t ≡ b.call → ⊥
+  apart : (a b : Operation) (t : ℕ) → In a (calls events) → In b (calls events) → a.reply ≡ Some t
+      → t ≡ b.call → ⊥
   apart a b t i j h same =
       let d = all b j in
       let r = (all a i).reply t h in
-      let q = one-event events r.place d.place r.event d.event r.there d.there (omega (arith, r.time, d.time, same)) in
-      call-or-reply d.event.happening d.called r.replied d.calls (sym (ap (λ (e : CasEvent). replied_by e.happening) q) ∙ r.replies)
+      let q =
+      one-event events r.place d.place r.event d.event r.there d.there (omega (
+        arith,
+        r.time,
+        d.time,
+        same,
+      )) in
+      call-or-reply d.event.happening d.called r.replied d.calls
+      (sym (ap (λ (e : CasEvent). replied_by e.happening) q) ∙ r.replies)
 
   -- no call of the process stands between a call and its reply
-  not-later : (a b : Operation) (t : ℕ) → In a (calls events) → In b (calls events) → a.reply ≡ Some t → b.reply ≡ Some t → a.call < b.call → ⊥
+  not-later : (a b : Operation) (t : ℕ) → In a (calls events) → In b (calls events) → a.reply ≡ Some t
+      → b.reply ≡ Some t → a.call < b.call → ⊥
   not-later a b t i j h k l =
       let c = all a i in
       let d = all b j in
       let r = c.reply t h in
       let u = d.reply t k in
-      let q = one-event events r.place u.place r.event u.event r.there u.there (omega (arith, r.time, u.time)) in
+      let q =
+      one-event events r.place u.place r.event u.event r.there u.there (omega (arith, r.time, u.time)) in
       let process = sym u.process ∙ (sym (ap (λ (e : CasEvent). e.process) q) ∙ r.process) in
-      r.between d.place d.event (omega (arith, c.time, d.time, l)) (omega (arith, r.time, u.time, u.order)) d.there process
+      r.between d.place d.event (omega (arith, c.time, d.time, l)) (omega (
+        arith,
+        r.time,
+        u.time,
+        u.order,
+      )) d.there process
 
-  replies : (a b : Operation) (t : ℕ) → In a (calls events) → In b (calls events) → a.reply ≡ Some t → b.reply ≡ Some t → a ≡ b
+  replies : (a b : Operation) (t : ℕ) → In a (calls events) → In b (calls events) → a.reply ≡ Some t
+      → b.reply ≡ Some t → a ≡ b
   replies a b t i j h k = elim (cases_order a.call b.call) [
     | inl q ↦ same-call 2 (calls events) ascending a b i j q
-    | inr w ↦ elim w [ inl l ↦ absurd (not-later a b t i j h k l) | inr l ↦ absurd (not-later b a t j i k h l) ]
+    | inr w ↦ elim w [
+      | inl l ↦ absurd (not-later a b t i j h k l)
+      | inr l ↦ absurd (not-later b a t j i k h l)
+    ]
   ]
 
   pub timed : (r : ℕ) → AreTimedCalls r (calls_of events r)

@@ -1,5 +1,7 @@
--- What an event says, and how the end of a call agrees with it (this project's profile). Of what went before, only the last event of the event's process counts here.
-use Rattle.std.specs.Prelude.{ℕ, ℤ, ◌==◌, ◌&&◌, List, Bool, true, false, cond, bytes_eq, is_some, Option, Some, None, option_and_then}
+-- What an event says, and how the end of a call agrees with it (this project's profile). Of what went before,
+-- only the last event of the event's process counts here.
+use Rattle.std.specs.Prelude.{ℕ, ℤ, ◌==◌, ◌&&◌, List, Bool, true, false, cond, bytes_eq}
+use Rattle.std.specs.Prelude.{is_some, Option, Some, None, option_and_then}
 use Rattle.std.specs.Ordering.{int_eq}
 use Rattle.history_text.specs.declared.event.Val.{Val}
 use Rattle.history_text.specs.declared.event.Val.TheVariants.{Null, Int}
@@ -119,7 +121,8 @@ value_agrees (asked.Cas from to) value = failed_value_agrees (asked.Cas from to)
 
 -- the operation and the register, where they are named, are the call's
 abbrev pub parts_agree : Called → EndParts → Bool
-parts_agree call parts = agrees same_word parts.op (word_of call.asked) && agrees bytes_eq parts.register call.register
+parts_agree call parts =
+    agrees same_word parts.op (word_of call.asked) && agrees bytes_eq parts.register call.register
 
 abbrev pub reply_agrees : Called → Replied → Bool
 reply_agrees call reply = parts_agree call reply.parts && value_agrees call.asked reply.parts.value

@@ -1,5 +1,8 @@
--- The operations of the events of an accepted history: each register's initial write, and each call that didn't fail, with what its reply says that it did.
-use Rattle.std.specs.Prelude.{◌≡◌, ℕ, ℤ, suc, zero, ◌==◌, cond, Bool, bytes_eq, Vec, is_some, List, [], ◌∷◌, ◌++◌, filter_map, length, map, slice_get, Option, Some, None, option_map, option_and_then}
+-- The operations of the events of an accepted history: each register's initial write, and each call that
+-- didn't fail, with what its reply says that it did.
+use Rattle.std.specs.Prelude.{◌≡◌, ℕ, ℤ, suc, zero, ◌==◌, cond, Bool, bytes_eq, Vec}
+use Rattle.std.specs.Prelude.{is_some, List, [], ◌∷◌, ◌++◌, filter_map, length, map}
+use Rattle.std.specs.Prelude.{slice_get, Option, Some, None, option_map, option_and_then}
 use Rattle.std.specs.Global.{Global}
 use Rattle.std.specs.List.{position_or_len}
 use Rattle.history_text.specs.declared.event.Val.{Val}
@@ -19,7 +22,8 @@ use Rattle.cas_history.specs.declared.history.History.{History}
 
 -- the registers, in the order of their first calls
 abbrev pub register_names : List CasEvent → List (List ℕ)
-register_names events = first_names (filter_map (λ e. option_map (λ call. call.register) (called_by e.happening)) events)
+register_names events =
+    first_names (filter_map (λ e. option_map (λ call. call.register) (called_by e.happening)) events)
 
 -- the first event of process p among those from time s on, with its time
 abbrev pub next_of : ℕ → ℕ → List CasEvent → Option (ℕ × CasEvent)
@@ -69,7 +73,8 @@ operation names s e call next = record {
 }
 
 -- the operation that begins with an event, if that is a call that didn't fail
-abbrev pub operation_if : Option Called → List (List ℕ) → ℕ → CasEvent → Option (ℕ × CasEvent) → Option Operation
+abbrev pub operation_if : Option Called → List (List ℕ) → ℕ → CasEvent → Option (ℕ × CasEvent)
+    → Option Operation
 operation_if None names s e next = None
 operation_if (Some call) names s e next = cond (has_failed next) None (Some (operation names s e call next))
 
@@ -83,7 +88,8 @@ option_list (Some a) = a ∷ []
 -- the operations of the calls among events, the first of which has time s
 abbrev pub calls_from : List (List ℕ) → ℕ → List CasEvent → List Operation
 calls_from names s [] = []
-calls_from names s (e ∷ es) = option_list (operation_at names s e (next_of e.process (suc s) es)) ++ calls_from names (suc s) es
+calls_from names s (e ∷ es) =
+    option_list (operation_at names s e (next_of e.process (suc s) es)) ++ calls_from names (suc s) es
 
 -- the calls of a history that didn't fail, by time: event i has time i + 2
 abbrev pub calls : List CasEvent → List Operation
@@ -106,6 +112,7 @@ calls_of events r = of_register r (calls events)
 pub record IsHistoryOf (events : List CasEvent) (h : History) : Type 0 where
   pub names : h.names.items ≡ register_names events
   pub count : length h.registers.items ≡ length h.names.items
-  pub registers : (r : ℕ) (ops : Vec Operation Global) → slice_get h.registers.items r ≡ Some ops → ops.items ≡ calls_of events r
+  pub registers : (r : ℕ) (ops : Vec Operation Global) → slice_get h.registers.items r ≡ Some ops
+      → ops.items ≡ calls_of events r
   pub operations : h.operations ≡ length (calls events)
   pub lines : h.lines.items ≡ map (λ e. e.line) events

@@ -1,5 +1,6 @@
 -- What the code keeps beside a list of events or of names, to find in it, and the operations by register.
-use Rattle.std.specs.Prelude.{◌≡◌, ℕ, ◌+◌, ◌<◌, ◌≤◌, List, [], ◌∷◌, ◌++◌, length, slice_get, nat_lt, cond, bytes_eq, unwrap_or, Vec, Option, Some, option_map, option_and_then}
+use Rattle.std.specs.Prelude.{◌≡◌, ℕ, ◌+◌, ◌<◌, ◌≤◌, List, [], ◌∷◌, ◌++◌, length, slice_get, nat_lt, cond}
+use Rattle.std.specs.Prelude.{bytes_eq, unwrap_or, Vec, Option, Some, option_map, option_and_then}
 use Rattle.std.specs.Global.{Global}
 use Rattle.std.specs.List.{position_or_len}
 use Rattle.history_text.specs.declared.limits.TheConstants.{MAX_EVENTS}
@@ -25,12 +26,17 @@ pub record AreNumbered (names : List (List ℕ)) (number : List ℕ → Option �
 
 -- the names with one more, which comes last if it is new
 abbrev pub with_name : List (List ℕ) → List ℕ → List (List ℕ)
-with_name names name = cond (nat_lt (position_or_len (bytes_eq name) names) (length names)) names (names ++ name ∷ [])
+with_name names name =
+    cond (nat_lt (position_or_len (bytes_eq name) names) (length names)) names (names ++ name ∷ [])
 
 -- each register has those of the operations that are its own, in their order
 abbrev pub AreParted : List Operation → List (Vec Operation Global) → Type 0
-AreParted ops registers = (r : ℕ) (own : Vec Operation Global) → slice_get registers r ≡ Some own → own.items ≡ of_register r ops
+AreParted ops registers =
+    (r : ℕ) (own : Vec Operation Global) → slice_get registers r ≡ Some own → own.items ≡ of_register r ops
 
 -- each register has the operation behind those that it had, if it is its own
 abbrev pub Adds : List (Vec Operation Global) → List (Vec Operation Global) → Operation → Type 0
-Adds old new a = (r : ℕ) (own : Vec Operation Global) → slice_get new r ≡ Some own → (before : Vec Operation Global) × (slice_get old r ≡ Some before) × (own.items ≡ before.items ++ of_register r (a ∷ []))
+Adds old new a =
+    (r : ℕ) (own : Vec Operation Global) → slice_get new r ≡ Some own
+    → (before : Vec Operation Global) × (slice_get old r ≡ Some before)
+    × (own.items ≡ before.items ++ of_register r (a ∷ []))

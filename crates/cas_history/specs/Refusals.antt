@@ -1,15 +1,21 @@
--- Which histories are refused, for which line, and why (the format's own rules; docs/format.md has the table of numbers).
-use Rattle.std.specs.Prelude.{◌≡◌, ℕ, ◌<◌, ◌&&◌, List, [], ◌∷◌, length, take, slice_get, filter_map, Bool, cond, nat_le, not, is_none, Option, Some, None, option_map, option_and_then, Result, Ok, Err}
+-- Which histories are refused, for which line, and why (the format's own rules;
+-- docs/format.md has the table of numbers).
+use Rattle.std.specs.Prelude.{◌≡◌, ℕ, ◌<◌, ◌&&◌, List, [], ◌∷◌, length, take, slice_get}
+use Rattle.std.specs.Prelude.{filter_map, Bool, cond, nat_le, not, is_none, Option, Some}
+use Rattle.std.specs.Prelude.{None, option_map, option_and_then, Result, Ok, Err}
 use Rattle.std.specs.Result.{result_ok}
 use Rattle.history_text.specs.declared.limits.TheConstants.{MAX_EVENTS}
 use Rattle.history_model.specs.Refusals.{first_some}
 use Rattle.cas_text.specs.Faults.{fault_number}
 use Rattle.cas_text.specs.declared.event.CasEvent.{CasEvent}
 use Rattle.cas_text.specs.declared.fault.EventFault.{EventFault}
-use Rattle.cas_history.specs.Events.{Called, Replied, called_by, replied_by, failed_by, is_end, last_event, open_call, open_asked, crash_in, reply_agrees, fail_agrees, is_without_value, is_without_ok}
+use Rattle.cas_history.specs.Events.{Called, Replied, called_by, replied_by, failed_by, is_end}
+use Rattle.cas_history.specs.Events.{last_event, open_call, open_asked, crash_in, reply_agrees}
+use Rattle.cas_history.specs.Events.{fail_agrees, is_without_value, is_without_ok}
 use Rattle.cas_history.specs.declared.refusal.LineRefusal.{LineRefusal}
 use Rattle.cas_history.specs.declared.refusal.Reason.{Reason}
-use Rattle.cas_history.specs.declared.refusal.Reason.TheVariants.{Faulty, OpenCall, NoOpenCall, Disagreement, NoValue, TooMany, AfterCrash, NoOk}
+use Rattle.cas_history.specs.declared.refusal.Reason.TheVariants.{Faulty, OpenCall, NoOpenCall, Disagreement}
+use Rattle.cas_history.specs.declared.refusal.Reason.TheVariants.{NoValue, TooMany, AfterCrash, NoOk}
 use Rattle.cas_history.specs.declared.refusal.BuildError.{BuildError}
 use Rattle.cas_history.specs.declared.refusal.BuildError.TheVariants.{Refused, Memory}
 
@@ -49,15 +55,20 @@ refused_if applies reason = cond applies (Some reason) None
 
 -- 9: a call while its process has an open call
 abbrev pub call_while_open : Option CasEvent → CasEvent → Option Reason
-call_while_open last e = option_and_then (λ _. option_map (λ call. OpenCall call.line) (open_call last)) (called_by e.happening)
+call_while_open last e =
+    option_and_then (λ _. option_map (λ call. OpenCall call.line) (open_call last)) (called_by e.happening)
 
 -- 10: a reply or a fail without an open call; after a crash there is another reason
 abbrev pub end_without_call : Option CasEvent → CasEvent → Option Reason
-end_without_call last e = refused_if (is_end e.happening && (is_none (open_call last) && is_none (crash_in last))) NoOpenCall
+end_without_call last e =
+    refused_if (is_end e.happening && (is_none (open_call last) && is_none (crash_in last))) NoOpenCall
 
 -- what a reply says of the open call fails a test
 abbrev pub reply_failing : (Called → Replied → Bool) → Reason → Option CasEvent → CasEvent → Option Reason
-reply_failing fails reason last e = option_and_then (λ reply. option_and_then (λ call. refused_if (fails call reply) reason) (open_asked last)) (replied_by e.happening)
+reply_failing fails reason last e =
+    option_and_then (λ reply.
+    option_and_then (λ call. refused_if (fails call reply) reason) (open_asked last))
+    (replied_by e.happening)
 
 -- 11: a reply that doesn't agree with its call
 abbrev pub reply_disagrees : Option CasEvent → CasEvent → Option Reason
@@ -65,11 +76,14 @@ reply_disagrees last e = reply_failing (λ call reply. not (reply_agrees call re
 
 -- 11: a fail that doesn't
 abbrev pub fail_disagrees : Option CasEvent → CasEvent → Option Reason
-fail_disagrees last e = option_and_then (λ parts. option_and_then (λ call. refused_if (not (fail_agrees call parts)) Disagreement) (open_asked last)) (failed_by e.happening)
+fail_disagrees last e =
+    option_and_then (λ parts. option_and_then (λ call. refused_if (not (fail_agrees call parts)) Disagreement)
+    (open_asked last)) (failed_by e.happening)
 
 -- 12: a read's reply without a value
 abbrev pub reply_without_value : Option CasEvent → CasEvent → Option Reason
-reply_without_value last e = reply_failing (λ call reply. is_without_value call.asked reply.parts.value) NoValue last e
+reply_without_value last e =
+    reply_failing (λ call reply. is_without_value call.asked reply.parts.value) NoValue last e
 
 -- 14: too many events before it
 abbrev pub too_many : ℕ → Option Reason
@@ -85,13 +99,19 @@ reply_without_ok last e = reply_failing (λ call reply. is_without_ok call.asked
 
 -- ---- the refusal of a line, and of a history
 
--- the reason of least number that applies to an event after so many others, of which this is its process's last
+-- the reason of least number that applies to an event after so many
+-- others, of which this is its process's last
 abbrev pub event_reason : ℕ → Option CasEvent → CasEvent → Option Reason
-event_reason count last e = first_some (call_while_open last e ∷ end_without_call last e ∷ reply_disagrees last e ∷ fail_disagrees last e ∷ reply_without_value last e ∷ too_many count ∷ after_crash last ∷ reply_without_ok last e ∷ [])
+event_reason count last e =
+    first_some (call_while_open last e ∷ end_without_call last e ∷ reply_disagrees last e
+    ∷ fail_disagrees last e ∷ reply_without_value last e ∷ too_many count ∷ after_crash last
+    ∷ reply_without_ok last e ∷ [])
 
 -- the refusal of an event after others
 abbrev pub event_refusal : List CasEvent → CasEvent → Option LineRefusal
-event_refusal before e = option_map (λ reason. record { line = e.line; reason = reason }) (event_reason (length before) (last_event before e.process) e)
+event_refusal before e =
+    option_map (λ reason. record { line = e.line; reason = reason })
+    (event_reason (length before) (last_event before e.process) e)
 
 -- of a line: its own fault, or its event's refusal after the events of the lines before it
 abbrev pub line_refusal : List Line → Line → Option LineRefusal

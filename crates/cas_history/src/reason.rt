@@ -1,5 +1,5 @@
-//! Why an event is refused: a function for each reason, and the reason of least number. Of what went before, only the last
-//! event of the event's process counts, and how many events there were.
+//! Why an event is refused: a function for each reason, and the reason of least number. Of what went before,
+//! only the last event of the event's process counts, and how many events there were.
 ghost use Rattle.std.specs.Prelude.{◌≡◌, option_map};
 ghost use Rattle.cas_history.specs.Events as defined;
 ghost use Rattle.cas_history.specs.Refusals as refused;

@@ -1,9 +1,11 @@
 -- What is known at a time of operations that are atomic is atomic.
-use Rattle.std.proofs.Common.{◌≡◌, ℕ, ◌<◌, ◌≤◌, nat_le, is_some, cond, true, List, [], ◌∷◌, ◌++◌, map, Option, Some, None, ◌⊎◌, inl, inr, refl, sym, ap, subst, ◌∙◌, arith}
+use Rattle.std.proofs.Common.{◌≡◌, ℕ, ◌<◌, ◌≤◌, nat_le, is_some, cond, true, List, [], ◌∷◌, ◌++◌, map}
+use Rattle.std.proofs.Common.{Option, Some, None, ◌⊎◌, inl, inr, refl, sym, ap, subst, ◌∙◌, arith}
 use Rattle.std.proofs.lemmas.Bool.{false≢true, cases_Bool, cases_lt, leb-true, le-leb}
 use Rattle.std.specs.List.{filter}
 use Rattle.history_model.specs.Lists.{In, Before}
-use Rattle.history_model.proofs.Lists.{In-map, map-In, In-filter, filter-In, Before-map, map-Before, Before-first, Before-second, Before-across, append-In, In-left}
+use Rattle.history_model.proofs.Lists.{In-map, map-In, In-filter, filter-In, Before-map, map-Before}
+use Rattle.history_model.proofs.Lists.{Before-first, Before-second, Before-across, append-In, In-left}
 use Rattle.cas_model.specs.declared.operation.Operation.{Operation}
 use Rattle.cas_model.specs.Cut.{reply_by, known_at, is_called_by, cut_at}
 use Rattle.cas_model.specs.Legal.{IsLegal, IsMet, IsAtomic}
@@ -46,11 +48,13 @@ record IsBeginning (t : ℕ) (xs ys zs : List Operation) : Type 0 where
   rest : (a : Operation) → In a zs → IsOver t a → ⊥
   needed : (a : Operation) → In a ys → IsOver t a ⊎ ((b : Operation) × Before a b ys × IsOver t b)
 
-beginning : (t : ℕ) (xs : List Operation) → (ys : List Operation) × (zs : List Operation) × IsBeginning t xs ys zs
+beginning : (t : ℕ) (xs : List Operation) → (ys : List Operation) × (zs : List Operation)
+    × IsBeginning t xs ys zs
 beginning t [] = ([], [], record { is = refl; rest = λ a i _. i; needed = λ a i. absurd i })
 beginning t (x ∷ xs) = let r = beginning t xs in go r.0 r.1 r.2
   where
-    go : (ys zs : List Operation) → IsBeginning t xs ys zs → (ys : List Operation) × (zs : List Operation) × IsBeginning t (x ∷ xs) ys zs
+    go : (ys zs : List Operation) → IsBeginning t xs ys zs → (ys : List Operation) × (zs : List Operation)
+        × IsBeginning t (x ∷ xs) ys zs
     go [] zs b = elim (over-or t x) [
       | inl o ↦ (
         x ∷ [],
@@ -89,8 +93,10 @@ beginning t (x ∷ xs) = let r = beginning t xs in go r.0 r.1 r.2
 
 append-Before : {X : Type 0} (a b : X) (xs ys : List X) → Before a b (xs ++ ys) → Before a b xs ⊎ In b ys
 append-Before a b [] ys h = inr (Before-second a b ys h)
-append-Before a b (x ∷ xs) ys (inl h) = elim (append-In b xs ys h.1) [ inl i ↦ inl (inl (h.0, i)) | inr i ↦ inr i ]
-append-Before a b (x ∷ xs) ys (inr h) = elim (append-Before a b xs ys h) [ inl k ↦ inl (inr k) | inr i ↦ inr i ]
+append-Before a b (x ∷ xs) ys (inl h) =
+    elim (append-In b xs ys h.1) [ inl i ↦ inl (inl (h.0, i)) | inr i ↦ inr i ]
+append-Before a b (x ∷ xs) ys (inr h) =
+    elim (append-Before a b xs ys h) [ inl k ↦ inl (inr k) | inr i ↦ inr i ]
 
 Before-left : {X : Type 0} (a b : X) (xs ys : List X) → Before a b xs → Before a b (xs ++ ys)
 Before-left a b [] ys h = absurd h
@@ -99,7 +105,8 @@ Before-left a b (x ∷ xs) ys (inr h) = inr (Before-left a b xs ys h)
 
 -- ---- the cut's order
 
-module _ (t : ℕ) (ops : List Operation) (life : (a : Operation) (s : ℕ) → In a ops → a.reply ≡ Some s → a.call < s)
+module _ (t : ℕ) (ops : List Operation) (life : (a : Operation) (s : ℕ) → In a ops → a.reply ≡ Some s
+    → a.call < s)
     (calls : (a b : Operation) → In a ops → In b ops → a.call ≡ b.call → a ≡ b) where
   module _ (order ys zs : List Operation) (l : IsLegal ops order) (b : IsBeginning t order ys zs) where
     up : (x y : Operation) → Before x y ys → Before x y order
@@ -131,7 +138,8 @@ module _ (t : ℕ) (ops : List Operation) (life : (a : Operation) (s : ℕ) → 
       | inr j ↦ absurd (l.completion.once x (subst (Before x x) (sym b.is) (Before-across x x ys zs i j)))
     ]
 
-    back : (x y : Operation) → In x ys → In y ys → Before (known_at t x) (known_at t y) (map (known_at t) ys) → Before x y ys
+    back : (x y : Operation) → In x ys → In y ys → Before (known_at t x) (known_at t y) (map (known_at t) ys)
+        → Before x y ys
     back x y i j h =
         let k = map-Before (known_at t) (known_at t x) (known_at t y) ys h in
         let e = one x k.0 i (Before-first k.0 k.1 ys k.2) k.3 in
@@ -153,8 +161,10 @@ module _ (t : ℕ) (ops : List Operation) (life : (a : Operation) (s : ℕ) → 
                 m.1.nearest p.0
                 (subst (λ (o : Operation). IsChange o) p.2 c)
                 (ap (λ (o : Operation). o.register.0) (sym p.2) ∙ e)
-                (up m.0 p.0 (back m.0 p.0 j p.1 (subst (λ o. Before (known_at t m.0) o (map (known_at t) ys)) p.2 h)))
-                (up p.0 x (back p.0 x p.1 i (subst (λ o. Before o (known_at t x) (map (known_at t) ys)) p.2 k)));
+                (up m.0 p.0 (back m.0 p.0 j p.1
+                (subst (λ o. Before (known_at t m.0) o (map (known_at t) ys)) p.2 h)))
+                (up p.0 x (back p.0 x p.1 i
+                (subst (λ o. Before o (known_at t x) (map (known_at t) ys)) p.2 k)));
           },
           m.2,
         )
@@ -164,11 +174,14 @@ module _ (t : ℕ) (ops : List Operation) (life : (a : Operation) (s : ℕ) → 
       completion = record {
         once = λ a h.
             let k = map-Before (known_at t) a a ys h in
-            let e = one k.0 k.1 (Before-first k.0 k.1 ys k.2) (Before-second k.0 k.1 ys k.2) (sym k.3 ∙ k.4) in
+            let e =
+            one k.0 k.1 (Before-first k.0 k.1 ys k.2) (Before-second k.0 k.1 ys k.2) (sym k.3 ∙ k.4) in
             l.completion.once k.0 (up k.0 k.0 (subst (λ z. Before k.0 z ys) (sym e) k.2));
         only = λ a i.
             let k = map-In (known_at t) a ys i in
-            subst (λ z. In z (cut_at t ops)) (sym k.2) (In-map (known_at t) k.0 (filter (is_called_by t) ops) (In-filter (is_called_by t) k.0 ops (own k.0 k.1) (le-leb (k.0).call t (called k.0 k.1))));
+            subst (λ z. In z (cut_at t ops)) (sym k.2)
+            (In-map (known_at t) k.0 (filter (is_called_by t) ops)
+            (In-filter (is_called_by t) k.0 ops (own k.0 k.1) (le-leb (k.0).call t (called k.0 k.1))));
         all = λ a i d.
             let k = map-In (known_at t) a (filter (is_called_by t) ops) i in
             let f = filter-In (is_called_by t) k.0 ops k.1 in
@@ -185,7 +198,8 @@ module _ (t : ℕ) (ops : List Operation) (life : (a : Operation) (s : ℕ) → 
           l.keeps k.0 k.1 (up k.0 k.1 k.2) (p.0, r.0, omega (arith, p.2, ap (λ (o : Operation). o.call) k.3));
       met = λ a i q.
           let k = map-In (known_at t) a ys i in
-          subst (IsMet (map (known_at t) ys)) (sym k.2) (cut-met k.0 k.1 (subst (λ (z : Operation). IsAsking z) k.2 q));
+          subst (IsMet (map (known_at t) ys)) (sym k.2)
+          (cut-met k.0 k.1 (subst (λ (z : Operation). IsAsking z) k.2 q));
     }
       where
         completed-over : (x : Operation) → IsCompleted (known_at t x) → IsOver t x

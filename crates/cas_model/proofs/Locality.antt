@@ -1,8 +1,10 @@
 -- A history is atomic exactly if each of its registers is.
-use Rattle.std.proofs.Common.{◌≡◌, ℕ, ◌<◌, ◌+◌, max, List, [], ◌∷◌, ◌↔◌, inl, inr, refl, sym, ap, subst, ◌∙◌, arith}
+use Rattle.std.proofs.Common.{◌≡◌, ℕ, ◌<◌, ◌+◌, max, List, [], ◌∷◌, ◌↔◌}
+use Rattle.std.proofs.Common.{inl, inr, refl, sym, ap, subst, ◌∙◌, arith}
 use Rattle.std.proofs.lemmas.Bool.{eq-eqb}
 use Rattle.history_model.specs.Lists.{In, Before}
-use Rattle.history_model.proofs.Lists.{In-filter, Before-filter, filter-Before, map-Before, map-In, Before-first, Before-second}
+use Rattle.history_model.proofs.Lists.{In-filter, Before-filter, filter-Before}
+use Rattle.history_model.proofs.Lists.{map-Before, map-In, Before-first, Before-second}
 use Rattle.cas_model.specs.declared.operation.Operation.{Operation}
 use Rattle.cas_model.specs.Legal.{IsLegal, IsMet, IsAtomic}
 use Rattle.cas_model.specs.Operations.{AreTimed, Precedes, is_of, of_register}
@@ -14,12 +16,14 @@ use Rattle.cas_model.proofs.Placed.{operations_of-placed, rising, after_call, pl
 
 -- ---- from the whole to a register
 
-pub restricted : (ops order : List Operation) (k : ℕ) → IsLegal ops order → IsLegal (of_register k ops) (of_register k order)
+pub restricted : (ops order : List Operation) (k : ℕ) → IsLegal ops order
+    → IsLegal (of_register k ops) (of_register k order)
 restricted ops order k l = record {
   completion = record {
     once = λ a b. l.completion.once a (filter-Before (is_of k) a a order b);
     only = λ a i. let r = of_register-In k order a i in In-of_register k ops a (l.completion.only a r.0) r.1;
-    all = λ a i d. let r = of_register-In k ops a i in In-of_register k order a (l.completion.all a r.0 d) r.1;
+    all =
+        λ a i d. let r = of_register-In k ops a i in In-of_register k order a (l.completion.all a r.0 d) r.1;
   };
   keeps = λ a b s. l.keeps a b (filter-Before (is_of k) a b order s);
   met = λ r i d.
@@ -29,8 +33,12 @@ restricted ops order k l = record {
         record {
           change = n.1.change;
           register = n.1.register;
-          before = Before-filter (is_of k) n.0 r order n.1.before (eq-eqb _ _ (n.1.register ∙ j.1)) (eq-eqb _ _ j.1);
-          nearest = λ v u e s t. n.1.nearest v u e (filter-Before (is_of k) n.0 v order s) (filter-Before (is_of k) v r order t);
+          before =
+              Before-filter (is_of k) n.0 r order n.1.before (eq-eqb _ _ (n.1.register ∙ j.1))
+              (eq-eqb _ _ j.1);
+          nearest =
+              λ v u e s t. n.1.nearest v u e (filter-Before (is_of k) n.0 v order s)
+              (filter-Before (is_of k) v r order t);
         },
         n.2,
       );
@@ -47,8 +55,11 @@ module _ (ops order : List Operation) (n : ℕ) (orders : ℕ → List Operation
   down-In : (a : Operation) → In a order → In a (orders a.register.0)
   down-In a i = subst (In a) (each a.register.0 (below a i)) (In-of_register a.register.0 order a i refl)
 
-  down : (r : ℕ) (a b : Operation) → a.register.0 ≡ r → b.register.0 ≡ r → Before a b order → Before a b (orders r)
-  down r a b e f h = subst (Before a b) (each r (subst (λ k. k < n) e (below a (Before-first a b order h)))) (Before-filter (is_of r) a b order h (eq-eqb _ _ e) (eq-eqb _ _ f))
+  down : (r : ℕ) (a b : Operation) → a.register.0 ≡ r → b.register.0 ≡ r → Before a b order
+      → Before a b (orders r)
+  down r a b e f h =
+      subst (Before a b) (each r (subst (λ k. k < n) e (below a (Before-first a b order h))))
+      (Before-filter (is_of r) a b order h (eq-eqb _ _ e) (eq-eqb _ _ f))
 
   up : (r : ℕ) (a b : Operation) → r < n → Before a b (orders r) → Before a b order
   up r a b l h = filter-Before (is_of r) a b order (subst (Before a b) (sym (each r l)) h)
@@ -60,7 +71,9 @@ module _ (ops order : List Operation) (n : ℕ) (orders : ℕ → List Operation
       change = m.1.change;
       register = m.1.register;
       before = up r.register.0 m.0 r l m.1.before;
-      nearest = λ v c e s t. m.1.nearest v c e (down r.register.0 m.0 v m.1.register e s) (down r.register.0 v r e refl t);
+      nearest =
+          λ v c e s t. m.1.nearest v c e (down r.register.0 m.0 v m.1.register e s)
+          (down r.register.0 v r e refl t);
     },
     m.2,
   )
@@ -69,22 +82,31 @@ module _ (ops order : List Operation) (n : ℕ) (orders : ℕ → List Operation
   joined = record {
     completion = record {
       once = λ a b. (legal a.register.0).completion.once a (down a.register.0 a a refl refl b);
-      only = λ a i. (of_register-In a.register.0 ops a ((legal a.register.0).completion.only a (down-In a i))).0;
-      all = λ a i d. (of_register-In a.register.0 order a (subst (In a) (sym (each a.register.0 (bound a i))) ((legal a.register.0).completion.all a (In-of_register a.register.0 ops a i refl) d))).0;
+      only =
+          λ a i. (of_register-In a.register.0 ops a ((legal a.register.0).completion.only a (down-In a i))).0;
+      all =
+          λ a i d. (of_register-In a.register.0 order a
+          (subst (In a) (sym (each a.register.0 (bound a i)))
+          ((legal a.register.0).completion.all a (In-of_register a.register.0 ops a i refl) d))).0;
     };
     keeps = keeps;
     met = λ r i d. met-up r (below r i) ((legal r.register.0).met r (down-In r i) d);
   }
 
-module _ (ops : List Operation) (timed : (r : ℕ) → AreTimed (of_register r ops)) (orders : ℕ → List Operation) (legal : (r : ℕ) → IsLegal (of_register r ops) (orders r)) where
+module _ (ops : List Operation) (timed : (r : ℕ) → AreTimed (of_register r ops)) (orders : ℕ
+    → List Operation) (legal : (r : ℕ) → IsLegal (of_register r ops) (orders r)) where
   own : (r : ℕ) (x : PlacedOperation) → In x (placed (orders r)) → x.operation.register.0 ≡ r
-  own r x i = (of_register-In r ops x.operation ((legal r).completion.only x.operation (placed-In (orders r) x i))).1
+  own r x i =
+      (of_register-In r ops x.operation ((legal r).completion.only x.operation (placed-In (orders r) x i))).1
 
   module _ (n : ℕ) (zs : List PlacedOperation) (m : AreMerged (λ r. placed (orders r)) n zs) where
     placed-there : (x : PlacedOperation) → In x zs → In x (placed (orders x.operation.register.0))
-    placed-there x i = subst (In x) (m.each x.operation.register.0 (m.below x i)) (In-filter (is_placed_of x.operation.register.0) x zs i (eq-eqb _ _ refl))
+    placed-there x i =
+        subst (In x) (m.each x.operation.register.0 (m.below x i))
+        (In-filter (is_placed_of x.operation.register.0) x zs i (eq-eqb _ _ refl))
 
-    -- where b precedes a but a stands first: b's point, b's reply, a's call, a's point and again b's point ascend
+    -- where b precedes a but a stands first: b's point, b's reply, a's
+    -- call, a's point and again b's point ascend
     points_keep : (a b : Operation) → Before a b (operations_of zs) → Precedes b a → ⊥
     points_keep a b s p =
         let k = map-Before (λ (z : PlacedOperation). z.operation) a b zs s in
@@ -92,30 +114,44 @@ module _ (ops : List Operation) (timed : (r : ℕ) → AreTimed (of_register r o
         let j = placed-there k.1 (Before-second k.0 k.1 zs k.2) in
         let q = k.1.operation.register.0 in
         let from = after_call (orders k.0.operation.register.0) k.0 i in
-        let to = before_reply (of_register q ops) (orders q) (timed q) (legal q) k.1 j p.0 (sym (ap (λ (o : Operation). o.reply) k.4) ∙ p.1) in
+        let to =
+        before_reply (of_register q ops) (orders q) (timed q) (legal q) k.1 j p.0
+        (sym (ap (λ (o : Operation). o.reply) k.4) ∙ p.1) in
         omega (arith, from, to, p.2, m.rising k.0 k.1 k.2, ap (λ (o : Operation). o.call) k.3)
 
     of_register-each : (r : ℕ) → r < n → of_register r (operations_of zs) ≡ orders r
-    of_register-each r l = filter-map (is_of r) (λ (z : PlacedOperation). z.operation) zs ∙ (ap operations_of (m.each r l) ∙ operations_of-placed (orders r))
+    of_register-each r l =
+        filter-map (is_of r) (λ (z : PlacedOperation). z.operation) zs
+        ∙ (ap operations_of (m.each r l) ∙ operations_of-placed (orders r))
 
     registers_below : (a : Operation) → In a (operations_of zs) → a.register.0 < n
-    registers_below a i = let k = map-In (λ (z : PlacedOperation). z.operation) a zs i in omega (arith, m.below k.0 k.1, ap (λ (o : Operation). o.register.0) k.2)
+    registers_below a i =
+        let k =
+        map-In (λ (z : PlacedOperation). z.operation) a zs i in
+        omega (arith, m.below k.0 k.1, ap (λ (o : Operation). o.register.0) k.2)
 
   bounded : (xs : List Operation) → (n : ℕ) × ((a : Operation) → In a xs → a.register.0 < n)
   bounded [] = (0, λ a i. absurd i)
   bounded (x ∷ xs) =
       let b = bounded xs in (
         max b.0 (x.register.0 + 1),
-        λ a i. elim i [ inl e ↦ omega (arith, ap (λ (o : Operation). o.register.0) e) | inr k ↦ omega (arith, b.1 a k) ],
+        λ a i. elim i [
+          | inl e ↦ omega (arith, ap (λ (o : Operation). o.register.0) e)
+          | inr k ↦ omega (arith, b.1 a k)
+        ],
       )
 
   pub whole : IsAtomic ops
   whole =
       let b = bounded ops in
-      let m = merged (λ r. placed (orders r)) (λ r. rising (orders r)) own b.0 in
-      (operations_of m.0, joined ops (operations_of m.0) b.0 orders legal (of_register-each b.0 m.0 m.1) (registers_below b.0 m.0 m.1) b.1 (points_keep b.0 m.0 m.1))
+      let m = merged (λ r. placed (orders r)) (λ r. rising (orders r)) own b.0 in (
+        operations_of m.0,
+        joined ops (operations_of m.0) b.0 orders legal (of_register-each b.0 m.0 m.1)
+            (registers_below b.0 m.0 m.1) b.1 (points_keep b.0 m.0 m.1),
+      )
 
-pub each_decides : (ops : List Operation) → ((r : ℕ) → AreTimed (of_register r ops)) → (IsAtomic ops ↔ ((r : ℕ) → IsAtomic (of_register r ops)))
+pub each_decides : (ops : List Operation) → ((r : ℕ) → AreTimed (of_register r ops))
+    → (IsAtomic ops ↔ ((r : ℕ) → IsAtomic (of_register r ops)))
 each_decides ops timed = (
   λ a r. (of_register r a.0, restricted ops a.0 r a.1),
   λ all. whole ops timed (λ r. (all r).0) (λ r. (all r).1),

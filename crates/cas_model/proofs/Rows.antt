@@ -12,7 +12,14 @@ abbrev number : ℕ → Val
 number n = Int (pos n)
 
 abbrev did : Act → Operation
-did act = record { line = 1; call = 2; reply = None; process = Some 1; register = record { 0 = 0 }; act = act }
+did act = record {
+  line = 1;
+  call = 2;
+  reply = None;
+  process = Some 1;
+  register = record { 0 = 0 };
+  act = act;
+}
 
 abbrev read : Val → Operation
 read v = did (Read (Some v))

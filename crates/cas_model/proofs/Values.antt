@@ -21,7 +21,8 @@ value-refl Null = refl
 value-refl (Int i) = (Decides-int_eq i i).1 refl
 
 -- what suits the value after an act that gives one suits the given one, and the other way round
-pub given-suits : (P : Val → Type 0) (o : Option Val) (v : Val) → is_some o ≡ true → P (unwrap_or o v) → IsSomeAnd o P
+pub given-suits : (P : Val → Type 0) (o : Option Val) (v : Val) → is_some o ≡ true → P (unwrap_or o v)
+    → IsSomeAnd o P
 given-suits P None v c p = absurd (false≢true c)
 given-suits P (Some u) v c p = p
 

@@ -1,5 +1,6 @@
--- What an operation asks of the value that it meets, and what it gives: a register with compare-and-swap, cas for short.
--- A sequential specification as Herlihy and Wing give them (Linearizability: A Correctness Condition for Concurrent Objects, 1990, section 2.2); that of cas is this project's own.
+-- What an operation asks of the value that it meets, and what it gives: a register with compare-and-swap, cas
+-- for short. A sequential specification as Herlihy and Wing give them (Linearizability: A Correctness
+-- Condition for Concurrent Objects, 1990, section 2.2); that of cas is this project's own.
 use Rattle.std.specs.Prelude.{◌≡◌, not, is_some, unwrap_or, Bool, true, false, Option, Some, None}
 use Rattle.history_text.specs.Values.{value_eq}
 use Rattle.history_text.specs.declared.event.Val.{Val}
@@ -7,7 +8,9 @@ use Rattle.history_text.specs.declared.event.Val.TheVariants.{Int}
 use Rattle.cas_model.specs.declared.act.Act.{Act}
 use Rattle.cas_model.specs.declared.act.Act.TheVariants.{Read, Write, Cas, Miss}
 
--- Which value suits an operation: a read meets the value that it gives, where that is known; a cas that took place, or a pending one that stands in an order, meets `from`; a cas that missed meets another value. A write, and a read whose value isn't known, ask nothing.
+-- Which value suits an operation: a read meets the value that it gives, where that is known; a cas that took
+-- place, or a pending one that stands in an order, meets `from`; a cas that missed meets another value. A
+-- write, and a read whose value isn't known, ask nothing.
 abbrev pub suits : Act → Val → Bool
 suits (Read None) v = true
 suits (Read (Some given)) v = value_eq v given

@@ -1,4 +1,5 @@
--- What is known of operations at a time: those that were called up to then, later replies taken away. What each did is known, also if its reply tells it later (this project's profile).
+-- What is known of operations at a time: those that were called up to then, later replies taken away. What
+-- each did is known, also if its reply tells it later (this project's profile).
 use Rattle.std.specs.Prelude.{ℕ, Bool, cond, nat_le, List, map, Option, Some, None}
 use Rattle.std.specs.List.{filter}
 use Rattle.cas_model.specs.declared.operation.Operation.{Operation}
@@ -10,7 +11,14 @@ reply_by t (Some s) = cond (nat_le s t) (Some s) None
 
 -- the operation without a later reply; what it did stays
 abbrev pub known_at : ℕ → Operation → Operation
-known_at t a = record { line = a.line; call = a.call; reply = reply_by t a.reply; process = a.process; register = a.register; act = a.act }
+known_at t a = record {
+  line = a.line;
+  call = a.call;
+  reply = reply_by t a.reply;
+  process = a.process;
+  register = a.register;
+  act = a.act;
+}
 
 abbrev pub is_called_by : ℕ → Operation → Bool
 is_called_by t a = nat_le a.call t

@@ -7,7 +7,8 @@ use Rattle.cas_model.specs.declared.act.Act.TheVariants.{Write}
 use Rattle.cas_model.specs.declared.operation.Operation.{Operation}
 use Rattle.cas_model.specs.Acts.{asks, changes}
 
--- a precedes b: a's reply comes before b's call; a pending operation precedes none (Herlihy and Wing, 1990, section 2.2)
+-- a precedes b: a's reply comes before b's call; a pending operation precedes
+-- none (Herlihy and Wing, 1990, section 2.2)
 abbrev pub Precedes : Operation → Operation → Type 0
 Precedes a b = (t : ℕ) × (a.reply ≡ Some t) × (t < b.call)
 
@@ -29,7 +30,14 @@ of_register r ops = filter (is_of r) ops
 
 -- each register begins with a write of null that precedes all calls
 abbrev pub initial_write : ℕ → Operation
-initial_write r = record { line = 0; call = 0; reply = Some 1; process = None; register = record { 0 = r }; act = Write Null }
+initial_write r = record {
+  line = 0;
+  call = 0;
+  reply = Some 1;
+  process = None;
+  register = record { 0 = r };
+  act = Write Null;
+}
 
 -- The facts of the operations of one register on which the laws stand.
 pub record AreTimed (ops : List Operation) : Type 0 where

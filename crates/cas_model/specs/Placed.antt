@@ -1,4 +1,5 @@
--- The points of an order (this project's profile; points as in Herlihy and Wing, Linearizability: A Correctness Condition for Concurrent Objects, 1990, section 2).
+-- The points of an order (this project's profile; points as in Herlihy and Wing, Linearizability: A
+-- Correctness Condition for Concurrent Objects, 1990, section 2).
 use Rattle.std.specs.Prelude.{ℕ, max, map, List, [], ◌∷◌}
 use Rattle.cas_model.specs.declared.operation.Operation.{Operation}
 

@@ -5,7 +5,8 @@ use Rattle.history_text.specs.declared.event.Val.TheVariants.{Null}
 use Rattle.history_text.specs.declared.event.OpKind.{OpKind}
 use Rattle.history_text.specs.declared.event.OpKind.TheVariants.{ReadOp, WriteOp}
 use Rattle.history_model.specs.Lists.{In}
-use Rattle.history_model.specs.Operations.{Operation as PlainOperation, IsWrite, IsCompleted as IsPlainCompleted}
+use Rattle.history_model.specs.Operations.{Operation as PlainOperation, IsWrite}
+use Rattle.history_model.specs.Operations.{IsCompleted as IsPlainCompleted}
 use Rattle.cas_model.specs.declared.act.Act.{Act}
 use Rattle.cas_model.specs.declared.act.Act.TheVariants.{Read, Write}
 use Rattle.cas_model.specs.declared.operation.Operation.{Operation}
@@ -35,4 +36,5 @@ pub record HaveTimesAndValues (ops : List PlainOperation) : Type 0 where
   -- operations of one register that are called at one time are one
   pub calls : (a b : PlainOperation) → In a ops → In b ops → a.register ≡ b.register → a.call ≡ b.call → a ≡ b
   -- a write and a completed operation have a value
-  pub values : (a : PlainOperation) → In a ops → IsWrite a ⊎ IsPlainCompleted a → (v : Val) × (a.value ≡ Some v)
+  pub values : (a : PlainOperation) → In a ops → IsWrite a ⊎ IsPlainCompleted a
+      → (v : Val) × (a.value ≡ Some v)

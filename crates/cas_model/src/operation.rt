@@ -2,7 +2,8 @@
 use crate::act::Act;
 use history_model::RegId;
 
-/// A read, a write or a cas, with its times. Event `i` has time `i + 2`; the initial write is called at 0 and replies at 1.
+/// A read, a write or a cas, with its times. Event `i` has time `i + 2`; the
+/// initial write is called at 0 and replies at 1.
 #[derive(Clone, Copy, Debug, PartialEq, Eq)]
 pub struct Operation {
     /// The line of the call, from 1; 0 for an initial write.

@@ -1,5 +1,7 @@
 -- What can be explained of some operations can be explained of the same operations by numbers.
-use Rattle.std.proofs.Common.{◌≡◌, ℕ, zero, suc, ◌+◌, ◌<◌, ◌==◌, ℤ, not, cond, Bool, true, false, List, [], ◌∷◌, ◌++◌, length, take, get_or, slice_get, Option, Some, None, inl, refl, sym, ap, subst, ◌∙◌, add-one, arith}
+use Rattle.std.proofs.Common.{◌≡◌, ℕ, zero, suc, ◌+◌, ◌<◌, ◌==◌, ℤ, not, cond, Bool, true, false}
+use Rattle.std.proofs.Common.{List, [], ◌∷◌, ◌++◌, length, take, get_or, slice_get, Option, Some}
+use Rattle.std.proofs.Common.{None, inl, refl, sym, ap, subst, ◌∙◌, add-one, arith}
 use Rattle.std.specs.BTreeMap.{BTreeMap}
 use Rattle.std.specs.List.{AllZip}
 use Rattle.std.proofs.Math.Seq.{take-suc}
@@ -25,8 +27,10 @@ use Rattle.cas_search.specs.Runs.{Alive, over, called, replied, takes}
 use Rattle.cas_search.specs.ByNumbers.{IsNumbering, number_in, IsMore, DoesAs, IsCas, IsByNumber}
 
 -- the operation at a place by number
-pub at-place : (number : Val → Option ℕ) (ops : List Operation) (numbered : List Op) → AllZip (IsByNumber number) ops numbered
-    → (k : ℕ) (a : Operation) → slice_get ops k ≡ Some a → (o : Op) × (slice_get numbered k ≡ Some o) × IsByNumber number a o
+pub at-place : (number : Val → Option ℕ) (ops : List Operation) (numbered : List Op)
+    → AllZip (IsByNumber number) ops numbered
+    → (k : ℕ) (a : Operation) → slice_get ops k ≡ Some a → (o : Op) × (slice_get numbered k ≡ Some o)
+    × IsByNumber number a o
 at-place number [] numbered each k a e = absurd (cc (e))
 at-place number (x ∷ ops) [] each k a e = absurd each
 at-place number (x ∷ ops) (o ∷ numbered) each zero a e =
@@ -37,7 +41,8 @@ at-place number (x ∷ ops) (o ∷ numbered) each (suc k) a e = at-place number 
 -- ---- made one by one
 
 -- a cas by the numbers of what it finds and of what it gives
-pub does-cas : (number : Val → Option ℕ) (v : Val) (n : ℤ) (from to : ℕ) (o : Op) → number v ≡ Some from → number (Int n) ≡ Some to
+pub does-cas : (number : Val → Option ℕ) (v : Val) (n : ℤ) (from to : ℕ) (o : Op) → number v ≡ Some from
+    → number (Int n) ≡ Some to
     → IsCas from to o → DoesAs number (Cas v n) o
 does-cas number v n from to o f t is = (
   is.kind_is
@@ -55,7 +60,8 @@ module _ (old new : Val → Option ℕ) (kept : (v : Val) (k : ℕ) → old v �
   does-still (Cas v n) o d = (d.0, kept v o.from d.1, kept (Int n) o.to d.2)
   does-still (Miss v) o d = (d.0, kept v o.from d.1)
 
-  each-still : (ops : List Operation) (numbered : List Op) → AllZip (IsByNumber old) ops numbered → AllZip (IsByNumber new) ops numbered
+  each-still : (ops : List Operation) (numbered : List Op) → AllZip (IsByNumber old) ops numbered
+      → AllZip (IsByNumber new) ops numbered
   each-still [] [] each = each
   each-still [] (o ∷ numbered) each = absurd each
   each-still (a ∷ ops) [] each = absurd each
@@ -63,18 +69,22 @@ module _ (old new : Val → Option ℕ) (kept : (v : Val) (k : ℕ) → old v �
       (record { act = does-still a.act o (each.0).act; rank = (each.0).rank }, each-still ops numbered each.1)
 
 each-push : (number : Val → Option ℕ) (ops : List Operation) (numbered : List Op) (a : Operation) (o : Op)
-    → AllZip (IsByNumber number) ops numbered → IsByNumber number a o → AllZip (IsByNumber number) (ops ++ a ∷ []) (numbered ++ o ∷ [])
+    → AllZip (IsByNumber number) ops numbered → IsByNumber number a o
+    → AllZip (IsByNumber number) (ops ++ a ∷ []) (numbered ++ o ∷ [])
 each-push number [] [] a o each is = (is, tt)
 each-push number [] (p ∷ numbered) a o each is = absurd each
 each-push number (b ∷ ops) [] a o each is = absurd each
 each-push number (b ∷ ops) (p ∷ numbered) a o each is = (each.0, each-push number ops numbered a o each.1 is)
 
 -- one more operation, by more numbers
-pub each-more : (old new : BTreeMap ℤ ℕ) (ops : List Operation) (i : ℕ) (d : Operation) (before after : List Op) (o : Op) → i < length ops
+pub each-more : (old new : BTreeMap ℤ ℕ) (ops : List Operation) (i : ℕ) (d : Operation)
+    (before after : List Op) (o : Op) → i < length ops
     → IsMore old new → IsByNumber (number_in new) (get_or ops i d) o → after ≡ before ++ o ∷ []
-    → AllZip (IsByNumber (number_in old)) (take i ops) before → AllZip (IsByNumber (number_in new)) (take (i + 1) ops) after
+    → AllZip (IsByNumber (number_in old)) (take i ops) before
+    → AllZip (IsByNumber (number_in new)) (take (i + 1) ops) after
 each-more old new ops i d before after o lt more is e each =
-    let split : take (i + 1) ops ≡ take i ops ++ get_or ops i d ∷ [] = ap (λ n. take n ops) (add-one i) ∙ take-suc ops i d lt in
+    let split : take (i + 1) ops ≡ take i ops ++ get_or ops i d ∷ [] =
+    ap (λ n. take n ops) (add-one i) ∙ take-suc ops i d lt in
     let still = each-still (number_in old) (number_in new) more.kept (take i ops) before each in
     let pushed = each-push (number_in new) (take i ops) before (get_or ops i d) o still is in
     let all = subst (λ xs. AllZip (IsByNumber (number_in new)) xs (before ++ o ∷ [])) (sym split) pushed in
@@ -88,7 +98,8 @@ same-test m n e = grind (arith, nat_tests)
 other-test : (m n : ℕ) → (m ≡ n → ⊥) → not (m == n) ≡ true
 other-test m n d = grind (arith, nat_tests)
 
-module _ (number : Val → Option ℕ) (numbering : IsNumbering number) (o : Op) (v : Val) (n : ℕ) (is : number v ≡ Some n) where
+module _ (number : Val → Option ℕ) (numbering : IsNumbering number) (o : Op) (v : Val) (n : ℕ)
+    (is : number v ≡ Some n) where
   -- a value with the number n
   same-number : (w : Val) (m : ℕ) → number w ≡ Some m → v ≡ w → n ≡ m
   same-number w m f e = let z = sym is ∙ (ap number e ∙ f) in cc (z)
@@ -98,8 +109,10 @@ module _ (number : Val → Option ℕ) (numbering : IsNumbering number) (o : Op)
 
   -- where the value suits an act, its number suits the act by numbers
   pub fits : (act : Act) → DoesAs number act o → suits act v ≡ true → by.fits o n ≡ true
-  fits (Read None) d s = by-kind kinds.Miss d.0 (other-test n o.from (λ e. numbering.nothing v (is ∙ ap Some (e ∙ d.1))))
-  fits (Read (Some w)) d s = by-kind kinds.Read d.0 (same-test n o.from (same-number w o.from d.1 (value-true v w s)))
+  fits (Read None) d s =
+      by-kind kinds.Miss d.0 (other-test n o.from (λ e. numbering.nothing v (is ∙ ap Some (e ∙ d.1))))
+  fits (Read (Some w)) d s =
+      by-kind kinds.Read d.0 (same-test n o.from (same-number w o.from d.1 (value-true v w s)))
   fits (Write w) d s = by-kind kinds.Write d.0 refl
   fits (Cas w m) d s = go (o.from == o.to) d.0
     where
@@ -118,13 +131,15 @@ module _ (number : Val → Option ℕ) (numbering : IsNumbering number) (o : Op)
   leaves k w m e f g = f ∙ ap Some (g ∙ ap (λ x. by.kind_leaves x o.to n) (sym e))
 
   -- and what it leaves is the number of the value after the act
-  pub left : (act : Act) → DoesAs number act o → suits act v ≡ true → number (left_by act v) ≡ Some (by.left_by o n)
+  pub left : (act : Act) → DoesAs number act o → suits act v ≡ true
+      → number (left_by act v) ≡ Some (by.left_by o n)
   left (Read None) d s = leaves kinds.Miss v n d.0 is refl
   left (Read (Some w)) d s = leaves kinds.Read v n d.0 is refl
   left (Write w) d s = leaves kinds.Write w o.to d.0 d.2 refl
   left (Cas w m) d s = go (o.from == o.to) refl d.0
     where
-      go : (b : Bool) → (o.from == o.to) ≡ b → o.kind ≡ cond b kinds.Read kinds.Cas → number (Int m) ≡ Some (by.left_by o n)
+      go : (b : Bool) → (o.from == o.to) ≡ b → o.kind ≡ cond b kinds.Read kinds.Cas
+          → number (Int m) ≡ Some (by.left_by o n)
       go true t e =
           let same : o.from ≡ o.to = grind (arith, nat_tests) in
           leaves kinds.Read (Int m) o.to e d.2 (sym same ∙ sym (same-number w o.from d.1 (value-true v w s)))
@@ -135,21 +150,26 @@ module _ (number : Val → Option ℕ) (numbering : IsNumbering number) (o : Op)
 
 -- the call of number j may take effect at n, and leaves the number of what it leaves at v
 abbrev TakesAs : (Val → Option ℕ) → List Operation → List Op → ℕ → Val → ℕ → Type 0
-TakesAs number ops numbered j v n = (by.fits_at numbered j n ≡ true) × (number (left_at ops j v) ≡ Some (by.left_at numbered j n))
+TakesAs number ops numbered j v n =
+    (by.fits_at numbered j n ≡ true) × (number (left_at ops j v) ≡ Some (by.left_at numbered j n))
 
-module _ (number : Val → Option ℕ) (numbering : IsNumbering number) (ops : List Operation) (numbered : List Op)
+module _ (number : Val → Option ℕ) (numbering : IsNumbering number) (ops : List Operation)
+    (numbered : List Op)
     (each : AllZip (IsByNumber number) ops numbered) where
   -- a call that takes effect does so by numbers
-  taking : (j : ℕ) (v : Val) (n : ℕ) → number v ≡ Some n → suits_at ops j v ≡ true → TakesAs number ops numbered j v n
+  taking : (j : ℕ) (v : Val) (n : ℕ) → number v ≡ Some n → suits_at ops j v ≡ true
+      → TakesAs number ops numbered j v n
   taking j v n is s = go (slice_get ops j) refl s
     where
-      go : (o : Option Operation) → slice_get ops j ≡ o → option_suits o v ≡ true → TakesAs number ops numbered j v n
+      go : (o : Option Operation) → slice_get ops j ≡ o → option_suits o v ≡ true
+          → TakesAs number ops numbered j v n
       go None e s = absurd (false≢true s)
       go (Some a) e s =
           let x = at-place number ops numbered each j a e in
           let leaves = left number numbering x.0 v n is a.act (x.2).act s in (
             ap (λ o. by.option_fits o n) x.1 ∙ fits number numbering x.0 v n is a.act (x.2).act s,
-            ap (λ o. number (option_left_by o v)) e ∙ (leaves ∙ ap (λ o. Some (by.option_left_by o n)) (sym x.1)),
+            ap (λ o. number (option_left_by o v)) e
+                ∙ (leaves ∙ ap (λ o. Some (by.option_left_by o n)) (sym x.1)),
           )
 
   -- what can be explained from a value can be from its number

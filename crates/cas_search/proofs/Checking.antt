@@ -1,11 +1,15 @@
 -- What the passes over an order keep, and why an order that passes them all is legal.
-use Rattle.std.proofs.Common.{◌≡◌, ℕ, zero, suc, ◌+◌, ◌<◌, ◌≤◌, max, Bool, true, false, List, [], ◌∷◌, ◌++◌, length, take, drop, set, replicate, map, get_or, slice_get, Option, Some, None, Result, Ok, Err, IfOk, IfSome, Vec, Global, ◌⊎◌, inl, inr, refl, sym, ap, subst, ◌∙◌, add-one, append_assoc, append-nil, length-set, arith}
+use Rattle.std.proofs.Common.{◌≡◌, ℕ, zero, suc, ◌+◌, ◌<◌, ◌≤◌, max, Bool, true, false, List, [], ◌∷◌, ◌++◌}
+use Rattle.std.proofs.Common.{length, take, drop, set, replicate, map, get_or, slice_get, Option, Some, None}
+use Rattle.std.proofs.Common.{Result, Ok, Err, IfOk, IfSome, Vec, Global, ◌⊎◌, inl, inr, refl, sym, ap}
+use Rattle.std.proofs.Common.{subst, ◌∙◌, add-one, append_assoc, append-nil, length-set, arith}
 use Rattle.std.proofs.Math.Seq.{drop-cons, take-suc}
 use Rattle.std.proofs.lemmas.Bool.{false≢true}
 use Rattle.history_text.specs.declared.event.Val.{Val}
 use Rattle.history_text.specs.declared.event.Val.TheVariants.{Null}
 use Rattle.history_model.specs.Lists.{In, Before}
-use Rattle.history_model.proofs.Lists.{Before-first, Before-second, map-Before, append-In, In-left, In-right, slice_get-In, slice_get_inside, slice_get-set, slice_get-set_other}
+use Rattle.history_model.proofs.Lists.{Before-first, Before-second, map-Before, append-In, In-left, In-right}
+use Rattle.history_model.proofs.Lists.{slice_get-In, slice_get_inside, slice_get-set, slice_get-set_other}
 use Rattle.cas_model.specs.declared.operation.Operation.{Operation}
 use Rattle.cas_model.specs.Acts.{suits, left_by}
 use Rattle.cas_model.specs.InTurn.{Meets}
@@ -29,22 +33,37 @@ past {A} [] i l = nothing i
 past (x ∷ xs) zero l = absurd (omega arith)
 past (x ∷ xs) (suc i) l = past xs i (omega arith)
 
-cons-there : (ops : List Operation) (k : ℕ) (ks : List ℕ) (a : Operation) → slice_get ops k ≡ Some a → operations_at ops (k ∷ ks) ≡ a ∷ operations_at ops ks
+cons-there : (ops : List Operation) (k : ℕ) (ks : List ℕ) (a : Operation) → slice_get ops k ≡ Some a
+    → operations_at ops (k ∷ ks) ≡ a ∷ operations_at ops ks
 cons-there ops k ks a e = simp e
 
 -- the operations from place i on are the one at i and those after it
-pub at-place : (ops : List Operation) (order : List ℕ) (i : ℕ) (a : Operation) → i < length order → slice_get ops (get_or order i 0) ≡ Some a → operations_at ops (drop i order) ≡ a ∷ operations_at ops (drop (i + 1) order)
-at-place ops order i a l e = ap (operations_at ops) (drop-cons order i 0 l) ∙ (cons-there ops (get_or order i 0) (drop (suc i) order) a e ∙ ap (λ n. a ∷ operations_at ops (drop n order)) (sym (add-one i)))
+pub at-place : (ops : List Operation) (order : List ℕ) (i : ℕ) (a : Operation) → i < length order
+    → slice_get ops (get_or order i 0) ≡ Some a
+    → operations_at ops (drop i order) ≡ a ∷ operations_at ops (drop (i + 1) order)
+at-place ops order i a l e =
+    ap (operations_at ops) (drop-cons order i 0 l)
+    ∙ (cons-there ops (get_or order i 0) (drop (suc i) order) a e
+    ∙ ap (λ n. a ∷ operations_at ops (drop n order)) (sym (add-one i)))
 
-pub at-end : (ops : List Operation) (order : List ℕ) (i : ℕ) → length order ≤ i → operations_at ops (drop i order) ≡ []
+pub at-end : (ops : List Operation) (order : List ℕ) (i : ℕ) → length order ≤ i
+    → operations_at ops (drop i order) ≡ []
 at-end ops order i l = ap (operations_at ops) (past order i l)
 
 -- ---- one after another
 
-pub meets-more : (ops : List Operation) (order : List ℕ) (i : ℕ) (a : Operation) (v w : Val) → i < length order → slice_get ops (get_or order i 0) ≡ Some a → suits a.act v ≡ true → w ≡ left_by a.act v → Meets w (operations_at ops (drop (i + 1) order)) → Meets v (operations_at ops (drop i order))
-meets-more ops order i a v w l e s f m = subst (Meets v) (sym (at-place ops order i a l e)) (s, subst (λ u. Meets u (operations_at ops (drop (i + 1) order))) f m)
+pub meets-more : (ops : List Operation) (order : List ℕ) (i : ℕ) (a : Operation) (v w : Val)
+    → i < length order → slice_get ops (get_or order i 0) ≡ Some a → suits a.act v ≡ true
+    → w ≡ left_by a.act v → Meets w (operations_at ops (drop (i + 1) order))
+    → Meets v (operations_at ops (drop i order))
+meets-more ops order i a v w l e s f m =
+    subst (Meets v) (sym (at-place ops order i a l e)) (
+      s,
+      subst (λ u. Meets u (operations_at ops (drop (i + 1) order))) f m,
+    )
 
-pub meets-end : (ops : List Operation) (order : List ℕ) (i : ℕ) (v : Val) → length order ≤ i → Meets v (operations_at ops (drop i order))
+pub meets-end : (ops : List Operation) (order : List ℕ) (i : ℕ) (v : Val) → length order ≤ i
+    → Meets v (operations_at ops (drop i order))
 meets-end ops order i v l = subst (Meets v) (sym (at-end ops order i l)) tt
 
 -- ---- points
@@ -55,27 +74,41 @@ points xs = map (λ (x : PlacedOperation). x.point) xs
 abbrev pub AreUnreplied : List PlacedOperation → Type 0
 AreUnreplied xs = (x : PlacedOperation) (t : ℕ) → In x xs → x.operation.reply ≡ Some t → x.point < t
 
-pub points-more : (ops : List Operation) (order done after all : List ℕ) (i n m : ℕ) (a : Operation) → i < length order → slice_get ops (get_or order i 0) ≡ Some a → m ≡ max n a.call → after ≡ done ++ m ∷ [] → all ≡ done ++ points (placed_from n (operations_at ops (drop i order))) → all ≡ after ++ points (placed_from m (operations_at ops (drop (i + 1) order)))
+pub points-more : (ops : List Operation) (order done after all : List ℕ) (i n m : ℕ) (a : Operation)
+    → i < length order → slice_get ops (get_or order i 0) ≡ Some a → m ≡ max n a.call → after ≡ done ++ m ∷ []
+    → all ≡ done ++ points (placed_from n (operations_at ops (drop i order)))
+    → all ≡ after ++ points (placed_from m (operations_at ops (drop (i + 1) order)))
 points-more ops order done after all i n m a l e f g h =
     let rest = operations_at ops (drop (i + 1) order) in
-    let one : points (placed_from n (a ∷ rest)) ≡ m ∷ points (placed_from m rest) = ap (λ k. k ∷ points (placed_from k rest)) (sym f) in
-    let split : done ++ (m ∷ points (placed_from m rest)) ≡ (done ++ m ∷ []) ++ points (placed_from m rest) = sym (append_assoc done (m ∷ []) (points (placed_from m rest))) in
-    h ∙ (ap (λ xs. done ++ points (placed_from n xs)) (at-place ops order i a l e) ∙ (ap (λ xs. done ++ xs) one ∙ (split ∙ ap (λ xs. xs ++ points (placed_from m rest)) (sym g))))
+    let one : points (placed_from n (a ∷ rest)) ≡ m ∷ points (placed_from m rest) =
+    ap (λ k. k ∷ points (placed_from k rest)) (sym f) in
+    let split : done ++ (m ∷ points (placed_from m rest)) ≡ (done ++ m ∷ []) ++ points (placed_from m rest) =
+    sym (append_assoc done (m ∷ []) (points (placed_from m rest))) in
+    h ∙ (ap (λ xs. done ++ points (placed_from n xs)) (at-place ops order i a l e)
+    ∙ (ap (λ xs. done ++ xs) one ∙ (split ∙ ap (λ xs. xs ++ points (placed_from m rest)) (sym g))))
 
-pub unreplied-more : (ops : List Operation) (order : List ℕ) (i n m : ℕ) (a : Operation) → i < length order → slice_get ops (get_or order i 0) ≡ Some a → m ≡ max n a.call → ((t : ℕ) → a.reply ≡ Some t → m < t) → AreUnreplied (placed_from m (operations_at ops (drop (i + 1) order))) → AreUnreplied (placed_from n (operations_at ops (drop i order)))
+pub unreplied-more : (ops : List Operation) (order : List ℕ) (i n m : ℕ) (a : Operation) → i < length order
+    → slice_get ops (get_or order i 0) ≡ Some a → m ≡ max n a.call → ((t : ℕ) → a.reply ≡ Some t → m < t)
+    → AreUnreplied (placed_from m (operations_at ops (drop (i + 1) order)))
+    → AreUnreplied (placed_from n (operations_at ops (drop i order)))
 unreplied-more ops order i n m a l e f u rest =
     let tail = operations_at ops (drop (i + 1) order) in
     let both : AreUnreplied (placed_from n (a ∷ tail)) = λ x t j q. elim j [
-      | inl s ↦ let p = u t (ap (λ (z : PlacedOperation). z.operation.reply) (sym s) ∙ q) in omega (arith, p, f, ap (λ (z : PlacedOperation). z.point) s)
+      | inl s ↦ let p = u t (ap (λ (z : PlacedOperation). z.operation.reply) (sym s) ∙ q) in
+          omega (arith, p, f, ap (λ (z : PlacedOperation). z.point) s)
       | inr k ↦ rest x t (subst (λ c. In x (placed_from c tail)) (sym f) k) q
     ] in
     subst (λ xs. AreUnreplied (placed_from n xs)) (sym (at-place ops order i a l e)) both
 
-pub unreplied-end : (ops : List Operation) (order : List ℕ) (i n : ℕ) → length order ≤ i → AreUnreplied (placed_from n (operations_at ops (drop i order)))
-unreplied-end ops order i n l = subst (λ xs. AreUnreplied (placed_from n xs)) (sym (at-end ops order i l)) (λ x t j. absurd j)
+pub unreplied-end : (ops : List Operation) (order : List ℕ) (i n : ℕ) → length order ≤ i
+    → AreUnreplied (placed_from n (operations_at ops (drop i order)))
+unreplied-end ops order i n l =
+    subst (λ xs. AreUnreplied (placed_from n xs)) (sym (at-end ops order i l)) (λ x t j. absurd j)
 
-pub points-end : (ops : List Operation) (order done all : List ℕ) (i n : ℕ) → length order ≤ i → all ≡ done ++ points (placed_from n (operations_at ops (drop i order))) → done ≡ all
-points-end ops order done all i n l h = sym (h ∙ (ap (λ xs. done ++ points (placed_from n xs)) (at-end ops order i l) ∙ append-nil done))
+pub points-end : (ops : List Operation) (order done all : List ℕ) (i n : ℕ) → length order ≤ i
+    → all ≡ done ++ points (placed_from n (operations_at ops (drop i order))) → done ≡ all
+points-end ops order done all i n l h =
+    sym (h ∙ (ap (λ xs. done ++ points (placed_from n xs)) (at-end ops order i l) ∙ append-nil done))
 
 -- ---- marks
 
@@ -112,27 +145,49 @@ Before-push j k n (x ∷ xs) (inl h) = elim (append-In k xs (n ∷ []) h.1) [
   | inl i ↦ inl (inl (h.0, i))
   | inr i ↦ inr (inl h.0, elim i [ inl e ↦ e | inr z ↦ absurd z ])
 ]
-Before-push j k n (x ∷ xs) (inr h) = elim (Before-push j k n xs h) [ inl b ↦ inl (inr b) | inr b ↦ inr (inr b.0, b.1) ]
+Before-push j k n (x ∷ xs) (inr h) =
+    elim (Before-push j k n xs h) [ inl b ↦ inl (inr b) | inr b ↦ inr (inr b.0, b.1) ]
 
-one-more : (count n : ℕ) (xs : List ℕ) (marks : List Bool) → n < length marks → slice_get marks n ≡ Some false → AreMarked count xs marks → AreMarked count (xs ++ n ∷ []) (set marks n true)
+one-more : (count n : ℕ) (xs : List ℕ) (marks : List Bool) → n < length marks → slice_get marks n ≡ Some false
+    → AreMarked count xs marks → AreMarked count (xs ++ n ∷ []) (set marks n true)
 one-more count n xs marks l f m =
-    let absent : In n xs → ⊥ = λ i. let t = m.marked n i in false≢true (let s : Some false ≡ Some true = sym f ∙ t in cc (s)) in
+    let absent : In n xs → ⊥ =
+    λ i. let t = m.marked n i in false≢true (let s : Some false ≡ Some true = sym f ∙ t in cc (s)) in
     record {
       count_is = length-set marks n true ∙ m.count_is;
-      once = λ k b. elim (Before-push k k n xs b) [ inl c ↦ m.once k c | inr c ↦ absent (subst (λ x. In x xs) c.1 c.0) ];
-      within = λ k i. elim (append-In k xs (n ∷ []) i) [ inl j ↦ m.within k j | inr j ↦ elim j [ inl e ↦ omega (arith, e, m.count_is) | inr z ↦ absurd z ] ];
+      once =
+          λ k b. elim (Before-push k k n xs b) [
+            | inl c ↦ m.once k c
+            | inr c ↦ absent (subst (λ x. In x xs) c.1 c.0)
+          ];
+      within =
+          λ k i. elim (append-In k xs (n ∷ []) i) [
+            | inl j ↦ m.within k j
+            | inr j ↦ elim j [ inl e ↦ omega (arith, e, m.count_is) | inr z ↦ absurd z ]
+          ];
       there = λ k q. elim (same_or k n) [
         | inl e ↦ subst (λ x. In x (xs ++ n ∷ [])) (sym e) (In-right n xs (n ∷ []) (inl refl))
         | inr d ↦ In-left k xs (n ∷ []) (m.there k (sym (slice_get-set_other marks n k true d) ∙ q))
       ];
       marked = λ k i. elim (same_or k n) [
-        | inl e ↦ subst (λ x. slice_get (set marks n true) x ≡ Some true) (sym e) (slice_get-set marks n true l)
-        | inr d ↦ slice_get-set_other marks n k true d ∙ m.marked k (elim (append-In k xs (n ∷ []) i) [ inl j ↦ j | inr j ↦ elim j [ inl e ↦ absurd (d e) | inr z ↦ absurd z ] ])
+        | inl e ↦ subst (λ x. slice_get (set marks n true) x ≡ Some true) (sym e)
+            (slice_get-set marks n true l)
+        | inr d ↦ slice_get-set_other marks n k true d
+            ∙ m.marked k (elim (append-In k xs (n ∷ []) i) [
+              | inl j ↦ j
+              | inr j ↦ elim j [ inl e ↦ absurd (d e) | inr z ↦ absurd z ]
+            ])
       ];
     }
 
-pub marks-more : (count i : ℕ) (order : List ℕ) (marks after : List Bool) → i < length order → get_or order i 0 < length marks → slice_get marks (get_or order i 0) ≡ Some false → after ≡ set marks (get_or order i 0) true → AreMarked count (take i order) marks → AreMarked count (take (i + 1) order) after
-marks-more count i order marks after l k f g m = subst (λ xs. AreMarked count xs after) (sym (ap (λ n. take n order) (add-one i) ∙ take-suc order i 0 l)) (subst (AreMarked count (take i order ++ get_or order i 0 ∷ [])) (sym g) (one-more count (get_or order i 0) (take i order) marks k f m))
+pub marks-more : (count i : ℕ) (order : List ℕ) (marks after : List Bool) → i < length order
+    → get_or order i 0 < length marks → slice_get marks (get_or order i 0) ≡ Some false
+    → after ≡ set marks (get_or order i 0) true → AreMarked count (take i order) marks
+    → AreMarked count (take (i + 1) order) after
+marks-more count i order marks after l k f g m =
+    subst (λ xs. AreMarked count xs after) (sym (ap (λ n. take n order) (add-one i) ∙ take-suc order i 0 l))
+    (subst (AreMarked count (take i order ++ get_or order i 0 ∷ [])) (sym g)
+    (one-more count (get_or order i 0) (take i order) marks k f m))
 
 take-all : (xs : List ℕ) (i : ℕ) → length xs ≤ i → take i xs ≡ xs
 take-all [] zero l = refl
@@ -140,18 +195,23 @@ take-all [] (suc i) l = refl
 take-all (x ∷ xs) zero l = absurd (omega arith)
 take-all (x ∷ xs) (suc i) l = ap (λ ys. x ∷ ys) (take-all xs i (omega arith))
 
-pub marks-end : (count i : ℕ) (order : List ℕ) (marks : List Bool) → length order ≤ i → AreMarked count (take i order) marks → IsMarked count order marks
+pub marks-end : (count i : ℕ) (order : List ℕ) (marks : List Bool) → length order ≤ i
+    → AreMarked count (take i order) marks → IsMarked count order marks
 marks-end count i order marks l m =
     let a = subst (λ xs. AreMarked count xs marks) (take-all order i l) m in
     record { once = a.once; within = a.within; there = a.there }
 
 -- ---- all together
 
-stand-at : (ops : List Operation) (ks : List ℕ) → ((k : ℕ) → In k ks → k < length ops) → Stand ops ks (operations_at ops ks)
+stand-at : (ops : List Operation) (ks : List ℕ) → ((k : ℕ) → In k ks → k < length ops)
+    → Stand ops ks (operations_at ops ks)
 stand-at ops [] within = tt
 stand-at ops (k ∷ ks) within =
     let a = slice_get_inside ops k (within k (inl refl)) in
-    subst (Stand ops (k ∷ ks)) (sym (cons-there ops k ks a.0 a.1)) (a.1, stand-at ops ks (λ j i. within j (inr i)))
+    subst (Stand ops (k ∷ ks)) (sym (cons-there ops k ks a.0 a.1)) (
+      a.1,
+      stand-at ops ks (λ j i. within j (inr i)),
+    )
 
 module _ (r : ℕ) (ops : List Operation) (order ps : List ℕ) (marks : List Bool)
     (c : AreCalls r ops) (m : IsMarked (length ops) order marks)
@@ -173,13 +233,18 @@ module _ (r : ℕ) (ops : List Operation) (order ps : List ℕ) (marks : List Bo
       let same = one-place r ops c k.0 k.1 a k.3 k.4 in
       m.once k.0 (subst (λ j. Before k.0 j order) (sym same) k.2)
 
-  -- where b precedes a but a stands first: b's point, b's reply, a's call, a's point and again b's point ascend
+  -- where b precedes a but a stands first: b's point, b's reply, a's
+  -- call, a's point and again b's point ascend
   keeps : (a b : Operation) → Before a b (initial_write r ∷ xs) → Precedes b a → ⊥
   keeps a b (inl h) q = omega (arith, q.2, ap (λ (o : Operation). o.call) h.0)
   keeps a b (inr h) q =
-      let k = map-Before (λ (z : PlacedOperation). z.operation) a b (placed xs) (subst (Before a b) (sym (operations_of-placed xs)) h) in
+      let k =
+      map-Before (λ (z : PlacedOperation). z.operation) a b (placed xs)
+      (subst (Before a b) (sym (operations_of-placed xs)) h) in
       let from = after_call xs k.0 (Before-first k.0 k.1 (placed xs) k.2) in
-      let to = p.unreplied k.1 q.0 (Before-second k.0 k.1 (placed xs) k.2) (ap (λ (o : Operation). o.reply) (sym k.4) ∙ q.1) in
+      let to =
+      p.unreplied k.1 q.0 (Before-second k.0 k.1 (placed xs) k.2)
+      (ap (λ (o : Operation). o.reply) (sym k.4) ∙ q.1) in
       omega (arith, from, to, q.2, rising xs k.0 k.1 k.2, ap (λ (o : Operation). o.call) k.3)
 
   pub checked-order : IsCheckedOrder r ops order ps
@@ -205,8 +270,13 @@ module _ (r : ℕ) (ops : List Operation) (order ps : List ℕ) (marks : List Bo
   }
 
 -- the points of an order that passed the other tests, if there are any
-pub points-checked : {E : Type 0} (ops : List Operation) (order : List ℕ) (marks : List Bool) (result : Result (Option (Vec ℕ Global)) E) → IsMarked (length ops) order marks → ((k : ℕ) (a : Operation) → slice_get ops k ≡ Some a → IsCompleted a → slice_get marks k ≡ Some true) → Meets Null (operations_at ops order)
-    → IfOk result (λ o. IfSome o (λ ps. ArePoints (operations_at ops order) ps.items)) → IfOk result (λ o. IfSome o (λ ps. (r : ℕ) → AreCalls r ops → IsCheckedOrder r ops order ps.items))
-points-checked ops order marks (Ok (Some ps)) m all meets p = λ r c. checked-order r ops order ps.items marks c m all meets p
+pub points-checked : {E : Type 0} (ops : List Operation) (order : List ℕ) (marks : List Bool)
+    (result : Result (Option (Vec ℕ Global)) E) → IsMarked (length ops) order marks
+    → ((k : ℕ) (a : Operation) → slice_get ops k ≡ Some a → IsCompleted a → slice_get marks k ≡ Some true)
+    → Meets Null (operations_at ops order)
+    → IfOk result (λ o. IfSome o (λ ps. ArePoints (operations_at ops order) ps.items))
+    → IfOk result (λ o. IfSome o (λ ps. (r : ℕ) → AreCalls r ops → IsCheckedOrder r ops order ps.items))
+points-checked ops order marks (Ok (Some ps)) m all meets p =
+    λ r c. checked-order r ops order ps.items marks c m all meets p
 points-checked ops order marks (Ok None) m all meets p = p
 points-checked ops order marks (Err e) m all meets p = p

@@ -25,10 +25,15 @@ record Stands (ops : List Operation) (es : List Moment) (todo : List ℕ) (s : V
   replies : (a : ℕ) → Before (Reply a) (Call a) es → ⊥
 
 module _ (ops : List Operation) where
-  after_call : (k : ℕ) (es : List Moment) (todo : List ℕ) (s : Val) (p : List ℕ) → Stands ops (Call k ∷ es) todo s p → Stands ops es todo s (k ∷ p)
+  after_call : (k : ℕ) (es : List Moment) (todo : List ℕ) (s : Val) (p : List ℕ)
+      → Stands ops (Call k ∷ es) todo s p → Stands ops es todo s (k ∷ p)
   after_call k es todo s p f = record {
     meets = f.meets;
-    here = λ a i. elim (f.here a i) [ inl h ↦ inl (inr h) | inr h ↦ elim h [ inl e ↦ inl (inl (cc)) | inr c ↦ inr c ] ];
+    here =
+        λ a i. elim (f.here a i) [
+          | inl h ↦ inl (inr h)
+          | inr h ↦ elim h [ inl e ↦ inl (inl (cc)) | inr c ↦ inr c ]
+        ];
     owed = λ a i r. elim i [
       | inl e ↦ f.later a (inl (ap Call e)) (inr r)
       | inr h ↦ f.owed a h (inr r)
@@ -44,10 +49,12 @@ module _ (ops : List Operation) where
     replies = λ a h. f.replies a (inr h);
   }
 
-  after_reply : (k : ℕ) (es : List Moment) (todo : List ℕ) (s : Val) (p : List ℕ) → Stands ops (Reply k ∷ es) todo s p → Stands ops es todo s p
+  after_reply : (k : ℕ) (es : List Moment) (todo : List ℕ) (s : Val) (p : List ℕ)
+      → Stands ops (Reply k ∷ es) todo s p → Stands ops es todo s p
   after_reply k es todo s p f = record {
     meets = f.meets;
-    here = λ a i. elim (f.here a i) [ inl h ↦ inl h | inr h ↦ elim h [ inl e ↦ absurd (cc) | inr c ↦ inr c ] ];
+    here =
+        λ a i. elim (f.here a i) [ inl h ↦ inl h | inr h ↦ elim h [ inl e ↦ absurd (cc) | inr c ↦ inr c ] ];
     owed = λ a i r. f.owed a i (inr r);
     later = λ a c r. f.later a (inr c) (inr r);
     open_once = λ a i c. f.open_once a i (inr c);
@@ -58,15 +65,21 @@ module _ (ops : List Operation) where
   }
 
   -- the first of those that are left takes effect
-  after_taking : (j : ℕ) (es : List Moment) (todo : List ℕ) (s : Val) (p : List ℕ) → In j p → Stands ops es (j ∷ todo) s p → Stands ops es todo (left_at ops j s) (without j p)
+  after_taking : (j : ℕ) (es : List Moment) (todo : List ℕ) (s : Val) (p : List ℕ) → In j p
+      → Stands ops es (j ∷ todo) s p → Stands ops es todo (left_at ops j s) (without j p)
   after_taking j es todo s p i f = record {
     meets = f.meets.1;
     here = λ a h. elim (f.here a (inr h)) [
       | inl q ↦ inl (In-without j a p q (λ e. f.once j (inl (refl, subst (λ x. In x todo) e h))))
       | inr c ↦ inr c
     ];
-    owed = λ a h r. let w = without-In j a p h in elim (f.owed a w.0 r) [ inl e ↦ absurd (w.1 e) | inr q ↦ q ];
-    later = λ a c r. elim (f.later a c r) [ inl e ↦ absurd (f.open_once j i (subst (λ x. In (Call x) es) e c)) | inr q ↦ q ];
+    owed =
+        λ a h r. let w = without-In j a p h in elim (f.owed a w.0 r) [ inl e ↦ absurd (w.1 e) | inr q ↦ q ];
+    later =
+        λ a c r. elim (f.later a c r) [
+          | inl e ↦ absurd (f.open_once j i (subst (λ x. In (Call x) es) e c))
+          | inr q ↦ q
+        ];
     open_once = λ a h c. f.open_once a (without-In j a p h).0 c;
     once = λ a h. f.once a (inr h);
     keeps = λ a b h r. f.keeps a b (inr h) r;
@@ -75,7 +88,10 @@ module _ (ops : List Operation) where
   }
 
   -- up to a reply the operations of the order take effect, until the one that replies has
-  taking : (k : ℕ) (es : List Moment) → ((todo : List ℕ) (s : Val) (p : List ℕ) → Stands ops es todo s p → Alive ops s p es) → (todo : List ℕ) (s : Val) (p : List ℕ) → Stands ops (Reply k ∷ es) todo s p → Alive ops s p (Reply k ∷ es)
+  taking : (k : ℕ) (es : List Moment)
+      → ((todo : List ℕ) (s : Val) (p : List ℕ) → Stands ops es todo s p → Alive ops s p es)
+      → (todo : List ℕ) (s : Val) (p : List ℕ) → Stands ops (Reply k ∷ es) todo s p
+      → Alive ops s p (Reply k ∷ es)
   taking k es next [] s p f = replied (λ i. f.owed k i (inl refl)) (next [] s p (after_reply k es [] s p f))
   taking k es next (j ∷ todo) s p f = elim (In-or k p) [
     | inr n ↦ replied n (next (j ∷ todo) s p (after_reply k es (j ∷ todo) s p f))
@@ -90,16 +106,20 @@ module _ (ops : List Operation) where
             ]
           ]
         ] in
-        takes j open_first f.meets.0 (taking k es next todo (left_at ops j s) (without j p) (after_taking j (Reply k ∷ es) todo s p open_first f))
+        takes j open_first f.meets.0
+        (taking k es next todo (left_at ops j s) (without j p)
+        (after_taking j (Reply k ∷ es) todo s p open_first f))
   ]
 
-  explained : (es : List Moment) (todo : List ℕ) (s : Val) (p : List ℕ) → Stands ops es todo s p → Alive ops s p es
+  explained : (es : List Moment) (todo : List ℕ) (s : Val) (p : List ℕ) → Stands ops es todo s p
+      → Alive ops s p es
   explained [] todo s p f = over
   explained (Call k ∷ es) todo s p f = called (explained es todo s (k ∷ p) (after_call k es todo s p f))
   explained (Reply k ∷ es) todo s p f = taking k es (explained es) todo s p f
 
   -- a legal order explains all events
-  pub legal_explained : (events : List Moment) (order : List ℕ) → IsNumbered ops events order → Alive ops Null [] events
+  pub legal_explained : (events : List Moment) (order : List ℕ) → IsNumbered ops events order
+      → Alive ops Null [] events
   legal_explained events order l = explained events order Null [] (record {
     meets = l.meets;
     here = λ a i. inr (l.only a i);

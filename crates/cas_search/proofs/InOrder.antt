@@ -1,5 +1,6 @@
 -- The calls and the replies of a register are in order by numbers.
-use Rattle.std.proofs.Common.{◌≡◌, ℕ, ◌<◌, List, [], ◌∷◌, slice_get, Option, Some, None, option_map, option_and_then, ◌⊎◌, inl, inr, refl, sym, ap, subst, ◌∙◌, arith}
+use Rattle.std.proofs.Common.{◌≡◌, ℕ, ◌<◌, List, [], ◌∷◌, slice_get, Option, Some, None, option_map}
+use Rattle.std.proofs.Common.{option_and_then, ◌⊎◌, inl, inr, refl, sym, ap, subst, ◌∙◌, arith}
 use Rattle.std.specs.List.{AllZip}
 use Rattle.history_text.specs.declared.event.Val.{Val}
 use Rattle.history_model.specs.Lists.{In, Before}
@@ -19,20 +20,24 @@ use Rattle.cas_search.proofs.Lists.{without-In}
 -- the moments from some time on: each later moment of the operations is among them too
 record AreLast (ops : List Operation) (es : List Moment) : Type 0 where
   only : (e : Moment) → In e es → (t : ℕ) × (time_by ops e ≡ Some t)
-  ascending : (e f : Moment) (s t : ℕ) → Before e f es → time_by ops e ≡ Some s → time_by ops f ≡ Some t → s < t
-  later : (e f : Moment) (s t : ℕ) → In e es → time_by ops e ≡ Some s → time_by ops f ≡ Some t → s < t → In f es
+  ascending : (e f : Moment) (s t : ℕ) → Before e f es → time_by ops e ≡ Some s
+      → time_by ops f ≡ Some t → s < t
+  later : (e f : Moment) (s t : ℕ) → In e es → time_by ops e ≡ Some s → time_by ops f ≡ Some t → s < t
+      → In f es
 
 rest : (ops : List Operation) (x : Moment) (es : List Moment) → AreLast ops (x ∷ es) → AreLast ops es
 rest ops x es l = record {
   only = λ e i. l.only e (inr i);
   ascending = λ e f s t b. l.ascending e f s t (inr b);
   later = λ e f s t i p q lt. elim (l.later e f s t (inr i) p q lt) [
-    | inl same ↦ absurd (let gt = l.ascending x e t s (inl (refl, i)) (ap (time_by ops) (sym same) ∙ q) p in omega arith)
+    | inl same ↦ absurd (let gt = l.ascending x e t s (inl (refl, i)) (ap (time_by ops) (sym same) ∙ q) p in
+        omega arith)
     | inr j ↦ j
   ];
 }
 
-called-at : (ops : List Operation) (k t : ℕ) → time_by ops (Call k) ≡ Some t → (a : Operation) × (slice_get ops k ≡ Some a)
+called-at : (ops : List Operation) (k t : ℕ) → time_by ops (Call k) ≡ Some t
+    → (a : Operation) × (slice_get ops k ≡ Some a)
 called-at ops k t h = go (slice_get ops k) refl h
   where
     go : (o : Option Operation) → slice_get ops k ≡ o → option_map (λ (a : Operation). a.call) o ≡ Some t
@@ -44,7 +49,8 @@ replied-at : (ops : List Operation) (k t : ℕ) → time_by ops (Reply k) ≡ So
     → (a : Operation) × (slice_get ops k ≡ Some a) × (a.reply ≡ Some t)
 replied-at ops k t h = go (slice_get ops k) refl h
   where
-    go : (o : Option Operation) → slice_get ops k ≡ o → option_and_then (λ (a : Operation). a.reply) o ≡ Some t
+    go : (o : Option Operation) → slice_get ops k ≡ o
+        → option_and_then (λ (a : Operation). a.reply) o ≡ Some t
         → (a : Operation) × (slice_get ops k ≡ Some a) × (a.reply ≡ Some t)
     go None e h = absurd (cc (h))
     go (Some a) e h = (a, e, h)
@@ -55,18 +61,22 @@ record AreOpen (ops : List Operation) (numbers : List ℕ) (es : List Moment) : 
   replies : (i t : ℕ) → In i numbers → time_by ops (Reply i) ≡ Some t → In (Reply i) es
 
 -- one more is called
-after-call : (ops : List Operation) (k : ℕ) (numbers : List ℕ) (es : List Moment) (a : Operation) → slice_get ops k ≡ Some a
-    → ((t : ℕ) → time_by ops (Reply k) ≡ Some t → In (Reply k) es) → AreOpen ops numbers (Call k ∷ es) → AreOpen ops (k ∷ numbers) es
+after-call : (ops : List Operation) (k : ℕ) (numbers : List ℕ) (es : List Moment) (a : Operation)
+    → slice_get ops k ≡ Some a
+    → ((t : ℕ) → time_by ops (Reply k) ≡ Some t → In (Reply k) es) → AreOpen ops numbers (Call k ∷ es)
+    → AreOpen ops (k ∷ numbers) es
 after-call ops k numbers es a e own o = record {
   there = λ i h. elim h [ inl same ↦ (a, ap (slice_get ops) same ∙ e) | inr j ↦ o.there i j ];
   replies = λ i t h p. elim h [
-    | inl same ↦ subst (λ n. In (Reply n) es) (sym same) (own t (ap (λ n. time_by ops (Reply n)) (sym same) ∙ p))
+    | inl same ↦ subst (λ n. In (Reply n) es) (sym same)
+        (own t (ap (λ n. time_by ops (Reply n)) (sym same) ∙ p))
     | inr j ↦ elim (o.replies i t j p) [ inl head ↦ absurd (cc (head)) | inr f ↦ f ]
   ];
 }
 
 -- one replies
-after-reply : (ops : List Operation) (k : ℕ) (numbers : List ℕ) (es : List Moment) → AreOpen ops numbers (Reply k ∷ es)
+after-reply : (ops : List Operation) (k : ℕ) (numbers : List ℕ) (es : List Moment)
+    → AreOpen ops numbers (Reply k ∷ es)
     → AreOpen ops (without k numbers) es
 after-reply ops k numbers es o = record {
   there = λ i h. o.there i (without-In k i numbers h).0;
@@ -75,36 +85,47 @@ after-reply ops k numbers es o = record {
       elim (o.replies i t w.0 p) [ inl head ↦ absurd (w.1 (cc (head))) | inr f ↦ f ];
 }
 
-module _ (number : Val → Option ℕ) (ops : List Operation) (numbered : List Op) (each : AllZip (IsByNumber number) ops numbered)
+module _ (number : Val
+    → Option ℕ) (ops : List Operation) (numbered : List Op) (each : AllZip (IsByNumber number) ops numbered)
     (life : (a : Operation) (t : ℕ) → In a ops → a.reply ≡ Some t → a.call < t) where
   -- the rank of an operation goes by its reply
   rank-of : (k : ℕ) (a : Operation) → slice_get ops k ≡ Some a → IsRank a.reply (rank_at numbered k)
-  rank-of k a e = let x = at-place number ops numbered each k a e in subst (IsRank a.reply) (sym (ap option_rank x.1)) (x.2).rank
+  rank-of k a e =
+      let x =
+      at-place number ops numbered each k a e in
+      subst (IsRank a.reply) (sym (ap option_rank x.1)) (x.2).rank
 
   -- the rank of what replies is the time of its reply
-  reply-rank : (k t : ℕ) → time_by ops (Reply k) ≡ Some t → (rank_at numbered k ≡ t) × (rank_at numbered k < NEVER)
-  reply-rank k t h = let x = replied-at ops k t h in subst (λ o. IsRank o (rank_at numbered k)) x.2 (rank-of k x.0 x.1)
+  reply-rank : (k t : ℕ) → time_by ops (Reply k) ≡ Some t
+      → (rank_at numbered k ≡ t) × (rank_at numbered k < NEVER)
+  reply-rank k t h =
+      let x = replied-at ops k t h in subst (λ o. IsRank o (rank_at numbered k)) x.2 (rank-of k x.0 x.1)
 
   -- a reply comes after its call
-  replies-later : (k : ℕ) (a : Operation) (es : List Moment) → slice_get ops k ≡ Some a → AreLast ops (Call k ∷ es)
+  replies-later : (k : ℕ) (a : Operation) (es : List Moment) → slice_get ops k ≡ Some a
+      → AreLast ops (Call k ∷ es)
       → (t : ℕ) → time_by ops (Reply k) ≡ Some t → In (Reply k) es
   replies-later k a es e l t h =
       let f : a.reply ≡ Some t = sym (ap (option_and_then (λ (b : Operation). b.reply)) e) ∙ h in
       let lt = life a t (slice_get-In ops k a e) f in
-      elim (l.later (Call k) (Reply k) a.call t (inl refl) (ap (option_map (λ (b : Operation). b.call)) e) h lt) [
+      elim (l.later (Call k) (Reply k) a.call t (inl refl)
+      (ap (option_map (λ (b : Operation). b.call)) e) h lt) [
         | inl head ↦ absurd (cc (head))
         | inr i ↦ i
       ]
 
   -- what is open as one replies replies later, or never
-  ranked : (k i : ℕ) (a : Operation) (es : List Moment) → slice_get ops i ≡ Some a → AreLast ops (Reply k ∷ es)
-      → ((t : ℕ) → time_by ops (Reply i) ≡ Some t → In (Reply i) (Reply k ∷ es)) → (i ≡ k) ⊎ (rank_at numbered k < rank_at numbered i)
+  ranked : (k i : ℕ) (a : Operation) (es : List Moment) → slice_get ops i ≡ Some a
+      → AreLast ops (Reply k ∷ es)
+      → ((t : ℕ) → time_by ops (Reply i) ≡ Some t → In (Reply i) (Reply k ∷ es))
+      → (i ≡ k) ⊎ (rank_at numbered k < rank_at numbered i)
   ranked k i a es e l own = go a.reply refl (rank-of i a e)
     where
       first : (t : ℕ) × (time_by ops (Reply k) ≡ Some t)
       first = l.only (Reply k) (inl refl)
 
-      go : (o : Option ℕ) → a.reply ≡ o → IsRank a.reply (rank_at numbered i) → (i ≡ k) ⊎ (rank_at numbered k < rank_at numbered i)
+      go : (o : Option ℕ) → a.reply ≡ o → IsRank a.reply (rank_at numbered i)
+          → (i ≡ k) ⊎ (rank_at numbered k < rank_at numbered i)
       go None f r =
           let never : rank_at numbered i ≡ NEVER = subst (λ o. IsRank o (rank_at numbered i)) f r in
           let below = (reply-rank k first.0 first.1).1 in
@@ -118,7 +139,8 @@ module _ (number : Val → Option ℕ) (ops : List Operation) (numbered : List O
                 omega (arith, lt, (reply-rank k first.0 first.1).0, (reply-rank i t is).0))
           ]
 
-  in-order : (es : List Moment) (numbers : List ℕ) → AreLast ops es → AreOpen ops numbers es → AreInOrder numbered numbers es
+  in-order : (es : List Moment) (numbers : List ℕ) → AreLast ops es → AreOpen ops numbers es
+      → AreInOrder numbered numbers es
   in-order [] numbers l o = tt
   in-order (Call k ∷ es) numbers l o =
       let t = l.only (Call k) (inl refl) in
@@ -133,10 +155,12 @@ module _ (number : Val → Option ℕ) (ops : List Operation) (numbered : List O
   )
 
 -- all moments of a register
-pub timeline-in-order : (r : ℕ) (number : Val → Option ℕ) (ops : List Operation) (numbered : List Op) (events : List Moment)
+pub timeline-in-order : (r : ℕ) (number : Val
+    → Option ℕ) (ops : List Operation) (numbered : List Op) (events : List Moment)
     → AllZip (IsByNumber number) ops numbered → IsTimeline r ops events → AreInOrder numbered [] events
-timeline-in-order r number ops numbered events each line = in-order number ops numbered each line.life events [] (record {
-  only = line.only;
-  ascending = line.ascending;
-  later = λ e f s t i p q lt. line.all f t q;
-}) (record { there = λ i h. absurd h; replies = λ i t h p. absurd h })
+timeline-in-order r number ops numbered events each line =
+    in-order number ops numbered each line.life events [] (record {
+      only = line.only;
+      ascending = line.ascending;
+      later = λ e f s t i p q lt. line.all f t q;
+    }) (record { there = λ i h. absurd h; replies = λ i t h p. absurd h })

@@ -13,7 +13,8 @@ abbrev pub MeetsAt : List Operation → Val → List ℕ → Type 0
 MeetsAt ops v [] = Unit {0}
 MeetsAt ops v (k ∷ ks) = (suits_at ops k v ≡ true) × MeetsAt ops (left_at ops k v) ks
 
--- the events have each call once, and its reply after it; the order has each number once, those of calls only, and all that replied; none stands after one that replied before its call
+-- the events have each call once, and its reply after it; the order has each number once, those of calls
+-- only, and all that replied; none stands after one that replied before its call
 pub record IsNumbered (ops : List Operation) (events : List Moment) (order : List ℕ) : Type 0 where
   pub calls : (a : ℕ) → Before (Call a) (Call a) events → ⊥
   pub replies : (a : ℕ) → Before (Reply a) (Call a) events → ⊥

@@ -1,5 +1,6 @@
 -- A legal order of a register's operations, by the numbers of its calls.
-use Rattle.std.proofs.Common.{◌≡◌, ℕ, suc, ◌≤◌, is_some, List, [], ◌∷◌, slice_get, Option, Some, None, option_map, option_and_then, inl, inr, refl, sym, ap, subst, ◌∙◌, arith}
+use Rattle.std.proofs.Common.{◌≡◌, ℕ, suc, ◌≤◌, is_some, List, [], ◌∷◌, slice_get, Option, Some, None}
+use Rattle.std.proofs.Common.{option_map, option_and_then, inl, inr, refl, sym, ap, subst, ◌∙◌, arith}
 use Rattle.std.proofs.lemmas.Bool.{cases_order}
 use Rattle.history_text.specs.declared.event.Val.{Val}
 use Rattle.history_text.specs.declared.event.Val.TheVariants.{Null}
@@ -26,38 +27,49 @@ Stand ops (k ∷ ks) [] = ⊥
 Stand ops (k ∷ ks) (a ∷ xs) = (slice_get ops k ≡ Some a) × Stand ops ks xs
 
 module _ (ops : List Operation) where
-  pub stand-In : (ks : List ℕ) (xs : List Operation) (k : ℕ) → Stand ops ks xs → In k ks → (a : Operation) × In a xs × (slice_get ops k ≡ Some a)
+  pub stand-In : (ks : List ℕ) (xs : List Operation) (k : ℕ) → Stand ops ks xs → In k ks
+      → (a : Operation) × In a xs × (slice_get ops k ≡ Some a)
   stand-In [] xs k s i = absurd i
   stand-In (j ∷ ks) [] k s i = absurd s
   stand-In (j ∷ ks) (a ∷ xs) k s (inl e) = (a, inl refl, ap (slice_get ops) e ∙ s.0)
   stand-In (j ∷ ks) (a ∷ xs) k s (inr i) = let r = stand-In ks xs k s.1 i in (r.0, inr r.1, r.2)
 
-  pub In-stand : (ks : List ℕ) (xs : List Operation) (a : Operation) → Stand ops ks xs → In a xs → (k : ℕ) × In k ks × (slice_get ops k ≡ Some a)
+  pub In-stand : (ks : List ℕ) (xs : List Operation) (a : Operation) → Stand ops ks xs → In a xs
+      → (k : ℕ) × In k ks × (slice_get ops k ≡ Some a)
   In-stand [] [] a s i = absurd i
   In-stand [] (b ∷ xs) a s i = absurd s
   In-stand (j ∷ ks) [] a s i = absurd i
   In-stand (j ∷ ks) (b ∷ xs) a s (inl e) = (j, inl refl, s.0 ∙ ap Some (sym e))
   In-stand (j ∷ ks) (b ∷ xs) a s (inr i) = let r = In-stand ks xs a s.1 i in (r.0, inr r.1, r.2)
 
-  pub stand-Before : (ks : List ℕ) (xs : List Operation) (j k : ℕ) → Stand ops ks xs → Before j k ks → (a : Operation) × (b : Operation) × Before a b xs × (slice_get ops j ≡ Some a) × (slice_get ops k ≡ Some b)
+  pub stand-Before : (ks : List ℕ) (xs : List Operation) (j k : ℕ) → Stand ops ks xs → Before j k ks
+      → (a : Operation) × (b : Operation) × Before a b xs × (slice_get ops j ≡ Some a)
+      × (slice_get ops k ≡ Some b)
   stand-Before [] xs j k s h = absurd h
   stand-Before (i ∷ ks) [] j k s h = absurd s
-  stand-Before (i ∷ ks) (a ∷ xs) j k s (inl h) = let r = stand-In ks xs k s.1 h.1 in (a, r.0, inl (refl, r.1), ap (slice_get ops) h.0 ∙ s.0, r.2)
-  stand-Before (i ∷ ks) (a ∷ xs) j k s (inr h) = let r = stand-Before ks xs j k s.1 h in (r.0, r.1, inr r.2, r.3, r.4)
+  stand-Before (i ∷ ks) (a ∷ xs) j k s (inl h) =
+      let r = stand-In ks xs k s.1 h.1 in (a, r.0, inl (refl, r.1), ap (slice_get ops) h.0 ∙ s.0, r.2)
+  stand-Before (i ∷ ks) (a ∷ xs) j k s (inr h) =
+      let r = stand-Before ks xs j k s.1 h in (r.0, r.1, inr r.2, r.3, r.4)
 
-  pub Before-stand : (ks : List ℕ) (xs : List Operation) (a b : Operation) → Stand ops ks xs → Before a b xs → (j : ℕ) × (k : ℕ) × Before j k ks × (slice_get ops j ≡ Some a) × (slice_get ops k ≡ Some b)
+  pub Before-stand : (ks : List ℕ) (xs : List Operation) (a b : Operation) → Stand ops ks xs → Before a b xs
+      → (j : ℕ) × (k : ℕ) × Before j k ks × (slice_get ops j ≡ Some a) × (slice_get ops k ≡ Some b)
   Before-stand [] [] a b s h = absurd h
   Before-stand [] (c ∷ xs) a b s h = absurd s
   Before-stand (i ∷ ks) [] a b s h = absurd h
-  Before-stand (i ∷ ks) (c ∷ xs) a b s (inl h) = let r = In-stand ks xs b s.1 h.1 in (i, r.0, inl (refl, r.1), s.0 ∙ ap Some (sym h.0), r.2)
-  Before-stand (i ∷ ks) (c ∷ xs) a b s (inr h) = let r = Before-stand ks xs a b s.1 h in (r.0, r.1, inr r.2, r.3, r.4)
+  Before-stand (i ∷ ks) (c ∷ xs) a b s (inl h) =
+      let r = In-stand ks xs b s.1 h.1 in (i, r.0, inl (refl, r.1), s.0 ∙ ap Some (sym h.0), r.2)
+  Before-stand (i ∷ ks) (c ∷ xs) a b s (inr h) =
+      let r = Before-stand ks xs a b s.1 h in (r.0, r.1, inr r.2, r.3, r.4)
 
-  pub meets-stand : (ks : List ℕ) (xs : List Operation) (v : Val) → Stand ops ks xs → Meets v xs → MeetsAt ops v ks
+  pub meets-stand : (ks : List ℕ) (xs : List Operation) (v : Val) → Stand ops ks xs → Meets v xs
+      → MeetsAt ops v ks
   meets-stand [] xs v s m = tt
   meets-stand (k ∷ ks) [] v s m = absurd s
   meets-stand (k ∷ ks) (a ∷ xs) v s m = (
     ap (λ o. option_suits o v) s.0 ∙ m.0,
-    meets-stand ks xs (left_at ops k v) s.1 (subst (λ w. Meets w xs) (sym (ap (λ o. option_left_by o v) s.0)) m.1),
+    meets-stand ks xs (left_at ops k v) s.1
+        (subst (λ w. Meets w xs) (sym (ap (λ o. option_left_by o v) s.0)) m.1),
   )
 
 -- each operation of a list stands at some place of it
@@ -66,7 +78,8 @@ place-of [] a i = absurd i
 place-of (b ∷ ops) a (inl e) = (0, ap Some (sym e))
 place-of (b ∷ ops) a (inr i) = let r = place-of ops a i in (suc r.0, r.1)
 
-pub numbers-of : (ops xs : List Operation) → ((a : Operation) → In a xs → In a ops) → (ks : List ℕ) × Stand ops ks xs
+pub numbers-of : (ops xs : List Operation) → ((a : Operation) → In a xs → In a ops)
+    → (ks : List ℕ) × Stand ops ks xs
 numbers-of ops [] there = ([], tt)
 numbers-of ops (a ∷ xs) there =
     let k = place-of ops a (there a (inl refl)) in
@@ -74,15 +87,20 @@ numbers-of ops (a ∷ xs) there =
     (k.0 ∷ rest.0, (k.1, rest.1))
 
 -- two places of one operation are one
-pub one-place : (r : ℕ) (ops : List Operation) → AreCalls r ops → (j k : ℕ) (a : Operation) → slice_get ops j ≡ Some a → slice_get ops k ≡ Some a → j ≡ k
+pub one-place : (r : ℕ) (ops : List Operation) → AreCalls r ops → (j k : ℕ) (a : Operation)
+    → slice_get ops j ≡ Some a → slice_get ops k ≡ Some a → j ≡ k
 one-place r ops c j k a x y = elim (cases_order j k) [
   | inl e ↦ e
-  | inr d ↦ elim d [ inl lt ↦ absurd (let q = c.ascending j k a a lt x y in omega arith) | inr gt ↦ absurd (let q = c.ascending k j a a gt y x in omega arith) ]
+  | inr d ↦ elim d [
+    | inl lt ↦ absurd (let q = c.ascending j k a a lt x y in omega arith)
+    | inr gt ↦ absurd (let q = c.ascending k j a a gt y x in omega arith)
+  ]
 ]
 
 -- ---- the initial write
 
-module _ (r : ℕ) (ops order : List Operation) (called : (a : Operation) → In a ops → 2 ≤ a.call) (l : IsLegal (initial_write r ∷ ops) order) where
+module _ (r : ℕ) (ops order : List Operation) (called : (a : Operation) → In a ops
+    → 2 ≤ a.call) (l : IsLegal (initial_write r ∷ ops) order) where
   initial-there : In (initial_write r) order
   initial-there = l.completion.all (initial_write r) (inl refl) refl
 
@@ -90,10 +108,13 @@ module _ (r : ℕ) (ops order : List Operation) (called : (a : Operation) → In
   not-initial a i e = let c = called a i in omega (arith, c, ap (λ (o : Operation). o.call) e)
 
   -- it stands first
-  pub initial-first : (rest : List Operation) × (order ≡ initial_write r ∷ rest) × ((a : Operation) → In a rest → In a ops)
+  pub initial-first : (rest : List Operation) × (order ≡ initial_write r ∷ rest)
+      × ((a : Operation) → In a rest → In a ops)
   initial-first = go order refl initial-there
     where
-      go : (xs : List Operation) → order ≡ xs → In (initial_write r) xs → (rest : List Operation) × (order ≡ initial_write r ∷ rest) × ((a : Operation) → In a rest → In a ops)
+      go : (xs : List Operation) → order ≡ xs → In (initial_write r) xs
+          → (rest : List Operation) × (order ≡ initial_write r ∷ rest)
+          × ((a : Operation) → In a rest → In a ops)
       go [] e i = absurd i
       go (x ∷ xs) e (inl f) = (
         xs,
@@ -104,8 +125,11 @@ module _ (r : ℕ) (ops order : List Operation) (called : (a : Operation) → In
         ],
       )
       go (x ∷ xs) e (inr f) = elim (l.completion.only x (subst (In x) (sym e) (inl refl))) [
-        | inl s ↦ absurd (l.completion.once x (subst (Before x x) (sym e) (inl (refl, subst (λ y. In y xs) (sym s) f))))
-        | inr k ↦ let c = called x k in absurd (l.keeps x (initial_write r) (subst (Before x (initial_write r)) (sym e) (inl (refl, f))) (1, refl, omega arith))
+        | inl s ↦ absurd
+            (l.completion.once x (subst (Before x x) (sym e) (inl (refl, subst (λ y. In y xs) (sym s) f))))
+        | inr k ↦ let c = called x k in
+            absurd (l.keeps x (initial_write r) (subst (Before x (initial_write r)) (sym e) (inl (refl, f)))
+            (1, refl, omega arith))
       ]
 
 -- ---- the events
@@ -114,30 +138,37 @@ module _ (r : ℕ) (ops : List Operation) (events : List Moment) (t : IsTimeline
   in-range : (k : ℕ) → In (Call k) events → (a : Operation) × (slice_get ops k ≡ Some a)
   in-range k i = go (slice_get ops k) refl (t.only (Call k) i)
     where
-      go : (o : Option Operation) → slice_get ops k ≡ o → (s : ℕ) × (time_by ops (Call k) ≡ Some s) → (a : Operation) × (slice_get ops k ≡ Some a)
+      go : (o : Option Operation) → slice_get ops k ≡ o → (s : ℕ) × (time_by ops (Call k) ≡ Some s)
+          → (a : Operation) × (slice_get ops k ≡ Some a)
       go None e x = absurd (let f = sym (ap (option_map (λ (a : Operation). a.call)) e) ∙ x.1 in cc)
       go (Some a) e x = (a, e)
 
-  pub reply-of : (k : ℕ) → In (Reply k) events → (a : Operation) × (s : ℕ) × (slice_get ops k ≡ Some a) × (a.reply ≡ Some s)
+  pub reply-of : (k : ℕ) → In (Reply k) events → (a : Operation) × (s : ℕ) × (slice_get ops k ≡ Some a)
+      × (a.reply ≡ Some s)
   reply-of k i = go (slice_get ops k) refl (t.only (Reply k) i)
     where
-      go : (o : Option Operation) → slice_get ops k ≡ o → (s : ℕ) × (time_by ops (Reply k) ≡ Some s) → (a : Operation) × (s : ℕ) × (slice_get ops k ≡ Some a) × (a.reply ≡ Some s)
+      go : (o : Option Operation) → slice_get ops k ≡ o → (s : ℕ) × (time_by ops (Reply k) ≡ Some s)
+          → (a : Operation) × (s : ℕ) × (slice_get ops k ≡ Some a) × (a.reply ≡ Some s)
       go None e x = absurd (let f = sym (ap (option_and_then (λ (a : Operation). a.reply)) e) ∙ x.1 in cc)
       go (Some a) e x = (a, x.0, e, sym (ap (option_and_then (λ (a : Operation). a.reply)) e) ∙ x.1)
 
   call-time : (k : ℕ) (a : Operation) → slice_get ops k ≡ Some a → time_by ops (Call k) ≡ Some a.call
   call-time k a e = ap (option_map (λ (a : Operation). a.call)) e
 
-  pub reply-time : (k : ℕ) (a : Operation) (s : ℕ) → slice_get ops k ≡ Some a → a.reply ≡ Some s → time_by ops (Reply k) ≡ Some s
+  pub reply-time : (k : ℕ) (a : Operation) (s : ℕ) → slice_get ops k ≡ Some a → a.reply ≡ Some s
+      → time_by ops (Reply k) ≡ Some s
   reply-time k a s e f = ap (option_and_then (λ (a : Operation). a.reply)) e ∙ f
 
   called-once : (k : ℕ) → Before (Call k) (Call k) events → ⊥
   called-once k b =
       let a = in-range k (Before-first (Call k) (Call k) events b) in
-      let lt = t.ascending (Call k) (Call k) (a.0).call (a.0).call b (call-time k a.0 a.1) (call-time k a.0 a.1) in omega arith
+      let lt =
+      t.ascending (Call k) (Call k) (a.0).call (a.0).call b (call-time k a.0 a.1) (call-time k a.0 a.1) in
+      omega arith
 
   -- what replies before a call precedes it
-  reply-precedes : (j k : ℕ) (a b : Operation) → slice_get ops j ≡ Some a → slice_get ops k ≡ Some b → Before (Reply j) (Call k) events → Precedes a b
+  reply-precedes : (j k : ℕ) (a b : Operation) → slice_get ops j ≡ Some a → slice_get ops k ≡ Some b
+      → Before (Reply j) (Call k) events → Precedes a b
   reply-precedes j k a b e f h =
       let x = reply-of j (Before-first (Reply j) (Call k) events h) in
       let same : x.0 ≡ a = cc (x.2, e) in
@@ -162,7 +193,8 @@ module _ (r : ℕ) (ops : List Operation) (events : List Moment) (t : IsTimeline
       let own : (a : Operation) → In a rest → In a ops = first.2 in
       let n = numbers-of ops rest own in
       let ks = n.0 in
-      let once : (a : Operation) → Before a a (initial_write r ∷ rest) → ⊥ = λ a b. l.completion.once a (subst (Before a a) (sym e) b) in
+      let once : (a : Operation) → Before a a (initial_write r ∷ rest) → ⊥ =
+      λ a b. l.completion.once a (subst (Before a a) (sym e) b) in
       let met = subst (λ xs. (a : Operation) → In a xs → IsAsking a → IsMet xs a) e l.met in (
         ks,
         record {
@@ -172,19 +204,24 @@ module _ (r : ℕ) (ops : List Operation) (events : List Moment) (t : IsTimeline
               let s = stand-Before ops ks rest k k n.1 b in
               let same : s.0 ≡ s.1 = cc (s.3, s.4) in
               once s.0 (inr (subst (λ x. Before s.0 x rest) (sym same) s.2));
-          only = λ k i. let s = stand-In ops ks rest k n.1 i in t.all (Call k) (s.0).call (call-time k s.0 s.2);
+          only =
+              λ k i. let s = stand-In ops ks rest k n.1 i in t.all (Call k) (s.0).call (call-time k s.0 s.2);
           all = λ k i.
               let x = reply-of k i in
               let there = l.completion.all x.0 (inr (slice_get-In ops k x.0 x.2)) (ap is_some x.3) in
               elim (subst (In x.0) e there) [
-                | inl s ↦ absurd (let c = t.calls.called x.0 (slice_get-In ops k x.0 x.2) in omega (arith, c, ap (λ (o : Operation). o.call) s))
+                | inl s ↦ absurd (let c = t.calls.called x.0 (slice_get-In ops k x.0 x.2) in
+                    omega (arith, c, ap (λ (o : Operation). o.call) s))
                 | inr j ↦
                     let s = In-stand ops ks rest x.0 n.1 j in
                     subst (λ m. In m ks) (one-place r ops t.calls s.0 k x.0 s.2 x.2) s.1
               ];
           keeps = λ j k h b.
               let s = stand-Before ops ks rest j k n.1 h in
-              l.keeps s.0 s.1 (subst (Before s.0 s.1) (sym e) (inr s.2)) (reply-precedes k j s.1 s.0 s.4 s.3 b);
-          meets = meets-stand ops ks rest Null n.1 ((in-turn r rest once (λ a i. t.calls.register a (own a i))).0 met);
+              l.keeps s.0 s.1 (subst (Before s.0 s.1) (sym e) (inr s.2))
+              (reply-precedes k j s.1 s.0 s.4 s.3 b);
+          meets =
+              meets-stand ops ks rest Null n.1
+              ((in-turn r rest once (λ a i. t.calls.register a (own a i))).0 met);
         },
       )

@@ -23,5 +23,8 @@ pub In-or : (k : ℕ) (ks : List ℕ) → In k ks ⊎ (In k ks → ⊥)
 In-or k [] = inr (λ h. h)
 In-or k (j ∷ js) = elim (same_or k j) [
   | inl e ↦ inl (inl e)
-  | inr n ↦ elim (In-or k js) [ inl h ↦ inl (inr h) | inr m ↦ inr (λ h. elim h [ inl e ↦ n e | inr i ↦ m i ]) ]
+  | inr n ↦ elim (In-or k js) [
+    | inl h ↦ inl (inr h)
+    | inr m ↦ inr (λ h. elim h [ inl e ↦ n e | inr i ↦ m i ])
+  ]
 ]

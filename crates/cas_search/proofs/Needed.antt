@@ -1,5 +1,8 @@
 -- Which numbers are given, and why a needed one that nobody gives leaves no legal order.
-use Rattle.std.proofs.Common.{◌≡◌, ◌↔◌, ℕ, ◌+◌, ◌<◌, ℤ, cond, not, is_some, Bool, true, false, List, [], ◌∷◌, ◌++◌, take, length, get_or, slice_get, ◌≤◌, arith, Result, Ok, Err, IfOk, Option, Some, None, IsTrue, IsSomeAnd, inl, inr, refl, sym, ap, subst, ◌∙◌, add-one}
+use Rattle.std.proofs.Common.{◌≡◌, ◌↔◌, ℕ, ◌+◌, ◌<◌, ℤ, cond, not, is_some, Bool, true, false}
+use Rattle.std.proofs.Common.{List, [], ◌∷◌, ◌++◌, take, length, get_or, slice_get, ◌≤◌}
+use Rattle.std.proofs.Common.{arith, Result, Ok, Err, IfOk, Option, Some, None, IsTrue}
+use Rattle.std.proofs.Common.{IsSomeAnd, inl, inr, refl, sym, ap, subst, ◌∙◌, add-one}
 use Rattle.std.proofs.Math.Seq.{take-suc}
 use Rattle.std.proofs.lemmas.Bool.{false≢true, cases_Bool, cases_order}
 use Rattle.std.proofs.lemmas.Bool.Decides.{Decides-int_eq}
@@ -19,31 +22,37 @@ use Rattle.cas_model.specs.Acts.{Suits, suits, asks, given_by}
 use Rattle.cas_model.specs.Legal.{IsAtomic}
 use Rattle.cas_model.specs.Operations.{initial_write}
 use Rattle.cas_model.proofs.Values.{value-true}
-use Rattle.cas_search.specs.Unwritten.{number_given, number_asked, number_needed, IsGiven, IsUnwritten, HasGiven}
+use Rattle.cas_search.specs.Unwritten.{number_given, number_asked, number_needed}
+use Rattle.cas_search.specs.Unwritten.{IsGiven, IsUnwritten, HasGiven}
 
 -- ---- the given numbers
 
 pub none-given : (s : BTreeSet ℤ) → s.keys ≡ [] → HasGiven [] s
 none-given s e n = (λ t. absurd (false≢true (sym (ap (list_any (is_at (int_cmp n))) e) ∙ t)), λ g. absurd g.1)
 
-pub one-silent : (ops : List Operation) (a : Operation) (s : BTreeSet ℤ) → number_given a.act ≡ None → HasGiven ops s → HasGiven (ops ++ a ∷ []) s
+pub one-silent : (ops : List Operation) (a : Operation) (s : BTreeSet ℤ) → number_given a.act ≡ None
+    → HasGiven ops s → HasGiven (ops ++ a ∷ []) s
 one-silent ops a s none h n = (
   λ t. let g = (h n).0 t in (g.0, In-left g.0 ops (a ∷ []) g.1, g.2),
   λ g. elim (append-In g.0 ops (a ∷ []) g.1) [
     | inl i ↦ (h n).1 (g.0, i, g.2)
     | inr i ↦ elim i [
-      | inl e ↦ absurd (let q = sym none ∙ (ap (λ (o : Operation). number_given o.act) (sym e) ∙ g.2) in cc (q))
+      | inl e ↦ absurd (let q = sym none
+          ∙ (ap (λ (o : Operation). number_given o.act) (sym e) ∙ g.2) in cc (q))
       | inr z ↦ absurd z
     ]
   ],
 )
 
-one-given : (ops : List Operation) (a : Operation) (s t : BTreeSet ℤ) (m : ℤ) → number_given a.act ≡ Some m → ((q : ℤ) → contains int_cmp t q ≡ cond (is_at (int_cmp m) q) true (contains int_cmp s q)) → HasGiven ops s → HasGiven (ops ++ a ∷ []) t
+one-given : (ops : List Operation) (a : Operation) (s t : BTreeSet ℤ) (m : ℤ) → number_given a.act ≡ Some m
+    → ((q : ℤ) → contains int_cmp t q ≡ cond (is_at (int_cmp m) q) true (contains int_cmp s q))
+    → HasGiven ops s → HasGiven (ops ++ a ∷ []) t
 one-given ops a s t m gives adds h n = (
   λ there. elim (cases_Bool (int_eq m n)) [
     | inl e ↦ (a, In-right a ops (a ∷ []) (inl refl), gives ∙ ap Some ((Decides-int_eq m n).0 e))
     | inr e ↦
-        let before : contains int_cmp s n ≡ true = sym (ap (λ b. cond b true (contains int_cmp s n)) e) ∙ (sym (adds n) ∙ there) in
+        let before : contains int_cmp s n ≡ true =
+        sym (ap (λ b. cond b true (contains int_cmp s n)) e) ∙ (sym (adds n) ∙ there) in
         let g = (h n).0 before in
         (g.0, In-left g.0 ops (a ∷ []) g.1, g.2)
   ],
@@ -62,7 +71,8 @@ one-given ops a s t m gives adds h n = (
   ],
 )
 
-take-one : (ops : List Operation) (i : ℕ) (a : Operation) → slice_get ops i ≡ Some a → take (i + 1) ops ≡ take i ops ++ a ∷ []
+take-one : (ops : List Operation) (i : ℕ) (a : Operation) → slice_get ops i ≡ Some a
+    → take (i + 1) ops ≡ take i ops ++ a ∷ []
 take-one ops i a e =
     let l = slice_get_within ops i a e in
     let there = slice_get-get_or ops i a l in
@@ -71,7 +81,9 @@ take-one ops i a e =
 
 -- ---- the needed ones
 
-pub unwritten-decides : (ops : List Operation) (s : BTreeSet ℤ) (a : Operation) (n : ℤ) (b : Bool) → number_needed a ≡ Some n → b ≡ not (contains int_cmp s n) → HasGiven ops s → (IsTrue b ↔ IsUnwritten ops a)
+pub unwritten-decides : (ops : List Operation) (s : BTreeSet ℤ) (a : Operation) (n : ℤ) (b : Bool)
+    → number_needed a ≡ Some n → b ≡ not (contains int_cmp s n) → HasGiven ops s
+    → (IsTrue b ↔ IsUnwritten ops a)
 unwritten-decides ops s a n b needs is h = (
   λ t. (n, needs, λ g. false≢true (sym (is ∙ ap not ((h n).1 g)) ∙ t)),
   λ u. elim (cases_Bool (contains int_cmp s n)) [
@@ -83,7 +95,8 @@ unwritten-decides ops s a n b needs is h = (
   ],
 )
 
-pub unneeded-decides : (ops : List Operation) (a : Operation) → number_needed a ≡ None → (IsTrue false ↔ IsUnwritten ops a)
+pub unneeded-decides : (ops : List Operation) (a : Operation) → number_needed a ≡ None
+    → (IsTrue false ↔ IsUnwritten ops a)
 unneeded-decides ops a none = (λ t. absurd (false≢true t), λ u. absurd (let q = sym none ∙ u.1 in cc (q)))
 
 some-cond : (b : Bool) (o : Option ℤ) (n : ℤ) → cond b o None ≡ Some n → (b ≡ true) × (o ≡ Some n)
@@ -113,11 +126,13 @@ given-number (Write (Int m)) n e = let same : m ≡ n = cc (e) in ap Some same
 given-number (Cas from to) n e = let same : to ≡ n = cc (e) in ap Some same
 given-number (Miss from) n e = absurd e
 
-asked-given : (o : Option Val) (act : Act) (n : ℤ) → number_asked act ≡ Some n → IsSomeAnd o (Suits act) → IsSomeAnd o (λ v. v ≡ Int n)
+asked-given : (o : Option Val) (act : Act) (n : ℤ) → number_asked act ≡ Some n → IsSomeAnd o (Suits act)
+    → IsSomeAnd o (λ v. v ≡ Int n)
 asked-given None act n e s = s
 asked-given (Some v) act n e s = asked-suits act n v e s
 
-pub unwritten-refutes : (r : ℕ) (ops : List Operation) (a : Operation) → In a ops → IsUnwritten ops a → IsAtomic (initial_write r ∷ ops) → ⊥
+pub unwritten-refutes : (r : ℕ) (ops : List Operation) (a : Operation) → In a ops → IsUnwritten ops a
+    → IsAtomic (initial_write r ∷ ops) → ⊥
 unwritten-refutes r ops a i u atomic =
     let order = atomic.0 in
     let l = atomic.1 in
@@ -132,13 +147,20 @@ unwritten-refutes r ops a i u atomic =
 
 -- ---- the first
 
-pub found-first : (ops : List Operation) (i : ℕ) (d : Operation) → i < length ops → IsUnwritten ops (get_or ops i d) → (a : Operation) × (slice_get ops i ≡ Some a) × IsUnwritten ops a
+pub found-first : (ops : List Operation) (i : ℕ) (d : Operation) → i < length ops
+    → IsUnwritten ops (get_or ops i d) → (a : Operation) × (slice_get ops i ≡ Some a) × IsUnwritten ops a
 found-first ops i d l u = (get_or ops i d, slice_get-get_or ops i d l, u)
 
-pub found-refutes : (r : ℕ) (ops : List Operation) (i : ℕ) (d : Operation) → i < length ops → IsUnwritten ops (get_or ops i d) → IsAtomic (initial_write r ∷ ops) → ⊥
-found-refutes r ops i d l u = unwritten-refutes r ops (get_or ops i d) (slice_get-In ops i (get_or ops i d) (slice_get-get_or ops i d l)) u
+pub found-refutes : (r : ℕ) (ops : List Operation) (i : ℕ) (d : Operation) → i < length ops
+    → IsUnwritten ops (get_or ops i d) → IsAtomic (initial_write r ∷ ops) → ⊥
+found-refutes r ops i d l u =
+    unwritten-refutes r ops (get_or ops i d)
+    (slice_get-In ops i (get_or ops i d) (slice_get-get_or ops i d l)) u
 
-pub none-more : (ops : List Operation) (i : ℕ) (d : Operation) → i < length ops → ((j : ℕ) (a : Operation) → j < i → slice_get ops j ≡ Some a → IsUnwritten ops a → ⊥) → (IsUnwritten ops (get_or ops i d) → ⊥) → (j : ℕ) (a : Operation) → j < i + 1 → slice_get ops j ≡ Some a → IsUnwritten ops a → ⊥
+pub none-more : (ops : List Operation) (i : ℕ) (d : Operation) → i < length ops
+    → ((j : ℕ) (a : Operation) → j < i → slice_get ops j ≡ Some a → IsUnwritten ops a → ⊥)
+    → (IsUnwritten ops (get_or ops i d) → ⊥) → (j : ℕ) (a : Operation) → j < i + 1 → slice_get ops j ≡ Some a
+    → IsUnwritten ops a → ⊥
 none-more ops i d l below here j a lt e u = elim (cases_order j i) [
   | inl same ↦
       let there = slice_get-get_or ops i d l in
@@ -148,14 +170,23 @@ none-more ops i d l below here j a lt e u = elim (cases_order j i) [
   | inr c ↦ elim c [ inl b ↦ below j a b e u | inr g ↦ absurd (omega arith) ]
 ]
 
-pub none-left : (ops : List Operation) (i : ℕ) → length ops ≤ i → ((j : ℕ) (a : Operation) → j < i → slice_get ops j ≡ Some a → IsUnwritten ops a → ⊥) → (j : ℕ) (a : Operation) → slice_get ops j ≡ Some a → IsUnwritten ops a → ⊥
+pub none-left : (ops : List Operation) (i : ℕ) → length ops ≤ i
+    → ((j : ℕ) (a : Operation) → j < i → slice_get ops j ≡ Some a → IsUnwritten ops a → ⊥)
+    → (j : ℕ) (a : Operation) → slice_get ops j ≡ Some a → IsUnwritten ops a → ⊥
 none-left ops i l below j a e = let k = slice_get_within ops j a e in below j a (omega arith) e
 
 -- one more operation of a list
-pub given-more : (ops : List Operation) (i : ℕ) (d : Operation) (s t : BTreeSet ℤ) → i < length ops → ((xs : List Operation) → HasGiven xs s → HasGiven (xs ++ get_or ops i d ∷ []) t) → HasGiven (take i ops) s → HasGiven (take (i + 1) ops) t
-given-more ops i d s t l more h = subst (λ xs. HasGiven xs t) (sym (take-one ops i (get_or ops i d) (slice_get-get_or ops i d l))) (more (take i ops) h)
+pub given-more : (ops : List Operation) (i : ℕ) (d : Operation) (s t : BTreeSet ℤ) → i < length ops
+    → ((xs : List Operation) → HasGiven xs s → HasGiven (xs ++ get_or ops i d ∷ []) t)
+    → HasGiven (take i ops) s → HasGiven (take (i + 1) ops) t
+given-more ops i d s t l more h =
+    subst (λ xs. HasGiven xs t) (sym (take-one ops i (get_or ops i d) (slice_get-get_or ops i d l)))
+    (more (take i ops) h)
 
 -- unless memory ran out, the number of one more operation is added
-pub given-or-not : {X E : Type 0} (result : Result X E) (a : Operation) (s t : BTreeSet ℤ) (m : ℤ) → number_given a.act ≡ Some m → IfOk result (λ _. (q : ℤ) → contains int_cmp t q ≡ cond (int_eq m q) true (contains int_cmp s q)) → IfOk result (λ _. (ops : List Operation) → HasGiven ops s → HasGiven (ops ++ a ∷ []) t)
+pub given-or-not : {X E : Type 0} (result : Result X E) (a : Operation) (s t : BTreeSet ℤ) (m : ℤ)
+    → number_given a.act ≡ Some m
+    → IfOk result (λ _. (q : ℤ) → contains int_cmp t q ≡ cond (int_eq m q) true (contains int_cmp s q))
+    → IfOk result (λ _. (ops : List Operation) → HasGiven ops s → HasGiven (ops ++ a ∷ []) t)
 given-or-not (Ok x) a s t m gives adds = λ ops. one-given ops a s t m gives adds
 given-or-not (Err e) a s t m gives adds = adds

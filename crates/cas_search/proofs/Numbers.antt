@@ -1,5 +1,6 @@
 -- The numbers of a map are a numbering, and with one more they still are.
-use Rattle.std.proofs.Common.{◌≡◌, ℕ, ◌+◌, ℤ, cond, Bool, true, false, Some, None, ◌⊎◌, inl, inr, refl, sym, ap, ◌∙◌, arith}
+use Rattle.std.proofs.Common.{◌≡◌, ℕ, ◌+◌, ℤ, cond, Bool, true, false, Some}
+use Rattle.std.proofs.Common.{None, ◌⊎◌, inl, inr, refl, sym, ap, ◌∙◌, arith}
 use Rattle.std.specs.BTreeMap.{BTreeMap, get, btree_map_len}
 use Rattle.std.specs.Ordering.{int_cmp, int_eq}
 use Rattle.std.proofs.lemmas.Bool.Decides.{Decides-int_eq}
@@ -26,7 +27,8 @@ module _ (old new : BTreeMap ℤ ℕ) (q : ℤ) (n : ℕ) (none : get int_cmp ol
   before : (p : ℤ) (k : ℕ) → get int_cmp old p ≡ Some k → get int_cmp new p ≡ Some k
   before p k h = go (int_eq q p) refl (is p)
     where
-      go : (b : Bool) → int_eq q p ≡ b → get int_cmp new p ≡ cond b (Some n) (get int_cmp old p) → get int_cmp new p ≡ Some k
+      go : (b : Bool) → int_eq q p ≡ b → get int_cmp new p ≡ cond b (Some n) (get int_cmp old p)
+          → get int_cmp new p ≡ Some k
       go true e f =
           let same : q ≡ p = (Decides-int_eq q p).0 e in
           absurd (let z = sym none ∙ (ap (get int_cmp old) same ∙ h) in cc (z))

@@ -1,4 +1,5 @@
--- The operations of a register by numbers: their values go by numbers, and the times of their replies are ranks.
+-- The operations of a register by numbers: their values go by numbers,
+-- and the times of their replies are ranks.
 use Rattle.std.specs.Prelude.{◌≡◌, ℕ, ◌+◌, ◌<◌, ◌≤◌, ◌==◌, ℤ, if◌then◌else◌, List, Option, Some, None}
 use Rattle.std.specs.BTreeMap.{BTreeMap, get, btree_map_len}
 use Rattle.std.specs.List.{AllZip}
@@ -40,13 +41,15 @@ pub record IsMore (old new : BTreeMap ℤ ℕ) : Type 0 where
 
 -- ---- operations
 
--- What an act does, by numbers. A write has its value twice. A read whose value isn't known meets any value, and so does a cas that misses
--- `NOTHING`; a cas that gives the value that it finds is a read of it.
+-- What an act does, by numbers. A write has its value twice. A read whose value isn't known meets any value,
+-- and so does a cas that misses `NOTHING`; a cas that gives the value that it finds is a read of it.
 abbrev pub DoesAs : (Val → Option ℕ) → Act → Op → Type 0
 DoesAs number (Read None) o = (o.kind ≡ kinds.Miss) × (o.from ≡ NOTHING)
 DoesAs number (Read (Some v)) o = (o.kind ≡ kinds.Read) × (number v ≡ Some o.from)
 DoesAs number (Write v) o = (o.kind ≡ kinds.Write) × (o.from ≡ o.to) × (number v ≡ Some o.to)
-DoesAs number (Cas v n) o = (o.kind ≡ (if o.from == o.to then kinds.Read else kinds.Cas)) × (number v ≡ Some o.from) × (number (Int n) ≡ Some o.to)
+DoesAs number (Cas v n) o =
+    (o.kind ≡ (if o.from == o.to then kinds.Read else kinds.Cas)) × (number v ≡ Some o.from)
+    × (number (Int n) ≡ Some o.to)
 DoesAs number (Miss v) o = (o.kind ≡ kinds.Miss) × (number v ≡ Some o.from)
 
 -- an operation of one value

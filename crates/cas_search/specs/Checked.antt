@@ -16,9 +16,11 @@ pub record IsMarked (count : ℕ) (order : List ℕ) (marks : List Bool) : Type 
 -- the points of an order, each of which comes before the operation's reply
 pub record ArePoints (order : List Operation) (points : List ℕ) : Type 0 where
   pub is : points ≡ map (λ (x : PlacedOperation). x.point) (placed order)
-  pub unreplied : (x : PlacedOperation) (t : ℕ) → In x (placed order) → x.operation.reply ≡ Some t → x.point < t
+  pub unreplied : (x : PlacedOperation) (t : ℕ) → In x (placed order) → x.operation.reply ≡ Some t
+      → x.point < t
 
--- the order, by the places of the operations, and its points: with the initial write of register r before it, it is a legal order
+-- the order, by the places of the operations, and its points: with the initial write of
+-- register r before it, it is a legal order
 pub record IsCheckedOrder (r : ℕ) (ops : List Operation) (order points : List ℕ) : Type 0 where
   pub within : (k : ℕ) → In k order → k < length ops
   pub legal : IsLegal (initial_write r ∷ ops) (initial_write r ∷ operations_at ops order)

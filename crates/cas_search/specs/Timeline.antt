@@ -1,16 +1,19 @@
 -- The calls and the replies of the operations of one register, in the order of their times.
-use Rattle.std.specs.Prelude.{◌≡◌, ℕ, ◌<◌, ◌≤◌, List, filter_map, slice_get, Option, Some, option_map, option_and_then}
+use Rattle.std.specs.Prelude.{◌≡◌, ℕ, ◌<◌, ◌≤◌, List, filter_map, slice_get}
+use Rattle.std.specs.Prelude.{Option, Some, option_map, option_and_then}
 use Rattle.history_model.specs.Lists.{In, Before}
 use Rattle.cas_model.specs.declared.operation.Operation.{Operation}
 use Rattle.cas_model.specs.Operations.{AreTimed}
 use Rattle.configurations.specs.declared.moment.Moment.{Moment}
 use Rattle.configurations.specs.declared.moment.Moment.TheVariants.{Call, Reply}
 
--- The operations of register r that processes called, by call: the initial write, which comes before them all, isn't among them.
+-- The operations of register r that processes called, by call: the initial write, which
+-- comes before them all, isn't among them.
 pub record AreCalls (r : ℕ) (ops : List Operation) : Type 0 where
   pub register : (a : Operation) → In a ops → a.register.0 ≡ r
   pub called : (a : Operation) → In a ops → 2 ≤ a.call
-  pub ascending : (j k : ℕ) (a b : Operation) → j < k → slice_get ops j ≡ Some a → slice_get ops k ≡ Some b → a.call < b.call
+  pub ascending : (j k : ℕ) (a b : Operation) → j < k → slice_get ops j ≡ Some a → slice_get ops k ≡ Some b
+      → a.call < b.call
 
 -- No two of the calls and the replies of these operations have one time.
 pub record AreTimes (ops : List Operation) : Type 0 where
@@ -30,7 +33,8 @@ pub record IsTimeline (r : ℕ) (ops : List Operation) (events : List Moment) : 
   pub life : (a : Operation) (t : ℕ) → In a ops → a.reply ≡ Some t → a.call < t
   pub all : (e : Moment) (t : ℕ) → time_by ops e ≡ Some t → In e events
   pub only : (e : Moment) → In e events → (t : ℕ) × (time_by ops e ≡ Some t)
-  pub ascending : (e f : Moment) (s t : ℕ) → Before e f events → time_by ops e ≡ Some s → time_by ops f ≡ Some t → s < t
+  pub ascending : (e f : Moment) (s t : ℕ) → Before e f events → time_by ops e ≡ Some s
+      → time_by ops f ≡ Some t → s < t
 
 -- the operations of some numbers
 abbrev pub operations_at : List Operation → List ℕ → List Operation

@@ -41,7 +41,9 @@ IsUnwritten ops a = (n : ℤ) × (number_needed a ≡ Some n) × (IsGiven ops n 
 -- the place of the first such operation
 abbrev pub IsFirstUnwritten : List Operation → Option ℕ → Type 0
 IsFirstUnwritten ops None = (k : ℕ) (a : Operation) → slice_get ops k ≡ Some a → IsUnwritten ops a → ⊥
-IsFirstUnwritten ops (Some k) = ((a : Operation) × (slice_get ops k ≡ Some a) × IsUnwritten ops a) × ((j : ℕ) (a : Operation) → j < k → slice_get ops j ≡ Some a → IsUnwritten ops a → ⊥)
+IsFirstUnwritten ops (Some k) =
+    ((a : Operation) × (slice_get ops k ≡ Some a) × IsUnwritten ops a)
+    × ((j : ℕ) (a : Operation) → j < k → slice_get ops j ≡ Some a → IsUnwritten ops a → ⊥)
 
 -- the set has the numbers that the operations give
 abbrev pub HasGiven : List Operation → BTreeSet ℤ → Type 0

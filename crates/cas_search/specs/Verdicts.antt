@@ -14,14 +14,16 @@ use Rattle.cas_search.specs.Checked.{IsCheckedOrder}
 abbrev pub RepliesAt : List Operation → ℕ → ℕ → Type 0
 RepliesAt ops k t = (a : Operation) × (slice_get ops k ≡ Some a) × (a.reply ≡ Some t)
 
--- What is known of register r at the reply of the operation at place k, its initial write among it, has no legal order, and so neither have all its operations.
+-- What is known of register r at the reply of the operation at place k, its initial write among it, has no
+-- legal order, and so neither have all its operations.
 pub record IsRefuted (r : ℕ) (ops : List Operation) (k : ℕ) : Type 0 where
   pub time : ℕ
   pub replies : RepliesAt ops k time
   pub beginning : IsAtomic (cut_at time (initial_write r ∷ ops)) → ⊥
   pub whole : IsAtomic (initial_write r ∷ ops) → ⊥
 
--- the order, by the places of the operations, is a legal order of what is known just before the reply of the operation at place k
+-- the order, by the places of the operations, is a legal order of what is known just
+-- before the reply of the operation at place k
 pub record IsBefore (r : ℕ) (ops : List Operation) (k : ℕ) (order : List ℕ) : Type 0 where
   pub time : ℕ
   pub replies : RepliesAt ops k time
@@ -34,8 +36,10 @@ IsFound r ops (Hopeless reply before) = IsRefuted r ops reply
 IsFound r ops (Order order) = Unit {0}
 IsFound r ops (Stopped bound) = Unit {0}
 
--- a yes has a legal order and its points, a no is right, as is the order before it, and whoever gave up says nothing
+-- a yes has a legal order and its points, a no is right, as is the order
+-- before it, and whoever gave up says nothing
 abbrev pub IsVerdict : ℕ → List Operation → Verdict → Type 0
 IsVerdict r ops (Yes order points) = IsCheckedOrder r ops order.items points.items
-IsVerdict r ops (No reply before) = IsRefuted r ops reply × IfSome before (λ order. IsBefore r ops reply order.items)
+IsVerdict r ops (No reply before) =
+    IsRefuted r ops reply × IfSome before (λ order. IsBefore r ops reply order.items)
 IsVerdict r ops (Unknown bound) = Unit {0}

@@ -11,14 +11,15 @@ use cas_model::Operation;
 use history_text::Val;
 use std::alloc::{AllocError, Global};
 
-/// The points of an order, only if it is a legal order of the operations of a register with the initial write before them. The order
-/// has the operations by their places, the points are times.
+/// The points of an order, only if it is a legal order of the operations of a register with the initial write
+/// before them. The order has the operations by their places, the points are times.
 pub fn check_order(
     alloc: Global,
     ops: &[Operation],
     order: &[u32],
 ) -> Result<Option<Vec<u32>>, AllocError>
-    ensures { IfOk result (λ o. IfSome o (λ points. (r : ℕ) → AreCalls r ops.now → IsCheckedOrder r ops.now order.now points.items)) }
+    ensures { IfOk result (λ o. IfSome o (λ points. (r : ℕ) → AreCalls r ops.now
+        → IsCheckedOrder r ops.now order.now points.items)) }
 {
     match marked(alloc, ops.len(), order)? {
         Some(marks) => {
@@ -52,7 +53,8 @@ fn marked(alloc: Global, count: usize, order: &[u32]) -> Result<Option<Vec<bool>
 
 /// Whether each completed operation is marked.
 fn has_completed(ops: &[Operation], marks: &[bool]) -> bool
-    ensures { IsTrue result → (k : ℕ) (a : AnOperation) → slice_get ops.now k ≡ Some a → IsCompleted a → slice_get marks.now k ≡ Some true }
+    ensures { IsTrue result → (k : ℕ) (a : AnOperation) → slice_get ops.now k ≡ Some a → IsCompleted a
+        → slice_get marks.now k ≡ Some true }
 {
     for (place, op) in ops.iter().enumerate() {
         if is_left_out(op, marks, place) {
@@ -106,7 +108,8 @@ fn points_of(
     ops: &[Operation],
     order: &[u32],
 ) -> Result<Option<Vec<u32>>, AllocError>
-    ensures { IfOk result (λ o. IfSome o (λ points. ArePoints (operations_at ops.now order.now) points.items)) }
+    ensures { IfOk result
+        (λ o. IfSome o (λ points. ArePoints (operations_at ops.now order.now) points.items)) }
 {
     let mut points = Vec::new(alloc);
     let mut last: u32 = 0;

@@ -1,23 +1,26 @@
 //! Values that nobody gives the register.
-ghost use Rattle.std.specs.Prelude.{◌≡◌, ◌↔◌, ◌∷◌, ◌++◌, [], true, if◌then◌else◌, IfOk, IfSome, IsTrue, List, ℕ, ℤ};
+ghost use Rattle.std.specs.Prelude.{◌≡◌, ◌↔◌, ◌∷◌, ◌++◌, [], true, if◌then◌else◌};
+ghost use Rattle.std.specs.Prelude.{IfOk, IfSome, IsTrue, List, ℕ, ℤ};
 ghost use Rattle.std.specs.BTreeSet.{contains};
 ghost use Rattle.std.specs.Ordering.{int_cmp, int_eq};
 ghost use Rattle.cas_model.specs.declared.operation.Operation.{Operation as AnOperation};
 ghost use Rattle.cas_model.specs.Legal.{IsAtomic};
 ghost use Rattle.cas_model.specs.Operations.{initial_write};
 ghost use Rattle.cas_search.specs.Timeline.{AreCalls};
-ghost use Rattle.cas_search.specs.Unwritten.{HasGiven, IsFirstUnwritten, IsUnwritten, number_asked, number_given, number_needed};
+ghost use Rattle.cas_search.specs.Unwritten.{HasGiven, IsFirstUnwritten, IsUnwritten};
+ghost use Rattle.cas_search.specs.Unwritten.{number_asked, number_given, number_needed};
 
 use cas_model::{Act, Operation};
 use history_text::Val;
 use std::alloc::{AllocError, Global};
 use std::collections::BTreeSet;
 
-/// The place of the first operation, by call, that needs a value which nobody gives the register: a completed read that gives it,
-/// or a cas that took place and found it. The initial write gives null.
+/// The place of the first operation, by call, that needs a value which nobody gives the register: a completed
+/// read that gives it, or a cas that took place and found it. The initial write gives null.
 pub fn first_unwritten(alloc: Global, ops: &[Operation]) -> Result<Option<usize>, AllocError>
     ensures first { IfOk result (λ o. IsFirstUnwritten ops.now o) }
-    ensures no { IfOk result (λ o. IfSome o (λ _. (r : ℕ) → AreCalls r ops.now → IsAtomic (initial_write r ∷ ops.now) → ⊥)) }
+    ensures no { IfOk result (λ o. IfSome o (λ _. (r : ℕ) → AreCalls r ops.now
+        → IsAtomic (initial_write r ∷ ops.now) → ⊥)) }
 {
     let given = given_numbers(alloc, ops)?;
     for (place, op) in ops.iter().enumerate() {
@@ -41,7 +44,8 @@ fn given_numbers(alloc: Global, ops: &[Operation]) -> Result<BTreeSet<i64>, Allo
 
 /// Adds the number that one more operation gives the register.
 fn add_given(given: &mut BTreeSet<i64>, op: &Operation) -> Result<(), AllocError>
-    ensures { IfOk result (λ _. (ops : List AnOperation) → HasGiven ops given.old → HasGiven (ops ++ (op.now ∷ [])) given.new) }
+    ensures { IfOk result (λ _. (ops : List AnOperation) → HasGiven ops given.old
+        → HasGiven (ops ++ (op.now ∷ [])) given.new) }
 {
     match number_of(op.act) {
         Some(number) => add_number(given, number),
@@ -51,7 +55,8 @@ fn add_given(given: &mut BTreeSet<i64>, op: &Operation) -> Result<(), AllocError
 
 /// Adds a number.
 fn add_number(given: &mut BTreeSet<i64>, number: i64) -> Result<(), AllocError>
-    ensures { IfOk result (λ _. (q : ℤ) → contains int_cmp given.new q ≡ (if int_eq number q then true else contains int_cmp given.old q)) }
+    ensures { IfOk result (λ _. (q : ℤ)
+        → contains int_cmp given.new q ≡ (if int_eq number q then true else contains int_cmp given.old q)) }
 {
     given.insert(number)?;
     Ok(())

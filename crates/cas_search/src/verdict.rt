@@ -13,14 +13,15 @@ use std::alloc::{AllocError, Global};
 /// Whether a register is atomic.
 #[derive(Debug, PartialEq, Drop)]
 pub enum Verdict {
-    /// It is: a legal order, by the places of the operations, and the point of each. The initial write, which comes first, is
-    /// left out.
+    /// It is: a legal order, by the places of the operations, and the point of each. The
+    /// initial write, which comes first, is left out.
     Yes {
         order: Vec<u32>,
         points: Vec<u32>,
     },
-    /// It isn't, nor is what was known at the reply of the operation at the place `reply`. `before` is a legal order of what was
-    /// known just before that reply, again without the initial write; none if the order that the search had isn't legal.
+    /// It isn't, nor is what was known at the reply of the operation at the place `reply`. `before` is a
+    /// legal order of what was known just before that reply, again without the initial write; none if
+    /// the order that the search had isn't legal.
     No {
         reply: u32,
         before: Option<Vec<u32>>,
@@ -36,7 +37,8 @@ pub fn decide(
     events: &[Moment],
     bounds: Bounds,
 ) -> Result<Verdict, AllocError>
-    ensures { IfOk result (λ verdict. (r : ℕ) → IsTimeline r ops.now events.now → IsVerdict r ops.now verdict) }
+    ensures { IfOk result (λ verdict. (r : ℕ) → IsTimeline r ops.now events.now
+        → IsVerdict r ops.now verdict) }
 {
     match forward(alloc, ops, events, bounds)? {
         Found::Hopeless { reply, before } => refuted(alloc, ops, reply, before),
@@ -55,28 +57,31 @@ fn checked(alloc: Global, ops: &[Operation], order: Vec<u32>) -> Result<Verdict,
     }
 }
 
-/// A reply is hopeless. The order before it is checked, and left out if it isn't legal: no answer rests on it.
+/// A reply is hopeless. The order before it is checked, and left out
+/// if it isn't legal: no answer rests on it.
 fn refuted(
     alloc: Global,
     ops: &[Operation],
     reply: u32,
     before: Vec<u32>,
 ) -> Result<Verdict, AllocError>
-    ensures { IfOk result (λ verdict. (r : ℕ) → AreCalls r ops.now → IsRefuted r ops.now reply → IsVerdict r ops.now verdict) }
+    ensures { IfOk result (λ verdict. (r : ℕ) → AreCalls r ops.now → IsRefuted r ops.now reply
+        → IsVerdict r ops.now verdict) }
 {
     let before = legal_before(alloc, ops, reply, before)?;
     Ok(Verdict::No { reply, before })
 }
 
-/// The order, if it is a legal order of what was known just before the reply of the operation at a place. It has the operations
-/// by their places, whoever made it, without the initial write.
+/// The order, if it is a legal order of what was known just before the reply of the operation at a place. It
+/// has the operations by their places, whoever made it, without the initial write.
 pub fn legal_before(
     alloc: Global,
     ops: &[Operation],
     reply: u32,
     order: Vec<u32>,
 ) -> Result<Option<Vec<u32>>, AllocError>
-    ensures { IfOk result (λ o. IfSome o (λ order. (r : ℕ) → AreCalls r ops.now → IsBefore r ops.now reply order.items)) }
+    ensures { IfOk result (λ o. IfSome o (λ order. (r : ℕ) → AreCalls r ops.now
+        → IsBefore r ops.now reply order.items)) }
 {
     let Some(time) = reply_time(ops, reply) else {
         return Ok(None);

@@ -94,7 +94,8 @@ fn right_ones_with_pending_calls(rt: HostRuntime) -> Result<(), Fail> {
     expect(&rt, &rows, "yes")
 }
 
-/// A register that isn't atomic, with the place of the first hopeless reply, and the one order that is legal before it.
+/// A register that isn't atomic, with the place of the first hopeless reply,
+/// and the one order that is legal before it.
 type Faulty<'a> = (&'static str, &'a [Operation], u32, &'a [u32]);
 
 fn expect_no(rt: &(impl AllocGlobal + Abort), rows: &[Faulty]) -> Result<(), Fail> {

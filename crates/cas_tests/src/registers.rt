@@ -50,7 +50,8 @@ pub(crate) fn verdict(
     decide(alloc, ops, &events, bounds)
 }
 
-/// `yes` if the search finds an order, `no` with the place of the operation whose reply is hopeless, or the bound that it met.
+/// `yes` if the search finds an order, `no` with the place of the operation whose
+/// reply is hopeless, or the bound that it met.
 fn answer(alloc: Global, ops: &[Operation], bounds: Bounds) -> Result<String, AllocError> {
     text_of(alloc, verdict(alloc, ops, bounds)?)
 }

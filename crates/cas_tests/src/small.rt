@@ -1,4 +1,5 @@
-//! All registers of three operations with a few acts and times: the search, and zones, against each order of them.
+//! All registers of three operations with a few acts and times: the
+//! search, and zones, against each order of them.
 use crate::distinct;
 use crate::registers::{ONE, TWO, operation, verdict};
 use cas_model::{Act, Operation};
@@ -53,7 +54,8 @@ fn known(alloc: Global, ops: &[Operation], time: u32) -> Result<Vec<Operation>, 
     Ok(known)
 }
 
-/// Whether a verdict says what the orders say: yes if one is legal; else no at a reply at which none is, with one before it.
+/// Whether a verdict says what the orders say: yes if one is legal; else no at a
+/// reply at which none is, with one before it.
 fn agrees(alloc: Global, ops: &[Operation], verdict: Verdict) -> Result<bool, AllocError> {
     match verdict {
         Verdict::Yes { .. } => has_order(alloc, ops),

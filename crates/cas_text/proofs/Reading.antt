@@ -12,8 +12,10 @@ use Rattle.cas_text.specs.Reading.{event_of, line_event}
 short : (bytes : List ℕ) → length bytes ≤ MAX_LINE → nat_lt MAX_LINE (length bytes) ≡ false
 short bytes le = grind (arith, nat_tests)
 
-pub line_event-read : (n : ℕ) (bytes : List ℕ) (d : Data) → length bytes ≤ MAX_LINE → json_of bytes ≡ Some d → line_event n bytes ≡ event_of n d
+pub line_event-read : (n : ℕ) (bytes : List ℕ) (d : Data) → length bytes ≤ MAX_LINE → json_of bytes ≡ Some d
+    → line_event n bytes ≡ event_of n d
 line_event-read n bytes d le e = rw (short bytes le, e) refl
 
-pub line_event-refused : (n : ℕ) (bytes : List ℕ) → length bytes ≤ MAX_LINE → json_of bytes ≡ None → line_event n bytes ≡ Err NotJson
+pub line_event-refused : (n : ℕ) (bytes : List ℕ) → length bytes ≤ MAX_LINE → json_of bytes ≡ None
+    → line_event n bytes ≡ Err NotJson
 line_event-refused n bytes le e = rw (short bytes le, e) refl

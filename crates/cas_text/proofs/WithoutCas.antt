@@ -1,11 +1,13 @@
--- A line that `history_text` reads means the same here. Both read the same members in the same order, so the proof goes
--- along the definitions, part by part.
-use Rattle.std.proofs.Common.{◌≡◌, ◌≢◌, ℕ, List, length, codes, Bool, true, false, cond, Option, Some, None, option_map, Result, Ok, Err, refl, sym, ap, subst}
+-- A line that `history_text` reads means the same here. Both read the same members in the same order, so the
+-- proof goes along the definitions, part by part.
+use Rattle.std.proofs.Common.{◌≡◌, ◌≢◌, ℕ, List, length, codes, Bool, true, false, cond, Option}
+use Rattle.std.proofs.Common.{Some, None, option_map, Result, Ok, Err, refl, sym, ap, subst}
 use Rattle.std.specs.Prelude.{nat_lt, bytes_eq, is_some, IfSome}
 use Rattle.serde_json.specs.Data.{Data, null, boolean, number, string, array, object}
 use Rattle.serde_json.specs.Find.{get, as_object}
 use Rattle.history_text.specs.declared.limits.TheConstants.{MAX_LINE}
-use Rattle.history_text.specs.Members.{Member, process_form, event_form, op_form, name_form, written_form, value_form, has_no_value, optional}
+use Rattle.history_text.specs.Members.{Member, process_form, event_form, op_form, name_form}
+use Rattle.history_text.specs.Members.{written_form, value_form, has_no_value, optional}
 use Rattle.history_text.specs.Reading as text
 use Rattle.history_text.specs.declared.event.OpKind.{OpKind}
 use Rattle.history_text.specs.declared.event.OpKind.TheVariants.{ReadOp, WriteOp}
@@ -14,7 +16,8 @@ use Rattle.history_text.specs.declared.event.Kind.{Kind}
 use Rattle.history_text.specs.declared.event.Kind.TheVariants as kind
 use Rattle.history_text.specs.declared.event.LineEvent.{LineEvent}
 use Rattle.history_text.specs.declared.fault.LineKind.{LineKind}
-use Rattle.history_text.specs.declared.fault.LineKind.TheVariants.{TooLong, NotJson, NotObject, BadProcess, BadEvent, BadOp, BadRegister, BadValue}
+use Rattle.history_text.specs.declared.fault.LineKind.TheVariants.{TooLong, NotJson, NotObject, BadProcess}
+use Rattle.history_text.specs.declared.fault.LineKind.TheVariants.{BadEvent, BadOp, BadRegister, BadValue}
 use Rattle.cas_text.specs.declared.event.EventWord.TheVariants as word
 use Rattle.cas_text.specs.declared.event.OpWord.{OpWord}
 use Rattle.cas_text.specs.declared.event.OpWord.TheVariants as op
@@ -28,8 +31,10 @@ use Rattle.cas_text.specs.declared.event.CasEvent.{CasEvent}
 use Rattle.cas_text.specs.declared.fault.FaultKind.{FaultKind}
 use Rattle.cas_text.specs.declared.fault.FaultKind.TheVariants as fault
 use Rattle.cas_text.specs.Members.{event_word, op_word, ok_member}
-use Rattle.cas_text.specs.Reading.{or_fault, call_asked, with_asked, call_of, parts_of, with_parts, happening_of, with_happening, event_of, line_event, at_line, event_reading}
-use Rattle.cas_text.specs.WithoutCas.{same_op, same_parts, same_happening, same_event, same_kind, MeansTheSame}
+use Rattle.cas_text.specs.Reading.{or_fault, call_asked, with_asked, call_of, parts_of, with_parts}
+use Rattle.cas_text.specs.Reading.{happening_of, with_happening, event_of, line_event, at_line, event_reading}
+use Rattle.cas_text.specs.WithoutCas.{same_op, same_parts, same_happening}
+use Rattle.cas_text.specs.WithoutCas.{same_event, same_kind, MeansTheSame}
 
 -- a part of a line there and here: the same part, or the same fault, but for that of op
 abbrev Agrees : {A B : Type 0} → (OkMember → A → B) → Result A LineKind → Result B FaultKind → Type 0
@@ -37,20 +42,25 @@ Agrees same (Ok x) here = (ok : OkMember) × (here ≡ Ok (same ok x))
 Agrees same (Err fault) here = fault ≢ BadOp → here ≡ Err (same_kind fault)
 
 -- a member of one form there and here
-read : {A B C : Type 0} (same : OkMember → B → C) (o : Option A) (fault : LineKind) (there : A → Result B LineKind) (here : A → Result C FaultKind)
-    → ((x : A) → Agrees same (there x) (here x)) → Agrees same (text.or_fault o fault there) (or_fault o (same_kind fault) here)
+read : {A B C : Type 0} (same : OkMember → B → C) (o : Option A) (fault : LineKind) (there : A
+    → Result B LineKind) (here : A → Result C FaultKind)
+    → ((x : A) → Agrees same (there x) (here x))
+    → Agrees same (text.or_fault o fault there) (or_fault o (same_kind fault) here)
 read same None fault there here h = λ _. refl
 read same (Some x) fault there here h = h x
 
 -- an operation that is read there is read here
-op_read : {X Y B C : Type 0} (same : OkMember → B → C) (name : X → Y) (o : Option X) (p : Option Y) (there : X → Result B LineKind) (here : Y → Result C FaultKind)
-    → IfSome o (λ x. p ≡ Some (name x)) → ((x : X) → Agrees same (there x) (here (name x))) → Agrees same (text.or_fault o BadOp there) (or_fault p fault.BadOp here)
+op_read : {X Y B C : Type 0} (same : OkMember → B → C) (name : X → Y) (o : Option X) (p : Option Y) (there : X
+    → Result B LineKind) (here : Y → Result C FaultKind)
+    → IfSome o (λ x. p ≡ Some (name x)) → ((x : X) → Agrees same (there x) (here (name x)))
+    → Agrees same (text.or_fault o BadOp there) (or_fault p fault.BadOp here)
 op_read same name None p there here e h = λ other. absurd (other refl)
 op_read {B} {C} same name (Some x) p there here e h =
     subst (λ q. Agrees same (there x) (or_fault q fault.BadOp here)) (sym e) (h x)
 
 by_word : (reads writes swaps : Bool) → IfSome (cond reads (Some ReadOp) (cond writes (Some WriteOp) None))
-    (λ k. cond reads (Some op.Read) (cond writes (Some op.Write) (cond swaps (Some op.Cas) None)) ≡ Some (same_op k))
+    (λ k. cond reads (Some op.Read) (cond writes (Some op.Write) (cond swaps (Some op.Cas) None))
+    ≡ Some (same_op k))
 by_word true writes swaps = refl
 by_word false true swaps = refl
 by_word false false swaps = tt
@@ -60,7 +70,8 @@ op_word-same None = tt
 op_word-same (Some null) = tt
 op_word-same (Some (boolean b)) = tt
 op_word-same (Some (number n)) = tt
-op_word-same (Some (string s)) = by_word (bytes_eq s (codes "read")) (bytes_eq s (codes "write")) (bytes_eq s (codes "cas"))
+op_word-same (Some (string s)) =
+    by_word (bytes_eq s (codes "read")) (bytes_eq s (codes "write")) (bytes_eq s (codes "cas"))
 op_word-same (Some (array ds)) = tt
 op_word-same (Some (object ms)) = tt
 
@@ -69,43 +80,64 @@ given : (o : Option OpKind) (p : Option OpWord) → IfSome o (λ k. p ≡ Some (
 given None p e = tt
 given (Some k) p e = ap (option_map (λ w. Some w)) e
 
-optional_op-same : (m : Member) → IfSome (optional op_form m) (λ k. optional op_word m ≡ Some (option_map same_op k))
+optional_op-same : (m : Member)
+    → IfSome (optional op_form m) (λ k. optional op_word m ≡ Some (option_map same_op k))
 optional_op-same None = refl
 optional_op-same (Some d) = given (op_form (Some d)) (op_word (Some d)) (op_word-same (Some d))
 
-read_call : (b : Bool) (name : List ℕ) → Agrees same_happening (cond b (Ok (kind.CallRead name)) (Err BadValue)) (with_asked name (cond b (Ok asked.Read) (Err fault.BadValue)))
+read_call : (b : Bool) (name : List ℕ)
+    → Agrees same_happening (cond b (Ok (kind.CallRead name)) (Err BadValue))
+    (with_asked name (cond b (Ok asked.Read) (Err fault.BadValue)))
 read_call true name = (ok.Absent, refl)
 read_call false name = λ _. refl
 
-asked-same : (d : Data) (k : OpKind) (name : List ℕ) → Agrees same_happening (text.call_of d k name) (with_asked name (call_asked d (same_op k)))
+asked-same : (d : Data) (k : OpKind) (name : List ℕ)
+    → Agrees same_happening (text.call_of d k name) (with_asked name (call_asked d (same_op k)))
 asked-same d ReadOp name = read_call (has_no_value (get (codes "value") d)) name
 asked-same d WriteOp name =
-    elim (written_form (get (codes "value") d)) as (λ o. Agrees same_happening (text.or_fault o BadValue (λ v. Ok (kind.CallWrite name v))) (with_asked name (or_fault o fault.BadValue (λ v. Ok (asked.Write v))))) [
+    elim (written_form (get (codes "value") d)) as
+    (λ o. Agrees same_happening (text.or_fault o BadValue (λ v. Ok (kind.CallWrite name v)))
+    (with_asked name (or_fault o fault.BadValue (λ v. Ok (asked.Write v))))) [
       | None ↦ λ _. refl
       | Some v ↦ (ok.Absent, refl)
     ]
 
 call-same : (d : Data) → Agrees same_happening (text.call_kind d) (call_of d)
-call-same d = op_read same_happening same_op (op_form (get (codes "op") d)) (op_word (get (codes "op") d)) _ _ (op_word-same (get (codes "op") d)) (λ k.
+call-same d =
+    op_read same_happening same_op (op_form (get (codes "op") d)) (op_word (get (codes "op") d)) _ _
+    (op_word-same (get (codes "op") d)) (λ k.
     read same_happening (name_form (get (codes "register") d)) BadRegister _ _ (λ name. asked-same d k name))
 
 parts-same : (d : Data) → Agrees (λ _ p. same_parts p) (text.parts_form d) (parts_of d)
-parts-same d = op_read (λ _ p. same_parts p) (option_map same_op) (optional op_form (get (codes "op") d)) (optional op_word (get (codes "op") d)) _ _ (optional_op-same (get (codes "op") d)) (λ op.
+parts-same d =
+    op_read (λ _ p. same_parts p) (option_map same_op) (optional op_form (get (codes "op") d))
+    (optional op_word (get (codes "op") d)) _ _ (optional_op-same (get (codes "op") d)) (λ op.
     read (λ _ p. same_parts p) (optional name_form (get (codes "register") d)) BadRegister _ _ (λ name.
-    read (λ _ p. same_parts p) (optional value_form (get (codes "value") d)) BadValue _ _ (λ value. (ok.Absent, refl))))
+    read (λ _ p. same_parts p) (optional value_form (get (codes "value") d)) BadValue _ _ (λ value.
+    (ok.Absent, refl))))
 
-end-same : (ok : OkMember) (end : ReplyParts → Kind) (end' : EndParts → Happening) (there : Result ReplyParts LineKind) (here : Result EndParts FaultKind)
-    → ((p : ReplyParts) → end' (same_parts p) ≡ same_happening ok (end p)) → Agrees (λ _ p. same_parts p) there here → Agrees same_happening (text.with_parts end there) (with_parts end' here)
+end-same : (ok : OkMember) (end : ReplyParts → Kind) (end' : EndParts
+    → Happening) (there : Result ReplyParts LineKind) (here : Result EndParts FaultKind)
+    → ((p : ReplyParts) → end' (same_parts p) ≡ same_happening ok (end p))
+    → Agrees (λ _ p. same_parts p) there here
+    → Agrees same_happening (text.with_parts end there) (with_parts end' here)
 end-same ok end end' (Ok p) here ends e = (ok, rw e.1 (ap (λ h. Ok h) (ends p)))
 end-same ok end end' (Err fault) here ends e = λ other. rw (e other) refl
 
-reply-same : (d : Data) → Agrees same_happening (text.with_parts (λ p. kind.Reply p) (text.parts_form d)) (with_parts (λ p. happening.Reply p (ok_member (get (codes "ok") d))) (parts_of d))
-reply-same d = end-same (ok_member (get (codes "ok") d)) _ _ (text.parts_form d) (parts_of d) (λ p. refl) (parts-same d)
+reply-same : (d : Data)
+    → Agrees same_happening (text.with_parts (λ p. kind.Reply p) (text.parts_form d))
+    (with_parts (λ p. happening.Reply p (ok_member (get (codes "ok") d))) (parts_of d))
+reply-same d =
+    end-same (ok_member (get (codes "ok") d)) _ _ (text.parts_form d) (parts_of d) (λ p. refl) (parts-same d)
 
-fail-same : (d : Data) → Agrees same_happening (text.with_parts (λ p. kind.Fail p) (text.parts_form d)) (with_parts (λ p. happening.Fail p) (parts_of d))
+fail-same : (d : Data)
+    → Agrees same_happening (text.with_parts (λ p. kind.Fail p) (text.parts_form d))
+    (with_parts (λ p. happening.Fail p) (parts_of d))
 fail-same d = end-same ok.Absent _ _ (text.parts_form d) (parts_of d) (λ p. refl) (parts-same d)
 
-with-same : (n process : ℕ) (there : Result Kind LineKind) (here : Result Happening FaultKind) → Agrees same_happening there here → Agrees same_event (text.with_kind n process there) (with_happening n process here)
+with-same : (n process : ℕ) (there : Result Kind LineKind) (here : Result Happening FaultKind)
+    → Agrees same_happening there here
+    → Agrees same_event (text.with_kind n process there) (with_happening n process here)
 with-same n process (Ok k) here e = (e.0, rw e.1 refl)
 with-same n process (Err fault) here e = λ other. rw (e other) refl
 
@@ -114,11 +146,17 @@ abbrev spelled : List ℕ → Member
 spelled s = Some (string s)
 
 by_event : (n process : ℕ) (d : Data) (calls replies fails crashes : Bool) → Agrees same_event
-    (text.or_fault (cond calls (event_form (spelled (codes "call"))) (cond replies (event_form (spelled (codes "reply"))) (cond fails (event_form (spelled (codes "fail"))) (cond crashes (event_form (spelled (codes "crash"))) None))))
+    (text.or_fault
+    (cond calls (event_form (spelled (codes "call")))
+    (cond replies (event_form (spelled (codes "reply")))
+    (cond fails (event_form (spelled (codes "fail")))
+    (cond crashes (event_form (spelled (codes "crash"))) None))))
     BadEvent (λ event. text.with_kind n process (text.kind_of d event)))
-    (or_fault (cond calls (Some word.Call) (cond replies (Some word.Reply) (cond fails (Some word.Fail) (cond crashes (Some word.Crash) None))))
+    (or_fault (cond calls (Some word.Call)
+    (cond replies (Some word.Reply) (cond fails (Some word.Fail) (cond crashes (Some word.Crash) None))))
     fault.BadEvent (λ event. with_happening n process (happening_of d event)))
-by_event n process d true replies fails crashes = with-same n process (text.call_kind d) (call_of d) (call-same d)
+by_event n process d true replies fails crashes =
+    with-same n process (text.call_kind d) (call_of d) (call-same d)
 by_event n process d false true fails crashes = with-same n process _ _ (reply-same d)
 by_event n process d false false true crashes = with-same n process _ _ (fail-same d)
 by_event n process d false false false true = (ok.Absent, refl)
@@ -131,16 +169,23 @@ event_word-same n process d None = λ _. refl
 event_word-same n process d (Some null) = λ _. refl
 event_word-same n process d (Some (boolean b)) = λ _. refl
 event_word-same n process d (Some (number k)) = λ _. refl
-event_word-same n process d (Some (string s)) = by_event n process d (bytes_eq s (codes "call")) (bytes_eq s (codes "reply")) (bytes_eq s (codes "fail")) (bytes_eq s (codes "crash"))
+event_word-same n process d (Some (string s)) =
+    by_event n process d (bytes_eq s (codes "call")) (bytes_eq s (codes "reply")) (bytes_eq s (codes "fail"))
+    (bytes_eq s (codes "crash"))
 event_word-same n process d (Some (array ds)) = λ _. refl
 event_word-same n process d (Some (object ms)) = λ _. refl
 
 event-same : (n : ℕ) (d : Data) → Agrees same_event (text.event_of n d) (event_of n d)
 event-same n d =
     elim (is_some (as_object d)) as (λ b. Agrees same_event
-    (cond b (text.or_fault (process_form (get (codes "process") d)) BadProcess (λ process. text.or_fault (event_form (get (codes "event") d)) BadEvent (λ event. text.with_kind n process (text.kind_of d event)))) (Err NotObject))
-    (cond b (or_fault (process_form (get (codes "process") d)) fault.BadProcess (λ process. or_fault (event_word (get (codes "event") d)) fault.BadEvent (λ event. with_happening n process (happening_of d event)))) (Err fault.NotObject))) [
-      | true ↦ read same_event (process_form (get (codes "process") d)) BadProcess _ _ (λ process. event_word-same n process d (get (codes "event") d))
+    (cond b (text.or_fault (process_form (get (codes "process") d)) BadProcess (λ process.
+    text.or_fault (event_form (get (codes "event") d)) BadEvent (λ event.
+    text.with_kind n process (text.kind_of d event)))) (Err NotObject))
+    (cond b (or_fault (process_form (get (codes "process") d)) fault.BadProcess (λ process.
+    or_fault (event_word (get (codes "event") d)) fault.BadEvent (λ event.
+    with_happening n process (happening_of d event)))) (Err fault.NotObject))) [
+      | true ↦ read same_event (process_form (get (codes "process") d)) BadProcess _ _ (λ process.
+          event_word-same n process d (get (codes "event") d))
       | false ↦ λ _. refl
     ]
 
@@ -153,9 +198,11 @@ line-same n bytes =
       | false ↦ read same_event (text.json_of bytes) NotJson _ _ (event-same n)
     ]
 
-numbered : (n : ℕ) (there : Result LineEvent LineKind) (here : Result CasEvent FaultKind) → Agrees same_event there here → MeansTheSame (text.at_line n there) (at_line n here)
+numbered : (n : ℕ) (there : Result LineEvent LineKind) (here : Result CasEvent FaultKind)
+    → Agrees same_event there here → MeansTheSame (text.at_line n there) (at_line n here)
 numbered n (Ok event) here e = (e.0, rw e.1 refl)
 numbered n (Err fault) here e = λ other. rw (e other) refl
 
-pub means_the_same : (n : ℕ) (bytes : List ℕ) → MeansTheSame (text.line_reading n bytes) (event_reading n bytes)
+pub means_the_same : (n : ℕ) (bytes : List ℕ)
+    → MeansTheSame (text.line_reading n bytes) (event_reading n bytes)
 means_the_same n bytes = numbered n (text.line_form n bytes) (line_event n bytes) (line-same n bytes)

@@ -1,7 +1,9 @@
 -- The numbers of the faults of a line; they are this project's profile.
 use Rattle.std.specs.Prelude.{ℕ}
 use Rattle.cas_text.specs.declared.fault.FaultKind.{FaultKind}
-use Rattle.cas_text.specs.declared.fault.FaultKind.TheVariants.{TooLong, NotJson, NotObject, BadProcess, BadEvent, BadOp, BadRegister, BadValue, BadFromOrTo}
+use Rattle.cas_text.specs.declared.fault.FaultKind.TheVariants.{TooLong, NotJson, NotObject}
+use Rattle.cas_text.specs.declared.fault.FaultKind.TheVariants.{BadProcess, BadEvent, BadOp}
+use Rattle.cas_text.specs.declared.fault.FaultKind.TheVariants.{BadRegister, BadValue, BadFromOrTo}
 
 -- the number by which a fault of a line is refused; the least that applies to a line is its own
 abbrev pub fault_number : FaultKind → ℕ

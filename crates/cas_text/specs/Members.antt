@@ -1,6 +1,7 @@
--- The members of a line's object whose forms are not those of `history_text`, each by itself; the forms are this project's
--- profile. The outer `None` of a form stands for a member of another form.
-use Rattle.std.specs.Prelude.{codes, true, false, bytes_eq, if◌then◌else◌, Option, Some, None, option_and_then}
+-- The members of a line's object whose forms are not those of `history_text`, each by itself; the forms are
+-- this project's profile. The outer `None` of a form stands for a member of another form.
+use Rattle.std.specs.Prelude.{codes, true, false, bytes_eq, if◌then◌else◌}
+use Rattle.std.specs.Prelude.{Option, Some, None, option_and_then}
 use Rattle.serde_json.specs.Data.{null, boolean, number, string, array, object}
 use Rattle.serde_json.specs.Find.{as_str}
 use Rattle.history_text.specs.Members.{Member}

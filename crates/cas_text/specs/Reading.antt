@@ -1,9 +1,11 @@
 -- The one event of a line, or the least fault that applies to it; this project's profile.
-use Rattle.std.specs.Prelude.{ℕ, List, length, codes, nat_lt, if◌then◌else◌, Option, Some, None, is_some, Result, Ok, Err}
+use Rattle.std.specs.Prelude.{ℕ, List, length, codes, nat_lt, if◌then◌else◌}
+use Rattle.std.specs.Prelude.{Option, Some, None, is_some, Result, Ok, Err}
 use Rattle.serde_json.specs.Data.{Data}
 use Rattle.serde_json.specs.Find.{get, as_object}
 use Rattle.history_text.specs.declared.limits.TheConstants.{MAX_LINE}
-use Rattle.history_text.specs.Members.{process_form, name_form, written_form, value_form, has_no_value, optional}
+use Rattle.history_text.specs.Members.{process_form, name_form, written_form}
+use Rattle.history_text.specs.Members.{value_form, has_no_value, optional}
 use Rattle.history_text.specs.Reading.{json_of}
 use Rattle.cas_text.specs.Members.{event_word, op_word, ok_member}
 use Rattle.cas_text.specs.declared.event.EventWord.{EventWord}
@@ -18,7 +20,9 @@ use Rattle.cas_text.specs.declared.event.Happening.TheVariants.{Call, Reply, Fai
 use Rattle.cas_text.specs.declared.event.CasEvent.{CasEvent}
 use Rattle.cas_text.specs.declared.fault.EventFault.{EventFault}
 use Rattle.cas_text.specs.declared.fault.FaultKind.{FaultKind}
-use Rattle.cas_text.specs.declared.fault.FaultKind.TheVariants.{TooLong, NotJson, NotObject, BadProcess, BadEvent, BadOp, BadRegister, BadValue, BadFromOrTo}
+use Rattle.cas_text.specs.declared.fault.FaultKind.TheVariants.{TooLong, NotJson, NotObject}
+use Rattle.cas_text.specs.declared.fault.FaultKind.TheVariants.{BadProcess, BadEvent, BadOp}
+use Rattle.cas_text.specs.declared.fault.FaultKind.TheVariants.{BadRegister, BadValue, BadFromOrTo}
 
 -- goes on with what has its form, or stops at the fault; faults are looked for by ascending
 -- number, so the one at which a reading stops is the least that applies
@@ -26,7 +30,8 @@ abbrev pub or_fault : {A B : Type 0} → Option A → FaultKind → (A → Resul
 or_fault None fault next = Err fault
 or_fault (Some x) fault next = next x
 
--- what the call of a cas asks: it has no `value`, and has the value `from` at which it takes place and the number `to` that it writes
+-- what the call of a cas asks: it has no `value`, and has the value `from` at which it takes
+-- place and the number `to` that it writes
 abbrev pub cas_asked : Data → Result Asked FaultKind
 cas_asked d = if has_no_value (get (codes "value") d)
     then or_fault (value_form (get (codes "from") d)) BadFromOrTo (λ from.
@@ -49,7 +54,8 @@ abbrev pub call_of : Data → Result Happening FaultKind
 call_of d = or_fault (op_word (get (codes "op") d)) BadOp (λ op.
     or_fault (name_form (get (codes "register") d)) BadRegister (λ name. with_asked name (call_asked d op)))
 
--- what a reply or a fail of the object says of its call: it may leave out its operation, its register and its value
+-- what a reply or a fail of the object says of its call: it may leave out
+-- its operation, its register and its value
 abbrev pub parts_of : Data → Result EndParts FaultKind
 parts_of d = or_fault (optional op_word (get (codes "op") d)) BadOp (λ op.
     or_fault (optional name_form (get (codes "register") d)) BadRegister (λ name.
@@ -61,7 +67,8 @@ abbrev pub with_parts : (EndParts → Happening) → Result EndParts FaultKind �
 with_parts end (Ok parts) = Ok (end parts)
 with_parts end (Err fault) = Err fault
 
--- what happened, by the word of the event; a reply also says what stands under its `ok`, and of a crash no other member is read
+-- what happened, by the word of the event; a reply also says what stands under its
+-- `ok`, and of a crash no other member is read
 abbrev pub happening_of : Data → EventWord → Result Happening FaultKind
 happening_of d word.Call = call_of d
 happening_of d word.Reply = with_parts (λ parts. Reply parts (ok_member (get (codes "ok") d))) (parts_of d)
@@ -77,12 +84,14 @@ with_happening n process (Err fault) = Err fault
 abbrev pub event_of : ℕ → Data → Result CasEvent FaultKind
 event_of n d = if is_some (as_object d)
     then or_fault (process_form (get (codes "process") d)) BadProcess (λ process.
-    or_fault (event_word (get (codes "event") d)) BadEvent (λ event. with_happening n process (happening_of d event)))
+    or_fault (event_word (get (codes "event") d)) BadEvent (λ event.
+    with_happening n process (happening_of d event)))
     else Err NotObject
 
 -- the event of the bytes at line `n`, or the least fault that applies
 abbrev pub line_event : ℕ → List ℕ → Result CasEvent FaultKind
-line_event n bytes = if nat_lt MAX_LINE (length bytes) then Err TooLong else or_fault (json_of bytes) NotJson (event_of n)
+line_event n bytes =
+    if nat_lt MAX_LINE (length bytes) then Err TooLong else or_fault (json_of bytes) NotJson (event_of n)
 
 -- a fault, with the number of its line
 abbrev pub at_line : ℕ → Result CasEvent FaultKind → Result CasEvent EventFault

@@ -19,7 +19,8 @@ use Rattle.cas_text.specs.declared.event.Happening.TheVariants.{Call, Reply, Fai
 use Rattle.cas_text.specs.declared.event.CasEvent.{CasEvent}
 use Rattle.cas_text.specs.declared.fault.EventFault.{EventFault}
 use Rattle.cas_text.specs.declared.fault.FaultKind.{FaultKind}
-use Rattle.cas_text.specs.declared.fault.FaultKind.TheVariants.{TooLong, NotJson, NotObject, BadProcess, BadEvent, BadOp, BadRegister, BadValue}
+use Rattle.cas_text.specs.declared.fault.FaultKind.TheVariants.{TooLong, NotJson, NotObject, BadProcess}
+use Rattle.cas_text.specs.declared.fault.FaultKind.TheVariants.{BadEvent, BadOp, BadRegister, BadValue}
 
 -- the same operation
 abbrev pub same_op : OpKind → OpWord
@@ -40,7 +41,11 @@ same_happening ok kind.Crash = Crash
 
 -- the same event
 abbrev pub same_event : OkMember → LineEvent → CasEvent
-same_event ok event = record { line = event.line; process = event.process; happening = same_happening ok event.kind }
+same_event ok event = record {
+  line = event.line;
+  process = event.process;
+  happening = same_happening ok event.kind;
+}
 
 -- the same fault
 abbrev pub same_kind : LineKind → FaultKind
@@ -53,7 +58,11 @@ same_kind line_kind.BadOp = BadOp
 same_kind line_kind.BadRegister = BadRegister
 same_kind line_kind.BadValue = BadValue
 
--- what is read here is the same event as there, or the same fault; only where the op was refused there, it may be that of a cas
+-- what is read here is the same event as there, or the same fault; only where the op
+-- was refused there, it may be that of a cas
 abbrev pub MeansTheSame : Result LineEvent LineFault → Result CasEvent EventFault → Type 0
 MeansTheSame (Ok event) here = (ok : OkMember) × (here ≡ Ok (same_event ok event))
-MeansTheSame (Err fault) here = fault.kind ≢ line_kind.BadOp → here ≡ Err (record { line = fault.line; kind = same_kind fault.kind })
+MeansTheSame (Err fault) here = fault.kind ≢ line_kind.BadOp → here ≡ Err (record {
+  line = fault.line;
+  kind = same_kind fault.kind;
+})

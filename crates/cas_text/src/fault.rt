@@ -32,8 +32,8 @@ pub enum FaultKind {
     /// `value` does not fit the event.
     #[error("{same}", same = LineKind::BadValue)]
     BadValue,
-    /// In the call of a cas, `from` is absent, or neither `null` nor a whole number of 64 bits; or `to` is absent, or not
-    /// a whole number of 64 bits.
+    /// In the call of a cas, `from` is absent, or neither `null` nor a whole number of 64 bits; or `to` is
+    /// absent, or not a whole number of 64 bits.
     #[error("from or to does not fit the event")]
     BadFromOrTo,
 }

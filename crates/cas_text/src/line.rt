@@ -1,10 +1,11 @@
 //! One line: its event, or the lowest-numbered fault that applies to it.
 //!
-//! A line is read as a JSON value, if it isn't too long. Faults are looked for by ascending number, so the first that is
-//! found is the lowest-numbered.
+//! A line is read as a JSON value, if it isn't too long. Faults are looked for by ascending number, so the
+//! first that is found is the lowest-numbered.
 ghost use Rattle.serde_json.specs.View.{view};
 ghost use Rattle.history_text.specs.Reading.{line_reading};
-ghost use Rattle.cas_text.specs.Reading.{cas_asked, call_asked, call_of, parts_of, happening_of, event_of, line_event, event_reading};
+ghost use Rattle.cas_text.specs.Reading.{cas_asked, call_asked, call_of, parts_of};
+ghost use Rattle.cas_text.specs.Reading.{happening_of, event_of, line_event, event_reading};
 ghost use Rattle.cas_text.specs.Memory.{Gives, GivesEvent};
 ghost use Rattle.cas_text.specs.WithoutCas.{MeansTheSame};
 
@@ -28,8 +29,8 @@ pub enum EventError {
     Memory,
 }
 
-/// The event of line `line`, given without its line feed, or its lowest-numbered fault. [`lines_of`](history_text::lines_of)
-/// leaves out blank lines; here one would be `NotJson`.
+/// The event of line `line`, given without its line feed, or its lowest-numbered fault.
+/// [`lines_of`](history_text::lines_of) leaves out blank lines; here one would be `NotJson`.
 ///
 /// JSON is read as `serde_json`'s `Value::from_slice` reads it; of equal names in one object the
 /// last counts, and names that the event doesn't use are ignored.

@@ -1,8 +1,10 @@
-//! The members of the JSON object of a line, each by itself. The outer `None` stands for a member of another form.
+//! The members of the JSON object of a line, each by itself. The outer
+//! `None` stands for a member of another form.
 ghost use Rattle.std.specs.Prelude.{◌≡◌, option_map, codes, Some};
 ghost use Rattle.serde_json.specs.View.{view};
 ghost use Rattle.serde_json.specs.Find.{get};
-ghost use Rattle.history_text.specs.Members.{process_form, name_form, written_form, value_form, has_no_value as has_no_value_form, optional};
+ghost use Rattle.history_text.specs.Members.{process_form, name_form, written_form, value_form};
+ghost use Rattle.history_text.specs.Members.{has_no_value as has_no_value_form, optional};
 ghost use Rattle.cas_text.specs.Members.{event_word, op_word, ok_member};
 
 use crate::event::{EventWord, OkMember, OpWord};
@@ -83,7 +85,8 @@ pub(crate) fn call_register(object: &Value) -> Option<&str>
 
 /// The register, which a reply or a fail may leave out.
 pub(crate) fn end_register(object: &Value) -> Option<Option<&str>>
-    ensures { option_map (option_map (λ s. s.now)) result ≡ optional name_form (get (codes "register") (view object.now)) }
+    ensures { option_map (option_map (λ s. s.now)) result
+        ≡ optional name_form (get (codes "register") (view object.now)) }
 {
     match object.get("register") {
         None => Some(None),

@@ -1,6 +1,7 @@
 -- What is found of an argument is what the words name.
 use Rattle.std.proofs.Common.{◌≡◌, ◌∙◌, ap, codes, List}
-use Rattle.clap.specs.Words.{App, Text, app_of, first_of, first_value, found_of, matches_of, one_of, one_text, rows_of}
+use Rattle.clap.specs.Words.{App, Text, app_of, first_of, first_value, found_of}
+use Rattle.clap.specs.Words.{matches_of, one_of, one_text, rows_of}
 use Rattle.clap.specs.declared.builder.command.Command.{Command}
 use Rattle.clap.specs.declared.parser.matches.ArgMatches.{ArgMatches}
 use Rattle.clap.proofs.WalkLemmas.{first_value-rows, one_text-rows}
@@ -16,4 +17,5 @@ module _ (old : Command) (m : ArgMatches) (app : App) (words : List Text) (ours 
 
   pub file_found : file_of (first_value (found_of m) (codes "file")) ≡ file_named app words
   unfolding file_named
-  file_found = ap file_of (first_value-rows (found_of m) (codes "file") ∙ ap (first_of (codes "file")) rows_found)
+  file_found =
+      ap file_of (first_value-rows (found_of m) (codes "file") ∙ ap (first_of (codes "file")) rows_found)

@@ -1,7 +1,8 @@
 -- The exit statuses (this project's profile; README.md has the table).
 use Rattle.std.specs.Prelude.{ℕ, nat_le, ◌&&◌, if◌then◌else◌}
 use Rattle.command_words.specs.declared.ending.Ended.{Ended}
-use Rattle.command_words.specs.declared.ending.Ended.TheVariants.{Atomic, NotAtomic, Unknown, Refused, BadWords}
+use Rattle.command_words.specs.declared.ending.Ended.TheVariants.{Atomic, NotAtomic, Unknown}
+use Rattle.command_words.specs.declared.ending.Ended.TheVariants.{Refused, BadWords}
 
 abbrev pub status_of : Ended → ℕ
 status_of Atomic = 0

@@ -1,8 +1,10 @@
 -- What the words of a command line name (the reading of words is `clap`'s).
-use Rattle.std.specs.Prelude.{◌≡◌, [], ◌∷◌, ℕ, codes, if◌then◌else◌, option_map, true, List, Option, None, Some}
+use Rattle.std.specs.Prelude.{◌≡◌, [], ◌∷◌, ℕ, codes, if◌then◌else◌}
+use Rattle.std.specs.Prelude.{option_map, true, List, Option, None, Some}
 use Rattle.std.specs.Str.{bytes_eq}
 use Rattle.std.specs.Str.Parse.{digits_value, without_leading_plus}
-use Rattle.clap.specs.Words.{App, Rule, Text, fault_of, first_of, matches_of, new_app, new_rule, one_of, takes}
+use Rattle.clap.specs.Words.{App, Rule, Text, fault_of, first_of, matches_of}
+use Rattle.clap.specs.Words.{new_app, new_rule, one_of, takes}
 use Rattle.clap.specs.declared.builder.action.ArgAction.TheVariants.{Set}
 use Rattle.clap.specs.declared.builder.value_parser.ValueParser.{ValueParser}
 
@@ -22,7 +24,8 @@ option_rule name parser default = record (new_rule name) {
 
 -- the program of this name, whose own name isn't among the words, and which tells its version
 abbrev pub program : Text → App
-program name = record (new_app name) { top = record (new_app name).top { no_binary_name = true; has_version = true } }
+program name =
+    record (new_app name) { top = record (new_app name).top { no_binary_name = true; has_version = true } }
 
 -- the word `-` stands for standard input, any other for the file of that name
 abbrev pub file_of : Option Text → Option Text

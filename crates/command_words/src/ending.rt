@@ -9,8 +9,8 @@ pub enum Ended {
     Atomic,
     /// Some register isn't.
     NotAtomic,
-    /// The search gave up on some register, and no register is known not to be atomic. A program that always decides never
-    /// ends so.
+    /// The search gave up on some register, and no register is known not to be atomic. A
+    /// program that always decides never ends so.
     Unknown,
     /// There is no report; with the number of the refusal, 1 to 21.
     Refused(u8),
@@ -18,8 +18,8 @@ pub enum Ended {
     BadWords,
 }
 
-/// The exit status: 0, 1 and 6 with a report, 2 for an input that is refused, 3 for bad words, 4 if input, memory or
-/// output failed.
+/// The exit status: 0, 1 and 6 with a report, 2 for an input that is refused, 3 for bad
+/// words, 4 if input, memory or output failed.
 pub fn status(ended: Ended) -> u8
     ensures { result ≡ status_of ended }
 {

@@ -25,7 +25,8 @@ pub fn tell<R: Display>(rt: &(impl Eprint + AllocGlobal), refusal: &R, number: u
     }
 }
 
-/// Says which file couldn't be opened, and the system's reason, by the refusal of such an input and its number.
+/// Says which file couldn't be opened, and the system's reason, by the
+/// refusal of such an input and its number.
 pub fn tell_unopened<R: Display>(
     rt: &(impl Eprint + AllocGlobal),
     refusal: &R,

@@ -12,7 +12,8 @@ use Rattle.configurations.specs.declared.moment.Moment.TheVariants.{Call, Reply}
 use Rattle.history_model.specs.Lists.{In}
 use Rattle.configurations.specs.Ops.{fits_at, left_at, option_fits, option_left_by, kind_fits}
 use Rattle.configurations.specs.Ops.{kind_leaves, writes_at, option_writes, kind_writes, asks_at}
-use Rattle.configurations.specs.Runs.{AliveBy, AliveFree, at_once, by_one, over_free, called_free, uses, without}
+use Rattle.configurations.specs.Runs.{AliveBy, AliveFree, at_once, by_one}
+use Rattle.configurations.specs.Runs.{over_free, called_free, uses, without}
 use Rattle.configurations.specs.Use.{IsOfUse, IsAsked, open_after, free_after, stays, kept, freed}
 use Rattle.history_model.proofs.Lists.{In-filter, filter-In, In-left, In-right, append-In}
 use Rattle.configurations.proofs.Lists.{without-In, In-without, In-or, same_or}

@@ -15,13 +15,13 @@ pub enum Bound {
     Steps,
 }
 
-/// How far the search for an order of one register may go. Bounds count work and never time, so the same operations give the
-/// same answer anywhere.
+/// How far the search for an order of one register may go. Bounds count work and never time, so the same
+/// operations give the same answer anywhere.
 #[derive(Clone, Copy, Debug, PartialEq, Eq)]
 pub struct Bounds {
-    /// How often two configurations may be compared, or a call be tried in one; each counts once for each 64 calls that are open
-    /// at a time, their number rounded up to a power of two. That a change takes effect counts as 256 more, since it is
-    /// remembered.
+    /// How often two configurations may be compared, or a call be tried in one; each counts once for each 64
+    /// calls that are open at a time, their number rounded up to a power of two. That a change takes effect
+    /// counts as 256 more, since it is remembered.
     pub steps: u64,
     /// How many configurations one list may hold.
     pub configurations: usize,

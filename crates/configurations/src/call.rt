@@ -42,7 +42,8 @@ fn is_free(op: &Op, value: u32) -> bool {
     op.rank >= NEVER || (writes(op) && op.to == value)
 }
 
-/// A configuration with one more open call, at a slot that it lacks. A look that the value suits takes effect at once.
+/// A configuration with one more open call, at a slot that it lacks. A look
+/// that the value suits takes effect at once.
 #[inline(always)]
 fn with_call<const W: usize>(table: &Table<W>, config: &Config<W>, slot: u32, op: &Op) -> Config<W>
     requires table { IsTable table.now }

@@ -13,8 +13,8 @@ use std::alloc::{AllocError, Global};
 /// No place.
 const NONE: u32 = 0xffff_ffff;
 
-/// The value of the register, the slots of the calls that must take effect before their reply, those of the calls that may, the
-/// place of the last move, and how many changes took effect that never reply.
+/// The value of the register, the slots of the calls that must take effect before their reply, those of the
+/// calls that may, the place of the last move, and how many changes took effect that never reply.
 #[derive(Clone, Copy)]
 pub(crate) struct Config<const W: usize> {
     pub value: u32,
@@ -24,7 +24,8 @@ pub(crate) struct Config<const W: usize> {
     pub unanswered: u32,
 }
 
-/// Configurations, found by their value: `head` has the place of the last one of each value, `next` that of the one before it.
+/// Configurations, found by their value: `head` has the place of the last one of each
+/// value, `next` that of the one before it.
 #[derive(Drop)]
 pub(crate) struct Configs<const W: usize> {
     pub list: Vec<Config<W>>,
@@ -78,8 +79,8 @@ impl<const W: usize> Configs<W> {
     }
 }
 
-/// Whether the first can explain whatever the second can: they have the same value, and the first owes no more, and has each
-/// call that isn't a look.
+/// Whether the first can explain whatever the second can: they have the same value, and the first owes no
+/// more, and has each call that isn't a look.
 #[inline(always)]
 fn stands_for<const W: usize>(table: &Table<W>, first: &Config<W>, second: &Config<W>) -> bool
     requires table { IsTable table.now }
@@ -125,8 +126,8 @@ fn is_stood_for<const W: usize>(
     Ok(false)
 }
 
-/// Puts a configuration in, unless one of them can explain whatever it can. If the call of a number took effect to make it, that
-/// is remembered.
+/// Puts a configuration in, unless one of them can explain whatever it can. If the call of a number
+/// took effect to make it, that is remembered.
 #[inline(always)]
 pub(crate) fn admit<const W: usize>(
     table: &Table<W>,

@@ -1,9 +1,9 @@
-//! One order at a time, depth first (Wing and Gong, Testing and Verifying Concurrent Objects, 1993), with a memory of what was
-//! tried (Lowe, Testing for Linearizability, 2017). It is quick where many orders are legal. Only a yes counts, and its order is
-//! checked, so nothing is proved of it but that it is safe.
+//! One order at a time, depth first (Wing and Gong, Testing and Verifying Concurrent Objects, 1993), with a
+//! memory of what was tried (Lowe, Testing for Linearizability, 2017). It is quick where many orders are
+//! legal. Only a yes counts, and its order is checked, so nothing is proved of it but that it is safe.
 //!
-//! Looks take effect as soon as a value suits them. Then changes that reply are tried, the earliest call first, and then those
-//! that don't.
+//! Looks take effect as soon as a value suits them. Then changes that reply are tried, the
+//! earliest call first, and then those that don't.
 ghost use Rattle.std.specs.Prelude.{[], IfOk};
 ghost use Rattle.configurations.specs.Found.{IsFound};
 ghost use Rattle.configurations.specs.Runs.{AreInOrder};
@@ -35,8 +35,8 @@ enum Turn {
     Unanswered,
 }
 
-/// The place that is looked at next, and in which turn. Places are those of the events, from 1 on. Calls without a reply are
-/// tried up to the place `end`, the first reply that is left.
+/// The place that is looked at next, and in which turn. Places are those of the events, from 1 on. Calls
+/// without a reply are tried up to the place `end`, the first reply that is left.
 #[derive(Clone, Copy)]
 struct Stand {
     at: u32,
@@ -191,8 +191,8 @@ fn after(walk: &Walk, stand: Stand) -> u32 {
     }
 }
 
-/// Whether no other order of the same calls led to the value that this one leaves. Looks may take effect at once, so they are
-/// tried always.
+/// Whether no other order of the same calls led to the value that this one leaves. Looks may take
+/// effect at once, so they are tried always.
 fn is_untried(walk: &mut Walk, number: u32, op: &Op) -> Result<bool, AllocError> {
     if looks(op) {
         return Ok(true);
@@ -201,8 +201,8 @@ fn is_untried(walk: &mut Walk, number: u32, op: &Op) -> Result<bool, AllocError>
     Ok(walk.tried.insert(reached)?)
 }
 
-/// A number that tells this call from the others, in all its bits (Steele, Lea and Flood, Fast Splittable Pseudorandom Number
-/// Generators, 2014).
+/// A number that tells this call from the others, in all its bits (Steele, Lea and Flood, Fast
+/// Splittable Pseudorandom Number Generators, 2014).
 fn mark(number: u32) -> u64 {
     let seed = u64::from(number)
         .wrapping_mul(0x9e37_79b9_7f4a_7c15)
@@ -212,7 +212,8 @@ fn mark(number: u32) -> u64 {
     twice ^ (twice >> 31)
 }
 
-/// The call at the place that is looked at takes effect. After a change all calls that are left are looked at again.
+/// The call at the place that is looked at takes effect. After a change all
+/// calls that are left are looked at again.
 fn choose(walk: &mut Walk, number: u32, op: &Op) -> Result<(), AllocError> {
     let stand = walk.stand;
     walk.chosen.push(Choice {

@@ -11,8 +11,8 @@ use crate::stages::in_stages;
 use crate::work::Limits;
 use std::alloc::{AllocError, Global};
 
-/// The most words of a set, so that 16,384 calls may wait to take effect at a time. More may be open: a look that each
-/// configuration suits takes no slot.
+/// The most words of a set, so that 16,384 calls may wait to take effect at a time. More may be open: a look
+/// that each configuration suits takes no slot.
 const MAX_WIDTH: usize = 256;
 
 /// The most words that the sets by value may have, so that they take at most 256 MB.
@@ -58,7 +58,8 @@ fn words_for(slots: usize) -> usize {
     slots.div_ceil(64).next_power_of_two()
 }
 
-/// How many calls are open at most at a time; looks that never reply don't count, since each value suits them.
+/// How many calls are open at most at a time; looks that never reply
+/// don't count, since each value suits them.
 fn most_open(ops: &[Op], events: &[Moment]) -> usize {
     let mut open: usize = 0;
     let mut most = 0;

@@ -1,18 +1,21 @@
 //! Sets of configurations go forward over the calls and the replies of a register's operations.
 //!
-//! What the floor above may rely on: if [`go_forward`] says that it's hopeless after a reply, the events up to that one can't be
-//! explained: whatever order the calls take effect in, some reply would say something else. The changes that it names besides
-//! promise nothing; an order that is made of them is to be checked. It stops at a bound.
+//! What the floor above may rely on: if [`go_forward`] says that it's hopeless after a reply, the
+//! events up to that one can't be explained: whatever order the calls take effect in, some reply would
+//! say something else. The changes that it names besides promise nothing; an order that is made of
+//! them is to be checked. It stops at a bound.
 //!
-//! A configuration is the value of the register and the open calls that have not taken effect; a set of them goes forward over
-//! the events (Lowe, Testing for linearizability, 2017). Operations and values are numbers, and open calls have slots, so that a
-//! set of calls is a few words. Few configurations are kept, by four rules: a look takes effect as soon as the value suits it;
-//! a write that nobody sees stays out of sight; of calls that change alike the one that replies first goes first; and a
-//! configuration that another one stands for is dropped. Each rule is a function with a contract of its own, and could be left out:
-//! `stands_for`, `is_of_use` with `freeing`, `is_led`, and the looks in `offspring` and `with_call`.
+//! A configuration is the value of the register and the open calls that have not taken effect; a set of them
+//! goes forward over the events (Lowe, Testing for linearizability, 2017). Operations and values are numbers,
+//! and open calls have slots, so that a set of calls is a few words. Few configurations are kept, by four
+//! rules: a look takes effect as soon as the value suits it; a write that nobody sees stays out of sight; of
+//! calls that change alike the one that replies first goes first; and a configuration that another one stands
+//! for is dropped. Each rule is a function with a contract of its own, and could be left out: `stands_for`,
+//! `is_of_use` with `freeing`, `is_led`, and the looks in `offspring` and `with_call`.
 //!
-//! Read it in this order: `op` and `moment`; `bounds` and `work`; `table`, the open calls; `config`; `call` and `reply`, one event;
-//! `run`, all of them; `thrift`, `eased` and `depth_first` (with `links`), other ways to go; `stages` and `forward`.
+//! Read it in this order: `op` and `moment`; `bounds` and `work`; `table`, the open calls; `config`;
+//! `call` and `reply`, one event; `run`, all of them; `thrift`, `eased` and `depth_first` (with `links`),
+//! other ways to go; `stages` and `forward`.
 #![tactic(auto)]
 
 mod bounds;

@@ -68,7 +68,8 @@ fn is_of_use<const W: usize>(table: &Table<W>, config: &Config<W>, slot: u32, re
     is_asked(table, config, table.left(slot, config.value))
 }
 
-/// Whether the call of another slot goes first: it changes alike and replies sooner, and must take effect or needn't as this one.
+/// Whether the call of another slot goes first: it changes alike and replies sooner, and
+/// must take effect or needn't as this one.
 #[inline(always)]
 fn is_led<const W: usize>(table: &Table<W>, config: &Config<W>, slot: u32) -> bool
     requires table { IsTable table.now }
@@ -92,8 +93,8 @@ fn is_led<const W: usize>(table: &Table<W>, config: &Config<W>, slot: u32) -> bo
     false
 }
 
-/// The slots of the writes that are free once the call of a slot has taken effect before the reply: of all others after a write,
-/// and else of those that write the value that it leaves.
+/// The slots of the writes that are free once the call of a slot has taken effect before the reply: of all
+/// others after a write, and else of those that write the value that it leaves.
 #[inline(always)]
 fn freeing<const W: usize>(table: &Table<W>, value: u32, slot: u32, reply: u32) -> Slots<W>
     requires table { IsTable table.now }
@@ -108,7 +109,8 @@ fn freeing<const W: usize>(table: &Table<W>, value: u32, slot: u32, reply: u32) 
     freed
 }
 
-/// What comes of a configuration when the call of a slot takes effect; the looks that the value then suits do, too.
+/// What comes of a configuration when the call of a slot takes effect; the
+/// looks that the value then suits do, too.
 #[inline(always)]
 fn offspring<const W: usize>(
     table: &Table<W>,
@@ -146,8 +148,8 @@ fn offspring<const W: usize>(
     }
 }
 
-/// A configuration goes on: if the call that replies must still take effect to `work`, else to `next`. If that call is free, it is
-/// dropped, or must take effect now.
+/// A configuration goes on: if the call that replies must still take effect to `work`, else to `next`. If
+/// that call is free, it is dropped, or must take effect now.
 #[inline(always)]
 pub(crate) fn put_down<const W: usize>(
     table: &Table<W>,
@@ -280,9 +282,9 @@ fn fitting<const W: usize>(table: &Table<W>, config: &Config<W>, left_out: &Slot
         .minus(left_out)
 }
 
-/// The step over the reply of the call at a slot, where the calls of some slots are left out; true if all of `work` were gone
-/// over. What comes of one stands behind the others, so those in which fewer calls take effect come first. A list holds no more
-/// than its bound, so one round more finds none left.
+/// The step over the reply of the call at a slot, where the calls of some slots are left out; true if all of
+/// `work` were gone over. What comes of one stands behind the others, so those in which fewer calls take
+/// effect come first. A list holds no more than its bound, so one round more finds none left.
 pub(crate) fn pass<const W: usize>(
     table: &Table<W>,
     lists: &mut Lists<W>,

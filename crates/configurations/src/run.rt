@@ -21,7 +21,8 @@ use slot_sets::Slots;
 use std::alloc::{AllocError, Global};
 use std::mem;
 
-/// Goes forward over the events with sets of `W` words, within limits of which the steps that are left remain.
+/// Goes forward over the events with sets of `W` words, within limits
+/// of which the steps that are left remain.
 pub(crate) fn run<const W: usize>(
     alloc: Global,
     ops: &[Op],
@@ -47,8 +48,8 @@ pub(crate) fn run<const W: usize>(
     }
 }
 
-/// Goes forward from the first configuration, with a table of no open calls. If some configurations were let go, it can't be
-/// known that none is left.
+/// Goes forward from the first configuration, with a table of no open calls. If some configurations were let
+/// go, it can't be known that none is left.
 fn search<const W: usize>(
     table: &mut Table<W>,
     now: &mut Configs<W>,
@@ -136,7 +137,8 @@ fn over<const W: usize>(
     }
 }
 
-/// The step over a reply; true if no configuration was let go. A call without a slot took effect at once in each configuration.
+/// The step over a reply; true if no configuration was let go. A call without a slot
+/// took effect at once in each configuration.
 fn over_reply<const W: usize>(
     table: &mut Table<W>,
     now: &mut Configs<W>,
@@ -159,7 +161,8 @@ fn over_reply<const W: usize>(
     Ok(whole)
 }
 
-/// Puts those that go on in `work`, or in `next` if they have no call that must take effect; true if that are all.
+/// Puts those that go on in `work`, or in `next` if they have no call
+/// that must take effect; true if that are all.
 fn begin<const W: usize>(
     table: &Table<W>,
     now: &Configs<W>,

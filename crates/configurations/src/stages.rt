@@ -1,4 +1,5 @@
-//! The stages of a search. No contract depends on this table: a no counts only if nothing was let go, and a yes is checked.
+//! The stages of a search. No contract depends on this table: a no counts only if
+//! nothing was let go, and a yes is checked.
 ghost use Rattle.std.specs.Prelude.{◌<◌, ◌*◌, ◌^◌, [], IfOk};
 ghost use Rattle.configurations.specs.Found.{IsFound};
 ghost use Rattle.configurations.specs.Runs.{AreInOrder};
@@ -18,7 +19,8 @@ use std::alloc::{AllocError, Global};
 enum Form {
     /// Over the operations of the register. A yes counts; a no does if no configuration was let go.
     Exact,
-    /// The same, but that calls that never reply take effect only where nothing else explains a reply: only a yes counts.
+    /// The same, but that calls that never reply take effect only where nothing
+    /// else explains a reply: only a yes counts.
     Thrifty,
     /// The same as exact, but that a cas without a reply may take effect at any value: only a no counts.
     Eased,
@@ -37,8 +39,8 @@ struct Stage {
 /// As many as the bounds allow.
 const MOST: usize = usize::MAX;
 
-/// The form, the beam and the configurations of each stage, if some changes have no reply: first those that are quick where they
-/// suffice. The last is as wide as the bounds allow.
+/// The form, the beam and the configurations of each stage, if some changes have no reply: first those that
+/// are quick where they suffice. The last is as wide as the bounds allow.
 const STAGES: [(Form, usize, usize); 10] = [
     (Form::Thrifty, 8, MOST),
     (Form::DepthFirst, 1, 1),

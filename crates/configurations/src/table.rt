@@ -1,5 +1,6 @@
 //! The open calls: each has a slot, and keeps it until its reply.
-ghost use Rattle.std.specs.Prelude.{◌≡◌, ◌<◌, ◌≤◌, ◌*◌, ◌^◌, [], IfOk, IsTrue, MatchOption, get_or, slice_get};
+ghost use Rattle.std.specs.Prelude.{◌≡◌, ◌<◌, ◌≤◌, ◌*◌, ◌^◌, [], IfOk, IsTrue};
+ghost use Rattle.std.specs.Prelude.{MatchOption, get_or, slice_get};
 ghost use Rattle.std.specs.Prelude.{true, false, ℕ};
 ghost use Rattle.configurations.specs.Ops.{fits_at, left_at};
 ghost use Rattle.configurations.specs.Tables.{IsGiven, IsReleased, IsTable, IsBefore, IsWithin, call_at};
@@ -156,8 +157,9 @@ impl<const W: usize> Table<W> {
         }
     }
 
-    /// Whether the call of the first slot changes as that of the second does, and replies sooner. Of calls that never reply, the
-    /// earlier one goes first, so that those of one kind that took effect differ in their number alone.
+    /// Whether the call of the first slot changes as that of the second does, and replies
+    /// sooner. Of calls that never reply, the earlier one goes first, so that those of one kind
+    /// that took effect differ in their number alone.
     #[inline(always)]
     pub(crate) fn goes_before(&self, first: u32, second: u32) -> bool
         ensures { IsTrue result

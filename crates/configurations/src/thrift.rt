@@ -1,5 +1,5 @@
-//! The step over a reply where calls that never reply take effect only if nothing else explains it. Only a yes counts, so nothing
-//! is said of what is let go.
+//! The step over a reply where calls that never reply take effect only if nothing else explains it. Only a
+//! yes counts, so nothing is said of what is let go.
 ghost use Rattle.std.specs.Prelude.{◌≡◌, ◌∷◌, true, IsTrue, IfOk, List, ℕ};
 ghost use Rattle.configurations.specs.Configs.{AreApart, AreStill, IsAnyAble, IsAnyAbleBy};
 ghost use Rattle.configurations.specs.Tables.{IsTable, IsToCome, call_at};
@@ -12,7 +12,8 @@ use crate::table::Table;
 use crate::work::Stop;
 use slot_sets::Slots;
 
-/// The step over the reply of the call at a slot, thriftily if the stage says so; true if no configuration was let go.
+/// The step over the reply of the call at a slot, thriftily if the stage says
+/// so; true if no configuration was let go.
 pub(crate) fn pass_by_stage<const W: usize>(
     table: &Table<W>,
     lists: &mut Lists<W>,

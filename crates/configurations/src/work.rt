@@ -4,7 +4,8 @@ use crate::found::Taken;
 use std::alloc::{AllocError, AllocFailed, Global};
 use thiserror::Error;
 
-/// How many steps it spends to remember that a call took effect. By default some 40 million are remembered, in half a gigabyte.
+/// How many steps it spends to remember that a call took effect. By default some 40
+/// million are remembered, in half a gigabyte.
 const STEPS_OF_A_MOVE: u64 = 256;
 
 /// The place of no move.
@@ -54,8 +55,8 @@ struct Move {
     before: u32,
 }
 
-/// What is left to spend, and the changes that took effect in any configuration. Nothing is said of them here: the order that
-/// they make is checked.
+/// What is left to spend, and the changes that took effect in any configuration. Nothing is said of them
+/// here: the order that they make is checked.
 #[derive(Drop)]
 pub(crate) struct Work {
     alloc: Global,
@@ -114,7 +115,8 @@ impl Work {
         self.steps
     }
 
-    /// Whether it is enough for the beam that so many were gone over at a reply, and so many are left after it.
+    /// Whether it is enough for the beam that so many were gone over
+    /// at a reply, and so many are left after it.
     pub(crate) fn is_enough(&self, over: usize, left: usize) -> bool {
         over >= self.beam.saturating_mul(16) || left >= self.beam.saturating_mul(4)
     }
@@ -134,7 +136,8 @@ impl Work {
         Ok(())
     }
 
-    /// A call takes effect after others, the last of which has the place `before` among the moves; gives its own place.
+    /// A call takes effect after others, the last of which has the place
+    /// `before` among the moves; gives its own place.
     pub(crate) fn moved(&mut self, number: u32, before: u32) -> Result<u32, Stop> {
         self.spend(STEPS_OF_A_MOVE)?;
         let place = self.moves.len();

@@ -1,4 +1,5 @@
--- Operations have no order if some of them have none: the writes of some values, null among them, with some of their reads.
+-- Operations have no order if some of them have none: the writes of some values,
+-- null among them, with some of their reads.
 use Rattle.std.proofs.Common.{◌≡◌, ℕ, Bool, List, ◌∷◌, Some, inl, inr, sym, ap, subst, ◌∙◌}
 use Rattle.std.specs.List.{filter}
 use Rattle.history_text.specs.declared.event.Val.{Val}
@@ -22,18 +23,23 @@ known-plain t ops plain a i =
     ap (λ (o : Operation). is_plain o.act) k.2 ∙ plain k.0 (filter-In (is_called_by t) k.0 ops k.1).0
 
 -- The initial write gives null, so it is among the operations of null and two values.
-pub all-hopeless : (one other : Val) (times : ℕ → Bool) (r t : ℕ) (ops : List Operation) → ArePlain ops → IsHopelessAt r (kept_of (null_or one other) times ops) t → IsHopelessAt r ops t
+pub all-hopeless : (one other : Val) (times : ℕ → Bool) (r t : ℕ) (ops : List Operation) → ArePlain ops
+    → IsHopelessAt r (kept_of (null_or one other) times ops) t → IsHopelessAt r ops t
 all-hopeless one other times r t ops plain h =
     let all = initial_write r ∷ ops in
     let values = null_or one other in
     let are = initial-plain r ops plain in
     record {
-      beginning = λ a. h.beginning (subst IsAtomic (sym (known-kept values times all t)) (kept-atomic values times (cut_at t all) (known-plain t all are) a));
+      beginning =
+          λ a. h.beginning
+          (subst IsAtomic (sym (known-kept values times all t))
+          (kept-atomic values times (cut_at t all) (known-plain t all are) a));
       whole = λ a. h.whole (kept-atomic values times all are a);
     }
 
 -- a refutation, by the time of its reply
-pub refuted-hopeless : (r k t : ℕ) (ops : List Operation) → RepliesAt ops k t → IsRefuted r ops k → IsHopelessAt r ops t
+pub refuted-hopeless : (r k t : ℕ) (ops : List Operation) → RepliesAt ops k t → IsRefuted r ops k
+    → IsHopelessAt r ops t
 refuted-hopeless r k t ops y h =
     let x = h.replies in
     let one : Some x.0 ≡ Some y.0 = sym x.1 ∙ y.1 in
@@ -45,5 +51,6 @@ refuted-hopeless r k t ops y h =
       whole = h.whole;
     }
 
-pub hopeless-refuted : (r k t : ℕ) (ops : List Operation) → RepliesAt ops k t → IsHopelessAt r ops t → IsRefuted r ops k
+pub hopeless-refuted : (r k t : ℕ) (ops : List Operation) → RepliesAt ops k t → IsHopelessAt r ops t
+    → IsRefuted r ops k
 hopeless-refuted r k t ops y h = record { time = t; replies = y; beginning = h.beginning; whole = h.whole }

@@ -1,5 +1,7 @@
--- An order of reads and writes, kept to the writes of some values and some of the reads of these, is an order of what is kept.
-use Rattle.std.proofs.Common.{◌≡◌, ◌&&◌, ℕ, Bool, true, false, Some, None, List, [], ◌∷◌, map, inl, inr, refl, sym, ap, subst, ◌∙◌}
+-- An order of reads and writes, kept to the writes of some values and some of the
+-- reads of these, is an order of what is kept.
+use Rattle.std.proofs.Common.{◌≡◌, ◌&&◌, ℕ, Bool, true, false, Some, None, List}
+use Rattle.std.proofs.Common.{[], ◌∷◌, map, inl, inr, refl, sym, ap, subst, ◌∙◌}
 use Rattle.std.specs.Prelude.{IsSomeAnd}
 use Rattle.std.specs.List.{filter}
 use Rattle.std.proofs.lemmas.Bool.{false≢true, cases_Bool}
@@ -20,12 +22,20 @@ filter-swap : {A : Type 0} (p q : A → Bool) (xs : List A) → filter p (filter
 filter-swap p q [] = refl
 filter-swap p q (x ∷ xs) = elim (cases_Bool (p x)) [
   | inl y ↦ elim (cases_Bool (q x)) [
-    | inl z ↦ ap (filter p) (filter-pass q x xs z) ∙ (filter-pass p x (filter q xs) y ∙ (ap (λ ys. x ∷ ys) (filter-swap p q xs) ∙ (sym (filter-pass q x (filter p xs) z) ∙ ap (filter q) (sym (filter-pass p x xs y)))))
-    | inr z ↦ ap (filter p) (filter-fail q x xs z) ∙ (filter-swap p q xs ∙ (sym (filter-fail q x (filter p xs) z) ∙ ap (filter q) (sym (filter-pass p x xs y))))
+    | inl z ↦ ap (filter p) (filter-pass q x xs z)
+        ∙ (filter-pass p x (filter q xs) y
+        ∙ (ap (λ ys. x ∷ ys) (filter-swap p q xs)
+        ∙ (sym (filter-pass q x (filter p xs) z) ∙ ap (filter q) (sym (filter-pass p x xs y)))))
+    | inr z ↦ ap (filter p) (filter-fail q x xs z)
+        ∙ (filter-swap p q xs
+        ∙ (sym (filter-fail q x (filter p xs) z) ∙ ap (filter q) (sym (filter-pass p x xs y))))
   ]
   | inr y ↦ elim (cases_Bool (q x)) [
-    | inl z ↦ ap (filter p) (filter-pass q x xs z) ∙ (filter-fail p x (filter q xs) y ∙ (filter-swap p q xs ∙ ap (filter q) (sym (filter-fail p x xs y))))
-    | inr z ↦ ap (filter p) (filter-fail q x xs z) ∙ (filter-swap p q xs ∙ ap (filter q) (sym (filter-fail p x xs y)))
+    | inl z ↦ ap (filter p) (filter-pass q x xs z)
+        ∙ (filter-fail p x (filter q xs) y
+        ∙ (filter-swap p q xs ∙ ap (filter q) (sym (filter-fail p x xs y))))
+    | inr z ↦ ap (filter p) (filter-fail q x xs z)
+        ∙ (filter-swap p q xs ∙ ap (filter q) (sym (filter-fail p x xs y)))
   ]
 ]
 
@@ -38,22 +48,26 @@ module _ (values : Val → Bool) (times : ℕ → Bool) where
   stays a = is_kept values times a.act a.call
 
   -- what suits a read that is kept is the write of its value, which is kept too
-  met-kept : (w r : Act) (m n : ℕ) → is_plain w ≡ true → is_kept values times r n ≡ true → asks r ≡ true → IsSomeAnd (given_by w) (Suits r) → is_kept values times w m ≡ true
+  met-kept : (w r : Act) (m n : ℕ) → is_plain w ≡ true → is_kept values times r n ≡ true → asks r ≡ true
+      → IsSomeAnd (given_by w) (Suits r) → is_kept values times w m ≡ true
   met-kept (Read v) r m n y k q s = absurd s
   met-kept (Write u) (Read None) m n y k q s = absurd (false≢true k)
-  met-kept (Write u) (Read (Some v)) m n y k q s = subst (λ x. values x ≡ true) (sym (value-true u v s)) (both-first (values v) (times n) k)
+  met-kept (Write u) (Read (Some v)) m n y k q s =
+      subst (λ x. values x ≡ true) (sym (value-true u v s)) (both-first (values v) (times n) k)
   met-kept (Write u) (Write v) m n y k q s = absurd (false≢true q)
   met-kept (Write u) (Cas from to) m n y k q s = absurd (false≢true k)
   met-kept (Write u) (Miss from) m n y k q s = absurd (false≢true k)
   met-kept (Cas from to) r m n y k q s = absurd (false≢true y)
   met-kept (Miss from) r m n y k q s = absurd (false≢true y)
 
-  kept-legal : (ops order : List Operation) → ArePlain ops → IsLegal ops order → IsLegal (kept_of values times ops) (kept_of values times order)
+  kept-legal : (ops order : List Operation) → ArePlain ops → IsLegal ops order
+      → IsLegal (kept_of values times ops) (kept_of values times order)
   kept-legal ops order plain l = record {
     completion = record {
       once = λ a b. l.completion.once a (filter-Before stays a a order b);
       only = λ a i. let r = filter-In stays a order i in In-filter stays a ops (l.completion.only a r.0) r.1;
-      all = λ a i d. let r = filter-In stays a ops i in In-filter stays a order (l.completion.all a r.0 d) r.1;
+      all =
+          λ a i d. let r = filter-In stays a ops i in In-filter stays a order (l.completion.all a r.0 d) r.1;
     };
     keeps = λ a b s. l.keeps a b (filter-Before stays a b order s);
     met = λ r i d.
@@ -65,8 +79,12 @@ module _ (values : Val → Bool) (times : ℕ → Bool) where
           record {
             change = n.1.change;
             register = n.1.register;
-            before = Before-filter stays w r order n.1.before (met-kept w.act r.act w.call r.call (plain w there) j.1 d n.2) j.1;
-            nearest = λ v u e s t. n.1.nearest v u e (filter-Before stays w v order s) (filter-Before stays v r order t);
+            before =
+                Before-filter stays w r order n.1.before
+                (met-kept w.act r.act w.call r.call (plain w there) j.1 d n.2) j.1;
+            nearest =
+                λ v u e s t. n.1.nearest v u e (filter-Before stays w v order s)
+                (filter-Before stays v r order t);
           },
           n.2,
         );
@@ -75,5 +93,8 @@ module _ (values : Val → Bool) (times : ℕ → Bool) where
   pub kept-atomic : (ops : List Operation) → ArePlain ops → IsAtomic ops → IsAtomic (kept_of values times ops)
   kept-atomic ops plain a = (kept_of values times a.0, kept-legal ops a.0 plain a.1)
 
-  pub known-kept : (ops : List Operation) (t : ℕ) → cut_at t (kept_of values times ops) ≡ kept_of values times (cut_at t ops)
-  known-kept ops t = ap (map (known_at t)) (filter-swap (is_called_by t) stays ops) ∙ sym (filter-map stays (known_at t) (filter (is_called_by t) ops))
+  pub known-kept : (ops : List Operation) (t : ℕ)
+      → cut_at t (kept_of values times ops) ≡ kept_of values times (cut_at t ops)
+  known-kept ops t =
+      ap (map (known_at t)) (filter-swap (is_called_by t) stays ops)
+      ∙ sym (filter-map stays (known_at t) (filter (is_called_by t) ops))

@@ -1,5 +1,6 @@
 -- The times of a timeline differ, and those of some of its operations too.
-use Rattle.std.proofs.Common.{◌≡◌, ℕ, zero, suc, ◌<◌, Bool, List, [], ◌∷◌, slice_get, Some, option_map, inl, inr, sym, ap, ◌∙◌, arith}
+use Rattle.std.proofs.Common.{◌≡◌, ℕ, zero, suc, ◌<◌, Bool, List, [], ◌∷◌, slice_get}
+use Rattle.std.proofs.Common.{Some, option_map, inl, inr, sym, ap, ◌∙◌, arith}
 use Rattle.std.specs.List.{filter}
 use Rattle.history_model.specs.Lists.{In, Before}
 use Rattle.history_model.proofs.Lists.{filter-In, filter-Before, Before-total, slice_get-In}
@@ -21,7 +22,8 @@ module _ (r : ℕ) (ops : List Operation) (events : List Moment) (line : IsTimel
       let y = place-of ops b j in
       let replies = reply-time r ops events line x.0 a t x.1 e in
       let calls = call-time y.0 b y.1 in
-      elim (Before-total (Reply x.0) (Call y.0) events (line.all (Reply x.0) t replies) (line.all (Call y.0) b.call calls)) [
+      elim (Before-total (Reply x.0) (Call y.0) events (line.all (Reply x.0) t replies)
+      (line.all (Call y.0) b.call calls)) [
         | inl same ↦ cc (same)
         | inr d ↦ elim d [
           | inl h ↦ let lt = line.ascending (Reply x.0) (Call y.0) t b.call h replies calls in omega arith
@@ -35,7 +37,8 @@ module _ (r : ℕ) (ops : List Operation) (events : List Moment) (line : IsTimel
       let y = place-of ops b j in
       let u = reply-time r ops events line x.0 a t x.1 e in
       let v = reply-time r ops events line y.0 b t y.1 f in
-      elim (Before-total (Reply x.0) (Reply y.0) events (line.all (Reply x.0) t u) (line.all (Reply y.0) t v)) [
+      elim (Before-total (Reply x.0) (Reply y.0) events (line.all (Reply x.0) t u)
+      (line.all (Reply y.0) t v)) [
         | inl same ↦
             let place : x.0 ≡ y.0 = cc (same) in
             let one : Some a ≡ Some b = sym x.1 ∙ (ap (slice_get ops) place ∙ y.1) in
@@ -54,17 +57,22 @@ module _ (r : ℕ) (ops : List Operation) (events : List Moment) (line : IsTimel
 
 -- ---- of some operations
 
-get-Before : (ops : List Operation) (j k : ℕ) (a b : Operation) → j < k → slice_get ops j ≡ Some a → slice_get ops k ≡ Some b → Before a b ops
+get-Before : (ops : List Operation) (j k : ℕ) (a b : Operation) → j < k → slice_get ops j ≡ Some a
+    → slice_get ops k ≡ Some b → Before a b ops
 get-Before [] j k a b l e f = absurd (cc (e))
 get-Before (x ∷ ops) zero zero a b l e f = absurd (omega arith)
-get-Before (x ∷ ops) zero (suc k) a b l e f = let same : x ≡ a = cc (e) in inl (sym same, slice_get-In ops k b f)
+get-Before (x ∷ ops) zero (suc k) a b l e f =
+    let same : x ≡ a = cc (e) in inl (sym same, slice_get-In ops k b f)
 get-Before (x ∷ ops) (suc j) zero a b l e f = absurd (omega arith)
 get-Before (x ∷ ops) (suc j) (suc k) a b l e f = inr (get-Before ops j k a b (omega arith) e f)
 
-Before-get : (ops : List Operation) (a b : Operation) → Before a b ops → (j : ℕ) × (k : ℕ) × (j < k) × (slice_get ops j ≡ Some a) × (slice_get ops k ≡ Some b)
+Before-get : (ops : List Operation) (a b : Operation) → Before a b ops
+    → (j : ℕ) × (k : ℕ) × (j < k) × (slice_get ops j ≡ Some a) × (slice_get ops k ≡ Some b)
 Before-get [] a b h = absurd h
-Before-get (x ∷ ops) a b (inl h) = let y = place-of ops b h.1 in (0, suc y.0, omega arith, ap Some (sym h.0), y.1)
-Before-get (x ∷ ops) a b (inr h) = let y = Before-get ops a b h in (suc y.0, suc y.1, omega (arith, y.2), y.3, y.4)
+Before-get (x ∷ ops) a b (inl h) =
+    let y = place-of ops b h.1 in (0, suc y.0, omega arith, ap Some (sym h.0), y.1)
+Before-get (x ∷ ops) a b (inr h) =
+    let y = Before-get ops a b h in (suc y.0, suc y.1, omega (arith, y.2), y.3, y.4)
 
 module _ (p : Operation → Bool) (ops : List Operation) where
   pub some-calls : (r : ℕ) → AreCalls r ops → AreCalls r (filter p ops)

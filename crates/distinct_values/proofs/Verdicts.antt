@@ -1,5 +1,6 @@
 -- Why the no of a part is a no of all operations.
-use Rattle.std.proofs.Common.{◌≡◌, ℕ, Bool, true, List, slice_get, Result, Ok, Err, IfOk, IfSome, IsTrue, Option, Some, None, Vec, Global, sym, subst}
+use Rattle.std.proofs.Common.{◌≡◌, ℕ, Bool, true, List, slice_get, Result, Ok, Err, IfOk}
+use Rattle.std.proofs.Common.{IfSome, IsTrue, Option, Some, None, Vec, Global, sym, subst}
 use Rattle.history_text.specs.declared.event.Val.{Val}
 use Rattle.cas_model.specs.declared.operation.Operation.{Operation}
 use Rattle.configurations.specs.declared.moment.Moment.{Moment}
@@ -35,7 +36,8 @@ before-of ops k None h r calls = tt
 before-of ops k (Some order) h r calls = h r calls
 
 -- a part without an order refutes all
-pub part-refutes : (one other : Val) (times : ℕ → Bool) (ops part : List Operation) (k t : ℕ) (before : Option (Vec ℕ Global)) → ArePlain ops
+pub part-refutes : (one other : Val) (times : ℕ
+    → Bool) (ops part : List Operation) (k t : ℕ) (before : Option (Vec ℕ Global)) → ArePlain ops
     → part ≡ kept_of (null_or one other) times ops
     → ((r : ℕ) → AreCalls r part → AreTimes part → IsHopelessAt r part t)
     → RepliesAt ops k t
@@ -45,5 +47,7 @@ part-refutes one other times ops part k t before plain is hopeless replies legal
     let stays : Operation → Bool = λ a. is_kept (null_or one other) times a.act a.call in
     let c = subst (AreCalls r) (sym is) (some-calls stays ops r calls) in
     let d = subst AreTimes (sym is) (some-times stays ops all) in
-    let h = subst (λ xs. IsHopelessAt r xs t) is (hopeless r c d) in
-    (hopeless-refuted r k t ops replies (all-hopeless one other times r t ops plain h), before-of ops k before legal r calls)
+    let h = subst (λ xs. IsHopelessAt r xs t) is (hopeless r c d) in (
+      hopeless-refuted r k t ops replies (all-hopeless one other times r t ops plain h),
+      before-of ops k before legal r calls,
+    )

@@ -5,7 +5,8 @@ use Rattle.cas_model.specs.Cut.{cut_at}
 use Rattle.cas_model.specs.Legal.{IsAtomic}
 use Rattle.cas_model.specs.Operations.{initial_write}
 
--- What is known of register r at time t, its initial write among it, has no legal order, and so neither have all its operations.
+-- What is known of register r at time t, its initial write among it, has no legal
+-- order, and so neither have all its operations.
 pub record IsHopelessAt (r : ℕ) (ops : List Operation) (t : ℕ) : Type 0 where
   pub beginning : IsAtomic (cut_at t (initial_write r ∷ ops)) → ⊥
   pub whole : IsAtomic (initial_write r ∷ ops) → ⊥

@@ -1,4 +1,5 @@
--- Some of the reads and the writes of a register: the writes of some values, and some of the reads of these (this project's profile).
+-- Some of the reads and the writes of a register: the writes of some values, and some of the
+-- reads of these (this project's profile).
 use Rattle.std.specs.Prelude.{◌≡◌, ◌&&◌, ◌||◌, ℕ, nat_eq, Bool, true, false, List, Some, None}
 use Rattle.std.specs.List.{filter, list_any}
 use Rattle.history_text.specs.Values.{value_eq}

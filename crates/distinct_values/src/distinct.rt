@@ -20,7 +20,8 @@ pub(crate) fn has_distinct_values(alloc: Global, ops: &[Operation]) -> Result<bo
 
 /// Whether the operations are reads and writes.
 fn are_plain(ops: &[Operation]) -> bool
-    ensures { IsTrue result → (k : ℕ) (a : AnOperation) → slice_get ops.now k ≡ Some a → is_plain a.act ≡ true }
+    ensures { IsTrue result → (k : ℕ) (a : AnOperation) → slice_get ops.now k ≡ Some a
+        → is_plain a.act ≡ true }
 {
     for op in ops {
         if !is_read_or_write(op.act) {

@@ -33,8 +33,8 @@ pub(crate) fn part_of(
 
 /// Whether an operation is one of those.
 fn is_part(op: &Operation, shown: &Shown) -> bool
-    ensures { result
-        ≡ is_kept (null_or shown.now.one shown.now.other) (is_among shown.now.calls.items) op.now.act op.now.call }
+    ensures { result ≡ is_kept (null_or shown.now.one shown.now.other) (is_among shown.now.calls.items)
+        op.now.act op.now.call }
 {
     match op.act {
         Act::Read(None) => false,

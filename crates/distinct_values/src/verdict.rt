@@ -26,7 +26,8 @@ pub fn decide(
     events: &[Moment],
     bounds: Bounds,
 ) -> Result<Verdict, AllocError>
-    ensures { IfOk result (λ verdict. (r : ℕ) → IsTimeline r ops.now events.now → IsVerdict r ops.now verdict) }
+    ensures { IfOk result (λ verdict. (r : ℕ) → IsTimeline r ops.now events.now
+        → IsVerdict r ops.now verdict) }
 {
     let is_distinct = has_distinct_values(alloc, ops)?;
     if is_distinct {
@@ -44,7 +45,8 @@ fn soon_or_by_zones(
     bounds: Bounds,
 ) -> Result<Verdict, AllocError>
     requires { ArePlain ops.now }
-    ensures { IfOk result (λ verdict. (r : ℕ) → IsTimeline r ops.now events.now → IsVerdict r ops.now verdict) }
+    ensures { IfOk result (λ verdict. (r : ℕ) → IsTimeline r ops.now events.now
+        → IsVerdict r ops.now verdict) }
 {
     match cas_search::decide(alloc, ops, events, quick(events.len(), bounds))? {
         Verdict::Unknown(bound) => by_zones(alloc, ops, events, bound),
@@ -71,7 +73,8 @@ fn by_zones(
     bound: Bound,
 ) -> Result<Verdict, AllocError>
     requires { ArePlain ops.now }
-    ensures { IfOk result (λ verdict. (r : ℕ) → IsTimeline r ops.now events.now → IsVerdict r ops.now verdict) }
+    ensures { IfOk result (λ verdict. (r : ℕ) → IsTimeline r ops.now events.now
+        → IsVerdict r ops.now verdict) }
 {
     match ask_zones(alloc, ops, events)? {
         Found::Order(order) => checked(alloc, ops, order, bound),
@@ -104,7 +107,8 @@ fn at_first_fault(
     bound: Bound,
 ) -> Result<Verdict, AllocError>
     requires { ArePlain ops.now }
-    ensures { IfOk result (λ verdict. (r : ℕ) → IsTimeline r ops.now events.now → IsVerdict r ops.now verdict) }
+    ensures { IfOk result (λ verdict. (r : ℕ) → IsTimeline r ops.now events.now
+        → IsVerdict r ops.now verdict) }
 {
     match first_fault(alloc, ops, events, shown)? {
         Some(fault) => refuted(alloc, ops, fault, bound),
@@ -120,7 +124,8 @@ fn refuted(
     bound: Bound,
 ) -> Result<Verdict, AllocError>
     requires { ArePlain ops.now }
-    ensures { IfOk result (λ verdict. (r : ℕ) → AreCalls r ops.now → AreTimes ops.now → IsVerdict r ops.now verdict) }
+    ensures { IfOk result (λ verdict. (r : ℕ) → AreCalls r ops.now → AreTimes ops.now
+        → IsVerdict r ops.now verdict) }
 {
     let part = part_of(alloc, ops, &fault.shown)?;
     let Some(time) = hopeless_at(alloc, &part)? else {

@@ -13,7 +13,8 @@ use std::random::RandomSource;
 use std::test::Fail;
 use std::thread::Threads;
 
-/// Processes on both sides of the table's limit, which is the number of events, 12. Of them 1, 13 and 25 leave the same when divided by it, and so do 0 and 12.
+/// Processes on both sides of the table's limit, which is the number of events, 12. Of them 1, 13 and 25
+/// leave the same when divided by it, and so do 0 and 12.
 const MIXED: &str =
     "p11 W x 1; p12 R x; p1 R y; p4294967295 R x; p13 R y; p11 ok; p12 = 1; p0 R x; p25 R y; p1 = null; p13 = null; p12 R x";
 
@@ -125,7 +126,8 @@ fn a_key_is_drawn_or_a_digest(rt: HostRuntime) -> Result<(), Fail> {
     Ok(())
 }
 
-/// Lines that differ from one another in one part: a process, a kind, a name, a value, whether a reply has one, or the order.
+/// Lines that differ from one another in one part: a process, a kind, a name, a
+/// value, whether a reply has one, or the order.
 const DIFFERENT: [&str; 14] = [
     "p1 W x 5; p1 ok",
     "p2 W x 5; p1 ok",

@@ -8,7 +8,8 @@ use std::alloc::{AllocError, Global};
 use std::process::Abort;
 use std::test::Fail;
 
-/// Of each event of `p1 W x 5; p2 R x; p2 = null; p1 ok; p1 W x 7; p2 R y`, which have the times 2 to 7, the operation; the call of line 5 has no reply.
+/// Of each event of `p1 W x 5; p2 R x; p2 = null; p1 ok; p1 W x 7; p2 R y`, which have the times 2 to 7, the
+/// operation; the call of line 5 has no reply.
 const OPERATIONS: [(u32, &str); 6] = [
     (
         0,
@@ -84,7 +85,8 @@ fn operations_have_their_times(rt: HostRuntime) -> Result<(), Fail> {
     expect_operations(&rt, &arena)
 }
 
-/// A failed write with a read of its value before it and one that ends after it, a write that fails unread, a failed read, and a write that a crash leaves open.
+/// A failed write with a read of its value before it and one that ends after it, a write that fails unread, a
+/// failed read, and a write that a crash leaves open.
 pub(crate) const FAILED: &str =
     "p2 R x; p2 = 5; p2 R x; p1 W x 5; p1 fail; p2 = 5; p1 W x 6; p1 fail; p3 R x; p1 W x 7; p1 crash; p3 fail";
 

@@ -5,8 +5,8 @@ use std::alloc::{AllocError, Global};
 use std::test::Fail;
 use std::thread::Threads;
 
-// The line of an event in short: `p1 W x 5` and `p2 R x` are calls, `p1 ok` and `p2 = 5` replies, `p1 fail`, `p1 fail = 5` and `p1 crash` fails and a crash, and any other
-// text stands for itself.
+// The line of an event in short: `p1 W x 5` and `p2 R x` are calls, `p1 ok` and `p2 = 5` replies, `p1 fail`,
+// `p1 fail = 5` and `p1 crash` fails and a crash, and any other text stands for itself.
 fn line_of(alloc: Global, event: &str) -> Result<String, AllocError> {
     let mut words = event.split_whitespace();
     let process = words.next().unwrap_or("").trim_start_matches('p');

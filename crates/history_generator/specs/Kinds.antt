@@ -1,7 +1,9 @@
 -- The name of each kind.
 use Rattle.std.specs.Prelude.{ℕ, List, codes}
 use Rattle.history_generator.specs.declared.kind.Kind.{Kind}
-use Rattle.history_generator.specs.declared.kind.Kind.TheVariants.{Sequential, Atomic, Inversion, Stale, Lost, Pending, Failing, Crashing, Registers, Processes, Hot, HotReverse, Writes, Zones}
+use Rattle.history_generator.specs.declared.kind.Kind.TheVariants.{Sequential, Atomic, Inversion, Stale, Lost}
+use Rattle.history_generator.specs.declared.kind.Kind.TheVariants.{Pending, Failing, Crashing, Registers}
+use Rattle.history_generator.specs.declared.kind.Kind.TheVariants.{Processes, Hot, HotReverse, Writes, Zones}
 
 abbrev pub name_of : Kind → List ℕ
 name_of Sequential = codes "sequential"

@@ -5,8 +5,8 @@ ghost use Rattle.history_generator.specs.Line.{line_of};
 use std::alloc::AllocError;
 use std::fmt::Write;
 
-/// What happens in a history. Processes and registers are numbered from 0, the writes of a register from 1; a write
-/// writes its number.
+/// What happens in a history. Processes and registers are numbered from 0, the writes of a
+/// register from 1; a write writes its number.
 #[derive(Clone, Copy, Debug, PartialEq, Eq)]
 pub enum Event {
     /// A process calls a read of a register.

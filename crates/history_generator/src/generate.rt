@@ -21,8 +21,8 @@ fn simulated(
     Ok(simulation.into_history())
 }
 
-/// The lines of a history with exactly the events wanted; one that is left over is a call that stays pending. Of the
-/// kinds that aren't atomic, an inversion has its fault from 6 events on, and the others from 4 on.
+/// The lines of a history with exactly the events wanted; one that is left over is a call that stays pending.
+/// Of the kinds that aren't atomic, an inversion has its fault from 6 events on, and the others from 4 on.
 pub fn generate(alloc: Global, settings: Settings) -> Result<String, AllocError> {
     let mut history = History::new(alloc, settings.events);
     match settings.kind {

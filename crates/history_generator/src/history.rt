@@ -33,7 +33,8 @@ impl History {
 
     /// Adds an event.
     pub(crate) fn record(&mut self, event: Event) -> Result<(), AllocError>
-        ensures text { OnOk result (string_bytes self.new.text ≡ string_bytes self.old.text ++ line_of event) }
+        ensures text { OnOk result (string_bytes self.new.text ≡ string_bytes self.old.text
+            ++ line_of event) }
         ensures left { OnOk result (self.new.left ≡ self.old.left - 1) }
     {
         push_line(&mut self.text, event)?;
@@ -41,7 +42,8 @@ impl History {
         Ok(())
     }
 
-    /// If one more event is wanted, adds the call of a read that stays pending, by a process without an open call.
+    /// If one more event is wanted, adds the call of a read that stays
+    /// pending, by a process without an open call.
     pub(crate) fn fill(&mut self, process: u32) -> Result<(), AllocError>
         ensures { OnOk result (self.new.left ≡ self.old.left - 1) }
     {

@@ -19,7 +19,8 @@ pub enum Kind {
     Pending,
     /// As `Atomic`, with some calls that fail: they have no effect.
     Failing,
-    /// As `Atomic`, with some processes that crash, with an open call or without one. New ones take their places.
+    /// As `Atomic`, with some processes that crash, with an open call or
+    /// without one. New ones take their places.
     Crashing,
     /// As `Atomic`, over many registers.
     Registers,

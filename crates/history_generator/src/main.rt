@@ -1,8 +1,9 @@
 //! Writes a generated history of read/write registers to standard output: the same words, the same bytes.
 //!
-//! Read it in this order: `kind` and `settings`, what is asked for; `event` and `history`, what comes out; `memory` and
-//! `client`, who is simulated; `simulation`, which lets clients take turns; `opening` and `rounds`, the shapes that are
-//! laid out by hand; `generate`, which picks among them; `words`, the command line.
+//! Read it in this order: `kind` and `settings`, what is asked for; `event` and `history`,
+//! what comes out; `memory` and `client`, who is simulated; `simulation`, which lets clients
+//! take turns; `opening` and `rounds`, the shapes that are laid out by hand; `generate`, which
+//! picks among them; `words`, the command line.
 #![tactic(auto)]
 
 mod client;

@@ -38,7 +38,8 @@ impl Memory {
 
     /// The register with a number; past the last one, one that nobody wrote.
     pub(crate) fn register(&self, number: u32) -> Register
-        ensures { number < length self.now.registers.items → slice_get self.now.registers.items number ≡ Some result }
+        ensures { number < length self.now.registers.items
+            → slice_get self.now.registers.items number ≡ Some result }
     {
         match self.registers.get(number as usize) {
             Some(register) => *register,
@@ -57,8 +58,11 @@ impl Memory {
 
     /// Numbers a write that is called.
     pub(crate) fn call_write(&mut self, number: u32) -> u32
-        ensures { (register : Register) → slice_get self.old.registers.items number ≡ Some register → register.called < 2 ^ 32 - 1
-            → (result ≡ register.called + 1) × (self.new.registers.items ≡ slice_set self.old.registers.items number (record register { called = register.called + 1 })) }
+        ensures { (register : Register) → slice_get self.old.registers.items number ≡ Some register
+            → register.called < 2 ^ 32 - 1
+            → (result ≡ register.called + 1)
+            × (self.new.registers.items ≡ slice_set self.old.registers.items number
+            (record register { called = register.called + 1 })) }
     {
         let register = self.register(number);
         let called = register.called.saturating_add(1);
@@ -69,7 +73,8 @@ impl Memory {
     /// Lets a write take effect.
     pub(crate) fn store(&mut self, number: u32, write: u32)
         ensures { (register : Register) → slice_get self.old.registers.items number ≡ Some register
-            → self.new.registers.items ≡ slice_set self.old.registers.items number (record register { held = write }) }
+            → self.new.registers.items ≡ slice_set self.old.registers.items number
+            (record register { held = write }) }
     {
         let register = self.register(number);
         self.set(
@@ -84,7 +89,8 @@ impl Memory {
     /// Notes the reply to a write.
     pub(crate) fn reply_write(&mut self, number: u32, write: u32)
         ensures { (register : Register) → slice_get self.old.registers.items number ≡ Some register
-            → self.new.registers.items ≡ slice_set self.old.registers.items number (record register { replied = write }) }
+            → self.new.registers.items ≡ slice_set self.old.registers.items number
+            (record register { replied = write }) }
     {
         let register = self.register(number);
         self.set(

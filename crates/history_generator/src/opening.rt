@@ -1,4 +1,5 @@
-//! The first events of a history that isn't atomic. Each opening has a fault, which stays one whatever follows.
+//! The first events of a history that isn't atomic. Each opening has a
+//! fault, which stays one whatever follows.
 use crate::event::Event;
 use crate::history::History;
 use crate::kind::Kind;
@@ -66,8 +67,8 @@ fn record_all(history: &mut History, events: &[Event]) -> Result<(), AllocError>
     Ok(())
 }
 
-/// Begins the history with the fault of its kind, if it has one that fits the events wanted, and leaves the memory
-/// as it is then.
+/// Begins the history with the fault of its kind, if it has one that fits the events
+/// wanted, and leaves the memory as it is then.
 pub(crate) fn open(
     kind: Kind,
     memory: &mut Memory,

@@ -49,8 +49,8 @@ fn read_replies(
     Ok(())
 }
 
-/// Rounds of one write and then a read by each process, all of them open at once. Atomic: the reads of a write lie
-/// between its reply and the call of the next write.
+/// Rounds of one write and then a read by each process, all of them open at once. Atomic: the reads of a
+/// write lie between its reply and the call of the next write.
 pub(crate) fn hot(settings: Settings, history: &mut History) -> Result<(), AllocError> {
     for round in 0..settings.events {
         if history.left() < 2 {
@@ -101,8 +101,9 @@ fn reads_alone(history: &mut History, reads: u32, write: u32) -> Result<(), Allo
     Ok(())
 }
 
-/// Writes of all processes but one, open all through the write and the reads of that one. Atomic: each of their zones
-/// overlaps the forward zone and none lies in it, as when they all take effect right before that one's write.
+/// Writes of all processes but one, open all through the write and the reads of that one.
+/// Atomic: each of their zones overlaps the forward zone and none lies in it, as when they all
+/// take effect right before that one's write.
 pub(crate) fn zones(settings: Settings, history: &mut History) -> Result<(), AllocError> {
     let operations = history.left() / 2;
     if operations > 0 {

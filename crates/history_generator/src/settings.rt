@@ -49,8 +49,9 @@ fn usual_registers(kind: Kind, events: u32) -> u32
 }
 
 impl Settings {
-    /// Settings with what is left out chosen for the kind. There are at most [`MOST`] events. The processes and the registers are
-    /// moved to the range from 1 to [`MOST`], and an inversion has at least 2 processes.
+    /// Settings with what is left out chosen for the kind. There are at most [`MOST`]
+    /// events. The processes and the registers are moved to the range from 1 to [`MOST`],
+    /// and an inversion has at least 2 processes.
     pub fn new(
         kind: Kind,
         events: u32,
@@ -61,8 +62,10 @@ impl Settings {
         ensures kind { result.kind ≡ kind }
         ensures seed { result.seed ≡ seed }
         ensures events { events ≤ MOST → result.events ≡ events }
-        ensures processes { (count : ℕ) → processes ≡ Some count → 2 ≤ count → count ≤ MOST → result.processes ≡ count }
-        ensures registers { (count : ℕ) → registers ≡ Some count → 1 ≤ count → count ≤ MOST → result.registers ≡ count }
+        ensures processes { (count : ℕ) → processes ≡ Some count → 2 ≤ count → count ≤ MOST
+            → result.processes ≡ count }
+        ensures registers { (count : ℕ) → registers ≡ Some count → 1 ≤ count → count ≤ MOST
+            → result.registers ≡ count }
     {
         let least = if kind == Kind::Inversion { 2 } else { 1 };
         let events = events.min(MOST);

@@ -1,7 +1,8 @@
-//! Clients that take turns at random. A turn is a call, an effect or a reply, so that an operation takes effect at one
-//! instant between its call and its reply, on the registers in memory: the order of these instants is a legal order,
-//! and the history is atomic. If a client died or crashed, its operation took effect before, or is dropped. A call
-//! that fails never takes effect. Of the kinds that aren't atomic, a rule of `served_write` or `served_read` breaks this.
+//! Clients that take turns at random. A turn is a call, an effect or a reply, so that an operation takes
+//! effect at one instant between its call and its reply, on the registers in memory: the order of these
+//! instants is a legal order, and the history is atomic. If a client died or crashed, its operation took
+//! effect before, or is dropped. A call that fails never takes effect. Of the kinds that aren't atomic, a
+//! rule of `served_write` or `served_read` breaks this.
 ghost use Rattle.std.specs.Prelude.{◌≡◌, ◌<◌, ◌+◌, ◌-◌, ◌^◌, length, slice_get, slice_set, Some};
 ghost use Rattle.history_generator.specs.declared.client.Stage.TheVariants.{Idle, Failed};
 
@@ -88,8 +89,8 @@ impl Simulation {
         self.random.random_ratio(1, 2)
     }
 
-    /// Whether the client's next operation on the register is a write. If values may be old, each register has one
-    /// client that writes it.
+    /// Whether the client's next operation on the register is a write. If values may be old,
+    /// each register has one client that writes it.
     fn chooses_write(&mut self, client: u32, register: u32) -> bool {
         match self.settings.kind {
             Kind::Writes => true,
@@ -119,8 +120,9 @@ impl Simulation {
         }
     }
 
-    /// What a read sees, unless it fails. Atomic: what the register holds. Regular: the last write that was replied to,
-    /// or the one that is open. Stale: at times the write before the last that was replied to when the read was called.
+    /// What a read sees, unless it fails. Atomic: what the register holds. Regular: the last write
+    /// that was replied to, or the one that is open. Stale: at times the write before the last that
+    /// was replied to when the read was called.
     fn served_read(&mut self, register: u32, replied: u32) -> Stage {
         if self.fails() {
             return Stage::Failed;
@@ -209,8 +211,11 @@ impl Simulation {
 
     /// Puts a new process in the client's place. An open call stays pending for good.
     fn replace(&mut self, number: u32)
-        ensures client { number < length self.old.clients.items → slice_get self.new.clients.items number ≡ Some (record { process = self.old.next_process; stage = Idle }) }
-        ensures next { self.old.next_process < 2 ^ 32 - 1 → self.new.next_process ≡ self.old.next_process + 1 }
+        ensures client { number < length self.old.clients.items
+            → slice_get self.new.clients.items number
+            ≡ Some (record { process = self.old.next_process; stage = Idle }) }
+        ensures next { self.old.next_process < 2 ^ 32 - 1
+            → self.new.next_process ≡ self.old.next_process + 1 }
     {
         if self.is_open(number) {
             self.open = self.open.saturating_sub(1);
@@ -269,8 +274,8 @@ impl Simulation {
         Ok(())
     }
 
-    /// Lets clients call until each event that is left is needed for a reply, and then lets each client end. An event
-    /// that is left over is a call by one more process.
+    /// Lets clients call until each event that is left is needed for a reply, and then lets each client end.
+    /// An event that is left over is a call by one more process.
     pub(crate) fn run(&mut self) -> Result<(), AllocError> {
         // Each operation takes three turns at most, and has at least one event, its call.
         for _ in 0..u64::from(self.settings.events) * 3 {

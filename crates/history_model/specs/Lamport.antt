@@ -1,4 +1,5 @@
--- Safe and regular registers, of one register's operations, `ops` (Lamport, On Interprocess Communication, Part II, 1986, section 2).
+-- Safe and regular registers, of one register's operations, `ops` (Lamport, On Interprocess
+-- Communication, Part II, 1986, section 2).
 use Rattle.std.specs.Prelude.{◌≡◌, ℕ, ◌≤◌, ◌⊎◌, ◌&&◌, not, Bool, List, Some}
 use Rattle.std.specs.List.{filter}
 use Rattle.history_model.specs.Lists.{In}
@@ -6,7 +7,9 @@ use Rattle.history_model.specs.Operations.{Operation, Precedes, Overlaps, IsWrit
 
 -- at most one process calls writes
 abbrev pub HasSingleWriter : List Operation → Type 0
-HasSingleWriter ops = (v w : Operation) (p q : ℕ) → In v ops → In w ops → IsWrite v → IsWrite w → v.process ≡ Some p → w.process ≡ Some q → p ≡ q
+HasSingleWriter ops =
+    (v w : Operation) (p q : ℕ) → In v ops → In w ops → IsWrite v → IsWrite w → v.process ≡ Some p
+    → w.process ≡ Some q → p ≡ q
 
 -- w is the old write of r: of the writes that precede r, the initial one among them, the one called last
 pub record IsOldWrite (ops : List Operation) (r w : Operation) : Type 0 where

@@ -1,8 +1,10 @@
 -- How operations are named, and which event belongs to which operation.
-use Rattle.std.specs.Prelude.{◌≡◌, ℕ, ◌+◌, ◌-◌, ◌<◌, ◌⊎◌, ◌||◌, cond, Bool, true, suc, List, length, drop, slice_get, Option, Some, None}
+use Rattle.std.specs.Prelude.{◌≡◌, ℕ, ◌+◌, ◌-◌, ◌<◌, ◌⊎◌, ◌||◌, cond, Bool, true, suc}
+use Rattle.std.specs.Prelude.{List, length, drop, slice_get, Option, Some, None}
 use Rattle.history_model.specs.Lists.{In}
 use Rattle.history_model.specs.History.{History}
-use Rattle.history_model.specs.Operations.{Operation, operations, next_of, begins, is_a_reply, IsWrite, IsCompleted}
+use Rattle.history_model.specs.Operations.{Operation, operations, next_of, begins}
+use Rattle.history_model.specs.Operations.{is_a_reply, IsWrite, IsCompleted}
 use Rattle.history_model.specs.Walking.{by_register}
 use Rattle.history_model.specs.declared.ids.Oper.{Oper}
 use Rattle.history_model.specs.declared.ids.Oper.TheVariants.{Initial, Called}

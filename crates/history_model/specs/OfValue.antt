@@ -22,9 +22,12 @@ IsWriteOf h r v (Some name) = (o : Operation) × IsNamed h name o × IsMember h 
 -- the greatest time of a call among the members
 abbrev pub IsLastCall : History → ℕ → Val → Option ℕ → Type 0
 IsLastCall h r v None = (o : Operation) → IsMember h r v o → ⊥
-IsLastCall h r v (Some t) = ((o : Operation) × IsMember h r v o × (o.call ≡ t)) × ((o : Operation) → IsMember h r v o → o.call ≤ t)
+IsLastCall h r v (Some t) =
+    ((o : Operation) × IsMember h r v o × (o.call ≡ t)) × ((o : Operation) → IsMember h r v o → o.call ≤ t)
 
 -- the least time of a reply among the completed members
 abbrev pub IsFirstReply : History → ℕ → Val → Option ℕ → Type 0
 IsFirstReply h r v None = (o : Operation) → IsMember h r v o → IsCompleted o → ⊥
-IsFirstReply h r v (Some t) = ((o : Operation) × IsMember h r v o × IsCompleted o × (o.reply ≡ t)) × ((o : Operation) → IsMember h r v o → IsCompleted o → t ≤ o.reply)
+IsFirstReply h r v (Some t) =
+    ((o : Operation) × IsMember h r v o × IsCompleted o × (o.reply ≡ t))
+    × ((o : Operation) → IsMember h r v o → IsCompleted o → t ≤ o.reply)

@@ -1,5 +1,6 @@
 -- The operations of a history: each register's initial write, and each call that didn't fail, with its reply.
-use Rattle.std.specs.Prelude.{◌≡◌, ℕ, zero, suc, ◌+◌, ◌<◌, ◌≤◌, ◌==◌, ◌&&◌, not, cond, Bool, true, false, List, [], ◌∷◌, ◌++◌, length, Option, Some, None, option_and_then, ◌⊎◌}
+use Rattle.std.specs.Prelude.{◌≡◌, ℕ, zero, suc, ◌+◌, ◌<◌, ◌≤◌, ◌==◌, ◌&&◌, not, cond, Bool, true, false}
+use Rattle.std.specs.Prelude.{List, [], ◌∷◌, ◌++◌, length, Option, Some, None, option_and_then, ◌⊎◌}
 use Rattle.std.specs.List.{filter}
 use Rattle.history_text.specs.declared.event.Val.{Val}
 use Rattle.history_text.specs.declared.event.Val.TheVariants.{Null}
@@ -12,7 +13,8 @@ use Rattle.history_model.specs.declared.event.What.TheVariants.{Call, Reply, Fai
 use Rattle.history_model.specs.Lists.{In}
 use Rattle.history_model.specs.History.{History}
 
--- A read or a write, from its call to its reply. A pending one has as its reply the time after the last event; a pending read has no value. Nobody called an initial write.
+-- A read or a write, from its call to its reply. A pending one has as its reply the time after the last
+-- event; a pending read has no value. Nobody called an initial write.
 pub record Operation : Type 0 where
   pub line : ℕ
   pub call : ℕ
@@ -79,23 +81,54 @@ has_failed (Some r) = is_a_fail r.1.what
 abbrev pub begins : Event → Option (ℕ × Event) → Bool
 begins e next = is_a_call e.what && not (has_failed next)
 
--- The operation of the call e at time t, by its reply; n is the time of a missing reply. A write has the value of its call, a read that of its reply.
+-- The operation of the call e at time t, by its reply; n is the time of a missing reply. A write has the
+-- value of its call, a read that of its reply.
 abbrev pub operation : ℕ → ℕ → Event → Option (ℕ × Event) → Operation
-operation n t e None = record { line = e.line; call = t; reply = n; completed = false; process = Some e.process; register = number_in e.register; kind = kind_in e.what; value = e.value }
-operation n t e (Some r) = record { line = e.line; call = t; reply = r.0; completed = true; process = Some e.process; register = number_in e.register; kind = kind_in e.what; value = cond (writes (kind_in e.what)) e.value r.1.value }
+operation n t e None = record {
+  line = e.line;
+  call = t;
+  reply = n;
+  completed = false;
+  process = Some e.process;
+  register = number_in e.register;
+  kind = kind_in e.what;
+  value = e.value;
+}
+operation n t e (Some r) = record {
+  line = e.line;
+  call = t;
+  reply = r.0;
+  completed = true;
+  process = Some e.process;
+  register = number_in e.register;
+  kind = kind_in e.what;
+  value = cond (writes (kind_in e.what)) e.value r.1.value;
+}
 
 -- the operations of the calls among events, the first of which has time s
 abbrev pub calls_from : ℕ → ℕ → List Event → List Operation
 calls_from n s [] = []
-calls_from n s (e ∷ es) = cond (begins e (next_of e.process (suc s) es)) (operation n s e (reply_in (next_of e.process (suc s) es)) ∷ calls_from n (suc s) es) (calls_from n (suc s) es)
+calls_from n s (e ∷ es) =
+    cond (begins e (next_of e.process (suc s) es)) (operation n s e (reply_in (next_of e.process (suc s) es))
+    ∷ calls_from n (suc s) es) (calls_from n (suc s) es)
 
--- the calls of a history that didn't fail, by time: event i has time i + 2, a missing reply the time after all events
+-- the calls of a history that didn't fail, by time: event i has time i + 2,
+-- a missing reply the time after all events
 abbrev pub calls : List Event → List Operation
 calls events = calls_from (length events + 2) 2 events
 
 -- each register begins with a write of null that precedes all calls
 abbrev pub initial_write : ℕ → Operation
-initial_write r = record { line = 0; call = 0; reply = 1; completed = true; process = None; register = r; kind = WriteOp; value = Some Null }
+initial_write r = record {
+  line = 0;
+  call = 0;
+  reply = 1;
+  completed = true;
+  process = None;
+  register = r;
+  kind = WriteOp;
+  value = Some Null;
+}
 
 -- the initial writes of the registers below a number
 abbrev pub initial_writes : ℕ → List Operation
@@ -107,7 +140,8 @@ operations h = initial_writes (length h.names) ++ calls h.events
 
 -- ---- what is said of operations
 
--- a precedes b where a's reply comes before b's call (Lamport, On Interprocess Communication, Part I, 1986; Herlihy and Wing, Linearizability: A Correctness Condition for Concurrent Objects, 1990, section 2.2)
+-- a precedes b where a's reply comes before b's call (Lamport, On Interprocess Communication, Part I, 1986;
+-- Herlihy and Wing, Linearizability: A Correctness Condition for Concurrent Objects, 1990, section 2.2)
 abbrev pub Precedes : Operation → Operation → Type 0
 Precedes a b = a.reply < b.call
 
@@ -152,7 +186,8 @@ pub record IsHistory (h : List Operation) : Type 0 where
   pub life : (a : Operation) → In a h → a.call < a.reply
   -- no two events share a time
   pub calls : (a b : Operation) → In a h → In b h → a.call ≡ b.call → a ≡ b
-  pub replies : (a b : Operation) → In a h → In b h → IsCompleted a → IsCompleted b → a.reply ≡ b.reply → a ≡ b
+  pub replies : (a b : Operation) → In a h → In b h → IsCompleted a → IsCompleted b
+      → a.reply ≡ b.reply → a ≡ b
   pub apart : (a b : Operation) → In a h → In b h → a.reply ≡ b.call → ⊥
   -- a missing reply comes after every call
   pub pending : (a b : Operation) → In a h → In b h → a.completed ≡ false → b.call < a.reply
@@ -161,7 +196,8 @@ pub record IsHistory (h : List Operation) : Type 0 where
   -- no value is written twice
   pub values : (a b : Operation) → In a h → In b h → IsWrite a → IsWrite b → a.value ≡ b.value → a ≡ b
   -- the operations of one process come one after another
-  pub turns : (a b : Operation) (p : ℕ) → In a h → In b h → a.process ≡ Some p → b.process ≡ Some p → (a ≡ b) ⊎ (Precedes a b ⊎ Precedes b a)
+  pub turns : (a b : Operation) (p : ℕ) → In a h → In b h → a.process ≡ Some p → b.process ≡ Some p
+      → (a ≡ b) ⊎ (Precedes a b ⊎ Precedes b a)
   -- what nobody called is the initial write, and what somebody called comes after it
   pub initial : (a : Operation) → In a h → a.process ≡ None → a ≡ initial_write a.register
   pub called : (a : Operation) (p : ℕ) → In a h → a.process ≡ Some p → 2 ≤ a.call

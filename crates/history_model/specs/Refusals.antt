@@ -1,5 +1,8 @@
--- Which histories are refused, for which line, and why (the format's own rules; docs/format.md has the table of numbers).
-use Rattle.std.specs.Prelude.{◌≡◌, ℕ, ◌<◌, ◌&&◌, List, [], ◌∷◌, length, take, slice_get, filter_map, Bool, false, cond, nat_le, not, is_none, bytes_eq, Option, Some, None, option_map, option_and_then, Result, Ok, Err}
+-- Which histories are refused, for which line, and why (the format's own rules;
+-- docs/format.md has the table of numbers).
+use Rattle.std.specs.Prelude.{◌≡◌, ℕ, ◌<◌, ◌&&◌, List, [], ◌∷◌, length, take, slice_get}
+use Rattle.std.specs.Prelude.{filter_map, Bool, false, cond, nat_le, not, is_none, bytes_eq}
+use Rattle.std.specs.Prelude.{Option, Some, None, option_map, option_and_then, Result, Ok, Err}
 use Rattle.std.specs.Option.{option_or}
 use Rattle.std.specs.Result.{result_ok}
 use Rattle.history_text.specs.declared.limits.TheConstants.{MAX_EVENTS}
@@ -13,12 +16,15 @@ use Rattle.history_text.specs.declared.event.Kind.{Kind}
 use Rattle.history_text.specs.declared.event.Kind.TheVariants.{CallRead, CallWrite, Reply, Fail, Crash}
 use Rattle.history_text.specs.declared.event.ReplyParts.{ReplyParts}
 use Rattle.history_model.specs.Lists.{first_with}
-use Rattle.history_model.specs.Events.{Asked, asked_by, replied_by, failed_by, ended_by, open_call, open_asked, crashed_at, reply_agrees, fail_agrees}
+use Rattle.history_model.specs.Events.{Asked, asked_by, replied_by, failed_by, ended_by, open_call}
+use Rattle.history_model.specs.Events.{open_asked, crashed_at, reply_agrees, fail_agrees}
 use Rattle.history_model.specs.declared.refusal.LineRefusal.{LineRefusal}
 use Rattle.history_model.specs.declared.refusal.Reason.{Reason}
 use Rattle.history_model.specs.declared.refusal.BuildError.{BuildError}
 use Rattle.history_model.specs.declared.refusal.BuildError.TheVariants.{Refused, Memory}
-use Rattle.history_model.specs.declared.refusal.Reason.TheVariants.{Faulty, OpenCall, NoOpenCall, Disagreement, NoValue, WrittenBefore, TooMany, AfterCrash}
+use Rattle.history_model.specs.declared.refusal.Reason.TheVariants.{Faulty, OpenCall, NoOpenCall}
+use Rattle.history_model.specs.declared.refusal.Reason.TheVariants.{Disagreement, NoValue, WrittenBefore}
+use Rattle.history_model.specs.declared.refusal.Reason.TheVariants.{TooMany, AfterCrash}
 
 -- a line that isn't blank: its event, or its own fault
 abbrev pub Line : Type 0
@@ -56,27 +62,37 @@ refused e reason = record { line = e.line; reason = reason }
 
 -- 9: a call while its process has an open call
 abbrev pub call_while_open : List LineEvent → LineEvent → Option LineRefusal
-call_while_open before e = option_and_then (λ _. option_map (λ call. refused e (OpenCall call.line)) (open_call before e.process)) (asked_by e.kind)
+call_while_open before e =
+    option_and_then (λ _. option_map (λ call. refused e (OpenCall call.line)) (open_call before e.process))
+    (asked_by e.kind)
 
 -- 10: a reply or a fail without an open call; after a crash there is another reason
 abbrev pub end_without_call : List LineEvent → LineEvent → Option LineRefusal
-end_without_call before e = option_and_then (λ _. cond (is_none (open_call before e.process) && is_none (crashed_at before e.process)) (Some (refused e NoOpenCall)) None) (ended_by e.kind)
+end_without_call before e =
+    option_and_then (λ _. cond (is_none (open_call before e.process) && is_none (crashed_at before e.process))
+    (Some (refused e NoOpenCall)) None) (ended_by e.kind)
 
 -- what is said of an open call fails a test
-abbrev pub failing : (Asked → ReplyParts → Bool) → Reason → List LineEvent → LineEvent → Option ReplyParts → Option LineRefusal
-failing fails reason before e said = option_and_then (λ parts. option_and_then (λ call. cond (fails call parts) (Some (refused e reason)) None) (open_asked before e.process)) said
+abbrev pub failing : (Asked → ReplyParts → Bool) → Reason → List LineEvent → LineEvent → Option ReplyParts
+    → Option LineRefusal
+failing fails reason before e said =
+    option_and_then (λ parts. option_and_then (λ call. cond (fails call parts) (Some (refused e reason)) None)
+    (open_asked before e.process)) said
 
 -- 11: a reply that doesn't agree with its call
 abbrev pub reply_disagrees : List LineEvent → LineEvent → Option LineRefusal
-reply_disagrees before e = failing (λ call reply. not (reply_agrees call reply)) Disagreement before e (replied_by e.kind)
+reply_disagrees before e =
+    failing (λ call reply. not (reply_agrees call reply)) Disagreement before e (replied_by e.kind)
 
 -- 11: a fail that doesn't
 abbrev pub fail_disagrees : List LineEvent → LineEvent → Option LineRefusal
-fail_disagrees before e = failing (λ call fail. not (fail_agrees call fail)) Disagreement before e (failed_by e.kind)
+fail_disagrees before e =
+    failing (λ call fail. not (fail_agrees call fail)) Disagreement before e (failed_by e.kind)
 
 -- 12: a read's reply without a value
 abbrev pub reply_without_value : List LineEvent → LineEvent → Option LineRefusal
-reply_without_value before e = failing (λ call reply. is_none call.value && is_none reply.value) NoValue before e (replied_by e.kind)
+reply_without_value before e =
+    failing (λ call reply. is_none call.value && is_none reply.value) NoValue before e (replied_by e.kind)
 
 -- whether the event is a call that writes the value v to the register of this name
 abbrev pub writes_to : List ℕ → Val → Kind → Bool
@@ -88,7 +104,11 @@ writes_to name v Crash = false
 
 -- 13: a write of a value that an earlier write call gave to the same register, also if that call failed
 abbrev pub value_written : List LineEvent → LineEvent → Option LineRefusal
-value_written before e = option_and_then (λ call. option_and_then (λ v. option_map (λ w. refused e (WrittenBefore w.line)) (first_with (λ w. writes_to call.register v w.kind) before)) call.value) (asked_by e.kind)
+value_written before e =
+    option_and_then (λ call.
+    option_and_then
+    (λ v. option_map (λ w. refused e (WrittenBefore w.line))
+    (first_with (λ w. writes_to call.register v w.kind) before)) call.value) (asked_by e.kind)
 
 -- 14: too many events
 abbrev pub too_many : List LineEvent → LineEvent → Option LineRefusal
@@ -110,7 +130,10 @@ late_refusal before e = option_or (too_many before e) (after_crash before e)
 
 -- the refusal of an event after others: of the reasons that apply, the one of least number
 abbrev pub event_refusal : List LineEvent → LineEvent → Option LineRefusal
-event_refusal before e = first_some (call_while_open before e ∷ end_without_call before e ∷ reply_disagrees before e ∷ fail_disagrees before e ∷ reply_without_value before e ∷ value_written before e ∷ late_refusal before e ∷ [])
+event_refusal before e =
+    first_some (call_while_open before e ∷ end_without_call before e ∷ reply_disagrees before e
+    ∷ fail_disagrees before e ∷ reply_without_value before e ∷ value_written before e
+    ∷ late_refusal before e ∷ [])
 
 -- of a line: its own fault, or its event's refusal after the events of the lines before it
 abbrev pub line_refusal : List Line → Line → Option LineRefusal

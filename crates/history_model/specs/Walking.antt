@@ -1,5 +1,7 @@
--- The walks over the events of a register, of a process, and of a register and value; and the calls of a register, as a walk over its events meets them.
-use Rattle.std.specs.Prelude.{◌≡◌, ℕ, ◌+◌, ◌-◌, ◌<◌, ◌≤◌, suc, List, [], length, drop, slice_get, Option, Some, None, option_map, option_and_then}
+-- The walks over the events of a register, of a process, and of a register and value; and the calls of a
+-- register, as a walk over its events meets them.
+use Rattle.std.specs.Prelude.{◌≡◌, ℕ, ◌+◌, ◌-◌, ◌<◌, ◌≤◌, suc, List, [], length, drop}
+use Rattle.std.specs.Prelude.{slice_get, Option, Some, None, option_map, option_and_then}
 use Rattle.history_text.specs.declared.event.Val.{Val}
 use Rattle.history_model.specs.Operations.{Operation, operation, next_of, reply_in, calls_from, of_register}
 use Rattle.history_model.specs.declared.ids.EvId.{EvId}
@@ -35,13 +37,15 @@ IsFirstOf key events k o = IsLeastFrom (λ j. key_at key events j ≡ Some k) 0 
 
 -- the next event that has the key of the event at place i
 abbrev pub IsNextOf : {K : Type 0} → (Event → Option K) → List Event → ℕ → Option EvId → Type 0
-IsNextOf {K} key events i o = (k : K) → key_at key events i ≡ Some k → IsLeastFrom (λ j. key_at key events j ≡ Some k) (i + 1) o
+IsNextOf {K} key events i o =
+    (k : K) → key_at key events i ≡ Some k → IsLeastFrom (λ j. key_at key events j ≡ Some k) (i + 1) o
 
 -- ---- the calls of a register
 
 -- the operation of the call e at place i
 abbrev pub called_at : List Event → ℕ → Event → Operation
-called_at events i e = operation (length events + 2) (i + 2) e (reply_in (next_of e.process (suc (i + 2)) (drop (suc i) events)))
+called_at events i e =
+    operation (length events + 2) (i + 2) e (reply_in (next_of e.process (suc (i + 2)) (drop (suc i) events)))
 
 -- an event with its time
 abbrev pub timed : List Event → Option EvId → Option (ℕ × Event)
@@ -50,7 +54,9 @@ timed events (Some j) = option_map (λ e. (j.0 + 2, e)) (slice_get events j.0)
 
 -- the reply to the call at place i
 abbrev pub IsReplyOf : List Event → ℕ → Option EvId → Type 0
-IsReplyOf events i o = (e : Event) → slice_get events i ≡ Some e → reply_in (next_of e.process (suc (i + 2)) (drop (suc i) events)) ≡ timed events o
+IsReplyOf events i o =
+    (e : Event) → slice_get events i ≡ Some e
+    → reply_in (next_of e.process (suc (i + 2)) (drop (suc i) events)) ≡ timed events o
 
 -- the calls of register r at and after an event of it; where the walk has ended, none
 abbrev pub calls_at : List Event → ℕ → Option EvId → List Operation

@@ -24,6 +24,7 @@ pub struct Event {
     /// The register of the call, which a reply or a fail need not name. A crash has none.
     pub register: Option<RegId>,
     pub what: What,
-    /// The written value of a write's call, of its reply and of its fail, the value that a read's reply gives, and of any other event none.
+    /// The written value of a write's call, of its reply and of its fail, the value that a read's
+    /// reply gives, and of any other event none.
     pub value: Option<Val>,
 }

@@ -10,7 +10,8 @@ pub struct RegId(pub u32);
 pub struct EvId(pub u32);
 
 impl EvId {
-    /// The time of the event. That of the first is 2: a register's initial write is called at 0 and replies at 1.
+    /// The time of the event. That of the first is 2: a register's
+    /// initial write is called at 0 and replies at 1.
     pub fn time(self) -> u32
         requires { self.0 + 2 < 2 ^ 32 }
         ensures { result ≡ self.0 + 2 }

@@ -1,12 +1,14 @@
-//! What a history means: which ones are accepted, what their operations are, and when a register is atomic, safe or regular.
+//! What a history means: which ones are accepted, what their operations are, and
+//! when a register is atomic, safe or regular.
 //!
-//! No history is checked here. This crate has the types that an answer speaks of and the small calls that read them, the definitions behind each answer,
-//! and laws that hold of every accepted history.
-//! Whoever reads `specs/` knows what each verdict and each refusal says; the crates above prove that they give just that.
+//! No history is checked here. This crate has the types that an answer speaks of and the small calls that
+//! read them, the definitions behind each answer, and laws that hold of every accepted history. Whoever reads
+//! `specs/` knows what each verdict and each refusal says; the crates above prove that they give just that.
 //!
-//! Read the definitions in this order: `Lists`; `Events`, what a line says; `Refusals`, which histories are refused and why; `History`, the events of an accepted one;
-//! `Operations`, their times and their order; `Legal` (Herlihy and Wing, 1990) and `Lamport` (1986), the three properties; `Walking`, `Naming` and `OfValue`, in
-//! whose words the calls of the crates above answer. `laws` is what these rely on.
+//! Read the definitions in this order: `Lists`; `Events`, what a line says; `Refusals`, which histories are
+//! refused and why; `History`, the events of an accepted one; `Operations`, their times and their order;
+//! `Legal` (Herlihy and Wing, 1990) and `Lamport` (1986), the three properties; `Walking`, `Naming` and
+//! `OfValue`, in whose words the calls of the crates above answer. `laws` is what these rely on.
 #![tactic(auto)]
 
 mod event;

@@ -2,7 +2,8 @@
 use crate::ids::RegId;
 use history_text::{OpKind, Val};
 
-/// An operation with its times. Event `i` has time `i + 2`; the initial write is called at 0 and replies at 1.
+/// An operation with its times. Event `i` has time `i + 2`; the
+/// initial write is called at 0 and replies at 1.
 #[derive(Clone, Copy, Debug, PartialEq, Eq)]
 pub struct Op {
     /// The line of the call, from 1; 0 for an initial write.

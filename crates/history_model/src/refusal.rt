@@ -7,7 +7,8 @@ use history_text::{LineKind, MAX_EVENTS};
 use std::alloc::AllocError;
 use thiserror::Error;
 
-/// Why a line is refused. Each reason has a number, and of several that apply to a line the one with the lowest number stands.
+/// Why a line is refused. Each reason has a number, and of several that apply to a
+/// line the one with the lowest number stands.
 #[derive(Clone, Copy, Debug, PartialEq, Eq, Error)]
 pub enum Reason {
     /// 1 to 8: the fault of the line by itself.

@@ -1,5 +1,6 @@
 -- The lines of an input are read with ascending numbers, from 1 on.
-use Rattle.std.proofs.Common.{◌≡◌, ℕ, ◌+◌, ◌<◌, ◌≤◌, List, [], ◌∷◌, length, map, Bool, true, false, cond, Option, Some, None, Result, Ok, Err, refl, arith}
+use Rattle.std.proofs.Common.{◌≡◌, ℕ, ◌+◌, ◌<◌, ◌≤◌, List, [], ◌∷◌, length, map, Bool, true}
+use Rattle.std.proofs.Common.{false, cond, Option, Some, None, Result, Ok, Err, refl, arith}
 use Rattle.std.specs.Prelude.{not, codes, is_some, nat_lt}
 use Rattle.std.specs.List.{All, AllPairs}
 use Rattle.std.proofs.lemmas.List.Elements.{All-nil, All-cons, All-weaker}
@@ -10,11 +11,13 @@ use Rattle.history_text.specs.declared.event.Kind.{Kind}
 use Rattle.history_text.specs.declared.event.LineEvent.{LineEvent}
 use Rattle.history_text.specs.declared.fault.LineFault.{LineFault}
 use Rattle.history_text.specs.declared.fault.LineKind.{LineKind}
-use Rattle.history_text.specs.declared.fault.LineKind.TheVariants.{TooLong, NotJson, NotObject, BadProcess, BadEvent}
+use Rattle.history_text.specs.declared.fault.LineKind.TheVariants.{TooLong, NotJson, NotObject}
+use Rattle.history_text.specs.declared.fault.LineKind.TheVariants.{BadProcess, BadEvent}
 use Rattle.history_text.specs.Limits.{MAX_LINE}
 use Rattle.history_text.specs.Lines.{lines, is_blank}
 use Rattle.history_text.specs.Members.{process_form, event_form}
-use Rattle.history_text.specs.Reading.{or_fault, with_kind, kind_of, json_of, event_of, line_form, line_reading, at_line, line_number, history_lines, IsAscending}
+use Rattle.history_text.specs.Reading.{or_fault, with_kind, kind_of, json_of, event_of, line_form}
+use Rattle.history_text.specs.Reading.{line_reading, at_line, line_number, history_lines, IsAscending}
 use Rattle.history_text.proofs.Numbered.{kept}
 
 module _ (n : ℕ) where
@@ -27,7 +30,8 @@ module _ (n : ℕ) where
   unfolding HasLine
   fault-line fault = tt
 
-  or_fault-line : {A : Type 0} (o : Option A) (fault : LineKind) (next : A → Result LineEvent LineKind) → ((x : A) → HasLine (next x)) → HasLine (or_fault o fault next)
+  or_fault-line : {A : Type 0} (o : Option A) (fault : LineKind) (next : A → Result LineEvent LineKind)
+      → ((x : A) → HasLine (next x)) → HasLine (or_fault o fault next)
   or_fault-line None fault next h = fault-line fault
   or_fault-line (Some x) fault next h = h x
 
@@ -44,14 +48,18 @@ module _ (n : ℕ) where
   event_of-line d =
       let process = process_form (get (codes "process") d) in
       let event = event_form (get (codes "event") d) in
-      let with_event : ℕ → Result LineEvent LineKind = λ p. or_fault event BadEvent (λ c. with_kind n p (kind_of d c)) in
-      let with_event-line : (p : ℕ) → HasLine (with_event p) = λ p. or_fault-line event BadEvent (λ c. with_kind n p (kind_of d c)) (λ c. with_kind-line p (kind_of d c)) in
+      let with_event : ℕ → Result LineEvent LineKind =
+      λ p. or_fault event BadEvent (λ c. with_kind n p (kind_of d c)) in
+      let with_event-line : (p : ℕ) → HasLine (with_event p) =
+      λ p. or_fault-line event BadEvent (λ c. with_kind n p (kind_of d c))
+      (λ c. with_kind-line p (kind_of d c)) in
       either-line (is_some (as_object d)) (or_fault process BadProcess with_event) (Err NotObject)
       (or_fault-line process BadProcess with_event with_event-line) (fault-line NotObject)
 
   line_form-line : (bytes : List ℕ) → HasLine (line_form n bytes)
   line_form-line bytes =
-      either-line (nat_lt MAX_LINE (length bytes)) (Err TooLong) (or_fault (json_of bytes) NotJson (event_of n))
+      either-line (nat_lt MAX_LINE (length bytes)) (Err TooLong)
+      (or_fault (json_of bytes) NotJson (event_of n))
       (fault-line TooLong) (or_fault-line (json_of bytes) NotJson (event_of n) event_of-line)
 
   at_line-number : (r : Result LineEvent LineKind) → HasLine r → line_number (at_line n r) ≡ n
@@ -73,18 +81,26 @@ record Rises (n : ℕ) (read : List (Result LineEvent LineFault)) : Type 0 where
   pub pairs : AllPairs (λ l m. line_number l < line_number m) read
 
 -- the same, of a line before
-weaker : (n : ℕ) (read : List (Result LineEvent LineFault)) → All (λ l. n + 1 ≤ line_number l) read → All (λ l. n ≤ line_number l) read
-weaker n read all = All-weaker (λ l. n + 1 ≤ line_number l) (λ l. n ≤ line_number l) (λ l h. omega (arith, h)) read all
+weaker : (n : ℕ) (read : List (Result LineEvent LineFault)) → All (λ l. n + 1 ≤ line_number l) read
+    → All (λ l. n ≤ line_number l) read
+weaker n read all =
+    All-weaker (λ l. n + 1 ≤ line_number l) (λ l. n ≤ line_number l) (λ l h. omega (arith, h)) read all
 
 one_more : (n : ℕ) (l : List ℕ) (b : Bool) (later : List (ℕ × List ℕ)) → Rises (n + 1) (map reading later)
     → Rises n (map reading (cond (not b) ((n, l) ∷ later) later))
 one_more n l true later rest = record { least = weaker n (map reading later) rest.least; pairs = rest.pairs }
 one_more n l false later rest =
     let number = number-read n l in
-    let after = All-weaker (λ m. n + 1 ≤ line_number m) (λ m. line_number (line_reading n l) < line_number m) (λ m h. omega (arith, h, number)) (map reading later) rest.least in
+    let after =
+    All-weaker (λ m. n + 1 ≤ line_number m) (λ m. line_number (line_reading n l) < line_number m)
+    (λ m h. omega (arith, h, number)) (map reading later) rest.least in
     record {
-      least = All-cons (λ l. n ≤ line_number l) (line_reading n l) (map reading later) (omega (arith, number)) (weaker n (map reading later) rest.least);
-      pairs = AllPairs-cons (λ l m. line_number l < line_number m) (line_reading n l) (map reading later) after rest.pairs;
+      least =
+          All-cons (λ l. n ≤ line_number l) (line_reading n l) (map reading later) (omega (arith, number))
+          (weaker n (map reading later) rest.least);
+      pairs =
+          AllPairs-cons (λ l m. line_number l < line_number m) (line_reading n l)
+          (map reading later) after rest.pairs;
     }
 
 rises : (n : ℕ) (ls : List (List ℕ)) → Rises n (map reading (kept n ls))

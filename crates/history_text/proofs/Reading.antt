@@ -1,5 +1,6 @@
 -- What the definitions make of bytes once they have been read, or refused.
-use Rattle.std.proofs.Common.{◌≡◌, List, ℕ, ◌≤◌, length, Bool, true, false, Option, Some, None, Err, cond, refl, arith}
+use Rattle.std.proofs.Common.{◌≡◌, List, ℕ, ◌≤◌, length, Bool, true, false}
+use Rattle.std.proofs.Common.{Option, Some, None, Err, cond, refl, arith}
 use Rattle.std.specs.Prelude.{nat_lt}
 use Rattle.std.proofs.lemmas.Bool.Decides.{nat_tests}
 use Rattle.std.specs.Str.{IsUtf8, is_utf8}
@@ -27,8 +28,10 @@ json_of-refused bytes h = none_either (is_utf8 bytes) (read bytes) (λ e. h (IsU
 short : (bytes : List ℕ) → length bytes ≤ MAX_LINE → nat_lt MAX_LINE (length bytes) ≡ false
 short bytes le = grind (arith, nat_tests)
 
-pub line_form-read : (n : ℕ) (bytes : List ℕ) (d : Data) → length bytes ≤ MAX_LINE → json_of bytes ≡ Some d → line_form n bytes ≡ event_of n d
+pub line_form-read : (n : ℕ) (bytes : List ℕ) (d : Data) → length bytes ≤ MAX_LINE → json_of bytes ≡ Some d
+    → line_form n bytes ≡ event_of n d
 line_form-read n bytes d le e = rw (short bytes le, e) refl
 
-pub line_form-refused : (n : ℕ) (bytes : List ℕ) → length bytes ≤ MAX_LINE → json_of bytes ≡ None → line_form n bytes ≡ Err NotJson
+pub line_form-refused : (n : ℕ) (bytes : List ℕ) → length bytes ≤ MAX_LINE → json_of bytes ≡ None
+    → line_form n bytes ≡ Err NotJson
 line_form-refused n bytes le e = rw (short bytes le, e) refl

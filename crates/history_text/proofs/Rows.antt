@@ -1,5 +1,7 @@
--- The forms of lines, computed on lines that are written out: each row is an input and what the definitions make of it.
-use Rattle.std.proofs.Common.{◌≡◌, pos, negsuc, codes, [], ◌∷◌, Some, None, Ok, Err, true, false, refl, replicate}
+-- The forms of lines, computed on lines that are written out: each row is an
+-- input and what the definitions make of it.
+use Rattle.std.proofs.Common.{◌≡◌, pos, negsuc, codes, [], ◌∷◌, Some, None}
+use Rattle.std.proofs.Common.{Ok, Err, true, false, refl, replicate}
 use Rattle.std.specs.Str.{is_utf8, chars}
 use Rattle.serde_json.proofs.OnLiterals.{serde_json_on_literals}
 use Rattle.serde_json.specs.Data.{string}
@@ -11,7 +13,8 @@ use Rattle.history_text.specs.Values.{same_value}
 use Rattle.history_text.specs.declared.event.Val.TheVariants.{Null, Int}
 use Rattle.history_text.specs.declared.event.OpKind.TheVariants.{WriteOp}
 use Rattle.history_text.specs.declared.event.Kind.TheVariants.{CallRead, CallWrite, Reply, Fail, Crash}
-use Rattle.history_text.specs.declared.fault.LineKind.TheVariants.{NotJson, NotObject, BadProcess, BadEvent, BadOp, BadRegister, BadValue}
+use Rattle.history_text.specs.declared.fault.LineKind.TheVariants.{NotJson, NotObject, BadProcess, BadEvent}
+use Rattle.history_text.specs.declared.fault.LineKind.TheVariants.{BadOp, BadRegister, BadValue}
 
 -- lines: blank ones are skipped and still count, and the last may lack its line feed
 
@@ -21,51 +24,91 @@ empty_input = refl
 blank_lines : numbered_lines (codes "a\n \t\r\n\nb") ≡ (1, codes "a") ∷ (4, codes "b") ∷ []
 blank_lines = refl
 
-spans : line_spans (codes "a\n \r\n\nbc\n") ≡ record { line = 1; from = 0; to = 1 } ∷ record { line = 4; from = 6; to = 8 } ∷ []
+spans : line_spans (codes "a\n \r\n\nbc\n") ≡ record { line = 1; from = 0; to = 1 } ∷ record {
+  line = 4;
+  from = 6;
+  to = 8;
+} ∷ []
 spans = refl
 
 -- the forms of an event
 
-write_call : line_form 1 (codes "{\"process\":1,\"event\":\"call\",\"op\":\"write\",\"register\":\"x\",\"value\":5}") ≡ Ok (record { line = 1; process = 1; kind = CallWrite (codes "x") (pos 5) })
+write_call : line_form 1
+    (codes "{\"process\":1,\"event\":\"call\",\"op\":\"write\",\"register\":\"x\",\"value\":5}")
+    ≡ Ok (record { line = 1; process = 1; kind = CallWrite (codes "x") (pos 5) })
 unfolding json_of serde_json_on_literals is_utf8 chars
 write_call = refl
 
-read_call : line_form 3 (codes "{\"process\":2,\"event\":\"call\",\"op\":\"read\",\"register\":\"x\"}") ≡ Ok (record { line = 3; process = 2; kind = CallRead (codes "x") })
+read_call : line_form 3 (codes "{\"process\":2,\"event\":\"call\",\"op\":\"read\",\"register\":\"x\"}")
+    ≡ Ok (record { line = 3; process = 2; kind = CallRead (codes "x") })
 unfolding json_of serde_json_on_literals is_utf8 chars
 read_call = refl
 
-bare_reply : line_form 2 (codes "{\"process\":1,\"event\":\"reply\"}") ≡ Ok (record { line = 2; process = 1; kind = Reply (record { op = None; register = None; value = None }) })
+bare_reply : line_form 2 (codes "{\"process\":1,\"event\":\"reply\"}") ≡ Ok (record {
+  line = 2;
+  process = 1;
+  kind = Reply (record { op = None; register = None; value = None });
+})
 unfolding json_of serde_json_on_literals is_utf8 chars
 bare_reply = refl
 
-full_reply : line_form 2 (codes "{\"process\":1,\"event\":\"reply\",\"op\":\"write\",\"register\":\"x\",\"value\":null}") ≡ Ok (record { line = 2; process = 1; kind = Reply (record { op = Some WriteOp; register = Some (codes "x"); value = Some Null }) })
+full_reply : line_form 2
+    (codes "{\"process\":1,\"event\":\"reply\",\"op\":\"write\",\"register\":\"x\",\"value\":null}")
+    ≡ Ok (record {
+      line = 2;
+      process = 1;
+      kind = Reply (record { op = Some WriteOp; register = Some (codes "x"); value = Some Null });
+    })
 unfolding json_of serde_json_on_literals is_utf8 chars
 full_reply = refl
 
-bare_fail : line_form 2 (codes "{\"process\":1,\"event\":\"fail\"}") ≡ Ok (record { line = 2; process = 1; kind = Fail (record { op = None; register = None; value = None }) })
+bare_fail : line_form 2 (codes "{\"process\":1,\"event\":\"fail\"}") ≡ Ok (record {
+  line = 2;
+  process = 1;
+  kind = Fail (record { op = None; register = None; value = None });
+})
 unfolding json_of serde_json_on_literals is_utf8 chars
 bare_fail = refl
 
-full_fail : line_form 2 (codes "{\"process\":1,\"event\":\"fail\",\"op\":\"write\",\"register\":\"x\",\"value\":5}") ≡ Ok (record { line = 2; process = 1; kind = Fail (record { op = Some WriteOp; register = Some (codes "x"); value = Some (Int (pos 5)) }) })
+full_fail : line_form 2
+    (codes "{\"process\":1,\"event\":\"fail\",\"op\":\"write\",\"register\":\"x\",\"value\":5}")
+    ≡ Ok (record {
+      line = 2;
+      process = 1;
+      kind = Fail (record { op = Some WriteOp; register = Some (codes "x"); value = Some (Int (pos 5)) });
+    })
 unfolding json_of serde_json_on_literals is_utf8 chars
 full_fail = refl
 
 -- of a crash no other member is read
-crash : line_form 2 (codes "{\"process\":1,\"event\":\"crash\",\"op\":0,\"register\":\"\",\"value\":true}") ≡ Ok (record { line = 2; process = 1; kind = Crash })
+crash : line_form 2 (codes "{\"process\":1,\"event\":\"crash\",\"op\":0,\"register\":\"\",\"value\":true}")
+    ≡ Ok (record { line = 2; process = 1; kind = Crash })
 unfolding json_of serde_json_on_literals is_utf8 chars
 crash = refl
 
 -- space around the JSON, unknown members, and of two equal names the last
 
-spaces : line_form 4 (codes " {\"process\":2,\"event\":\"reply\",\"value\":-5} \r") ≡ Ok (record { line = 4; process = 2; kind = Reply (record { op = None; register = None; value = Some (Int (negsuc 4)) }) })
+spaces : line_form 4 (codes " {\"process\":2,\"event\":\"reply\",\"value\":-5} \r") ≡ Ok (record {
+  line = 4;
+  process = 2;
+  kind = Reply (record { op = None; register = None; value = Some (Int (negsuc 4)) });
+})
 unfolding json_of serde_json_on_literals is_utf8 chars
 spaces = refl
 
-unknown_member : line_form 4 (codes "{\"process\":2,\"event\":\"reply\",\"clock\":[{}]}") ≡ Ok (record { line = 4; process = 2; kind = Reply (record { op = None; register = None; value = None }) })
+unknown_member : line_form 4 (codes "{\"process\":2,\"event\":\"reply\",\"clock\":[{}]}") ≡ Ok (record {
+  line = 4;
+  process = 2;
+  kind = Reply (record { op = None; register = None; value = None });
+})
 unfolding json_of serde_json_on_literals is_utf8 chars
 unknown_member = refl
 
-named_twice : line_form 3 (codes "{\"process\":2,\"event\":\"reply\",\"process\":7}") ≡ Ok (record { line = 3; process = 7; kind = Reply (record { op = None; register = None; value = None }) })
+named_twice : line_form 3 (codes "{\"process\":2,\"event\":\"reply\",\"process\":7}") ≡ Ok (record {
+  line = 3;
+  process = 7;
+  kind = Reply (record { op = None; register = None; value = None });
+})
 unfolding json_of serde_json_on_literals is_utf8 chars
 named_twice = refl
 
@@ -87,7 +130,11 @@ fraction : line_form 3 (codes "{\"process\":1.0,\"event\":\"reply\"}") ≡ Err B
 unfolding json_of serde_json_on_literals is_utf8 chars
 fraction = refl
 
-last_process : line_form 3 (codes "{\"process\":4294967295,\"event\":\"reply\"}") ≡ Ok (record { line = 3; process = 4_294_967_295; kind = Reply (record { op = None; register = None; value = None }) })
+last_process : line_form 3 (codes "{\"process\":4294967295,\"event\":\"reply\"}") ≡ Ok (record {
+  line = 3;
+  process = 4_294_967_295;
+  kind = Reply (record { op = None; register = None; value = None });
+})
 unfolding json_of serde_json_on_literals is_utf8 chars
 last_process = refl
 
@@ -115,24 +162,40 @@ empty_name : line_form 3 (codes "{\"process\":2,\"event\":\"reply\",\"register\"
 unfolding json_of serde_json_on_literals is_utf8 chars
 empty_name = refl
 
-value_past_64_bits : line_form 3 (codes "{\"process\":2,\"event\":\"call\",\"op\":\"write\",\"register\":\"x\",\"value\":9223372036854775808}") ≡ Err BadValue
+value_past_64_bits : line_form 3
+    (codes
+    "{\"process\":2,\"event\":\"call\",\"op\":\"write\",\"register\":\"x\",\"value\":9223372036854775808}")
+    ≡ Err BadValue
 unfolding json_of serde_json_on_literals is_utf8 chars
 value_past_64_bits = refl
 
-least_value : line_form 3 (codes "{\"process\":2,\"event\":\"reply\",\"value\":-9223372036854775808}") ≡ Ok (record { line = 3; process = 2; kind = Reply (record { op = None; register = None; value = Some (Int (negsuc 9_223_372_036_854_775_807)) }) })
+least_value : line_form 3 (codes "{\"process\":2,\"event\":\"reply\",\"value\":-9223372036854775808}")
+    ≡ Ok (record {
+      line = 3;
+      process = 2;
+      kind =
+          Reply (record {
+            op = None;
+            register = None;
+            value = Some (Int (negsuc 9_223_372_036_854_775_807));
+          });
+    })
 unfolding json_of serde_json_on_literals is_utf8 chars
 least_value = refl
 
-value_of_a_read_call : line_form 3 (codes "{\"process\":2,\"event\":\"call\",\"op\":\"read\",\"register\":\"x\",\"value\":1}") ≡ Err BadValue
+value_of_a_read_call : line_form 3
+    (codes "{\"process\":2,\"event\":\"call\",\"op\":\"read\",\"register\":\"x\",\"value\":1}") ≡ Err BadValue
 unfolding json_of serde_json_on_literals is_utf8 chars
 value_of_a_read_call = refl
 
 -- of several faults the least number: every member is of another form here
-least_of_all : line_form 3 (codes "{\"process\":-1,\"event\":0,\"op\":0,\"register\":0,\"value\":true}") ≡ Err BadProcess
+least_of_all : line_form 3 (codes "{\"process\":-1,\"event\":0,\"op\":0,\"register\":0,\"value\":true}")
+    ≡ Err BadProcess
 unfolding json_of serde_json_on_literals is_utf8 chars
 least_of_all = refl
 
-op_before_register : line_form 3 (codes "{\"process\":1,\"event\":\"reply\",\"op\":0,\"register\":0,\"value\":true}") ≡ Err BadOp
+op_before_register : line_form 3
+    (codes "{\"process\":1,\"event\":\"reply\",\"op\":0,\"register\":0,\"value\":true}") ≡ Err BadOp
 unfolding json_of serde_json_on_literals is_utf8 chars
 op_before_register = refl
 
@@ -148,7 +211,17 @@ longer_name : name_form (Some (string (replicate 256 120))) ≡ None
 longer_name = refl
 
 -- an input of two lines, of which the second is torn
-torn_input : history_lines (codes "\r\n{\"process\":1,\"event\":\"reply\"}\r\n{\"pro") ≡ Ok (record { line = 2; process = 1; kind = Reply (record { op = None; register = None; value = None }) }) ∷ Err (record { line = 3; kind = NotJson }) ∷ []
+torn_input : history_lines (codes "\r\n{\"process\":1,\"event\":\"reply\"}\r\n{\"pro")
+    ≡ Ok (record {
+      line = 2;
+      process = 1;
+      kind =
+          Reply (record { op = None; register = None; value = None });
+    }) ∷ Err (record {
+      line =
+          3;
+      kind = NotJson;
+    }) ∷ []
 unfolding json_of serde_json_on_literals is_utf8 chars
 torn_input = refl
 

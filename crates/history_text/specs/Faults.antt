@@ -1,7 +1,8 @@
 -- The numbers of the faults of a line; they are this project's profile.
 use Rattle.std.specs.Prelude.{ℕ}
 use Rattle.history_text.specs.declared.fault.LineKind.{LineKind}
-use Rattle.history_text.specs.declared.fault.LineKind.TheVariants.{TooLong, NotJson, NotObject, BadProcess, BadEvent, BadOp, BadRegister, BadValue}
+use Rattle.history_text.specs.declared.fault.LineKind.TheVariants.{TooLong, NotJson, NotObject, BadProcess}
+use Rattle.history_text.specs.declared.fault.LineKind.TheVariants.{BadEvent, BadOp, BadRegister, BadValue}
 
 -- the number by which a fault of a line is refused; the least that applies to a line is its own
 abbrev pub fault_number : LineKind → ℕ

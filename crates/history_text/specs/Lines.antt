@@ -1,5 +1,6 @@
 -- The lines of an input, and where they stand. The form of lines is this project's profile.
-use Rattle.std.specs.Prelude.{◌≡◌, ℕ, ◌+◌, ◌-◌, ◌==◌, ◌||◌, ◌≤◌, ◌++◌, ◌∷◌, [], List, length, map, take, drop, filter, sum_by, Bool, true, not, if◌then◌else◌}
+use Rattle.std.specs.Prelude.{◌≡◌, ℕ, ◌+◌, ◌-◌, ◌==◌, ◌||◌, ◌≤◌, ◌++◌, ◌∷◌, [], List, length}
+use Rattle.std.specs.Prelude.{map, take, drop, filter, sum_by, Bool, true, not, if◌then◌else◌}
 use Rattle.std.specs.List.{slice_split, list_all, enumerate_from}
 use Rattle.history_text.specs.declared.lines.Span.{Span}
 use Rattle.history_text.specs.declared.lines.WholeLines.{WholeLines}
@@ -48,20 +49,25 @@ line_spans input = map (span_of input) (numbered_lines input)
 abbrev pub IsWithin : List ℕ → Span → Type 0
 IsWithin input span = (span.from ≤ span.to) × (span.to ≤ length input)
 
--- where lines that follow one another stand, the blank ones left out, if the first of them is line `n` and begins at byte `from`
+-- where lines that follow one another stand, the blank ones left out, if the first of
+-- them is line `n` and begins at byte `from`
 abbrev pub spans_at : ℕ → ℕ → List (List ℕ) → List Span
 spans_at n from [] = []
 spans_at n from (l ∷ ls) =
-    (if is_blank l then [] else record { line = n; from = from; to = from + length l } ∷ []) ++ spans_at (n + 1) (from + length l + 1) ls
+    (if is_blank l then [] else record { line = n; from = from; to = from + length l } ∷ [])
+    ++ spans_at (n + 1) (from + length l + 1) ls
 
 -- what may still come behind some bytes: nothing, if the input ends with them
 abbrev pub MayCome : Bool → List ℕ → Type 0
 MayCome is_ended more = is_ended ≡ true → more ≡ []
 
--- the whole lines at the front of the bytes, of which the first has number `first`: whatever may come, the lines of all are these and those of what is left
+-- the whole lines at the front of the bytes, of which the first has number `first`: whatever may come, the
+-- lines of all are these and those of what is left
 pub record AreWhole (bytes : List ℕ) (first : ℕ) (is_ended : Bool) (whole : WholeLines) : Type 0 where
   pub spans : (more : List ℕ) → MayCome is_ended more
-      → whole.spans.items ++ spans_at whole.next_line whole.byte_count (lines (drop whole.byte_count bytes ++ more)) ≡ spans_at first 0 (lines (bytes ++ more))
+      → whole.spans.items
+      ++ spans_at whole.next_line whole.byte_count (lines (drop whole.byte_count bytes ++ more))
+      ≡ spans_at first 0 (lines (bytes ++ more))
   pub one_left : lines (drop whole.byte_count bytes) ≡ drop whole.byte_count bytes ∷ []
   pub end : is_ended ≡ true → whole.byte_count ≡ length bytes
   pub within : whole.byte_count ≤ length bytes

@@ -1,7 +1,8 @@
 -- The members of a line's object, each by itself. The JSON is that of RFC 8259 as `serde_json`
 -- reads it, of equal names the last; the forms of the members are this project's profile.
 -- The outer `None` of a form stands for a member of another form.
-use Rattle.std.specs.Prelude.{ℕ, ◌&&◌, ℤ, List, length, codes, Bool, true, false, nat_lt, nat_le, bytes_eq, if◌then◌else◌, Option, Some, None, option_map, option_and_then}
+use Rattle.std.specs.Prelude.{ℕ, ◌&&◌, ℤ, List, length, codes, Bool, true, false, nat_lt, nat_le}
+use Rattle.std.specs.Prelude.{bytes_eq, if◌then◌else◌, Option, Some, None, option_map, option_and_then}
 use Rattle.serde_json.specs.Data.{Data, null, boolean, number, string, array, object}
 use Rattle.serde_json.specs.Find.{as_number, as_u64, as_i64, as_str}
 use Rattle.history_text.specs.Limits.{MAX_NAME, MAX_PROCESS}
@@ -18,23 +19,34 @@ Member = Option Data
 
 -- a process: a whole number within the limit
 abbrev pub process_form : Member → Option ℕ
-process_form m = option_and_then (λ p. if nat_le p MAX_PROCESS then Some p else None) (option_and_then as_u64 (option_and_then as_number m))
+process_form m =
+    option_and_then (λ p. if nat_le p MAX_PROCESS then Some p
+    else None) (option_and_then as_u64 (option_and_then as_number m))
 
 -- the word for a fail or for a crash
 abbrev pub other_word : List ℕ → Option EventWord
-other_word s = if bytes_eq s (codes "fail") then Some word.Fail else (if bytes_eq s (codes "crash") then Some word.Crash else None)
+other_word s =
+    if bytes_eq s (codes "fail") then Some word.Fail
+    else (if bytes_eq s (codes "crash") then Some word.Crash else None)
 
 -- an event: the word for a call, for a reply, for a fail or for a crash
 abbrev pub event_form : Member → Option EventWord
-event_form m = option_and_then (λ s. if bytes_eq s (codes "call") then Some word.Call else (if bytes_eq s (codes "reply") then Some word.Reply else other_word s)) (option_and_then as_str m)
+event_form m =
+    option_and_then (λ s. if bytes_eq s (codes "call") then Some word.Call
+    else (if bytes_eq s (codes "reply") then Some word.Reply else other_word s))
+    (option_and_then as_str m)
 
 -- the word for a read or the word for a write
 abbrev pub op_form : Member → Option OpKind
-op_form m = option_and_then (λ s. if bytes_eq s (codes "read") then Some ReadOp else (if bytes_eq s (codes "write") then Some WriteOp else None)) (option_and_then as_str m)
+op_form m =
+    option_and_then (λ s. if bytes_eq s (codes "read") then Some ReadOp
+    else (if bytes_eq s (codes "write") then Some WriteOp else None)) (option_and_then as_str m)
 
 -- a register's name: a text of at least one byte and at most the limit
 abbrev pub name_form : Member → Option (List ℕ)
-name_form m = option_and_then (λ s. if nat_lt 0 (length s) && nat_le (length s) MAX_NAME then Some s else None) (option_and_then as_str m)
+name_form m =
+    option_and_then (λ s. if nat_lt 0 (length s) && nat_le (length s) MAX_NAME then Some s
+    else None) (option_and_then as_str m)
 
 -- a written value: a whole number of 64 bits with a sign
 abbrev pub written_form : Member → Option ℤ

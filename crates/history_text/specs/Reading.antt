@@ -1,5 +1,6 @@
 -- The one event of a line, or the least fault that applies to it; this project's profile.
-use Rattle.std.specs.Prelude.{◌≡◌, ℕ, ◌<◌, ◌≤◌, ◌++◌, Bool, List, drop, length, map, codes, nat_lt, slice_range, if◌then◌else◌, Option, Some, None, is_some, Result, Ok, Err}
+use Rattle.std.specs.Prelude.{◌≡◌, ℕ, ◌<◌, ◌≤◌, ◌++◌, Bool, List, drop, length, map, codes, nat_lt}
+use Rattle.std.specs.Prelude.{slice_range, if◌then◌else◌, Option, Some, None, is_some, Result, Ok, Err}
 use Rattle.std.specs.List.{All, AllPairs}
 use Rattle.std.specs.Str.{is_utf8}
 use Rattle.serde_json.specs.Data.{Data}
@@ -7,7 +8,8 @@ use Rattle.serde_json.specs.Read.{read}
 use Rattle.serde_json.specs.Find.{get, as_object}
 use Rattle.history_text.specs.Limits.{MAX_LINE}
 use Rattle.history_text.specs.Lines.{MayCome, numbered_from, numbered_lines}
-use Rattle.history_text.specs.Members.{process_form, event_form, op_form, name_form, written_form, value_form, has_no_value, optional}
+use Rattle.history_text.specs.Members.{process_form, event_form, op_form, name_form}
+use Rattle.history_text.specs.Members.{written_form, value_form, has_no_value, optional}
 use Rattle.history_text.specs.declared.lines.Span.{Span}
 use Rattle.history_text.specs.declared.lines.WholeLines.{WholeLines}
 use Rattle.history_text.specs.declared.event.OpKind.{OpKind}
@@ -20,7 +22,8 @@ use Rattle.history_text.specs.declared.event.Kind.TheVariants.{CallRead, CallWri
 use Rattle.history_text.specs.declared.event.LineEvent.{LineEvent}
 use Rattle.history_text.specs.declared.fault.LineFault.{LineFault}
 use Rattle.history_text.specs.declared.fault.LineKind.{LineKind}
-use Rattle.history_text.specs.declared.fault.LineKind.TheVariants.{TooLong, NotJson, NotObject, BadProcess, BadEvent, BadOp, BadRegister, BadValue}
+use Rattle.history_text.specs.declared.fault.LineKind.TheVariants.{TooLong, NotJson, NotObject, BadProcess}
+use Rattle.history_text.specs.declared.fault.LineKind.TheVariants.{BadEvent, BadOp, BadRegister, BadValue}
 
 -- goes on with what has its form, or stops at the fault; faults are looked for by ascending
 -- number, so the one at which a reading stops is the least that applies
@@ -75,7 +78,8 @@ json_of bytes = if is_utf8 bytes then read bytes else None
 
 -- the event of the bytes at line `n`, or the least fault that applies
 abbrev pub line_form : ℕ → List ℕ → Result LineEvent LineKind
-line_form n bytes = if nat_lt MAX_LINE (length bytes) then Err TooLong else or_fault (json_of bytes) NotJson (event_of n)
+line_form n bytes =
+    if nat_lt MAX_LINE (length bytes) then Err TooLong else or_fault (json_of bytes) NotJson (event_of n)
 
 -- a fault, with the number of its line
 abbrev pub at_line : ℕ → Result LineEvent LineKind → Result LineEvent LineFault
@@ -90,7 +94,8 @@ line_reading n bytes = at_line n (line_form n bytes)
 abbrev pub reading_of : List ℕ → Span → Result LineEvent LineFault
 reading_of input span = line_reading span.line (slice_range input span.from span.to)
 
--- what those lines of some bytes mean that are not blank, in order, where the first line has number `n`: each its event or its least fault
+-- what those lines of some bytes mean that are not blank, in order, where the first line has
+-- number `n`: each its event or its least fault
 abbrev pub lines_from : ℕ → List ℕ → List (Result LineEvent LineFault)
 lines_from n bytes = map (λ l. line_reading l.0 l.1) (numbered_from n bytes)
 
@@ -101,7 +106,9 @@ history_lines input = map (λ l. line_reading l.0 l.1) (numbered_lines input)
 -- what is read at the spans of the whole lines, then of what is left and may come, is what all the lines mean
 pub record AreReadWhole (bytes : List ℕ) (first : ℕ) (is_ended : Bool) (whole : WholeLines) : Type 0 where
   pub readings : (more : List ℕ) → MayCome is_ended more
-      → map (reading_of bytes) whole.spans.items ++ lines_from whole.next_line (drop whole.byte_count bytes ++ more) ≡ lines_from first (bytes ++ more)
+      → map (reading_of bytes) whole.spans.items
+      ++ lines_from whole.next_line (drop whole.byte_count bytes ++ more) ≡ lines_from first (bytes
+      ++ more)
 
 -- the number of the line that was read
 abbrev pub line_number : Result LineEvent LineFault → ℕ

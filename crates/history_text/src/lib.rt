@@ -2,15 +2,15 @@
 //! lowest-numbered fault, comes out.
 //!
 //! What the floor above may rely on: [`lines_of`] says where exactly the lines that are not blank stand, in
-//! order and with their numbers, and [`whole_lines`] says the same of bytes behind which more may come. [`read_spans`]
-//! reads any of these lines: for each it gives its one event, or the lowest-numbered fault that applies to it. Several
-//! threads read them, each a part of the lines at a time.
-//! [`read_lines`] reads all lines and joins the parts, and [`read_lines_alone`] reads the same by one thread.
-//! Nothing here knows how events follow one another; that is the floor above.
+//! order and with their numbers, and [`whole_lines`] says the same of bytes behind which more may come.
+//! [`read_spans`] reads any of these lines: for each it gives its one event, or the lowest-numbered fault
+//! that applies to it. Several threads read them, each a part of the lines at a time. [`read_lines`] reads
+//! all lines and joins the parts, and [`read_lines_alone`] reads the same by one thread. Nothing here knows
+//! how events follow one another; that is the floor above.
 //!
-//! Read it in this order: `limits`; `name`, `optional_name`, `event` and `fault`, which say what a line can mean;
-//! `members`, `refused` and `line`, which read one line; `scan`, `flat_members` and `flat_line`, which read
-//! a line of the common form faster; `lines` and `read`, which read them all.
+//! Read it in this order: `limits`; `name`, `optional_name`, `event` and `fault`, which say what a line can
+//! mean; `members`, `refused` and `line`, which read one line; `scan`, `flat_members` and `flat_line`, which
+//! read a line of the common form faster; `lines` and `read`, which read them all.
 #![tactic(auto)]
 
 mod event;

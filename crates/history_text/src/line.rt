@@ -1,10 +1,11 @@
 //! One line: its event, or the lowest-numbered fault that applies to it.
 //!
-//! `flat_line` reads the common form of a line with no tree. Every other line, and each one that has a
-//! fault, is read as a JSON value here, if it isn't too long. Faults are looked for by ascending number, so the first that is
-//! found is the lowest-numbered.
+//! `flat_line` reads the common form of a line with no tree. Every other line, and each one that has a fault,
+//! is read as a JSON value here, if it isn't too long. Faults are looked for by ascending number, so the
+//! first that is found is the lowest-numbered.
 ghost use Rattle.serde_json.specs.View.{view};
-ghost use Rattle.history_text.specs.Reading.{call_kind, parts_form, kind_of, event_of, line_form, line_reading};
+ghost use Rattle.history_text.specs.Reading.{call_kind, parts_form, kind_of};
+ghost use Rattle.history_text.specs.Reading.{event_of, line_form, line_reading};
 ghost use Rattle.history_text.specs.Memory.{Gives, GivesLine};
 
 use crate::event::{EventWord, Kind, LineEvent, OpKind, ReplyParts};
@@ -30,8 +31,8 @@ pub enum LineError {
     Memory,
 }
 
-/// The event of line `line`, given without its line feed, or its lowest-numbered fault. [`lines_of`](crate::lines_of) leaves
-/// out blank lines; here one would be `NotJson`.
+/// The event of line `line`, given without its line feed, or its lowest-numbered fault.
+/// [`lines_of`](crate::lines_of) leaves out blank lines; here one would be `NotJson`.
 ///
 /// JSON is read as `serde_json`'s `Value::from_slice` reads it; of equal names in one object the
 /// last counts, and names that the format doesn't know are ignored.

@@ -1,5 +1,6 @@
 //! Where the lines of an input stand.
-ghost use Rattle.std.specs.Prelude.{All, ◌≡◌, ◌≤◌, ◌+◌, ◌++◌, ◌∷◌, [], length, map, IfOk, OnOk, if◌then◌else◌, slice_range};
+ghost use Rattle.std.specs.Prelude.{All, ◌≡◌, ◌≤◌, ◌+◌, ◌++◌, ◌∷◌, [], length, map};
+ghost use Rattle.std.specs.Prelude.{IfOk, OnOk, if◌then◌else◌, slice_range};
 ghost use Rattle.history_text.specs.Lines.{AreWhole, IsWithin, line_spans, is_blank as is_blank_line};
 ghost use Rattle.history_text.specs.Reading.{AreReadWhole, history_lines, reading_of};
 
@@ -43,8 +44,9 @@ pub fn lines_of(alloc: Global, bytes: &[u8]) -> Result<Vec<Span>, AllocError>
     Ok(whole_lines(alloc, bytes, 1, true)?.spans)
 }
 
-/// The whole lines at the front of some bytes, of which the first has number `first`. A line is whole if its line feed is
-/// there. If `is_ended`, the input ends with these bytes, and the last line is whole without one.
+/// The whole lines at the front of some bytes, of which the first has number `first`. A
+/// line is whole if its line feed is there. If `is_ended`, the input ends with these
+/// bytes, and the last line is whole without one.
 ///
 /// The error says that memory ran out; nothing is kept then.
 pub fn whole_lines(

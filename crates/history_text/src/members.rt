@@ -1,8 +1,11 @@
-//! The members of the JSON object of a line, each by itself. The outer `None` stands for a member of another form.
+//! The members of the JSON object of a line, each by itself. The outer
+//! `None` stands for a member of another form.
 ghost use Rattle.std.specs.Prelude.{◌≡◌, option_map, codes, Some};
 ghost use Rattle.serde_json.specs.View.{view};
 ghost use Rattle.serde_json.specs.Find.{get};
-ghost use Rattle.history_text.specs.Members.{process_form, event_form, other_word as other_word_form, op_form, name_form, written_form, value_form, has_no_value, optional};
+ghost use Rattle.history_text.specs.Members.{process_form, event_form, other_word as other_word_form};
+ghost use Rattle.history_text.specs.Members.{op_form, name_form, written_form, value_form};
+ghost use Rattle.history_text.specs.Members.{has_no_value, optional};
 
 use crate::event::{EventWord, OpKind, Val};
 use crate::limits::MAX_NAME;
@@ -87,7 +90,8 @@ pub(crate) fn call_register(object: &Value) -> Option<&str>
 }
 
 pub(crate) fn reply_register(object: &Value) -> Option<Option<&str>>
-    ensures { option_map (option_map (λ s. s.now)) result ≡ optional name_form (get (codes "register") (view object.now)) }
+    ensures { option_map (option_map (λ s. s.now)) result
+        ≡ optional name_form (get (codes "register") (view object.now)) }
 {
     match object.get("register") {
         None => Some(None),

@@ -11,7 +11,8 @@ use std::alloc::{AllocError, Global};
 use std::fmt;
 use std::marker::Model;
 
-/// A name, if there is one. It takes memory of its own only if it is there, so that a line without one is short.
+/// A name, if there is one. It takes memory of its own only if it is
+/// there, so that a line without one is short.
 ///
 /// Contracts see it as the bytes of the name, if there is one.
 #[derive(Drop)]

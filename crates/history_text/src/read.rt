@@ -49,7 +49,8 @@ pub fn read_spans(
     spans: &[Span],
 ) -> Result<Vec<Vec<Line>>, AllocError>
     requires { All (IsWithin bytes.now) spans.now }
-    ensures { IfOk result (λ v. flat_map (λ part. part.items) v.items ≡ map (reading_of bytes.now) spans.now) }
+    ensures { IfOk result
+        (λ v. flat_map (λ part. part.items) v.items ≡ map (reading_of bytes.now) spans.now) }
 {
     let refused = AtomicBool::new(false);
     let size = share_size(rt, spans.len(), FEWEST_LINES).min(LINES);

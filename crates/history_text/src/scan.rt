@@ -2,7 +2,8 @@
 //!
 //! Each function gives what it read and the text behind that, both as slices of the line, so nothing
 //! is copied. `None` says only that the piece doesn't stand there in the form that is read here.
-ghost use Rattle.std.specs.Prelude.{◌≡◌, ◌<◌, ◌^◌, ◌++◌, ◌∷◌, [], MatchOption, IfSome, decimal, ⊤, FitsSigned};
+ghost use Rattle.std.specs.Prelude.{◌≡◌, ◌<◌, ◌^◌, ◌++◌, ◌∷◌, [], MatchOption};
+ghost use Rattle.std.specs.Prelude.{IfSome, decimal, ⊤, FitsSigned};
 ghost use Rattle.std.specs.Bool.{MatchBool};
 ghost use Rattle.std.specs.Fmt.{signed_decimal};
 ghost use Rattle.std.specs.Int.{w64};

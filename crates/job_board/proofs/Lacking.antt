@@ -1,5 +1,6 @@
 -- A loop of draws ends, since the numbers that a seat lacks grow fewer.
-use Rattle.std.proofs.Common.{◌≡◌, ◌≢◌, ℕ, zero, suc, ◌+◌, ◌<◌, ◌≤◌, eqb, eq-eqb, ne_eqb, List, [], ◌∷◌, ◌++◌, sym, ap, ◌∙◌, arith}
+use Rattle.std.proofs.Common.{◌≡◌, ◌≢◌, ℕ, zero, suc, ◌+◌, ◌<◌, ◌≤◌, eqb, eq-eqb}
+use Rattle.std.proofs.Common.{ne_eqb, List, [], ◌∷◌, ◌++◌, sym, ap, ◌∙◌, arith}
 use mathlib.Core.Logic.{dite}
 use native.Mathlib.Decide.{ℕ_discrete}
 use Rattle.job_board.specs.Numbers.{one_if, times, times_below}
@@ -27,11 +28,13 @@ lacks (suc n) j xs none =
     let b : one_if (eqb n j) ≡ 1 = ap one_if (eq-eqb n j (sym e)) in
     let c : times n xs ≡ 0 = ap (λ k. times k xs) (sym e) ∙ none in
     let d : one_if_none (times n xs) ≡ 1 = ap one_if_none c in
-    let f : one_if_none (times n (xs ++ j ∷ [])) ≡ 0 = ap one_if_none (the_one (times n (xs ++ j ∷ [])) (omega arith)) in omega arith)
+    let f : one_if_none (times n (xs ++ j ∷ [])) ≡ 0 =
+    ap one_if_none (the_one (times n (xs ++ j ∷ [])) (omega arith)) in omega arith)
     (λ (ne : j ≢ n).
     let a : one_if (eqb j n) ≡ 0 = ap one_if (ne_eqb j n ne) in
     let b : one_if (eqb n j) ≡ 0 = ap one_if (ne_eqb n j (λ e. ne (sym e))) in
-    let f : one_if_none (times n (xs ++ j ∷ [])) ≡ one_if_none (times n xs) = ap one_if_none (omega arith) in omega arith)
+    let f : one_if_none (times n (xs ++ j ∷ [])) ≡ one_if_none (times n xs) =
+    ap one_if_none (omega arith) in omega arith)
   where
     the_one : (k : ℕ) → k ≡ 1 → k ≡ suc 0
     the_one k e = e

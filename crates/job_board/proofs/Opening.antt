@@ -18,7 +18,12 @@ opening_keeps jobs le = record {
 }
   where
     mine : IsSound jobs 0 (flag_count (opening_view jobs ∷ [])) (opening_view jobs)
-    mine = record { spent = λ e. absurd (omega arith); jobs_known = λ e. refl; seen = λ e. inl refl; exhausted = λ e. absurd (cc) }
+    mine = record {
+      spent = λ e. absurd (omega arith);
+      jobs_known = λ e. refl;
+      seen = λ e. inl refl;
+      exhausted = λ e. absurd (cc);
+    }
 
     each : EachSeat (IsSound jobs 0 (flag_count (opening_view jobs ∷ []))) (opening_view jobs ∷ [])
     each zero v e = subst (IsSound jobs 0 (flag_count (opening_view jobs ∷ []))) (some-injective _ _ e) mine

@@ -1,5 +1,6 @@
 -- How often a number stands in lists put together, and below a bound.
-use Rattle.std.proofs.Common.{◌≡◌, ◌≢◌, ℕ, zero, suc, ◌+◌, ◌<◌, ◌≤◌, min, eqb, eq-eqb, ne_eqb, List, [], ◌∷◌, ◌++◌, refl, ap, lt_of_not-le, arith}
+use Rattle.std.proofs.Common.{◌≡◌, ◌≢◌, ℕ, zero, suc, ◌+◌, ◌<◌, ◌≤◌, min, eqb, eq-eqb}
+use Rattle.std.proofs.Common.{ne_eqb, List, [], ◌∷◌, ◌++◌, refl, ap, lt_of_not-le, arith}
 use mathlib.Core.Logic.{dite}
 use native.Mathlib.Decide.{dec_le, ℕ_discrete}
 use Rattle.job_board.specs.Numbers.{one_if, times, times_below}
@@ -20,13 +21,15 @@ once_other x y ne = ap one_if (ne_eqb x y ne)
 -- no number from the bound on stands below it
 pub once_high : (x n : ℕ) → n ≤ x → times_below x n ≡ 0
 once_high x zero le = refl
-once_high x (suc n) le = let a = once_other n x (λ e. absurd (omega arith)) in let b = once_high x n (omega arith) in omega arith
+once_high x (suc n) le =
+    let a = once_other n x (λ e. absurd (omega arith)) in let b = once_high x n (omega arith) in omega arith
 
 -- a number below the bound stands there once
 pub once_low : (x n : ℕ) → x < n → times_below x n ≡ 1
 once_low x zero lt = absurd (omega arith)
 once_low x (suc n) lt = dite (ℕ_discrete n x)
-    (λ (e : n ≡ x). let a : one_if (eqb n x) ≡ 1 = ap one_if (eq-eqb n x e) in let b = once_high x n (omega arith) in omega arith)
+    (λ (e : n ≡ x). let a : one_if (eqb n x) ≡ 1 = ap one_if (eq-eqb n x e) in
+    let b = once_high x n (omega arith) in omega arith)
     (λ (ne : n ≢ x). let a = once_other n x ne in let b = once_low x n (omega arith) in omega arith)
 
 -- no number stands twice below a bound
@@ -46,7 +49,8 @@ once_is_low x n h = go (dec_le n x)
     go (no gt) = lt_of_not-le gt
 
 -- a draw moves the bound by one, while numbers are left
-pub once_step : (x next jobs : ℕ) → next < jobs → times_below x (min (next + 1) jobs) ≡ one_if (eqb next x) + times_below x (min next jobs)
+pub once_step : (x next jobs : ℕ) → next < jobs
+    → times_below x (min (next + 1) jobs) ≡ one_if (eqb next x) + times_below x (min next jobs)
 once_step x next jobs lt =
     let a : min (next + 1) jobs ≡ suc next = omega arith in
     let b : min next jobs ≡ next = omega arith in

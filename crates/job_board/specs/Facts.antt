@@ -41,8 +41,8 @@ pub record IsLeastFlagged (jobs : ℕ) (count : ℕ → ℕ) (n : ℕ) : Type 0 
   pub below : (x : ℕ) → 0 < count x → (n ≤ x) × (x < jobs)
   pub found : (n ≡ jobs) ⊎ (0 < count n)
 
--- What is known of each seat: one without weight is spent, and of each other it is known that what it saw is jobs or a flagged number. A seat is exhausted only
--- once all numbers are drawn.
+-- What is known of each seat: one without weight is spent, and of each other it is known that what it saw is
+-- jobs or a flagged number. A seat is exhausted only once all numbers are drawn.
 pub record IsSound (jobs next : ℕ) (count : ℕ → ℕ) (v : View) : Type 0 where
   pub spent : v.weight ≡ 0 → v ≡ spent_view
   pub jobs_known : 0 < v.weight → v.jobs ≡ jobs
@@ -53,8 +53,9 @@ pub record IsSound (jobs next : ℕ) (count : ℕ → ℕ) (v : View) : Type 0 w
 abbrev pub EachSeat : (View → Type 0) → List View → Type 0
 EachSeat Fact seats = (id : ℕ) (v : View) → get_elem? seats id ≡ some v → Fact v
 
--- The facts of a board's two words and its seats: the weights add up; the drawn numbers are those below next and jobs, each once; least is the least flagged
--- number; each seat is sound; and next passes jobs by no more than the weight of the exhausted seats.
+-- The facts of a board's two words and its seats: the weights add up; the drawn numbers are those below next
+-- and jobs, each once; least is the least flagged number; each seat is sound; and next passes jobs by no
+-- more than the weight of the exhausted seats.
 pub record IsConsistent (jobs next least : ℕ) (seats : List View) : Type 0 where
   pub within : jobs ≤ MAX_JOBS
   pub weights : total weight_of seats ≡ FULL_WEIGHT

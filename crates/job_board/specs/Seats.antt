@@ -16,7 +16,14 @@ pub record SeatValue : Type 0 where
 
 -- a view from its parts
 abbrev pub view_of : ℕ → ℕ → List ℕ → List ℕ → ℕ → Bool → View
-view_of jobs weight drawn flagged seen exhausted = record { jobs = jobs; weight = weight; drawn = drawn; flagged = flagged; seen = seen; exhausted = exhausted }
+view_of jobs weight drawn flagged seen exhausted = record {
+  jobs = jobs;
+  weight = weight;
+  drawn = drawn;
+  flagged = flagged;
+  seen = seen;
+  exhausted = exhausted;
+}
 
 -- the one seat of a new board: it has all the weight, and has drawn, flagged and seen nothing
 abbrev pub opening_view : ℕ → View
@@ -52,4 +59,6 @@ second_part part v = view_of v.jobs (v.weight - part) [] [] v.seen v.exhausted
 
 -- two seats as one
 abbrev pub joint_view : View → View → View
-joint_view v w = view_of v.jobs (v.weight + w.weight) (v.drawn ++ w.drawn) (v.flagged ++ w.flagged) (min v.seen w.seen) (v.exhausted || w.exhausted)
+joint_view v w =
+    view_of v.jobs (v.weight + w.weight) (v.drawn ++ w.drawn) (v.flagged ++ w.flagged) (min v.seen w.seen)
+    (v.exhausted || w.exhausted)

@@ -1,4 +1,5 @@
--- The board on a table of two words, what each step tells the seat that steps, and what a closing tells the last seat.
+-- The board on a table of two words, what each step tells the seat that
+-- steps, and what a closing tells the last seat.
 use Rattle.std.specs.Prelude.{◌≡◌, ℕ, ◌<◌, ◌≤◌, ◌⊎◌, true, [], ◌∷◌}
 use Rattle.atomic_table.specs.Table.{State, Me}
 use Rattle.job_board.specs.Numbers.{times, IsDistinct, IsEachBelow}
@@ -8,7 +9,8 @@ use Rattle.job_board.specs.declared.limits.TheConstants.{FULL_WEIGHT}
 
 -- the table's two words are next and least, its views are the seats, and the facts hold of them
 abbrev pub IsBoard : ℕ → State ℕ View → Type 0
-IsBoard jobs s = (next : ℕ) × (least : ℕ) × (s.words ≡ next ∷ least ∷ []) × IsConsistent jobs next least s.views
+IsBoard jobs s =
+    (next : ℕ) × (least : ℕ) × (s.words ≡ next ∷ least ∷ []) × IsConsistent jobs next least s.views
 
 -- n is no greater than any number that the seat flagged or saw
 abbrev pub IsNoGreater : View → ℕ → Type 0
@@ -32,8 +34,9 @@ LookTells me n after = (after ≡ (with_seen me.0 n, me.1)) × IsNoGreater me.0 
 abbrev pub CountTells : Me ℕ View → Me ℕ View → Type 0
 CountTells me after = (after ≡ me) × IsDistinct me.0.drawn × (me.0.weight ≤ FULL_WEIGHT)
 
--- What the seat with all the weight has where the board is closed with the answer n: it drew each number below some bound once, which is jobs if it is
--- exhausted, and n is the least number that it flagged, or jobs.
+-- What the seat with all the weight has where the board is closed with the answer n: it
+-- drew each number below some bound once, which is jobs if it is exhausted, and n is
+-- the least number that it flagged, or jobs.
 pub record ClosesWith (jobs : ℕ) (v : View) (n : ℕ) : Type 0 where
   pub jobs_known : v.jobs ≡ jobs
   pub drawn : (bound : ℕ) × (bound ≤ jobs) × IsEachBelow bound v.drawn × (v.exhausted ≡ true → bound ≡ jobs)

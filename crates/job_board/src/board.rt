@@ -1,7 +1,8 @@
 //! The board, and each step that a seat takes on it.
 ghost use Rattle.std.specs.Prelude.{◌≡◌, ◌≢◌, ◌<◌, ◌≤◌, true, false, None, [], IfOk, IfErr, IfSome, IfNone};
 ghost use Rattle.job_board.specs.Numbers.{IsDistinct, times};
-ghost use Rattle.job_board.specs.Seats.{BoardValue, first_part, joint_view, opening_view, second_part, with_drawn, with_flag, with_seen, with_exhausted};
+ghost use Rattle.job_board.specs.Seats.{BoardValue, first_part, joint_view, opening_view, second_part};
+ghost use Rattle.job_board.specs.Seats.{with_drawn, with_flag, with_seen, with_exhausted};
 ghost use Rattle.job_board.specs.Steps.{ClosesWith, IsNoGreater};
 
 use crate::limits::{FULL_WEIGHT, MAX_JOBS};
@@ -22,7 +23,8 @@ const NEXT: usize = 0;
 
 const LEAST: usize = 1;
 
-/// Jobs numbered from 0, to be drawn by the holders of its seats, and the lowest number that any of them flagged.
+/// Jobs numbered from 0, to be drawn by the holders of its seats, and
+/// the lowest number that any of them flagged.
 ///
 /// Contracts see the board as its name and the number of its jobs. Each call takes seats of this board.
 #[derive(Drop)]
@@ -39,14 +41,15 @@ impl<A: Allocator> Model for Board<A> {
 }
 
 impl<A: Allocator> Board<A> {
-    /// A board of the numbers from 0 to below `jobs`, none of them drawn or flagged, and its one seat, which has the
-    /// [`FULL_WEIGHT`](crate::FULL_WEIGHT).
+    /// A board of the numbers from 0 to below `jobs`, none of them drawn or flagged, and its one seat, which
+    /// has the [`FULL_WEIGHT`](crate::FULL_WEIGHT).
     ///
     /// # Errors
     /// Want of memory. No later call on the board takes any.
     pub fn open(alloc: A, jobs: u64) -> Result<(Board<A>, Seat), AllocError>
         requires { jobs ≤ MAX_JOBS }
-        ensures { IfOk result (λ r. (r.0.jobs ≡ jobs) × (r.1.board ≡ r.0.id) × (r.1.view ≡ opening_view jobs)) }
+        ensures { IfOk result (λ r. (r.0.jobs ≡ jobs) × (r.1.board ≡ r.0.id)
+            × (r.1.view ≡ opening_view jobs)) }
     {
         let (table, token) = Table::of_words(alloc, &[0, jobs], &jobs)?;
         let board = Board { table };
@@ -61,13 +64,14 @@ impl<A: Allocator> Board<A> {
 
     /// Draws the next number; `None` if no number is left.
     ///
-    /// The clauses say that this seat didn't draw the number before. That no other seat did follows from the board's rule, and
-    /// [`join`](Board::join) and [`close`](Board::close) tell it of the seats that come together. A draw is one atomic addition. A seat
-    /// that is exhausted gets `None` again without a step.
+    /// The clauses say that this seat didn't draw the number before. That no other seat did follows from the
+    /// board's rule, and [`join`](Board::join) and [`close`](Board::close) tell it of the seats that come
+    /// together. A draw is one atomic addition. A seat that is exhausted gets `None` again without a step.
     pub fn draw(&self, seat: &mut Seat) -> Option<u64>
         requires { seat.old.board ≡ self.now.id }
         ensures board { seat.new.board ≡ seat.old.board }
-        ensures some { IfSome result (λ j. (seat.old.view.exhausted ≡ false) × (j < seat.old.view.jobs) × (times j seat.old.view.drawn ≡ 0) × (seat.new.view ≡ with_drawn seat.old.view j)) }
+        ensures some { IfSome result (λ j. (seat.old.view.exhausted ≡ false) × (j < seat.old.view.jobs)
+            × (times j seat.old.view.drawn ≡ 0) × (seat.new.view ≡ with_drawn seat.old.view j)) }
         ensures none { IfNone result (seat.new.view ≡ with_exhausted seat.old.view) }
         ensures exhausted { seat.old.view.exhausted ≡ true → (result ≡ None) × (seat.new ≡ seat.old) }
     {
@@ -95,7 +99,8 @@ impl<A: Allocator> Board<A> {
         shared.fetch_min::<Flags>(&mut seat.token, LEAST, job);
     }
 
-    /// A number that some seat flagged, or the number of jobs; no greater than any that this seat flagged or saw. It is one atomic load.
+    /// A number that some seat flagged, or the number of jobs; no greater than any that this
+    /// seat flagged or saw. It is one atomic load.
     ///
     /// No clause says that it finds what a seat that this one hasn't met flagged: a test does.
     pub fn look(&self, seat: &mut Seat) -> u64
@@ -107,8 +112,8 @@ impl<A: Allocator> Board<A> {
         self.table.shared.load::<Looks>(&mut seat.token, LEAST)
     }
 
-    /// Two seats of one: the first weighs `part` and keeps what was drawn and flagged, the second has the rest of the weight. Both have seen
-    /// what the one had, and both are exhausted if it was.
+    /// Two seats of one: the first weighs `part` and keeps what was drawn and flagged, the second has the
+    /// rest of the weight. Both have seen what the one had, and both are exhausted if it was.
     pub fn split(&self, seat: Seat, part: u64) -> (Seat, Seat)
         requires board { seat.board ≡ self.now.id }
         requires part { (0 < part) × (part < seat.view.weight) }
@@ -148,7 +153,8 @@ impl<A: Allocator> Board<A> {
         self.table.shared.split_seat::<Cut<P>>(token)
     }
 
-    /// One seat of two, with what either drew, flagged, saw and whether either is exhausted. They drew different numbers.
+    /// One seat of two, with what either drew, flagged, saw and whether either
+    /// is exhausted. They drew different numbers.
     pub fn join(&self, seat: Seat, other: Seat) -> Seat
         requires boards { (seat.board ≡ self.now.id) × (other.board ≡ self.now.id) }
         ensures board { result.board ≡ seat.board }
@@ -163,7 +169,8 @@ impl<A: Allocator> Board<A> {
         } = seat;
         let shared = &self.table.shared;
         shared.join_seat::<Glue>(&mut token, other.token);
-        // The first step could not see both seats' numbers at once. This one changes nothing, and tells that none stands twice.
+        // The first step could not see both seats' numbers at once. This one changes
+        // nothing, and tells that none stands twice.
         shared.load::<Counts>(&mut token, NEXT);
         Seat {
             token,
@@ -173,12 +180,13 @@ impl<A: Allocator> Board<A> {
         }
     }
 
-    /// The lowest number that was flagged, or the number of jobs. The seat must have the [`FULL_WEIGHT`](crate::FULL_WEIGHT); otherwise
-    /// the board and the seat come back as they were.
+    /// The lowest number that was flagged, or the number of jobs. The seat must have the
+    /// [`FULL_WEIGHT`](crate::FULL_WEIGHT); otherwise the board and the seat come back as they were.
     pub fn close(self, seat: Seat) -> Result<u64, SeatsOut<A>>
         requires { seat.board ≡ self.id }
         ensures ok { IfOk result (λ n. (seat.view.weight ≡ FULL_WEIGHT) × ClosesWith self.jobs seat.view n) }
-        ensures err { IfErr result (λ out. (seat.view.weight ≢ FULL_WEIGHT) × (out.board ≡ self) × (out.seat ≡ seat)) }
+        ensures err { IfErr result (λ out. (seat.view.weight ≢ FULL_WEIGHT) × (out.board ≡ self)
+            × (out.seat ≡ seat)) }
     {
         let is_whole = seat.weight == FULL_WEIGHT;
         if !is_whole {

@@ -7,5 +7,7 @@ use crate::limits::MAX_JOBS;
 
 /// Every list of events, from the opening state on, keeps the facts of the board.
 pub fn events_keep_the_facts()
-    ensures { (jobs : ℕ) → jobs ≤ MAX_JOBS → (events : List Event) (state : State) → LeadTo jobs events (opening_state jobs) state → IsConsistent jobs state.next state.least state.seats }
+    ensures { (jobs : ℕ) → jobs ≤ MAX_JOBS → (events : List Event) (state : State)
+        → LeadTo jobs events (opening_state jobs) state
+        → IsConsistent jobs state.next state.least state.seats }
 {}

@@ -5,7 +5,8 @@ use crate::view::View;
 use atomic_table::{Join, Split};
 use std::marker::{Brand, PhantomData};
 
-/// The weight that a split leaves to the first seat. It is a type's, since the table's split reads the view and no argument.
+/// The weight that a split leaves to the first seat. It is a type's, since the
+/// table's split reads the view and no argument.
 pub trait Part {
     ghost part: { ℕ };
 }

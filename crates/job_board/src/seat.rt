@@ -9,8 +9,8 @@ use std::marker::Model;
 
 /// The right to step on one board, held by one thread at a time.
 ///
-/// To a contract it is its board's name and its [`View`]. A seat that is dropped is never made good: its weight is lost, and its board
-/// can't be closed.
+/// To a contract it is its board's name and its [`View`]. A seat that is dropped is never made good: its
+/// weight is lost, and its board can't be closed.
 #[derive(Drop)]
 pub struct Seat {
     pub(crate) token: atomic_table::Seat<u8, View>,
@@ -24,7 +24,9 @@ impl Model for Seat {
 
     ghost view = { λ s. record { board = s.token.table_id; view = s.token.me.0 } };
 
-    ghost invariant = { λ s. (s.jobs ≡ s.token.me.0.jobs) × (s.weight ≡ s.token.me.0.weight) × (s.exhausted ≡ s.token.me.0.exhausted) × (0 < s.weight) × (s.weight ≤ FULL_WEIGHT) × (s.token.me.1 ≡ []) };
+    ghost invariant = { λ s. (s.jobs ≡ s.token.me.0.jobs) × (s.weight ≡ s.token.me.0.weight)
+        × (s.exhausted ≡ s.token.me.0.exhausted) × (0 < s.weight) × (s.weight ≤ FULL_WEIGHT)
+        × (s.token.me.1 ≡ []) };
 }
 
 impl Seat {

@@ -1,7 +1,8 @@
 //! What a seat has.
 use std::collections::LinkedList;
 
-/// What contracts say of a seat. No value of it is ever made. Its lists are linked ones, since a contract sees those as plain lists.
+/// What contracts say of a seat. No value of it is ever made. Its lists are linked ones,
+/// since a contract sees those as plain lists.
 pub struct View {
     /// The number of jobs of the board.
     pub jobs: u64,

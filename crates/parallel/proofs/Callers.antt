@@ -1,5 +1,6 @@
 -- For callers: from what the closure gives at an item or a part to a fact of all items.
-use Rattle.std.proofs.Common.{◌≡◌, ℕ, zero, suc, slice_get, Some, List, [], ◌∷◌, ◌++◌, Result, Ok, ap, sym, subst, ◌∙◌, arith}
+use Rattle.std.proofs.Common.{◌≡◌, ℕ, zero, suc, slice_get, Some, List, [], ◌∷◌}
+use Rattle.std.proofs.Common.{◌++◌, Result, Ok, ap, sym, subst, ◌∙◌, arith}
 use Rattle.std.proofs.lemmas.Option.{slice_get_within}
 use Rattle.std.specs.Prelude.{flat_map}
 use Rattle.std.specs.List.{All, AllZip}
@@ -43,7 +44,8 @@ module _ {F X Y Z E : Type 0} (g : Shared F (Bor (List X) × Unit {0}) (Result Y
   joined-given xs ys h = all-made h.0 ys (all-given g f IsMade gives h.0 ys h.2) ∙ ap make h.1
 
 module _ {X : Type 0} where
-  front : (part after : List X) (i : ℕ) (x : X) → slice_get part i ≡ Some x → slice_get (part ++ after) i ≡ Some x
+  front : (part after : List X) (i : ℕ) (x : X) → slice_get part i ≡ Some x
+      → slice_get (part ++ after) i ≡ Some x
   front [] after i x at = let l = slice_get_within [] i x at in absurd (omega (arith, l))
   front (y ∷ part) after zero x at = at
   front (y ∷ part) after (suc i) x at = front part after i x at

@@ -42,7 +42,8 @@ module _ {F X Y E : Type 0} (g : Shared F (Bor X × Unit {0}) (Result Y E)) (f :
   all-ok [] [] h = tt
   all-ok [] (y ∷ ys) h = absurd h
   all-ok (z ∷ zs) [] h = absurd h
-  all-ok (z ∷ zs) (y ∷ ys) h = (record { shown = z; shows = refl; says = record { met = h.0 } }, all-ok zs ys h.1)
+  all-ok (z ∷ zs) (y ∷ ys) h =
+      (record { shown = z; shows = refl; says = record { met = h.0 } }, all-ok zs ys h.1)
 
   -- from what `collect` says of each answer and of what it made of them
   pub given : (zs : List (Bor X)) (each : List (Result Y E)) (made : Result (Vec Y Global) E)
@@ -68,7 +69,8 @@ module _ {X : Type 0} where
         ap (λ l. p ++ l) rest.2 ∙ sym (append_assoc p rest.0 (slice_index_or ps k d ++ rest.1)),
       )
 
-  pub chunk-is-part : (size : ℕ) (xs : List X) → 0 < size → (k : ℕ) (d : List X) → k < length (chunks_of size xs)
+  pub chunk-is-part : (size : ℕ) (xs : List X) → 0 < size → (k : ℕ) (d : List X)
+      → k < length (chunks_of size xs)
       → IsPartOf xs (slice_index_or (chunks_of size xs) k d)
   chunk-is-part size xs pos k d lt =
       subst (λ l. IsPartOf l (slice_index_or (chunks_of size xs) k d)) (chunks_of-concat size xs pos)

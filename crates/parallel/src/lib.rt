@@ -1,9 +1,10 @@
 //! All that several threads do, and how large their shares are.
 //!
-//! What the floor above may rely on: [`map_each`] gives what a closure makes of each item, in order, and [`map_parts`] what it
-//! makes of each of some parts, which are the items in order. [`both`] and [`both_mut`] call two closures at once, and
-//! [`map_jobs`] has a thread for each of a few jobs. No other crate starts a thread. The sizes of the shares stand in one
-//! table, and none of them changes a result: contracts speak of the items alone.
+//! What the floor above may rely on: [`map_each`] gives what a closure makes of each item, in order, and
+//! [`map_parts`] what it makes of each of some parts, which are the items in order. [`both`] and
+//! [`both_mut`] call two closures at once, and [`map_jobs`] has a thread for each of a few jobs. No
+//! other crate starts a thread. The sizes of the shares stand in one table, and none of them changes a
+//! result: contracts speak of the items alone.
 //!
 //! Read it in this order: `sizes`, `steps`, `pairs`.
 #![tactic(auto)]

@@ -6,7 +6,8 @@ use std::alloc::{AllocError, Global};
 use std::marker::{Send, Sync};
 use std::thread::{self, Threads, join, join_mut};
 
-/// What the two closures give. Another thread calls the first, if one can be started, while this one calls the second.
+/// What the two closures give. Another thread calls the first, if one can be
+/// started, while this one calls the second.
 pub fn both<R: Threads, F: FnOnce() -> X + Send, G: FnOnce() -> Y, X: Send, Y>(
     rt: &R,
     first: F,

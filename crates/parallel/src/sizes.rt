@@ -4,25 +4,26 @@ ghost use Rattle.std.specs.Prelude.{◌<◌};
 use rayon::current_num_threads;
 use std::thread::Threads;
 
-/// At most how many lines one thread reads into one list: so many that a block has few lists, and so few that several threads
-/// share a block.
+/// At most how many lines one thread reads into one list: so many that a block has few lists, and
+/// so few that several threads share a block.
 pub const LINES: usize = 8_192;
 
 /// The fewest lines to read that are worth a thread of their own.
 pub const FEWEST_LINES: usize = 4_096;
 
-/// How many operations of an order one thread turns into lines at a time: they take much longer than a thread takes to start.
+/// How many operations of an order one thread turns into lines at a time: they take
+/// much longer than a thread takes to start.
 pub const OPERATIONS: usize = 16_384;
 
-/// How many points' chains of operations one thread follows at a time: most points have one operation or none, so there are
-/// more of them than of operations.
+/// How many points' chains of operations one thread follows at a time: most points have one operation or
+/// none, so there are more of them than of operations.
 pub const POINTS: usize = 32_768;
 
 /// How many line numbers one thread writes at a time: they take much longer than a thread takes to start.
 pub const NUMBERS: usize = 16_384;
 
-/// About how many parts the lines of many registers are made in: enough for each thread to have some, and so few that they cost
-/// little beside the lines.
+/// About how many parts the lines of many registers are made in: enough for each thread to have some, and so
+/// few that they cost little beside the lines.
 pub const REGISTER_PARTS: usize = 64;
 
 /// Whether this is the only thread: there is one processor, or it isn't known how many there are.
@@ -30,8 +31,8 @@ pub fn is_alone(rt: &impl Threads) -> bool {
     current_num_threads(rt) == 1
 }
 
-/// How many of `count` items one thread takes, if as many threads as leave one processor free share them: at least `fewest`, or
-/// one.
+/// How many of `count` items one thread takes, if as many threads as leave one processor
+/// free share them: at least `fewest`, or one.
 pub fn share_size(rt: &impl Threads, count: usize, fewest: usize) -> usize
     ensures { 0 < result }
 {

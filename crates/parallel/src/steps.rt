@@ -7,7 +7,8 @@ use std::alloc::{AllocError, Global};
 use std::marker::{Copy, Send, Sync};
 use std::thread::Threads;
 
-/// What the closure makes of each item, in order. Each thread takes at least `fewest` items at a time, or one.
+/// What the closure makes of each item, in order. Each thread takes
+/// at least `fewest` items at a time, or one.
 ///
 /// # Errors
 /// The closure's, or out of memory; what was made is dropped.
@@ -27,8 +28,8 @@ pub fn map_each<
         .collect::<Result<Vec<X>, AllocError>>(rt, alloc)?
 }
 
-/// What the closure makes of each of some parts, which are the items in order. A part has at most `size` items, or one, and each
-/// is worth a thread.
+/// What the closure makes of each of some parts, which are the items in order. A part has at most `size`
+/// items, or one, and each is worth a thread.
 ///
 /// # Errors
 /// The closure's, or out of memory; what was made is dropped.

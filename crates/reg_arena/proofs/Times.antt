@@ -1,5 +1,6 @@
 -- The times and the write of a register's value, by the entry in the arena.
-use Rattle.std.proofs.Common.{◌≡◌, ℕ, ◌<◌, nat_lt, cond, Bool, true, false, length, take, slice_get, Option, Some, None, List, refl, sym, ap, subst, ◌∙◌, arith, option_map, option_and_then}
+use Rattle.std.proofs.Common.{◌≡◌, ℕ, ◌<◌, nat_lt, cond, Bool, true, false, length, take, slice_get, Option}
+use Rattle.std.proofs.Common.{Some, None, List, refl, sym, ap, subst, ◌∙◌, arith, option_map, option_and_then}
 use Rattle.history_text.specs.declared.limits.TheConstants.{MAX_EVENTS}
 use Rattle.history_text.specs.declared.event.Val.{Val}
 use Rattle.history_text.specs.declared.event.Val.TheVariants.{Null, Int}
@@ -9,7 +10,9 @@ use Rattle.history_text.specs.declared.event.LineEvent.{LineEvent}
 use Rattle.history_model.proofs.Accepted.{IsLineAt, line-at, asking}
 use Rattle.history_model.specs.Walking.{IsFirstOf, key_at, by_register, by_value}
 use Rattle.history_model.specs.OfValue.{IsLastCall, IsFirstReply}
-use Rattle.reg_arena.specs.EventLists.{AreEventLists, HasTimes, IsCallOf, IsLastRead, by_read, by_reply, by_write, last_time, later, reply_time, value_entry, write_called, write_kept}
+use Rattle.reg_arena.specs.EventLists.{AreEventLists, HasTimes, IsCallOf, IsLastRead}
+use Rattle.reg_arena.specs.EventLists.{by_read, by_reply, by_write, last_time, later}
+use Rattle.reg_arena.specs.EventLists.{reply_time, value_entry, write_called, write_kept}
 use Rattle.history_model.specs.declared.ids.EvId.{EvId}
 use Rattle.history_model.specs.declared.event.Event.{Event}
 use Rattle.reg_arena.specs.declared.list_ends.Entry.{Entry}
@@ -33,7 +36,8 @@ kept-called (Written w) id h = h
 kept-called (Failed w) id h = absurd (cc (h))
 
 -- the later of two fits where both do
-pub later-fits : (a b : Option EvId) → ((id : EvId) → a ≡ Some id → id.0 < MAX_EVENTS) → ((id : EvId) → b ≡ Some id → id.0 < MAX_EVENTS) → (id : EvId) → later a b ≡ Some id → id.0 < MAX_EVENTS
+pub later-fits : (a b : Option EvId) → ((id : EvId) → a ≡ Some id → id.0 < MAX_EVENTS)
+    → ((id : EvId) → b ≡ Some id → id.0 < MAX_EVENTS) → (id : EvId) → later a b ≡ Some id → id.0 < MAX_EVENTS
 later-fits None b f g id h = g id h
 later-fits (Some a) None f g id h = f id h
 later-fits (Some a) (Some b) f g id h = go (nat_lt a.0 b.0) h
@@ -43,13 +47,20 @@ later-fits (Some a) (Some b) f g id h = go (nat_lt a.0 b.0) h
     go false h = f id h
 
 -- the times of an entry fit
-pub has-times : (t : EventLists) → AreEventLists t → (k : ℕ × Val) (y : Entry) → value_entry t.pairs t.entries.items k ≡ Some y → HasTimes y
+pub has-times : (t : EventLists) → AreEventLists t → (k : ℕ × Val) (y : Entry)
+    → value_entry t.pairs t.entries.items k ≡ Some y → HasTimes y
 has-times t a k y q =
     let e = a.entries k y q in
     record {
-      write = λ id r. let f = subst (IsFirstOf by_write t.rows.events k) (kept-called y.write id r) e.write in let w = key-within by_write t.rows.events id.0 k f.1 in omega (arith, w, a.room);
+      write =
+          λ id r. let f =
+          subst (IsFirstOf by_write t.rows.events k) (kept-called y.write id r) e.write in let w =
+          key-within by_write t.rows.events id.0 k f.1 in omega (arith, w, a.room);
       read = λ id r. read id (subst (IsLastRead t.rows.events t.rows.calls k) r e.read);
-      reply = λ id r. let f = subst (IsFirstOf by_reply t.rows.events k) r e.reply in let w = key-within by_reply t.rows.events id.0 k f.1 in omega (arith, w, a.room);
+      reply =
+          λ id r. let f =
+          subst (IsFirstOf by_reply t.rows.events k) r e.reply in let w =
+          key-within by_reply t.rows.events id.0 k f.1 in omega (arith, w, a.room);
     }
   where
     read : (id : EvId) → IsLastRead t.rows.events t.rows.calls k (Some id) → id.0 < MAX_EVENTS
@@ -61,48 +72,76 @@ has-times t a k y q =
         let o = c.1.order in
         omega (arith, w, o, a.room)
 
-module _ (names : List (List ℕ)) (t : EventLists) (a : AreEventLists t) (rec : IsRecorded (record { names = names; events = t.rows.events })) where
-  no-event : (k : ℕ × Val) → value_entry t.pairs t.entries.items k ≡ None → (i : ℕ) → key_at by_value t.rows.events i ≡ Some k → ⊥
+module _ (names : List (List ℕ)) (t : EventLists) (a : AreEventLists t)
+    (rec : IsRecorded (record { names = names; events = t.rows.events })) where
+  no-event : (k : ℕ × Val) → value_entry t.pairs t.entries.items k ≡ None → (i : ℕ)
+      → key_at by_value t.rows.events i ≡ Some k → ⊥
   no-event k q i h = a.values.none k (ap (option_map (λ (y : Entry). y.ends)) q) i h
 
-  pub last-time : (k : ℕ × Val) → k.0 < length names → IsLastCall (record { names = names; events = t.rows.events }) k.0 k.1 (last_time k.1 (value_entry t.pairs t.entries.items k))
+  pub last-time : (k : ℕ × Val) → k.0 < length names
+      → IsLastCall (record { names = names; events = t.rows.events }) k.0 k.1
+      (last_time k.1 (value_entry t.pairs t.entries.items k))
   last-time k l = go (value_entry t.pairs t.entries.items k) refl
     where
-      go : (o : Option Entry) → value_entry t.pairs t.entries.items k ≡ o → IsLastCall (record { names = names; events = t.rows.events }) k.0 k.1 (last_time k.1 (value_entry t.pairs t.entries.items k))
+      go : (o : Option Entry) → value_entry t.pairs t.entries.items k ≡ o
+          → IsLastCall (record { names = names; events = t.rows.events }) k.0 k.1
+          (last_time k.1 (value_entry t.pairs t.entries.items k))
       go (Some y) q =
-          subst (λ o. IsLastCall (record { names = names; events = t.rows.events }) k.0 k.1 (last_time k.1 o)) (sym q)
-          (last-call_is (record { names = names; events = t.rows.events }) rec k t.rows.calls a.calls (write_kept y.write) y.last_read l (kept-write t a k y q) (a.entries k y q).read)
+          subst (λ o. IsLastCall (record { names = names; events = t.rows.events }) k.0 k.1
+          (last_time k.1 o)) (sym q)
+          (last-call_is (record { names = names; events = t.rows.events }) rec k t.rows.calls a.calls
+          (write_kept y.write) y.last_read l (kept-write t a k y q) (a.entries k y q).read)
       go None q =
-          subst (λ o. IsLastCall (record { names = names; events = t.rows.events }) k.0 k.1 (last_time k.1 o)) (sym q)
-          (last-call_is (record { names = names; events = t.rows.events }) rec k t.rows.calls a.calls None None l (kept-none t a k q) (λ i x. no-event k q i (key-along by_read by_value t.rows.events k (λ e. read-value e k) i x)))
+          subst (λ o. IsLastCall (record { names = names; events = t.rows.events }) k.0 k.1
+          (last_time k.1 o)) (sym q)
+          (last-call_is (record { names = names; events = t.rows.events }) rec k t.rows.calls a.calls None
+          None l (kept-none t a k q)
+          (λ i x. no-event k q i (key-along by_read by_value t.rows.events k (λ e. read-value e k) i x)))
 
-  pub first-time : (k : ℕ × Val) → k.0 < length names → IsFirstReply (record { names = names; events = t.rows.events }) k.0 k.1 (reply_time k.1 (value_entry t.pairs t.entries.items k))
+  pub first-time : (k : ℕ × Val) → k.0 < length names
+      → IsFirstReply (record { names = names; events = t.rows.events }) k.0 k.1
+      (reply_time k.1 (value_entry t.pairs t.entries.items k))
   first-time k l = go k.1 refl (value_entry t.pairs t.entries.items k) refl
     where
-      go : (v : Val) → k.1 ≡ v → (o : Option Entry) → value_entry t.pairs t.entries.items k ≡ o → IsFirstReply (record { names = names; events = t.rows.events }) k.0 k.1 (reply_time k.1 (value_entry t.pairs t.entries.items k))
+      go : (v : Val) → k.1 ≡ v → (o : Option Entry) → value_entry t.pairs t.entries.items k ≡ o
+          → IsFirstReply (record { names = names; events = t.rows.events }) k.0 k.1
+          (reply_time k.1 (value_entry t.pairs t.entries.items k))
       go Null w o q =
-          subst (λ v. IsFirstReply (record { names = names; events = t.rows.events }) k.0 k.1 (reply_time v (value_entry t.pairs t.entries.items k))) (sym w) (first-reply_null (record { names = names; events = t.rows.events }) rec k w l)
+          subst (λ v. IsFirstReply (record { names = names; events = t.rows.events }) k.0 k.1
+          (reply_time v (value_entry t.pairs t.entries.items k))) (sym w)
+          (first-reply_null (record { names = names; events = t.rows.events }) rec k w l)
       go (Int n) w None q =
-          subst (λ v. IsFirstReply (record { names = names; events = t.rows.events }) k.0 k.1 (reply_time v (value_entry t.pairs t.entries.items k))) (sym w)
-          (subst (λ o. IsFirstReply (record { names = names; events = t.rows.events }) k.0 k.1 (reply_time (Int n) o)) (sym q) (first-reply_none (record { names = names; events = t.rows.events }) rec k (no-event k q) (λ z. null-int n (sym w ∙ z))))
+          subst (λ v. IsFirstReply (record { names = names; events = t.rows.events }) k.0 k.1
+          (reply_time v (value_entry t.pairs t.entries.items k))) (sym w)
+          (subst (λ o. IsFirstReply (record { names = names; events = t.rows.events }) k.0 k.1
+          (reply_time (Int n) o)) (sym q)
+          (first-reply_none (record { names = names; events = t.rows.events }) rec k (no-event k q)
+          (λ z. null-int n (sym w ∙ z))))
       go (Int n) w (Some y) q =
-          subst (λ v. IsFirstReply (record { names = names; events = t.rows.events }) k.0 k.1 (reply_time v (value_entry t.pairs t.entries.items k))) (sym w)
-          (subst (λ o. IsFirstReply (record { names = names; events = t.rows.events }) k.0 k.1 (reply_time (Int n) o)) (sym q) (first-reply_entry (record { names = names; events = t.rows.events }) rec k y.first_reply (λ z. null-int n (sym w ∙ z)) (a.entries k y q).reply))
+          subst (λ v. IsFirstReply (record { names = names; events = t.rows.events }) k.0 k.1
+          (reply_time v (value_entry t.pairs t.entries.items k))) (sym w)
+          (subst (λ o. IsFirstReply (record { names = names; events = t.rows.events }) k.0 k.1
+          (reply_time (Int n) o)) (sym q)
+          (first-reply_entry (record { names = names; events = t.rows.events }) rec k y.first_reply
+          (λ z. null-int n (sym w ∙ z)) (a.entries k y q).reply))
 
 -- the register of an event with a value has a name
-pub key-known : (h : History) → IsRecorded h → (i : ℕ) (k : ℕ × Val) → key_at by_value h.events i ≡ Some k → k.0 < length h.names
+pub key-known : (h : History) → IsRecorded h → (i : ℕ) (k : ℕ × Val) → key_at by_value h.events i ≡ Some k
+    → k.0 < length h.names
 key-known h rec i k q =
     event-register h rec i k.0 (key-register h.events i k q)
 
 -- the value of the key of an event
-pub key-of : (events : List Event) (i : ℕ) (e : Event) (v : Val) (k : ℕ × Val) → slice_get events i ≡ Some e → e.value ≡ Some v → key_at by_value events i ≡ Some k → (by_register e ≡ Some k.0) × (v ≡ k.1)
+pub key-of : (events : List Event) (i : ℕ) (e : Event) (v : Val) (k : ℕ × Val) → slice_get events i ≡ Some e
+    → e.value ≡ Some v → key_at by_value events i ≡ Some k → (by_register e ≡ Some k.0) × (v ≡ k.1)
 key-of events i e v k at q h =
     let p = key-parts e k (sym (ap (option_and_then by_value) at) ∙ h) in
     let w = p.1 in
     (p.0, cc (w, q))
 
 -- an event with a value has a register
-pub key-there : (h : History) → IsRecorded h → (i : ℕ) (e : Event) (v : Val) → slice_get h.events i ≡ Some e → e.value ≡ Some v → key_at by_value h.events i ≡ None → ⊥
+pub key-there : (h : History) → IsRecorded h → (i : ℕ) (e : Event) (v : Val) → slice_get h.events i ≡ Some e
+    → e.value ≡ Some v → key_at by_value h.events i ≡ None → ⊥
 key-there h rec i e v at has none = go (asked_for (take i rec.events) line.0) refl
   where
     line : (le : LineEvent) × IsLineAt rec.events i e le
@@ -110,7 +149,9 @@ key-there h rec i e v at has none = go (asked_for (take i rec.events) line.0) re
 
     go : (o : Option Asked) → asked_for (take i rec.events) line.0 ≡ o → ⊥
     go None q =
-        let value = ap (λ (x : Event). x.value) line.1.is ∙ ap (option_and_then (λ (c : Asked). event_value c c.kind line.0)) q in
+        let value =
+        ap (λ (x : Event). x.value) line.1.is
+        ∙ ap (option_and_then (λ (c : Asked). event_value c c.kind line.0)) q in
         cc (value, has)
     go (Some a) q =
         let says = asking (take i rec.events) line.0 a e line.1.is q in
@@ -120,27 +161,47 @@ key-there h rec i e v at has none = go (asked_for (take i rec.events) line.0) re
 
 -- ---- by an event
 
-module _ (names : List (List ℕ)) (t : EventLists) (a : AreEventLists t) (rec : IsRecorded (record { names = names; events = t.rows.events })) (i : ℕ) where
-  pub times-there : (o : Option Entry) → o ≡ option_and_then (value_entry t.pairs t.entries.items) (key_at by_value t.rows.events i) → (y : Entry) → o ≡ Some y → HasTimes y
+module _ (names : List (List ℕ)) (t : EventLists) (a : AreEventLists t)
+    (rec : IsRecorded (record { names = names; events = t.rows.events })) (i : ℕ) where
+  pub times-there : (o : Option Entry)
+      → o ≡ option_and_then (value_entry t.pairs t.entries.items) (key_at by_value t.rows.events i)
+      → (y : Entry) → o ≡ Some y → HasTimes y
   times-there o q y h = go (key_at by_value t.rows.events i) refl
     where
       go : (k : Option (ℕ × Val)) → key_at by_value t.rows.events i ≡ k → HasTimes y
-      go None w = absurd (let z = ap (option_and_then (value_entry t.pairs t.entries.items)) w in cc (q, z, h))
-      go (Some k) w = has-times t a k y (sym (q ∙ ap (option_and_then (value_entry t.pairs t.entries.items)) w) ∙ h)
+      go None w =
+          absurd (let z = ap (option_and_then (value_entry t.pairs t.entries.items)) w in cc (q, z, h))
+      go (Some k) w =
+          has-times t a k y (sym (q ∙ ap (option_and_then (value_entry t.pairs t.entries.items)) w) ∙ h)
 
-  module _ (e : Event) (v : Val) (at : slice_get t.rows.events i ≡ Some e) (has : e.value ≡ Some v) (k : ℕ × Val) (h : key_at by_value t.rows.events i ≡ Some k) where
-    entry-there : (o : Option Entry) → o ≡ option_and_then (value_entry t.pairs t.entries.items) (key_at by_value t.rows.events i) → o ≡ value_entry t.pairs t.entries.items k
+  module _ (e : Event) (v : Val) (at : slice_get t.rows.events i ≡ Some e) (has : e.value ≡ Some v) (k : ℕ
+      × Val) (h : key_at by_value t.rows.events i ≡ Some k) where
+    entry-there : (o : Option Entry)
+        → o ≡ option_and_then (value_entry t.pairs t.entries.items) (key_at by_value t.rows.events i)
+        → o ≡ value_entry t.pairs t.entries.items k
     entry-there o q = q ∙ ap (option_and_then (value_entry t.pairs t.entries.items)) h
 
     known : k.0 < length names
     known = key-known (record { names = names; events = t.rows.events }) rec i k h
 
-    pub last-of_event : (o : Option Entry) (r : Option ℕ) → o ≡ option_and_then (value_entry t.pairs t.entries.items) (key_at by_value t.rows.events i) → r ≡ last_time v o → IsLastCall (record { names = names; events = t.rows.events }) k.0 k.1 r
+    pub last-of_event : (o : Option Entry) (r : Option ℕ)
+        → o ≡ option_and_then (value_entry t.pairs t.entries.items) (key_at by_value t.rows.events i)
+        → r ≡ last_time v o → IsLastCall (record { names = names; events = t.rows.events }) k.0 k.1 r
     last-of_event o r q w =
-        let is : r ≡ last_time k.1 (value_entry t.pairs t.entries.items k) = w ∙ (ap (last_time v) (entry-there o q) ∙ ap (λ v. last_time v (value_entry t.pairs t.entries.items k)) (key-of t.rows.events i e v k at has h).1) in
-        subst (IsLastCall (record { names = names; events = t.rows.events }) k.0 k.1) (sym is) (last-time names t a rec k known)
+        let is : r ≡ last_time k.1 (value_entry t.pairs t.entries.items k) =
+        w ∙ (ap (last_time v) (entry-there o q)
+        ∙ ap (λ v. last_time v (value_entry t.pairs t.entries.items k))
+        (key-of t.rows.events i e v k at has h).1) in
+        subst (IsLastCall (record { names = names; events = t.rows.events }) k.0 k.1) (sym is)
+        (last-time names t a rec k known)
 
-    pub first-of_event : (o : Option Entry) (r : Option ℕ) → o ≡ option_and_then (value_entry t.pairs t.entries.items) (key_at by_value t.rows.events i) → r ≡ reply_time v o → IsFirstReply (record { names = names; events = t.rows.events }) k.0 k.1 r
+    pub first-of_event : (o : Option Entry) (r : Option ℕ)
+        → o ≡ option_and_then (value_entry t.pairs t.entries.items) (key_at by_value t.rows.events i)
+        → r ≡ reply_time v o → IsFirstReply (record { names = names; events = t.rows.events }) k.0 k.1 r
     first-of_event o r q w =
-        let is : r ≡ reply_time k.1 (value_entry t.pairs t.entries.items k) = w ∙ (ap (reply_time v) (entry-there o q) ∙ ap (λ v. reply_time v (value_entry t.pairs t.entries.items k)) (key-of t.rows.events i e v k at has h).1) in
-        subst (IsFirstReply (record { names = names; events = t.rows.events }) k.0 k.1) (sym is) (first-time names t a rec k known)
+        let is : r ≡ reply_time k.1 (value_entry t.pairs t.entries.items k) =
+        w ∙ (ap (reply_time v) (entry-there o q)
+        ∙ ap (λ v. reply_time v (value_entry t.pairs t.entries.items k))
+        (key-of t.rows.events i e v k at has h).1) in
+        subst (IsFirstReply (record { names = names; events = t.rows.events }) k.0 k.1) (sym is)
+        (first-time names t a rec k known)

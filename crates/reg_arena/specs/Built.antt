@@ -10,7 +10,8 @@ pub record IsBuilt (lines : List Line) (h : History) : Type 0 where
   pub accepted : AreAccepted (events_of lines)
   pub well_formed : IsWellFormed lines
 
--- the history of the lines before and of some more, or the reason why none is built of any lines that begin with these
+-- the history of the lines before and of some more, or the reason why none is
+-- built of any lines that begin with these
 abbrev pub IsBuiltWith : List Line → List Line → Result History BuildError → Type 0
 IsBuiltWith before lines (Ok h) = IsBuilt (before ++ lines) h
 IsBuiltWith before lines (Err e) = (after : List Line) → IsBuildError (before ++ lines ++ after) e

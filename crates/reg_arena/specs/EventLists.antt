@@ -1,5 +1,7 @@
 -- The threaded lists of an arena: each family is the filter of the one list of events, ascending.
-use Rattle.std.specs.Prelude.{◌≡◌, ℕ, ◌+◌, ◌<◌, ◌≤◌, ◌⊎◌, ◌&&◌, not, true, false, nat_lt, nat_eq, cond, ℤ, List, [], ◌∷◌, ◌++◌, length, set, slice_get, Option, Some, None, option_map, option_and_then}
+use Rattle.std.specs.Prelude.{◌≡◌, ℕ, ◌+◌, ◌<◌, ◌≤◌, ◌⊎◌, ◌&&◌, not, true, false, nat_lt}
+use Rattle.std.specs.Prelude.{nat_eq, cond, ℤ, List, [], ◌∷◌, ◌++◌, length, set, slice_get}
+use Rattle.std.specs.Prelude.{Option, Some, None, option_map, option_and_then}
 use Rattle.history_text.specs.declared.limits.TheConstants.{MAX_EVENTS}
 use Rattle.std.specs.List.{position}
 use Rattle.std.specs.Option.{option_or}
@@ -26,8 +28,10 @@ use Rattle.history_model.specs.Naming.{begins_at, belongs_at}
 
 -- ---- one family of lists
 
--- One family. `key`: the key of the event at a place; `link`: the link there; `ends`: the ends of the list of a key.
-pub record IsThreaded {K : Type 0} (key : ℕ → Option K) (link : ℕ → Option EvId) (ends : K → Option Ends) : Type 0 where
+-- One family. `key`: the key of the event at a place; `link`: the link
+-- there; `ends`: the ends of the list of a key.
+pub record IsThreaded {K : Type 0} (key : ℕ → Option K) (link : ℕ → Option EvId) (ends : K
+    → Option Ends) : Type 0 where
   -- each link leads to the next event of the same key
   pub next : (k : K) (i : ℕ) → key i ≡ Some k → IsLeastFrom (λ j. key j ≡ Some k) (i + 1) (link i)
   -- an event without a key has no link
@@ -35,17 +39,23 @@ pub record IsThreaded {K : Type 0} (key : ℕ → Option K) (link : ℕ → Opti
   -- the ends are of the keys that an event has
   pub none : (k : K) → ends k ≡ None → (i : ℕ) → key i ≡ Some k → ⊥
   pub first : (k : K) (e : Ends) → ends k ≡ Some e → IsLeastFrom (λ j. key j ≡ Some k) 0 (Some e.first)
-  pub last : (k : K) (e : Ends) → ends k ≡ Some e → (key e.last.0 ≡ Some k) × ((i : ℕ) → key i ≡ Some k → i ≤ e.last.0)
+  pub last : (k : K) (e : Ends) → ends k ≡ Some e
+      → (key e.last.0 ≡ Some k) × ((i : ℕ) → key i ≡ Some k → i ≤ e.last.0)
 
 -- event n is joined to the list of key k
-pub record IsJoined {K : Type 0} (k : K) (n : EvId) (link new_link : ℕ → Option EvId) (ends new_ends : K → Option Ends) : Type 0 where
-  pub fresh : ends k ≡ None → (new_ends k ≡ Some (record { first = n; last = n })) × ((i : ℕ) → new_link i ≡ link i)
-  pub next : (e : Ends) → ends k ≡ Some e → (new_ends k ≡ Some (record { first = e.first; last = n })) × (new_link e.last.0 ≡ Some n) × ((i : ℕ) → (i ≡ e.last.0 → ⊥) → new_link i ≡ link i)
+pub record IsJoined {K : Type 0} (k : K) (n : EvId) (link new_link : ℕ → Option EvId) (ends new_ends : K
+    → Option Ends) : Type 0 where
+  pub fresh : ends k ≡ None → (new_ends k ≡ Some (record { first = n; last = n }))
+      × ((i : ℕ) → new_link i ≡ link i)
+  pub next : (e : Ends) → ends k ≡ Some e → (new_ends k ≡ Some (record { first = e.first; last = n }))
+      × (new_link e.last.0 ≡ Some n) × ((i : ℕ) → (i ≡ e.last.0 → ⊥) → new_link i ≡ link i)
   pub others : (q : K) → (q ≡ k) ⊎ ((q ≡ k → ⊥) × (new_ends q ≡ ends q))
 
 -- the same of an event that may have no key
-abbrev pub IsJoinedBy : {K : Type 0} → Option K → EvId → (ℕ → Option EvId) → (ℕ → Option EvId) → (K → Option Ends) → (K → Option Ends) → Type 0
-IsJoinedBy {K} None n link new_link ends new_ends = ((i : ℕ) → new_link i ≡ link i) × ((q : K) → new_ends q ≡ ends q)
+abbrev pub IsJoinedBy : {K : Type 0} → Option K → EvId → (ℕ → Option EvId) → (ℕ → Option EvId)
+    → (K → Option Ends) → (K → Option Ends) → Type 0
+IsJoinedBy {K} None n link new_link ends new_ends =
+    ((i : ℕ) → new_link i ≡ link i) × ((q : K) → new_ends q ≡ ends q)
 IsJoinedBy (Some k) n link new_link ends new_ends = IsJoined k n link new_link ends new_ends
 
 -- how many registers there are with this one; a crash has none
@@ -131,31 +141,45 @@ read_with last Crash call = last
 
 -- the entry of a list of one event, with the event of its call
 abbrev pub entry_alone : Event → EvId → EvId → Entry
-entry_alone e n call = record { ends = record { first = n; last = n }; write = write_with Unwritten e.what n call; first_reply = reply_with None e.what n; last_read = read_with None e.what call }
+entry_alone e n call = record {
+  ends = record { first = n; last = n };
+  write = write_with Unwritten e.what n call;
+  first_reply = reply_with None e.what n;
+  last_read = read_with None e.what call;
+}
 
 -- the entry of a list with one more event behind it
 abbrev pub entry_with : Entry → Event → EvId → EvId → Entry
-entry_with y e n call = record { ends = record { first = y.ends.first; last = n }; write = write_with y.write e.what n call; first_reply = reply_with y.first_reply e.what n; last_read = read_with y.last_read e.what call }
+entry_with y e n call = record {
+  ends = record { first = y.ends.first; last = n };
+  write = write_with y.write e.what n call;
+  first_reply = reply_with y.first_reply e.what n;
+  last_read = read_with y.last_read e.what call;
+}
 
 abbrev pub entry_after : Option Entry → Event → EvId → EvId → Entry
 entry_after None e n call = entry_alone e n call
 entry_after (Some y) e n call = entry_with y e n call
 
 -- event n enters the list of register and value k
-pub record IsEntered (k : ℕ × Val) (e : Event) (n call : EvId) (entry new_entry : ℕ × Val → Option Entry) : Type 0 where
+pub record IsEntered (k : ℕ × Val) (e : Event) (n call : EvId) (entry new_entry : ℕ × Val
+    → Option Entry) : Type 0 where
   pub one : new_entry k ≡ Some (entry_after (entry k) e n call)
   pub others : (q : ℕ × Val) → (q ≡ k) ⊎ ((q ≡ k → ⊥) × (new_entry q ≡ entry q))
 
-abbrev pub IsEnteredBy : Option (ℕ × Val) → Event → EvId → EvId → (ℕ × Val → Option Entry) → (ℕ × Val → Option Entry) → Type 0
+abbrev pub IsEnteredBy : Option (ℕ × Val) → Event → EvId → EvId → (ℕ × Val → Option Entry)
+    → (ℕ × Val → Option Entry) → Type 0
 IsEnteredBy None e n call entry new_entry = (q : ℕ × Val) → new_entry q ≡ entry q
 IsEnteredBy (Some k) e n call entry new_entry = IsEntered k e n call entry new_entry
 
 -- the last event of a key
 abbrev pub IsLastOf : {K : Type 0} → (Event → Option K) → List Event → K → Option EvId → Type 0
 IsLastOf key events k None = (i : ℕ) → key_at key events i ≡ Some k → ⊥
-IsLastOf key events k (Some j) = (key_at key events j.0 ≡ Some k) × ((i : ℕ) → key_at key events i ≡ Some k → i ≤ j.0)
+IsLastOf key events k (Some j) =
+    (key_at key events j.0 ≡ Some k) × ((i : ℕ) → key_at key events i ≡ Some k → i ≤ j.0)
 
--- an event of the same register and value as the event e; there is none where they are new, or where e has no value
+-- an event of the same register and value as the event e; there is none
+-- where they are new, or where e has no value
 abbrev pub IsAlike : List Event → Event → Option EvId → Type 0
 IsAlike events e None = (k : ℕ × Val) → by_value e ≡ Some k → IsLastOf by_value events k None
 IsAlike events e (Some j) = (k : ℕ × Val) × (by_value e ≡ Some k) × (key_at by_value events j.0 ≡ Some k)
@@ -173,7 +197,8 @@ by_read e = cond (is_a_reply e.what && not (writes (kind_in e.what))) (by_value 
 abbrev pub IsCall : List Event → ℕ → Type 0
 IsCall events i = (e : Event) × (slice_get events i ≡ Some e) × (is_a_call e.what ≡ true)
 
--- the event at place c is the call of the event at place i: it is that event, or the event of its process before it
+-- the event at place c is the call of the event at place i: it is that
+-- event, or the event of its process before it
 pub record IsCallAt (events : List Event) (i c : ℕ) : Type 0 where
   pub call : IsCall events c
   pub process : key_at by_process events c ≡ key_at by_process events i
@@ -188,12 +213,14 @@ calls_with calls (Reply kind) call = calls ++ Some call ∷ []
 calls_with calls (Fail kind) call = set calls call.0 None ++ None ∷ []
 calls_with calls Crash call = calls ++ None ∷ []
 
--- c is the call of the operation that the event e at place i belongs to; without a call there is no such operation
+-- c is the call of the operation that the event e at place i belongs to;
+-- without a call there is no such operation
 abbrev pub IsCallOf : List Event → ℕ → Event → Option EvId → Type 0
 IsCallOf events i e None = belongs_at events i e ≡ false
 IsCallOf events i e (Some c) = (belongs_at events i e ≡ true) × IsCallAt events i c.0
 
--- what is asked of an event that is appended with the event of its call: a fail has the register and value of its call
+-- what is asked of an event that is appended with the event of its call: a
+-- fail has the register and value of its call
 pub record IsAppendable (events : List Event) (e : Event) (c : EvId) : Type 0 where
   pub call : (e.what ≡ Crash → ⊥) → IsCallAt (events ++ e ∷ []) (length events) c.0
   pub same : is_a_fail e.what ≡ true → key_at by_value events c.0 ≡ by_value e
@@ -201,7 +228,9 @@ pub record IsAppendable (events : List Event) (e : Event) (c : EvId) : Type 0 wh
 -- the last call of the completed reads of a register and value
 abbrev pub IsLastRead : List Event → List (Option EvId) → ℕ × Val → Option EvId → Type 0
 IsLastRead events calls k None = (i : ℕ) → key_at by_read events i ≡ Some k → ⊥
-IsLastRead events calls k (Some c) = ((i : ℕ) × (key_at by_read events i ≡ Some k) × (item_at calls i ≡ Some c)) × ((i : ℕ) (d : EvId) → key_at by_read events i ≡ Some k → item_at calls i ≡ Some d → d.0 ≤ c.0)
+IsLastRead events calls k (Some c) =
+    ((i : ℕ) × (key_at by_read events i ≡ Some k) × (item_at calls i ≡ Some c))
+    × ((i : ℕ) (d : EvId) → key_at by_read events i ≡ Some k → item_at calls i ≡ Some d → d.0 ≤ c.0)
 
 -- what an entry tells of its register and value
 pub record IsEntry (events : List Event) (calls : List (Option EvId)) (k : ℕ × Val) (y : Entry) : Type 0 where
@@ -212,8 +241,12 @@ pub record IsEntry (events : List Event) (calls : List (Option EvId)) (k : ℕ �
 
 -- the first write call of a register and value, if it begins an operation
 abbrev pub IsKeptWrite : List Event → ℕ × Val → Option EvId → Type 0
-IsKeptWrite events k None = (w : EvId) (e : Event) → IsFirstOf by_write events k (Some w) → slice_get events w.0 ≡ Some e → begins_at events w.0 e ≡ false
-IsKeptWrite events k (Some w) = IsFirstOf by_write events k (Some w) × ((e : Event) → slice_get events w.0 ≡ Some e → begins_at events w.0 e ≡ true)
+IsKeptWrite events k None =
+    (w : EvId) (e : Event) → IsFirstOf by_write events k (Some w) → slice_get events w.0 ≡ Some e
+    → begins_at events w.0 e ≡ false
+IsKeptWrite events k (Some w) =
+    IsFirstOf by_write events k (Some w) × ((e : Event) → slice_get events w.0 ≡ Some e
+    → begins_at events w.0 e ≡ true)
 
 -- the call of the initial write
 abbrev pub initial_call : Val → Option ℕ
@@ -222,7 +255,9 @@ initial_call (Int n) = None
 
 -- the last call by an entry; the initial write is called at 0
 abbrev pub last_time : Val → Option Entry → Option ℕ
-last_time v y = option_or (option_map (λ id. id.0 + 2) (option_and_then (λ y. later (write_kept y.write) y.last_read) y)) (initial_call v)
+last_time v y =
+    option_or (option_map (λ id. id.0 + 2) (option_and_then (λ y. later (write_kept y.write) y.last_read) y))
+    (initial_call v)
 
 -- the first reply by an entry; the initial write replies at 1
 abbrev pub reply_time : Val → Option Entry → Option ℕ
@@ -239,15 +274,21 @@ pub record HasTimes (y : Entry) : Type 0 where
 
 -- each of the three families is the filter of the one list of events, ascending
 pub record AreEventLists (t : EventLists) : Type 0 where
-  pub registers : IsThreaded (key_at by_register t.rows.events) (item_at t.rows.in_register) (slice_get t.registers.items)
-  pub processes : IsThreaded (key_at by_process t.rows.events) (item_at t.rows.in_process) (process_ends t.processes)
-  pub values : IsThreaded (key_at by_value t.rows.events) (item_at t.rows.in_value) (value_ends t.pairs t.entries.items)
+  pub registers : IsThreaded (key_at by_register t.rows.events) (item_at t.rows.in_register)
+      (slice_get t.registers.items)
+  pub processes : IsThreaded (key_at by_process t.rows.events) (item_at t.rows.in_process)
+      (process_ends t.processes)
+  pub values : IsThreaded (key_at by_value t.rows.events) (item_at t.rows.in_value)
+      (value_ends t.pairs t.entries.items)
   -- each event's call
-  pub calls : (i : ℕ) (e : Event) → slice_get t.rows.events i ≡ Some e → IsCallOf t.rows.events i e (item_at t.rows.calls i)
+  pub calls : (i : ℕ) (e : Event) → slice_get t.rows.events i ≡ Some e
+      → IsCallOf t.rows.events i e (item_at t.rows.calls i)
   -- each value's entry, and the number of each event's
-  pub entries : (k : ℕ × Val) (y : Entry) → value_entry t.pairs t.entries.items k ≡ Some y → IsEntry t.rows.events t.rows.calls k y
+  pub entries : (k : ℕ × Val) (y : Entry) → value_entry t.pairs t.entries.items k ≡ Some y
+      → IsEntry t.rows.events t.rows.calls k y
   pub numbered : length t.pairs ≡ length t.entries.items
-  pub numbers : (i : ℕ) (e : Event) → slice_get t.rows.events i ≡ Some e → slice_get t.rows.numbers i ≡ Some (event_number t.pairs e)
+  pub numbers : (i : ℕ) (e : Event) → slice_get t.rows.events i ≡ Some e
+      → slice_get t.rows.numbers i ≡ Some (event_number t.pairs e)
   -- the columns are as long as the list of events
   pub register_column : length t.rows.in_register ≡ length t.rows.events
   pub process_column : length t.rows.in_process ≡ length t.rows.events

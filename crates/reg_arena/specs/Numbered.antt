@@ -1,5 +1,7 @@
--- The numbers of registers by the order of their first calls, which lines are given before their events are taken in.
-use Rattle.std.specs.Prelude.{◌≡◌, ℕ, ◌++◌, ◌∷◌, [], List, length, nat_lt, cond, bytes_eq, Option, Some, None, option_map, Ok, Err}
+-- The numbers of registers by the order of their first calls, which lines
+-- are given before their events are taken in.
+use Rattle.std.specs.Prelude.{◌≡◌, ℕ, ◌++◌, ◌∷◌, [], List, length, nat_lt, cond}
+use Rattle.std.specs.Prelude.{bytes_eq, Option, Some, None, option_map, Ok, Err}
 use Rattle.std.specs.List.{position_or_len}
 use Rattle.history_model.specs.Events.{asked_by}
 use Rattle.history_model.specs.Refusals.{Line}
@@ -13,7 +15,8 @@ name_called (Err fault) = None
 -- the names with one that is called, which comes last if it is new
 abbrev pub with_name : List (List ℕ) → Option (List ℕ) → List (List ℕ)
 with_name names None = names
-with_name names (Some name) = cond (nat_lt (position_or_len (bytes_eq name) names) (length names)) names (names ++ name ∷ [])
+with_name names (Some name) =
+    cond (nat_lt (position_or_len (bytes_eq name) names) (length names)) names (names ++ name ∷ [])
 
 -- the names after some lines
 abbrev pub names_with : List (List ℕ) → List Line → List (List ℕ)
@@ -29,7 +32,9 @@ IsNumbered names (Some name) number = number ≡ position_or_len (bytes_eq name)
 abbrev pub AreNumbered : List (List ℕ) → List Line → List ℕ → Type 0
 AreNumbered names [] numbers = numbers ≡ []
 AreNumbered names (line ∷ lines) [] = ⊥
-AreNumbered names (line ∷ lines) (number ∷ numbers) = IsNumbered names (name_called line) number × AreNumbered (with_name names (name_called line)) lines numbers
+AreNumbered names (line ∷ lines) (number ∷ numbers) =
+    IsNumbered names (name_called line) number
+    × AreNumbered (with_name names (name_called line)) lines numbers
 
 -- the lines of a part
 abbrev pub lines_of : NumberedLines → List Line
@@ -38,4 +43,6 @@ lines_of part = part.lines.items
 -- the same of parts, in order
 abbrev pub ArePartsNumbered : List (List ℕ) → List NumberedLines → Type 0
 ArePartsNumbered names [] = Unit {0}
-ArePartsNumbered names (part ∷ parts) = AreNumbered names (lines_of part) part.numbers.items × ArePartsNumbered (names_with names (lines_of part)) parts
+ArePartsNumbered names (part ∷ parts) =
+    AreNumbered names (lines_of part) part.numbers.items
+    × ArePartsNumbered (names_with names (lines_of part)) parts

@@ -1,5 +1,7 @@
--- The pairs of registers and values: those that ascend in their register, each with the one before it, and those of a table.
-use Rattle.std.specs.Prelude.{◌≡◌, ◌<◌, ◌≤◌, ◌⊎◌, ◌&&◌, ◌<ℤ◌, ◌≤ℤ◌, Bool, nat_eq, ℕ, ℤ, List, Option, Some, None, slice_get}
+-- The pairs of registers and values: those that ascend in their register, each with
+-- the one before it, and those of a table.
+use Rattle.std.specs.Prelude.{◌≡◌, ◌<◌, ◌≤◌, ◌⊎◌, ◌&&◌, ◌<ℤ◌, ◌≤ℤ◌, Bool, nat_eq}
+use Rattle.std.specs.Prelude.{ℕ, ℤ, List, Option, Some, None, slice_get}
 use Rattle.indexmap.specs.IndexMap.{IndexMap, get}
 use Rattle.std.specs.Ordering.{int_eq}
 use Rattle.std.specs.Option.{option_eq}
@@ -28,9 +30,11 @@ pub record IsAscending (pairs : List Pair) (n r : ℕ) (v : ℤ) : Type 0 where
 -- The ascending pairs of each register.
 pub record IsAscent (pairs : List Pair) : Type 0 where
   -- each leads back to one of its register, or to itself
-  pub back : (n r : ℕ) (v : ℤ) → (a : IsAscending pairs n r v) → (a.pair.previous ≡ n) ⊎ ((w : ℤ) × IsAscending pairs a.pair.previous r w)
+  pub back : (n r : ℕ) (v : ℤ) → (a : IsAscending pairs n r v)
+      → (a.pair.previous ≡ n) ⊎ ((w : ℤ) × IsAscending pairs a.pair.previous r w)
   -- there is none between
-  pub last : (m n r : ℕ) (v w : ℤ) → (a : IsAscending pairs n r v) → IsAscending pairs m r w → m < n → (m ≤ a.pair.previous) × (a.pair.previous < n)
+  pub last : (m n r : ℕ) (v w : ℤ) → (a : IsAscending pairs n r v) → IsAscending pairs m r w → m < n
+      → (m ≤ a.pair.previous) × (a.pair.previous < n)
   -- their values ascend
   pub ascends : (m n r : ℕ) (v w : ℤ) → IsAscending pairs m r v → IsAscending pairs n r w → m < n → v <ℤ w
 
@@ -39,15 +43,25 @@ pub record ArePairs (pairs : List Pair) (top : ℕ → Option ℕ) (table : ℕ 
   pub ascent : IsAscent pairs
   pub tops : (r t : ℕ) → top r ≡ Some t → (v : ℤ) × IsAscending pairs t r v
   -- no whole number of a register is above its top
-  pub below : (n : ℕ) (p : Pair) (v : ℤ) → slice_get pairs n ≡ Some p → p.value ≡ Some v → (t : ℕ) × (w : ℤ) × (top p.register ≡ Some t) × IsAscending pairs t p.register w × (v ≤ℤ w)
+  pub below : (n : ℕ) (p : Pair) (v : ℤ) → slice_get pairs n ≡ Some p → p.value ≡ Some v
+      → (t : ℕ) × (w : ℤ) × (top p.register ≡ Some t) × IsAscending pairs t p.register w × (v ≤ℤ w)
   -- a pair ascends or stands in the table, which has only pairs
-  pub found : (n : ℕ) (p : Pair) → slice_get pairs n ≡ Some p → ((v : ℤ) × IsAscending pairs n p.register v) ⊎ (table (key_of p) ≡ Some n)
-  pub sound : (k : ℕ × Option ℤ) (n : ℕ) → table k ≡ Some n → (p : Pair) × (slice_get pairs n ≡ Some p) × (key_of p ≡ k)
+  pub found : (n : ℕ) (p : Pair) → slice_get pairs n ≡ Some p → ((v : ℤ) × IsAscending pairs n p.register v)
+      ⊎ (table (key_of p) ≡ Some n)
+  pub sound : (k : ℕ × Option ℤ) (n : ℕ) → table k ≡ Some n → (p : Pair) × (slice_get pairs n ≡ Some p)
+      × (key_of p ≡ k)
   -- no key stands twice
-  pub distinct : (m n : ℕ) (p q : Pair) → slice_get pairs m ≡ Some p → slice_get pairs n ≡ Some q → key_of p ≡ key_of q → m ≡ n
+  pub distinct : (m n : ℕ) (p q : Pair) → slice_get pairs m ≡ Some p → slice_get pairs n ≡ Some q
+      → key_of p ≡ key_of q → m ≡ n
 
 -- a new pair that is above the top of its register leads back to that, and another one has no depth
 abbrev pub IsFitting : List Pair → (ℕ → Option ℕ) → ℕ → Pair → Type 0
 IsFitting pairs top n p =
-    ((0 < p.depth) × ((v : ℤ) × (p.value ≡ Some v) × (((top p.register ≡ None) × (p.previous ≡ n)) ⊎ ((t : ℕ) × (w : ℤ) × (top p.register ≡ Some t) × IsAscending pairs t p.register w × (w <ℤ v) × (p.previous ≡ t)))))
-    ⊎ ((p.depth ≡ 0) × ((v : ℤ) → p.value ≡ Some v → (t : ℕ) × (w : ℤ) × (top p.register ≡ Some t) × IsAscending pairs t p.register w × (v ≤ℤ w)))
+    ((0 < p.depth)
+    × ((v : ℤ) × (p.value ≡ Some v)
+    × (((top p.register ≡ None) × (p.previous ≡ n))
+    ⊎ ((t : ℕ) × (w : ℤ) × (top p.register ≡ Some t) × IsAscending pairs t p.register w × (w <ℤ v)
+    × (p.previous ≡ t)))))
+    ⊎ ((p.depth ≡ 0)
+    × ((v : ℤ) → p.value ≡ Some v → (t : ℕ) × (w : ℤ) × (top p.register ≡ Some t)
+    × IsAscending pairs t p.register w × (v ≤ℤ w)))

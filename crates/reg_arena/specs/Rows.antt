@@ -17,7 +17,13 @@ value_held Number n = Some (Int n)
 
 -- the event that is packed
 abbrev pub unpacked : PackedEvent → Event
-unpacked e = record { line = e.line; process = e.process; register = option_map (λ n. record { 0 = n }) e.register; what = e.what; value = value_held e.holds e.number }
+unpacked e = record {
+  line = e.line;
+  process = e.process;
+  register = option_map (λ n. record { 0 = n }) e.register;
+  what = e.what;
+  value = value_held e.holds e.number;
+}
 
 -- one item an event in each column
 pub record Columns : Type 0 where
@@ -42,7 +48,14 @@ columns_of rows in_register = record {
 }
 
 abbrev pub no_columns : Columns
-no_columns = record { events = []; calls = []; in_register = []; in_process = []; in_value = []; numbers = [] }
+no_columns = record {
+  events = [];
+  calls = [];
+  in_register = [];
+  in_process = [];
+  in_value = [];
+  numbers = [];
+}
 
 -- the columns with one other
 abbrev pub with_calls : Columns → List (Option EvId) → Columns

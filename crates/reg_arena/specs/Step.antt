@@ -1,5 +1,6 @@
 -- What the building of an arena does with one event; `events` and `h` are what the events before it gave.
-use Rattle.std.specs.Prelude.{◌≡◌, ℕ, ◌<◌, ◌++◌, ◌∷◌, [], List, length, slice_get, bytes_eq, Option, Some, None, Result, Ok, Err}
+use Rattle.std.specs.Prelude.{◌≡◌, ℕ, ◌<◌, ◌++◌, ◌∷◌, [], List, length, slice_get}
+use Rattle.std.specs.Prelude.{bytes_eq, Option, Some, None, Result, Ok, Err}
 use Rattle.std.specs.declared.alloc.AllocError.{AllocError}
 use Rattle.std.specs.List.{position_or_len}
 use Rattle.history_text.specs.declared.event.Val.{Val}
@@ -38,9 +39,11 @@ pub record IsOpenCall (events : List Event) (p : ℕ) (open_one : Open) : Type 0
 abbrev pub IsStanding : List Event → ℕ → Standing → Type 0
 IsStanding events p (Opened open_one) = IsOpenCall events p open_one
 IsStanding events p (Crashed j) = IsLastOf by_process events p (Some j) × IsCrash events j.0
-IsStanding events p Free = (j : EvId) → IsLastOf by_process events p (Some j) → (IsCall events j.0 → ⊥) × (IsCrash events j.0 → ⊥)
+IsStanding events p Free =
+    (j : EvId) → IsLastOf by_process events p (Some j) → (IsCall events j.0 → ⊥) × (IsCrash events j.0 → ⊥)
 
--- the last event of the register and value; a new register has none, nor has a read's call, which has no value
+-- the last event of the register and value; a new register has none,
+-- nor has a read's call, which has no value
 abbrev pub IsLastWith : List Event → Option ℕ → Option Val → Option EvId → Type 0
 IsLastWith events None v o = o ≡ None
 IsLastWith events (Some r) None o = o ≡ None
@@ -55,7 +58,8 @@ IsWritten events (Some r) (Some v) o = IsFirstOf by_write events (r, v) o
 -- the event e isn't refused, whatever accepted events gave the history
 pub record IsTaken (h : History) (e : LineEvent) : Type 0 where
   pub recorded : IsRecorded h
-  pub free : (before : List LineEvent) → AreAccepted before → h ≡ history_of before → event_refusal before e ≡ None
+  pub free : (before : List LineEvent) → AreAccepted before → h ≡ history_of before
+      → event_refusal before e ≡ None
 
 -- the name that a call adds: none, where its register has a number
 abbrev pub name_added : Option ℕ → List ℕ → Option (List ℕ)
@@ -78,7 +82,8 @@ step_result h (Err e) = Err e
 
 -- where memory is there, the next history is that of the events with e
 abbrev pub OnOkAfter : History → LineEvent → Result History AllocError → Type 0
-OnOkAfter h e (Ok g) = (before : List LineEvent) → AreAccepted before → h ≡ history_of before → g ≡ history_of (before ++ e ∷ [])
+OnOkAfter h e (Ok g) =
+    (before : List LineEvent) → AreAccepted before → h ≡ history_of before → g ≡ history_of (before ++ e ∷ [])
 OnOkAfter h e (Err x) = Unit {0}
 
 -- the refusal of the event after those before it, or the history with it
@@ -89,4 +94,5 @@ IsStep before e (Err Memory) = Unit {0}
 
 -- the error of the event, whatever accepted events gave the history
 abbrev pub IsStopped : History → LineEvent → BuildError → Type 0
-IsStopped h e error = (before : List LineEvent) → AreAccepted before → h ≡ history_of before → IsStep before e (Err error)
+IsStopped h e error =
+    (before : List LineEvent) → AreAccepted before → h ≡ history_of before → IsStep before e (Err error)

@@ -1,7 +1,8 @@
 //! Whether a reply or a fail agrees with its call.
 ghost use Rattle.std.specs.Prelude.{◌≡◌, ◌<◌, ℕ, List, Some, bytes_eq, length, slice_get};
 ghost use Rattle.history_text.specs.Values.{kind_eq};
-ghost use Rattle.history_model.specs.Events.{agrees, fail_agrees, failed_value_agrees, reply_agrees, value_agrees};
+ghost use Rattle.history_model.specs.Events.{agrees, fail_agrees, failed_value_agrees};
+ghost use Rattle.history_model.specs.Events.{reply_agrees, value_agrees};
 
 use crate::names::Names;
 use crate::process_standing::Open;
@@ -11,7 +12,9 @@ use history_text::{OpKind, ReplyParts, Val};
 /// Whether each thing that a reply says is as in its call.
 pub(crate) fn reply_agrees(parts: &ReplyParts, names: &Names, opened: Open) -> bool
     requires { opened.register.0 < length names.now }
-    ensures { (name : List ℕ) → slice_get names.now opened.register.0 ≡ Some name → result ≡ reply_agrees (record { register = name; kind = opened.kind; value = opened.value }) parts.now }
+    ensures { (name : List ℕ) → slice_get names.now opened.register.0 ≡ Some name
+        → result ≡ reply_agrees (record { register = name; kind = opened.kind; value = opened.value })
+        parts.now }
 {
     op_agrees(parts.op, opened.kind)
         && register_agrees(parts, names, opened.register)
@@ -21,7 +24,9 @@ pub(crate) fn reply_agrees(parts: &ReplyParts, names: &Names, opened: Open) -> b
 /// The same of a fail.
 pub(crate) fn fail_agrees(parts: &ReplyParts, names: &Names, opened: Open) -> bool
     requires { opened.register.0 < length names.now }
-    ensures { (name : List ℕ) → slice_get names.now opened.register.0 ≡ Some name → result ≡ fail_agrees (record { register = name; kind = opened.kind; value = opened.value }) parts.now }
+    ensures { (name : List ℕ) → slice_get names.now opened.register.0 ≡ Some name
+        → result ≡ fail_agrees (record { register = name; kind = opened.kind; value = opened.value })
+        parts.now }
 {
     op_agrees(parts.op, opened.kind)
         && register_agrees(parts, names, opened.register)
@@ -37,10 +42,12 @@ fn op_agrees(said: Option<OpKind>, kind: OpKind) -> bool
     }
 }
 
-/// Whether a reply or a fail names no register, or that of its call. The register's name may lie far off, so it is read only if one is named.
+/// Whether a reply or a fail names no register, or that of its call. The register's name may lie far
+/// off, so it is read only if one is named.
 fn register_agrees(parts: &ReplyParts, names: &Names, register: RegId) -> bool
     requires { register.0 < length names.now }
-    ensures { (name : List ℕ) → slice_get names.now register.0 ≡ Some name → result ≡ agrees bytes_eq parts.now.register name }
+    ensures { (name : List ℕ) → slice_get names.now register.0 ≡ Some name
+        → result ≡ agrees bytes_eq parts.now.register name }
 {
     match parts.register.get() {
         None => true,

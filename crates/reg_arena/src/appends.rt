@@ -1,6 +1,7 @@
 //! An event that isn't refused joins the history, with the name of its register if that is new.
 //!
-//! A step that runs out of memory half way leaves an empty arena: an arena is the history of some events at any time.
+//! A step that runs out of memory half way leaves an empty arena: an arena
+//! is the history of some events at any time.
 ghost use Rattle.std.specs.Prelude.{◌≡◌, ◌<◌, length, max, IfOk, OnOk, Some, true};
 ghost use Rattle.history_text.specs.declared.event.LineEvent.{LineEvent as ALineEvent};
 ghost use Rattle.history_text.specs.declared.event.ReplyParts.{ReplyParts as AReplyParts};
@@ -8,7 +9,8 @@ ghost use Rattle.history_text.specs.declared.limits.TheConstants.{MAX_EVENTS};
 ghost use Rattle.reg_arena.specs.EventLists.{IsAlike, IsAppendable, end_of};
 ghost use Rattle.history_model.specs.Events.{Asked, asked_by, failed_by, is_crash, replied_by};
 ghost use Rattle.history_model.specs.History.{IsRecorded};
-ghost use Rattle.reg_arena.specs.Step.{IsLastWith, IsNumber, IsStanding, IsTaken, OnOkAfter, name_added, names_and, step_result, with_event};
+ghost use Rattle.reg_arena.specs.Step.{IsLastWith, IsNumber, IsStanding, IsTaken, OnOkAfter};
+ghost use Rattle.reg_arena.specs.Step.{name_added, names_and, step_result, with_event};
 ghost use Rattle.reg_arena.specs.declared.process_standing.Standing.TheVariants.{Opened};
 
 use crate::arena::Arena;
@@ -35,7 +37,8 @@ impl Arena {
         number: Option<u32>,
         last: Option<EvId>,
     ) -> Result<(), AllocError>
-        requires asked { asked_by event.now.kind ≡ Some (record { register = parts.name.now; kind = parts.kind; value = parts.value }) }
+        requires asked { asked_by event.now.kind
+            ≡ Some (record { register = parts.name.now; kind = parts.kind; value = parts.value }) }
         requires number { IsNumber self.old.names parts.name.now number }
         requires last { IsLastWith self.old.events number parts.value last }
         requires taken { IsTaken self.old event.now }
@@ -116,9 +119,11 @@ impl Arena {
         self.append(&event, id, None, None)
     }
 
-    /// Appends an event with the event of its call, and the name of its register if that is new. If memory runs out half way, the arena is empty.
+    /// Appends an event with the event of its call, and the name of its register if that is new. If
+    /// memory runs out half way, the arena is empty.
     ///
-    /// `alike` is an event of the same register and value, if there is one. A crash has no call, and `call` is then not read.
+    /// `alike` is an event of the same register and value, if there is one. A crash
+    /// has no call, and `call` is then not read.
     fn append(
         &mut self,
         event: &Event,
@@ -126,7 +131,8 @@ impl Arena {
         alike: Option<EvId>,
         name: Option<Name>,
     ) -> Result<(), AllocError>
-        requires registers { length (names_and self.old.names name) ≡ max (length self.old.names) (end_of event.now.register) }
+        requires registers { length (names_and self.old.names name)
+            ≡ max (length self.old.names) (end_of event.now.register) }
         requires room { length self.old.events < MAX_EVENTS }
         requires call { IsAppendable self.old.events event.now call }
         requires alike { IsAlike self.old.events event.now alike }

@@ -31,7 +31,8 @@ impl Model for Arena {
 
     ghost view = { λ a. record { names = a.names; events = a.lists.rows.events } };
 
-    ghost invariant = { λ a. AreEventLists a.lists × (length a.names ≡ length a.lists.registers.items) × IsRecorded (record { names = a.names; events = a.lists.rows.events }) };
+    ghost invariant = { λ a. AreEventLists a.lists × (length a.names ≡ length a.lists.registers.items)
+        × IsRecorded (record { names = a.names; events = a.lists.rows.events }) };
 }
 
 impl Arena {
@@ -89,7 +90,8 @@ impl Arena {
         }
     }
 
-    /// The operation that the event belongs to, as its call or as its reply. A crash, a fail and the call that failed belong to none.
+    /// The operation that the event belongs to, as its call or as its reply. A crash, a fail
+    /// and the call that failed belong to none.
     pub fn op_of(&self, id: EvId) -> Option<Oper>
         requires { id.0 < length self.now.events }
         ensures { IsOperOf self.now id.0 result }
@@ -103,7 +105,8 @@ impl Arena {
     /// Whether the event begins an operation: it is a call that didn't fail.
     pub fn begins(&self, id: EvId) -> bool
         requires { id.0 < length self.now.events }
-        ensures { (e : AnEvent) → slice_get self.now.events id.0 ≡ Some e → result ≡ begins_at self.now.events id.0 e }
+        ensures { (e : AnEvent) → slice_get self.now.events id.0 ≡ Some e
+            → result ≡ begins_at self.now.events id.0 e }
     {
         match self.lists.rows.call(id) {
             Some(call) => call.0 == id.0,
@@ -115,7 +118,8 @@ impl Arena {
     pub fn precedes(&self, one: Oper, other: Oper) -> bool
         requires one { IsOper self.now one }
         requires other { IsOper self.now other }
-        ensures { (a b : Operation) → IsNamed self.now one a → IsNamed self.now other b → (IsTrue result ↔ Precedes a b) }
+        ensures { (a b : Operation) → IsNamed self.now one a → IsNamed self.now other b
+            → (IsTrue result ↔ Precedes a b) }
     {
         match self.op(one).reply {
             None => false,

@@ -1,6 +1,7 @@
-//! The pairs of a register and a value that ascend: each leads back to the one before it, and many to one further back, so that
-//! a value is found in a logarithm of steps.
-ghost use Rattle.std.specs.Prelude.{◌≡◌, ◌<◌, ◌≤◌, ◌⊎◌, ◌<ℤ◌, ◌≤ℤ◌, ℕ, ℤ, true, false, length, slice_get, IfSome, Some, None};
+//! The pairs of a register and a value that ascend: each leads back to the one before it, and many to one
+//! further back, so that a value is found in a logarithm of steps.
+ghost use Rattle.std.specs.Prelude.{◌≡◌, ◌<◌, ◌≤◌, ◌⊎◌, ◌<ℤ◌, ◌≤ℤ◌, ℕ, ℤ, true};
+ghost use Rattle.std.specs.Prelude.{false, length, slice_get, IfSome, Some, None};
 ghost use Rattle.reg_arena.specs.Pairs.{IsAscending, IsAscent};
 ghost use Rattle.reg_arena.specs.declared.ascent.Pair.{Pair as APair};
 
@@ -91,7 +92,8 @@ impl Pair {
 
     /// Whether it ascends in this register, and its value isn't less than this one.
     fn is_at_least(self, register: u32, value: i64) -> bool
-        ensures { result ≡ true → (v : ℤ) × (self.register ≡ register) × (0 < self.depth) × (self.value ≡ Some v) × (value ≤ℤ v) }
+        ensures { result ≡ true → (v : ℤ) × (self.register ≡ register) × (0 < self.depth)
+            × (self.value ≡ Some v) × (value ≤ℤ v) }
     {
         match self.value {
             Some(found) => self.depth > 0 && self.register == register && found >= value,
@@ -118,8 +120,8 @@ fn end_of_two_jumps(pairs: &[Pair], number: u32) -> Option<u32> {
     }
 }
 
-/// Where the pair behind `top` jumps to. So chosen, the jumps let a search take a logarithm of steps (Myers, An applicative
-/// random-access stack, 1983).
+/// Where the pair behind `top` jumps to. So chosen, the jumps let a search take a logarithm of steps (Myers,
+/// An applicative random-access stack, 1983).
 fn jump_from(pairs: &[Pair], top: u32) -> u32 {
     end_of_two_jumps(pairs, top).unwrap_or(top)
 }
@@ -127,7 +129,9 @@ fn jump_from(pairs: &[Pair], top: u32) -> u32 {
 /// Where a search for a value of a register goes from the pair `at`, which is above it.
 fn back_from(pairs: &[Pair], at: u32, register: u32, value: i64) -> u32
     requires { at < length pairs.now }
-    ensures { (p : APair) → slice_get pairs.now at ≡ Some p → (result ≡ p.previous) ⊎ ((v : ℤ) × IsAscending pairs.now result register v × (value ≤ℤ v) × (result < at)) }
+    ensures { (p : APair) → slice_get pairs.now at ≡ Some p
+        → (result ≡ p.previous)
+        ⊎ ((v : ℤ) × IsAscending pairs.now result register v × (value ≤ℤ v) × (result < at)) }
 {
     let pair = pairs[at as usize];
     match pairs.get(pair.jump as usize) {
@@ -136,8 +140,8 @@ fn back_from(pairs: &[Pair], at: u32, register: u32, value: i64) -> u32
     }
 }
 
-/// The number of the ascending pair of a register with this value, if there is one. `top` is the last ascending pair of the
-/// register.
+/// The number of the ascending pair of a register with this value, if there is one. `top` is
+/// the last ascending pair of the register.
 pub(crate) fn find(pairs: &[Pair], register: u32, value: i64, top: u32) -> Option<u32>
     requires ascent { IsAscent pairs.now }
     requires top { (v : ℤ) × IsAscending pairs.now top register v }

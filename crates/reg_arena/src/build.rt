@@ -1,8 +1,10 @@
 //! From lines to an arena: each event is refused, or taken into the history so far.
-ghost use Rattle.std.specs.Prelude.{◌≡◌, [], ℕ, List, Option, Ok, OnOk, bytes_eq, flat_map, IfOk, IfErr, Some, true};
+ghost use Rattle.std.specs.Prelude.{◌≡◌, [], ℕ, List, Option, Ok, OnOk, bytes_eq};
+ghost use Rattle.std.specs.Prelude.{flat_map, IfOk, IfErr, Some, true};
 ghost use Rattle.history_text.specs.declared.event.LineEvent.{LineEvent as ALineEvent};
 ghost use Rattle.reg_arena.specs.Built.{IsBuilt, IsBuiltWith};
-ghost use Rattle.reg_arena.specs.Numbered.{AreNumbered, ArePartsNumbered, IsNumbered, lines_of, name_called, names_with};
+ghost use Rattle.reg_arena.specs.Numbered.{AreNumbered, ArePartsNumbered, IsNumbered};
+ghost use Rattle.reg_arena.specs.Numbered.{lines_of, name_called, names_with};
 ghost use Rattle.std.specs.List.{position_or_len};
 ghost use Rattle.history_model.specs.Events.{asked_by, failed_by, is_crash, replied_by};
 ghost use Rattle.history_model.specs.History.{history_of};
@@ -22,16 +24,18 @@ use history_text::{Kind, LineEvent, LineFault, MAX_EVENTS, OpKind, ReplyParts, V
 use std::alloc::{AllocError, Global};
 
 impl Arena {
-    /// The arena of all events of the lines, or the refusal of the first faulty line, with the lowest number that applies there. The key of its hashes is
-    /// a digest of all events, for callers that have no random bytes.
+    /// The arena of all events of the lines, or the refusal of the first faulty line, with
+    /// the lowest number that applies there. The key of its hashes is a digest of all
+    /// events, for callers that have no random bytes.
     ///
-    /// # Errors
-    /// `Refused` if the history isn't well formed, and `Memory` if memory was refused; what was built and the lines are then dropped.
+    /// # Errors `Refused` if the history isn't well formed, and `Memory` if memory was refused; what
+    /// was built and the lines are then dropped.
     pub fn build(
         alloc: Global,
         events: Vec<Result<LineEvent, LineFault>>,
     ) -> Result<Self, BuildError>
-        ensures ok { IfOk result (λ a. IsWellFormed events.items × (a ≡ history_of (events_of events.items))) }
+        ensures ok { IfOk result (λ a. IsWellFormed events.items
+            × (a ≡ history_of (events_of events.items))) }
         ensures err { IfErr result (λ e. IsBuildError events.items e) }
     {
         let key = HashKey::digest(&events);
@@ -42,7 +46,8 @@ impl Arena {
         Ok(arena)
     }
 
-    /// The arena of no lines, with room for as many events as `count`, or for [`MAX_EVENTS`] if that is less. The key is that of its hashes.
+    /// The arena of no lines, with room for as many events as `count`, or for [`MAX_EVENTS`] if
+    /// that is less. The key is that of its hashes.
     ///
     /// # Errors
     /// Out of memory.
@@ -54,14 +59,16 @@ impl Arena {
         Ok(arena)
     }
 
-    /// The arena with the events of more lines behind the others, or the refusal of the first faulty one of these, with the lowest number that applies
-    /// there. The lines come in parts, in order, and have the numbers of their registers by the names so far, as [`Numbering`] gives them.
+    /// The arena with the events of more lines behind the others, or the refusal of the first faulty one of
+    /// these, with the lowest number that applies there. The lines come in parts, in order, and have the
+    /// numbers of their registers by the names so far, as [`Numbering`] gives them.
     ///
-    /// # Errors
-    /// `Refused` if the history isn't well formed, whatever stands behind these lines, and `Memory` if memory was refused; what was built is then dropped.
+    /// # Errors `Refused` if the history isn't well formed, whatever stands behind these lines, and `Memory`
+    /// if memory was refused; what was built is then dropped.
     pub fn with_lines(mut self, alloc: Global, parts: &[NumberedLines]) -> Result<Self, BuildError>
         requires { ArePartsNumbered self.names parts.now }
-        ensures { (before : List Line) → IsBuilt before self → IsBuiltWith before (flat_map lines_of parts.now) result }
+        ensures { (before : List Line) → IsBuilt before self
+            → IsBuiltWith before (flat_map lines_of parts.now) result }
     {
         for part in parts {
             self.add_lines(alloc, part)?;
@@ -69,10 +76,12 @@ impl Arena {
         Ok(self)
     }
 
-    /// Takes in the events of more lines behind the others, or gives the refusal of the first faulty one of these.
+    /// Takes in the events of more lines behind the others, or gives the
+    /// refusal of the first faulty one of these.
     fn add_lines(&mut self, alloc: Global, part: &NumberedLines) -> Result<(), BuildError>
         requires { AreNumbered self.old.names (lines_of part.now) part.now.numbers.items }
-        ensures built { (before : List Line) → IsBuilt before self.old → IsBuiltWith before (lines_of part.now) (step_result self.new result) }
+        ensures built { (before : List Line) → IsBuilt before self.old
+            → IsBuiltWith before (lines_of part.now) (step_result self.new result) }
         ensures names { OnOk result (self.new.names ≡ names_with self.old.names (lines_of part.now)) }
     {
         for (place, line) in part.lines.iter().enumerate() {
@@ -98,10 +107,12 @@ impl Arena {
         })
     }
 
-    /// Takes in the event of a line behind the others, or gives its refusal. The number is that of the register that it calls.
+    /// Takes in the event of a line behind the others, or gives its refusal. The
+    /// number is that of the register that it calls.
     fn step(&mut self, alloc: Global, event: &LineEvent, number: usize) -> Result<(), BuildError>
         requires { IsNumbered self.old.names (name_called (Ok event.now)) number }
-        ensures { (es : List ALineEvent) → AreAccepted es → self.old ≡ history_of es → IsStep es event.now (step_result self.new result) }
+        ensures { (es : List ALineEvent) → AreAccepted es → self.old ≡ history_of es
+            → IsStep es event.now (step_result self.new result) }
     {
         match &event.kind {
             Kind::CallRead(name) => {
@@ -134,9 +145,11 @@ impl Arena {
         parts: CallParts<'_>,
         number: usize,
     ) -> Result<(), BuildError>
-        requires asked { asked_by event.now.kind ≡ Some (record { register = parts.name.now; kind = parts.kind; value = parts.value }) }
+        requires asked { asked_by event.now.kind
+            ≡ Some (record { register = parts.name.now; kind = parts.kind; value = parts.value }) }
         requires number { number ≡ position_or_len (bytes_eq parts.name.now) self.old.names }
-        ensures { (es : List ALineEvent) → AreAccepted es → self.old ≡ history_of es → IsStep es event.now (step_result self.new result) }
+        ensures { (es : List ALineEvent) → AreAccepted es → self.old ≡ history_of es
+            → IsStep es event.now (step_result self.new result) }
     {
         let number = self.known(number);
         let last = self.last_with(number, parts.value);
@@ -148,7 +161,8 @@ impl Arena {
     /// A step by a reply.
     fn reply(&mut self, event: &LineEvent, parts: &ReplyParts) -> Result<(), BuildError>
         requires { replied_by event.now.kind ≡ Some parts.now }
-        ensures { (es : List ALineEvent) → AreAccepted es → self.old ≡ history_of es → IsStep es event.now (step_result self.new result) }
+        ensures { (es : List ALineEvent) → AreAccepted es → self.old ≡ history_of es
+            → IsStep es event.now (step_result self.new result) }
     {
         let opened = self.ended_call(event)?;
         self.accept(event, self.reply_refusal(event, parts, opened))?;
@@ -159,7 +173,8 @@ impl Arena {
     /// A step by a fail.
     fn fail(&mut self, event: &LineEvent, parts: &ReplyParts) -> Result<(), BuildError>
         requires { failed_by event.now.kind ≡ Some parts.now }
-        ensures { (es : List ALineEvent) → AreAccepted es → self.old ≡ history_of es → IsStep es event.now (step_result self.new result) }
+        ensures { (es : List ALineEvent) → AreAccepted es → self.old ≡ history_of es
+            → IsStep es event.now (step_result self.new result) }
     {
         let opened = self.ended_call(event)?;
         self.accept(event, self.fail_refusal(event, parts, opened))?;
@@ -170,7 +185,8 @@ impl Arena {
     /// A step by a crash, which needs no open call.
     fn crash(&mut self, event: &LineEvent) -> Result<(), BuildError>
         requires { is_crash event.now ≡ true }
-        ensures { (es : List ALineEvent) → AreAccepted es → self.old ≡ history_of es → IsStep es event.now (step_result self.new result) }
+        ensures { (es : List ALineEvent) → AreAccepted es → self.old ≡ history_of es
+            → IsStep es event.now (step_result self.new result) }
     {
         let standing = self.standing(event.process);
         self.accept(event, self.late_refusal(event, standing))?;
@@ -180,7 +196,8 @@ impl Arena {
 
     /// A register's number, if the register was called before.
     fn known(&self, number: usize) -> Option<u32>
-        ensures { (name : List ℕ) → number ≡ position_or_len (bytes_eq name) self.now.names → IsNumber self.now.names name result }
+        ensures { (name : List ℕ) → number ≡ position_or_len (bytes_eq name) self.now.names
+            → IsNumber self.now.names name result }
     {
         if number < self.names.len() {
             Some(number as u32)

@@ -2,7 +2,8 @@
 ghost use Rattle.std.specs.Prelude.{◌≡◌, ◌<◌, ◌↔◌, ℕ, length, option_and_then, slice_get, None, Some, IsTrue};
 ghost use Rattle.history_text.specs.declared.event.Val.{Val as AVal};
 ghost use Rattle.history_model.specs.Walking.{IsFirstOf, by_process, by_value, key_at};
-ghost use Rattle.reg_arena.specs.EventLists.{AreEventLists, IsAlike, IsKeptWrite, IsLastOf, by_write, event_number, value_entry};
+ghost use Rattle.reg_arena.specs.EventLists.{AreEventLists, IsAlike, IsKeptWrite, IsLastOf};
+ghost use Rattle.reg_arena.specs.EventLists.{by_write, event_number, value_entry};
 ghost use Rattle.history_model.specs.declared.event.Event.{Event as AnEvent};
 ghost use Rattle.history_model.specs.declared.ids.EvId.{EvId as AnEvId};
 
@@ -28,7 +29,8 @@ impl EventLists {
     pub(crate) fn number_of(&self, alike: Option<EvId>) -> Option<u32>
         requires lists { AreEventLists self.now }
         requires within { (j : AnEvId) → alike ≡ Some j → j.0 < length self.now.rows.events }
-        ensures { (e : AnEvent) → IsAlike self.now.rows.events e alike → result ≡ event_number self.now.pairs e }
+        ensures { (e : AnEvent) → IsAlike self.now.rows.events e alike
+            → result ≡ event_number self.now.pairs e }
     {
         match alike {
             Some(id) => self.rows.number(id),
@@ -40,7 +42,8 @@ impl EventLists {
     pub(crate) fn entry_of(&self, id: EvId) -> Option<Entry>
         requires lists { AreEventLists self.now }
         requires within { id.0 < length self.now.rows.events }
-        ensures { result ≡ option_and_then (value_entry self.now.pairs self.now.entries.items) (key_at by_value self.now.rows.events id.0) }
+        ensures { result ≡ option_and_then (value_entry self.now.pairs self.now.entries.items)
+            (key_at by_value self.now.rows.events id.0) }
     {
         match self.rows.number(id) {
             Some(number) => Some(self.entries[number as usize]),
@@ -63,7 +66,8 @@ impl EventLists {
     pub(crate) fn write_of_event(&self, id: EvId) -> Option<EvId>
         requires lists { AreEventLists self.now }
         requires within { id.0 < length self.now.rows.events }
-        ensures { (k : ℕ × AVal) → key_at by_value self.now.rows.events id.0 ≡ Some k → IsKeptWrite self.now.rows.events k result }
+        ensures { (k : ℕ × AVal) → key_at by_value self.now.rows.events id.0 ≡ Some k
+            → IsKeptWrite self.now.rows.events k result }
     {
         match self.entry_of(id) {
             Some(entry) => entry.write.kept(),
@@ -75,7 +79,8 @@ impl EventLists {
     pub(crate) fn written_by(&self, id: EvId) -> Option<EvId>
         requires lists { AreEventLists self.now }
         requires within { id.0 < length self.now.rows.events }
-        ensures { (k : ℕ × AVal) → key_at by_value self.now.rows.events id.0 ≡ Some k → IsFirstOf by_write self.now.rows.events k result }
+        ensures { (k : ℕ × AVal) → key_at by_value self.now.rows.events id.0 ≡ Some k
+            → IsFirstOf by_write self.now.rows.events k result }
     {
         match self.entry_of(id) {
             Some(entry) => entry.write.called(),
@@ -86,7 +91,8 @@ impl EventLists {
     /// The last event of a register and value.
     pub(crate) fn last_of_value(&self, register: RegId, value: Option<Val>) -> Option<EvId>
         requires { AreEventLists self.now }
-        ensures last { (v : AVal) → value ≡ Some v → IsLastOf by_value self.now.rows.events (register.0, v) result }
+        ensures last { (v : AVal) → value ≡ Some v
+            → IsLastOf by_value self.now.rows.events (register.0, v) result }
         ensures none { value ≡ None → result ≡ None }
     {
         match value {
@@ -98,11 +104,12 @@ impl EventLists {
         }
     }
 
-    /// An event of a register with a value, if there is one. The register's last reply is looked at first: most reads return its value, and then nothing is
-    /// looked up.
+    /// An event of a register with a value, if there is one. The register's last reply is looked at first:
+    /// most reads return its value, and then nothing is looked up.
     pub(crate) fn alike(&self, register: RegId, value: Option<Val>) -> Option<EvId>
         requires { AreEventLists self.now }
-        ensures { (e : AnEvent) → e.register ≡ Some register → e.value ≡ value → IsAlike self.now.rows.events e result }
+        ensures { (e : AnEvent) → e.register ≡ Some register → e.value ≡ value
+            → IsAlike self.now.rows.events e result }
     {
         let value = value?;
         match self.guesses.get(register.0 as usize) {
@@ -113,7 +120,9 @@ impl EventLists {
 
     /// Whether `id` is an event of this register with this value.
     fn is_of(&self, id: EvId, register: RegId, value: Val) -> bool
-        ensures { IsTrue result ↔ ((e : AnEvent) × (slice_get self.now.rows.events id.0 ≡ Some e) × (e.register ≡ Some register) × (e.value ≡ Some value)) }
+        ensures { IsTrue result
+            ↔ ((e : AnEvent) × (slice_get self.now.rows.events id.0 ≡ Some e) × (e.register ≡ Some register)
+            × (e.value ≡ Some value)) }
     {
         if id.0 as usize >= self.rows.len() {
             return false;

@@ -1,5 +1,7 @@
-//! Events in one list, each with its links in three families of lists: of each register, of each process, and of each register and value.
-ghost use Rattle.std.specs.Prelude.{◌≡◌, ◌≢◌, ◌<◌, ◌≤◌, ◌+◌, ◌++◌, ◌∷◌, [], true, length, max, OnOk, IfOk, IfSome};
+//! Events in one list, each with its links in three families of lists: of each register, of each
+//! process, and of each register and value.
+ghost use Rattle.std.specs.Prelude.{◌≡◌, ◌≢◌, ◌<◌, ◌≤◌, ◌+◌, ◌++◌, ◌∷◌, []};
+ghost use Rattle.std.specs.Prelude.{true, length, max, OnOk, IfOk, IfSome};
 ghost use Rattle.history_text.specs.declared.limits.TheConstants.{MAX_EVENTS};
 ghost use Rattle.reg_arena.specs.EventLists.{AreEventLists, IsAlike, IsAppendable, calls_with, end_of};
 ghost use Rattle.history_model.specs.Operations.{is_a_fail, number_in};
@@ -21,8 +23,8 @@ use std::alloc::{AllocError, Global};
 pub(crate) struct EventLists {
     pub(crate) rows: Rows,
     pub(crate) registers: Vec<Ends>,
-    /// The last reply of each register, or its first event while it has none: a guess at an event with the value that the next read returns. No contract
-    /// speaks of it; `alike` looks whether it fits.
+    /// The last reply of each register, or its first event while it has none: a guess at an event with the
+    /// value that the next read returns. No contract speaks of it; `alike` looks whether it fits.
     pub(crate) guesses: Vec<EvId>,
     pub(crate) processes: Processes,
     /// The registers and values that events have; the number of each is that of its entry.
@@ -61,9 +63,11 @@ impl EventLists {
         self.entries.clear();
     }
 
-    /// Appends an event with the event of its call, and joins it to its lists. `alike` is an event of the same register and value, if there is one.
+    /// Appends an event with the event of its call, and joins it to its lists. `alike` is an event of the
+    /// same register and value, if there is one.
     ///
-    /// A crash has no call, and `call` is then not read. A fail takes the call that it ends from the operations.
+    /// A crash has no call, and `call` is then not read. A fail takes
+    /// the call that it ends from the operations.
     pub(crate) fn append(
         &mut self,
         event: &Event,
@@ -76,7 +80,9 @@ impl EventLists {
         requires call { IsAppendable self.old.rows.events event.now call }
         requires alike { IsAlike self.old.rows.events event.now alike }
         ensures lists { OnOk result (AreEventLists self.new) }
-        ensures registers { OnOk result (length self.new.registers.items ≡ max (length self.old.registers.items) (end_of event.now.register)) }
+        ensures registers { OnOk result
+            (length self.new.registers.items ≡ max (length self.old.registers.items)
+            (end_of event.now.register)) }
         ensures events { OnOk result (self.new.rows.events ≡ self.old.rows.events ++ event.now ∷ []) }
     {
         let id = EvId(self.rows.len() as u32);

@@ -1,7 +1,8 @@
 //! Hashes of the registers' names, of registers with values, and of large process numbers, under a key.
 //!
-//! The standard library's hashers have a fixed key, so that names or values which collide under it could be chosen beforehand, and each look-up
-//! would then walk over them all. Here its fold starts from one word of a secret key, and the result is folded once more with the other word.
+//! The standard library's hashers have a fixed key, so that names or values which collide under it could be
+//! chosen beforehand, and each look-up would then walk over them all. Here its fold starts from one word of a
+//! secret key, and the result is folded once more with the other word.
 ghost use Rattle.std.specs.Hash as fed;
 ghost use Rattle.std.specs.Hash.FoldHasher as folding;
 ghost use Rattle.std.specs.List.{fold};

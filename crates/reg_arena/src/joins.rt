@@ -1,7 +1,9 @@
 //! How an event joins one list of each family, before it has a row: the last event of the list gets its link.
-ghost use Rattle.std.specs.Prelude.{◌≡◌, ◌<◌, ◌≤◌, ◌^◌, ◌+◌, ◌++◌, ◌∷◌, [], ℕ, length, slice_get, max, Some, None, option_map, OnOk, IfOk};
+ghost use Rattle.std.specs.Prelude.{◌≡◌, ◌<◌, ◌≤◌, ◌^◌, ◌+◌, ◌++◌, ◌∷◌, [], ℕ, length};
+ghost use Rattle.std.specs.Prelude.{slice_get, max, Some, None, option_map, OnOk, IfOk};
 ghost use Rattle.history_text.specs.declared.event.Val.{Val as AVal};
-ghost use Rattle.reg_arena.specs.EventLists.{IsJoined, IsJoinedBy, IsEnteredBy, end_of, event_number, process_ends, value_ends, value_entry, value_number, whole};
+ghost use Rattle.reg_arena.specs.EventLists.{IsJoined, IsJoinedBy, IsEnteredBy, end_of, event_number};
+ghost use Rattle.reg_arena.specs.EventLists.{process_ends, value_ends, value_entry, value_number, whole};
 ghost use Rattle.reg_arena.specs.Tables.{item_at};
 ghost use Rattle.history_model.specs.Operations.{number_in};
 ghost use Rattle.history_model.specs.Walking.{by_value};
@@ -24,10 +26,13 @@ pub(crate) fn join_process(
     process: u32,
     id: EvId,
 ) -> Result<(), AllocError>
-    requires within { (e : Ends) → process_ends processes.old process ≡ Some e → e.last.0 < length rows.old.events }
+    requires within { (e : Ends) → process_ends processes.old process ≡ Some e
+        → e.last.0 < length rows.old.events }
     requires column { length rows.old.in_process ≡ length rows.old.events }
     requires bound { id.0 < NO_NUMBER }
-    ensures joined { OnOk result (IsJoined process id (item_at rows.old.in_process) (item_at (rows.new.in_process ++ None ∷ [])) (process_ends processes.old) (process_ends processes.new)) }
+    ensures joined { OnOk result
+        (IsJoined process id (item_at rows.old.in_process) (item_at (rows.new.in_process ++ None ∷ []))
+        (process_ends processes.old) (process_ends processes.new)) }
     ensures others { OnOk result (rows.new ≡ with_in_process rows.old rows.new.in_process) }
     ensures count { OnOk result (length rows.new.in_process ≡ length rows.old.in_process) }
 {
@@ -49,14 +54,19 @@ pub(crate) fn join_register(
     register: Option<RegId>,
     id: EvId,
 ) -> Result<(), AllocError>
-    requires within { (e : Ends) → slice_get registers.old.items (number_in register) ≡ Some e → e.last.0 < length rows.old.events }
+    requires within { (e : Ends) → slice_get registers.old.items (number_in register) ≡ Some e
+        → e.last.0 < length rows.old.events }
     requires column { length rows.old.in_register ≡ length rows.old.events }
     requires next { number_in register ≤ length registers.old.items }
     requires bound { id.0 < NO_NUMBER }
-    ensures joined { OnOk result (IsJoinedBy (option_map (λ r. r.0) register) id (item_at rows.old.in_register) (item_at (rows.new.in_register ++ None ∷ [])) (slice_get registers.old.items) (slice_get registers.new.items)) }
+    ensures joined { OnOk result
+        (IsJoinedBy (option_map (λ r. r.0) register) id (item_at rows.old.in_register)
+        (item_at (rows.new.in_register ++ None ∷ [])) (slice_get registers.old.items)
+        (slice_get registers.new.items)) }
     ensures others { OnOk result (rows.new ≡ with_in_register rows.old rows.new.in_register) }
     ensures count { OnOk result (length rows.new.in_register ≡ length rows.old.in_register) }
-    ensures registers { OnOk result (length registers.new.items ≡ max (length registers.old.items) (end_of register)) }
+    ensures registers { OnOk result
+        (length registers.new.items ≡ max (length registers.old.items) (end_of register)) }
 {
     match register {
         Some(register) => link_register(rows, registers, register, id),
@@ -71,14 +81,18 @@ fn link_register(
     register: RegId,
     id: EvId,
 ) -> Result<(), AllocError>
-    requires within { (e : Ends) → slice_get registers.old.items register.0 ≡ Some e → e.last.0 < length rows.old.events }
+    requires within { (e : Ends) → slice_get registers.old.items register.0 ≡ Some e
+        → e.last.0 < length rows.old.events }
     requires column { length rows.old.in_register ≡ length rows.old.events }
     requires next { register.0 ≤ length registers.old.items }
     requires bound { id.0 < NO_NUMBER }
-    ensures joined { OnOk result (IsJoined register.0 id (item_at rows.old.in_register) (item_at (rows.new.in_register ++ None ∷ [])) (slice_get registers.old.items) (slice_get registers.new.items)) }
+    ensures joined { OnOk result
+        (IsJoined register.0 id (item_at rows.old.in_register) (item_at (rows.new.in_register ++ None ∷ []))
+        (slice_get registers.old.items) (slice_get registers.new.items)) }
     ensures others { OnOk result (rows.new ≡ with_in_register rows.old rows.new.in_register) }
     ensures count { OnOk result (length rows.new.in_register ≡ length rows.old.in_register) }
-    ensures registers { OnOk result (length registers.new.items ≡ max (length registers.old.items) (register.0 + 1)) }
+    ensures registers { OnOk result
+        (length registers.new.items ≡ max (length registers.old.items) (register.0 + 1)) }
 {
     let number = register.0 as usize;
     if number < registers.len() {
@@ -107,8 +121,8 @@ pub(crate) fn whole(value: Val) -> Option<i64>
     }
 }
 
-/// Where an event that joins the list of its register and value stands, the event of its call, and the number of that list's
-/// entry, if there is one already.
+/// Where an event that joins the list of its register and value stands, the event of its call, and the number
+/// of that list's entry, if there is one already.
 #[derive(Clone, Copy)]
 pub(crate) struct Joined {
     pub(crate) number: Option<u32>,
@@ -127,17 +141,24 @@ pub(crate) fn join_value(
     joined: Joined,
 ) -> Result<Option<u32>, AllocError>
     requires number { joined.number ≡ event_number pairs.old event.now }
-    requires within { (k : ℕ × AVal) (e : Ends) → value_ends pairs.old entries.old.items k ≡ Some e → e.last.0 < length rows.old.events }
+    requires within { (k : ℕ × AVal) (e : Ends) → value_ends pairs.old entries.old.items k ≡ Some e
+        → e.last.0 < length rows.old.events }
     requires column { length rows.old.in_value ≡ length rows.old.events }
     requires numbered { length pairs.old ≡ length entries.old.items }
     requires room { length entries.old.items < 2 ^ 32 }
     requires bound { joined.id.0 < NO_NUMBER }
-    ensures joined { OnOk result (IsJoinedBy (by_value event.now) joined.id (item_at rows.old.in_value) (item_at (rows.new.in_value ++ None ∷ [])) (value_ends pairs.old entries.old.items) (value_ends pairs.new entries.new.items)) }
-    ensures entered { OnOk result (IsEnteredBy (by_value event.now) event.now joined.id joined.call (value_entry pairs.old entries.old.items) (value_entry pairs.new entries.new.items)) }
+    ensures joined { OnOk result
+        (IsJoinedBy (by_value event.now) joined.id (item_at rows.old.in_value)
+        (item_at (rows.new.in_value ++ None ∷ [])) (value_ends pairs.old entries.old.items)
+        (value_ends pairs.new entries.new.items)) }
+    ensures entered { OnOk result
+        (IsEnteredBy (by_value event.now) event.now joined.id joined.call
+        (value_entry pairs.old entries.old.items) (value_entry pairs.new entries.new.items)) }
     ensures numbered { OnOk result (length pairs.new ≡ length entries.new.items) }
     ensures few { length entries.new.items ≤ length entries.old.items + 1 }
     ensures number { IfOk result (λ n. n ≡ event_number pairs.new event.now) }
-    ensures kept { OnOk result ((q : ℕ × AVal) (n : ℕ) → value_number pairs.old q ≡ Some n → value_number pairs.new q ≡ Some n) }
+    ensures kept { OnOk result ((q : ℕ × AVal) (n : ℕ) → value_number pairs.old q ≡ Some n
+        → value_number pairs.new q ≡ Some n) }
     ensures others { OnOk result (rows.new ≡ with_in_value rows.old rows.new.in_value) }
     ensures count { OnOk result (length rows.new.in_value ≡ length rows.old.in_value) }
 {

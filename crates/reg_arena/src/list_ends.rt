@@ -1,6 +1,7 @@
 //! Where a threaded list begins and ends.
 ghost use Rattle.std.specs.Prelude.{◌≡◌, Some, None};
-ghost use Rattle.reg_arena.specs.EventLists.{entry_alone, entry_with, later, read_with, reply_with, with_call, with_fail, write_called, write_kept, write_with};
+ghost use Rattle.reg_arena.specs.EventLists.{entry_alone, entry_with, later, read_with, reply_with};
+ghost use Rattle.reg_arena.specs.EventLists.{with_call, with_fail, write_called, write_kept, write_with};
 
 use history_model::{EvId, Event, What};
 use history_text::OpKind;

@@ -1,8 +1,9 @@
-//! The numbers of registers, by the order of their first calls. Lines get them before their events are taken in, so that one thread can look up the
-//! names of the next lines while another takes in those before them.
+//! The numbers of registers, by the order of their first calls. Lines get them before their events are taken
+//! in, so that one thread can look up the names of the next lines while another takes in those before them.
 ghost use Rattle.std.specs.Prelude.{◌≡◌, [], ℕ, List, bytes_eq, flat_map, IfOk, OnOk, Some};
 ghost use Rattle.std.specs.List.{position_or_len};
-ghost use Rattle.reg_arena.specs.Numbered.{AreNumbered, ArePartsNumbered, IsNumbered, lines_of, name_called, names_with, with_name};
+ghost use Rattle.reg_arena.specs.Numbered.{AreNumbered, ArePartsNumbered, IsNumbered};
+ghost use Rattle.reg_arena.specs.Numbered.{lines_of, name_called, names_with, with_name};
 
 use crate::hash_key::HashKey;
 use crate::hasher::Seeded;
@@ -53,9 +54,11 @@ impl Numbering {
         alloc: Global,
         parts: Vec<Vec<Result<LineEvent, LineFault>>>,
     ) -> Result<Vec<NumberedLines>, AllocError>
-        ensures lines { IfOk result (λ numbered. flat_map lines_of numbered.items ≡ flat_map (λ part. part.items) parts.items) }
+        ensures lines { IfOk result (λ numbered.
+            flat_map lines_of numbered.items ≡ flat_map (λ part. part.items) parts.items) }
         ensures numbers { IfOk result (λ numbered. ArePartsNumbered self.old numbered.items) }
-        ensures names { OnOk result (self.new ≡ names_with self.old (flat_map (λ part. part.items) parts.items)) }
+        ensures names { OnOk result
+            (self.new ≡ names_with self.old (flat_map (λ part. part.items) parts.items)) }
     {
         let mut numbered = Vec::with_capacity(alloc, parts.len())?;
         for part in parts {

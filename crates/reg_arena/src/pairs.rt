@@ -1,8 +1,10 @@
 //! The pairs of a register and a value, each with its number.
 //!
-//! Values mostly come from a counter, so those of a register mostly ascend. A value above all others of its register is new, and
-//! nothing has to be looked up. It is found again along the pairs that ascended to it. Only the other pairs stand in a table.
-ghost use Rattle.std.specs.Prelude.{◌≡◌, ◌<◌, ◌^◌, ◌++◌, ◌∷◌, [], ℕ, ℤ, length, position, slice_get, OnOk, Some, None};
+//! Values mostly come from a counter, so those of a register mostly ascend. A value above all others of
+//! its register is new, and nothing has to be looked up. It is found again along the pairs that ascended
+//! to it. Only the other pairs stand in a table.
+ghost use Rattle.std.specs.Prelude.{◌≡◌, ◌<◌, ◌^◌, ◌++◌, ◌∷◌, [], ℕ, ℤ, length};
+ghost use Rattle.std.specs.Prelude.{position, slice_get, OnOk, Some, None};
 ghost use Rattle.reg_arena.specs.Tables.{IsSetAt, item_at};
 ghost use Rattle.reg_arena.specs.Pairs.{key_eq, ArePairs, IsAscending, IsFitting, in_table, key_of};
 ghost use Rattle.reg_arena.specs.declared.ascent.Pair.{Pair as APair};

@@ -11,7 +11,8 @@ use std::alloc::{AllocError, Global};
 /// The first and the last event of each process that has events.
 #[derive(Drop)]
 pub(crate) struct Processes {
-    /// Process numbers below it stand in the table, which reaches as far as the greatest of them that was met.
+    /// Process numbers below it stand in the table, which reaches as
+    /// far as the greatest of them that was met.
     table_limit: usize,
     table: Vec<Option<Ends>>,
     others: IndexMap<u32, Ends, Seeded>,

@@ -1,5 +1,6 @@
 //! Why an event is refused, by how its process stands and by what the history has of its register and value.
-ghost use Rattle.std.specs.Prelude.{◌≡◌, ℕ, List, Option, OnOk, length, cond, nat_le, IfOk, IfErr, Some, None};
+ghost use Rattle.std.specs.Prelude.{◌≡◌, ℕ, List, Option, OnOk, length, cond};
+ghost use Rattle.std.specs.Prelude.{nat_le, IfOk, IfErr, Some, None};
 ghost use Rattle.history_text.specs.declared.event.LineEvent.{LineEvent as ALineEvent};
 ghost use Rattle.history_text.specs.declared.event.ReplyParts.{ReplyParts as AReplyParts};
 ghost use Rattle.history_text.specs.declared.event.Val.{Val as AVal};
@@ -38,7 +39,8 @@ impl Arena {
         event: &LineEvent,
         refusal: Option<LineRefusal>,
     ) -> Result<(), BuildError>
-        requires { (es : List ALineEvent) → AreAccepted es → self.now ≡ history_of es → refusal ≡ event_refusal es event.now }
+        requires { (es : List ALineEvent) → AreAccepted es → self.now ≡ history_of es
+            → refusal ≡ event_refusal es event.now }
         ensures taken { OnOk result (IsTaken self.now event.now) }
         ensures refused { IfErr result (IsStopped self.now event.now) }
     {
@@ -64,8 +66,11 @@ impl Arena {
 
     /// The refusal of a call, if there is one. `last` is the last event of the call's register and value.
     pub(crate) fn call_refusal(&self, event: &LineEvent, last: Option<EvId>) -> Option<LineRefusal>
-        requires { (asked : Asked) × (number : Option ℕ) × (asked_by event.now.kind ≡ Some asked) × IsNumber self.now.names asked.register number × IsLastWith self.now.events number asked.value last }
-        ensures { (es : List ALineEvent) → AreAccepted es → self.now ≡ history_of es → result ≡ event_refusal es event.now }
+        requires { (asked : Asked) × (number : Option ℕ) × (asked_by event.now.kind ≡ Some asked)
+            × IsNumber self.now.names asked.register number
+            × IsLastWith self.now.events number asked.value last }
+        ensures { (es : List ALineEvent) → AreAccepted es → self.now ≡ history_of es
+            → result ≡ event_refusal es event.now }
     {
         let standing = self.standing(event.process);
         if let Standing::Opened(opened) = standing {
@@ -86,7 +91,8 @@ impl Arena {
     ) -> Option<LineRefusal>
         requires reply { replied_by event.now.kind ≡ Some parts.now }
         requires opened { IsStanding self.now.events event.now.process (Opened opened) }
-        ensures { (es : List ALineEvent) → AreAccepted es → self.now ≡ history_of es → result ≡ event_refusal es event.now }
+        ensures { (es : List ALineEvent) → AreAccepted es → self.now ≡ history_of es
+            → result ≡ event_refusal es event.now }
     {
         if !reply_agrees(parts, &self.names, opened) {
             return Some(refused(event.line, Reason::Disagreement));
@@ -106,7 +112,8 @@ impl Arena {
     ) -> Option<LineRefusal>
         requires fail { failed_by event.now.kind ≡ Some parts.now }
         requires opened { IsStanding self.now.events event.now.process (Opened opened) }
-        ensures { (es : List ALineEvent) → AreAccepted es → self.now ≡ history_of es → result ≡ event_refusal es event.now }
+        ensures { (es : List ALineEvent) → AreAccepted es → self.now ≡ history_of es
+            → result ≡ event_refusal es event.now }
     {
         if !fail_agrees(parts, &self.names, opened) {
             return Some(refused(event.line, Reason::Disagreement));
@@ -114,10 +121,12 @@ impl Arena {
         self.too_many(event)
     }
 
-    /// The refusal of an event that neither its kind nor its call refuses: it is past the limit, or its process crashed.
+    /// The refusal of an event that neither its kind nor its call refuses: it
+    /// is past the limit, or its process crashed.
     pub(crate) fn late_refusal(&self, event: &LineEvent, standing: Standing) -> Option<LineRefusal>
         requires { IsStanding self.now.events event.now.process standing }
-        ensures { (es : List ALineEvent) → AreAccepted es → self.now ≡ history_of es → result ≡ late_refusal es event.now }
+        ensures { (es : List ALineEvent) → AreAccepted es → self.now ≡ history_of es
+            → result ≡ late_refusal es event.now }
     {
         match standing {
             Standing::Crashed(crash) => Some(self.crash_refusal(event, crash)),
@@ -126,10 +135,12 @@ impl Arena {
         }
     }
 
-    /// The refusal of an event after the crash of its process: it is past the limit, or else it names the crash.
+    /// The refusal of an event after the crash of its process: it is
+    /// past the limit, or else it names the crash.
     fn crash_refusal(&self, event: &LineEvent, crash: EvId) -> LineRefusal
         requires { IsStanding self.now.events event.now.process (Crashed crash) }
-        ensures { (es : List ALineEvent) → AreAccepted es → self.now ≡ history_of es → Some result ≡ late_refusal es event.now }
+        ensures { (es : List ALineEvent) → AreAccepted es → self.now ≡ history_of es
+            → Some result ≡ late_refusal es event.now }
     {
         match self.too_many(event) {
             Some(refusal) => refusal,
@@ -139,7 +150,8 @@ impl Arena {
 
     /// The refusal of an event past the limit.
     fn too_many(&self, event: &LineEvent) -> Option<LineRefusal>
-        ensures { result ≡ cond (nat_le MAX_EVENTS (length self.now.events)) (Some (record { line = event.now.line; reason = TooMany })) None }
+        ensures { result ≡ cond (nat_le MAX_EVENTS (length self.now.events))
+            (Some (record { line = event.now.line; reason = TooMany })) None }
     {
         if self.lists.rows.len() >= MAX_EVENTS {
             Some(refused(event.line, Reason::TooMany))
@@ -150,8 +162,10 @@ impl Arena {
 
     /// The call that wrote the value of the event `last` to its register before.
     fn written(&self, last: Option<EvId>) -> Option<EvId>
-        requires { (number : Option ℕ) × (value : Option AVal) × IsLastWith self.now.events number value last }
-        ensures { (number : Option ℕ) (value : Option AVal) → IsLastWith self.now.events number value last → IsWritten self.now.events number value result }
+        requires { (number : Option ℕ) × (value : Option AVal)
+            × IsLastWith self.now.events number value last }
+        ensures { (number : Option ℕ) (value : Option AVal) → IsLastWith self.now.events number value last
+            → IsWritten self.now.events number value result }
     {
         self.lists.written_by(last?)
     }

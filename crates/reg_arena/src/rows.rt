@@ -1,9 +1,10 @@
-//! What is kept of each event: the event, and beside it what leads to others. Nearly all of it lies in one row, so that looking
-//! at an event touches one place in memory. Only the links of the registers lie apart: a walk finds the events ahead by them alone, and can
-//! have their rows fetched before it needs them.
+//! What is kept of each event: the event, and beside it what leads to others. Nearly all of it lies in one
+//! row, so that looking at an event touches one place in memory. Only the links of the registers lie apart: a
+//! walk finds the events ahead by them alone, and can have their rows fetched before it needs them.
 ghost use Rattle.std.specs.Prelude.{◌≡◌, ◌<◌, length, set, slice_get, Some, None, IfSome, IfOk, OnOk};
 ghost use Rattle.history_model.specs.declared.ids.EvId.{EvId as AnEvId};
-ghost use Rattle.reg_arena.specs.Rows.{no_columns, with_calls, with_event, with_in_process, with_in_register, with_in_value};
+ghost use Rattle.reg_arena.specs.Rows.{no_columns, with_calls, with_event, with_in_process};
+ghost use Rattle.reg_arena.specs.Rows.{with_in_register, with_in_value};
 ghost use Rattle.reg_arena.specs.declared.options.TheConstants.{NO_NUMBER};
 
 use crate::options::{OptionalEvent, OptionalNumber};

@@ -12,7 +12,8 @@ use history_model::{EvId, Oper, RegId};
 use history_text::Val;
 
 impl Arena {
-    /// The last time of a call among the write of a value to a register and its completed reads. `None` if the value was neither written nor read.
+    /// The last time of a call among the write of a value to a register and its completed reads. `None`
+    /// if the value was neither written nor read.
     pub fn last_call(&self, register: RegId, value: Val) -> Option<u32>
         requires { register.0 < length self.now.names }
         ensures { IsLastCall self.now register.0 value result }
@@ -20,7 +21,8 @@ impl Arena {
         last_time(value, self.lists.entry(register, value))
     }
 
-    /// The first time of a reply among the completed ones of the write of a value to a register and of its reads. `None` if none of them is completed.
+    /// The first time of a reply among the completed ones of the write of a value to a register and of its
+    /// reads. `None` if none of them is completed.
     pub fn first_reply(&self, register: RegId, value: Val) -> Option<u32>
         requires { register.0 < length self.now.names }
         ensures { IsFirstReply self.now register.0 value result }
@@ -35,7 +37,8 @@ impl Arena {
     /// The write of an event's value to its register, with no look-up; of an event without a value `None`.
     pub fn write_of_event(&self, id: EvId) -> Option<Oper>
         requires { id.0 < length self.now.events }
-        ensures write { (k : ℕ × AVal) → key_at by_value self.now.events id.0 ≡ Some k → IsWriteOf self.now k.0 k.1 result }
+        ensures write { (k : ℕ × AVal) → key_at by_value self.now.events id.0 ≡ Some k
+            → IsWriteOf self.now k.0 k.1 result }
         ensures none { key_at by_value self.now.events id.0 ≡ None → result ≡ None }
     {
         let event = self.event(id);
@@ -49,10 +52,12 @@ impl Arena {
         }
     }
 
-    /// `last_call` of the register and value of an event, with no look-up; of an event without a value `None`.
+    /// `last_call` of the register and value of an event, with no
+    /// look-up; of an event without a value `None`.
     pub fn last_call_of(&self, id: EvId) -> Option<u32>
         requires { id.0 < length self.now.events }
-        ensures last { (k : ℕ × AVal) → key_at by_value self.now.events id.0 ≡ Some k → IsLastCall self.now k.0 k.1 result }
+        ensures last { (k : ℕ × AVal) → key_at by_value self.now.events id.0 ≡ Some k
+            → IsLastCall self.now k.0 k.1 result }
         ensures none { key_at by_value self.now.events id.0 ≡ None → result ≡ None }
     {
         match self.event(id).value {
@@ -61,10 +66,12 @@ impl Arena {
         }
     }
 
-    /// `first_reply` of the register and value of an event, with no look-up; of an event without a value `None`.
+    /// `first_reply` of the register and value of an event, with no
+    /// look-up; of an event without a value `None`.
     pub fn first_reply_of(&self, id: EvId) -> Option<u32>
         requires { id.0 < length self.now.events }
-        ensures first { (k : ℕ × AVal) → key_at by_value self.now.events id.0 ≡ Some k → IsFirstReply self.now k.0 k.1 result }
+        ensures first { (k : ℕ × AVal) → key_at by_value self.now.events id.0 ≡ Some k
+            → IsFirstReply self.now k.0 k.1 result }
         ensures none { key_at by_value self.now.events id.0 ≡ None → result ≡ None }
     {
         match self.event(id).value {

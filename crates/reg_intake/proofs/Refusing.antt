@@ -1,5 +1,6 @@
 -- Why there is no arena of all that a source had left, once that was pulled.
-use Rattle.std.proofs.Common.{◌≡◌, ◌⊎◌, inl, inr, ◌<◌, ℕ, true, List, ◌++◌, length, Option, Some, None, refl, sym, ap, subst, arith, length-append}
+use Rattle.std.proofs.Common.{◌≡◌, ◌⊎◌, inl, inr, ◌<◌, ℕ, true, List, ◌++◌, length, Option}
+use Rattle.std.proofs.Common.{Some, None, refl, sym, ap, subst, arith, length-append}
 use Rattle.std.specs.Io.KnownBytes.{Consumes}
 use Rattle.history_text.specs.declared.limits.TheConstants.{MAX_INPUT}
 use Rattle.history_model.specs.declared.refusal.LineRefusal.{LineRefusal}
@@ -10,7 +11,8 @@ use Rattle.reg_intake.specs.Pulls.{Exceeds, Gives, StopsAt, nothing}
 use Rattle.reg_intake.specs.Underway.{MayChange, IsStopped}
 use Rattle.reg_intake.specs.declared.pulls.Pulls.{Pulls}
 use Rattle.reg_intake.specs.declared.refusal.Refusal.{Refusal}
-use Rattle.reg_intake.specs.declared.refusal.Refusal.TheVariants.{At, TooLong, InputFailed, NoRoom, OutputFailed}
+use Rattle.reg_intake.specs.declared.refusal.Refusal.TheVariants.{At, TooLong, InputFailed}
+use Rattle.reg_intake.specs.declared.refusal.Refusal.TheVariants.{NoRoom, OutputFailed}
 
 -- if more bytes than the limit were pulled, more than the limit were left
 too-long : (left now : Option (List ℕ)) (bytes : List ℕ) → Consumes left now bytes → MAX_INPUT < length bytes

@@ -1,6 +1,8 @@
 -- The lines of a source, turn by turn: what is known when some are taken in while the next are read, and when
 -- none is left.
-use Rattle.std.proofs.Common.{◌≡◌, ℕ, ◌+◌, ◌-◌, ◌<◌, ◌≤◌, Bool, true, false, cond, min, List, [], ◌++◌, length, take, drop, Option, Ok, refl, sym, ap, subst, ◌∙◌, arith, append_assoc, append-nil, length-append}
+use Rattle.std.proofs.Common.{◌≡◌, ℕ, ◌+◌, ◌-◌, ◌<◌, ◌≤◌, Bool, true, false, cond, min, List}
+use Rattle.std.proofs.Common.{[], ◌++◌, length, take, drop, Option, Ok, refl, sym, ap, subst}
+use Rattle.std.proofs.Common.{◌∙◌, arith, append_assoc, append-nil, length-append}
 use Rattle.std.proofs.lemmas.List.Concat.{flat_map-append}
 use Rattle.history_text.specs.declared.limits.TheConstants.{MAX_INPUT}
 use Rattle.history_text.specs.Lines.{MayCome}
@@ -19,13 +21,15 @@ use Rattle.reg_intake.specs.Ends.{IsAll}
 use Rattle.reg_intake.specs.Intake.{IsHeld, IsReadOf}
 use Rattle.reg_intake.specs.Pulls.{Gives, GetsNoMore, IsFurther, nothing}
 use Rattle.reg_intake.specs.Refusals.{of_build}
-use Rattle.reg_intake.specs.Underway.{AreNumberedBehind, IsReadOn, IsReadSoFar, IsStopped, IsUnderway, lines_in, waiting}
+use Rattle.reg_intake.specs.Underway.{AreNumberedBehind, IsReadOn, IsReadSoFar}
+use Rattle.reg_intake.specs.Underway.{IsStopped, IsUnderway, lines_in, waiting}
 use Rattle.reg_intake.specs.declared.intake.Intake.{Intake}
 use Rattle.reg_intake.specs.declared.pulls.Pulls.{Pulls}
 use Rattle.reg_intake.specs.declared.reader.Reader.{Reader}
 use Rattle.reg_intake.specs.declared.underway.Underway.{Underway}
 use Rattle.reg_intake.specs.declared.refusal.Refusal.{Refusal}
-use Rattle.reg_intake.specs.declared.refusal.Refusal.TheVariants.{At, TooLong, InputFailed, NoRoom, OutputFailed}
+use Rattle.reg_intake.specs.declared.refusal.Refusal.TheVariants.{At, TooLong, InputFailed}
+use Rattle.reg_intake.specs.declared.refusal.Refusal.TheVariants.{NoRoom, OutputFailed}
 
 -- how much is left to do if this many parts wait: to pull twice as much as is left, since a pull may leave
 -- lines to number, and to number those that wait

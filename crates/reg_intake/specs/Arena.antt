@@ -6,7 +6,8 @@ use Rattle.history_model.specs.History.{History, history_of}
 use Rattle.history_model.specs.Refusals.{IsRefusal, IsWellFormed, events_of}
 use Rattle.reg_intake.specs.Ends.{IsAll, IsTooLong, IsWithinLimit}
 use Rattle.reg_intake.specs.declared.refusal.Refusal.{Refusal}
-use Rattle.reg_intake.specs.declared.refusal.Refusal.TheVariants.{At, TooLong, InputFailed, NoRoom, OutputFailed}
+use Rattle.reg_intake.specs.declared.refusal.Refusal.TheVariants.{At, TooLong, InputFailed}
+use Rattle.reg_intake.specs.declared.refusal.Refusal.TheVariants.{NoRoom, OutputFailed}
 
 -- the arena of an input that is within its limit and well formed
 pub record IsArenaOf (input : List ℕ) (arena : History) : Type 0 where

@@ -5,7 +5,8 @@ use Rattle.history_text.specs.declared.limits.TheConstants.{MAX_INPUT}
 use Rattle.reg_intake.specs.Ends.{IsAll}
 use Rattle.reg_intake.specs.declared.pulls.Pulls.{Pulls}
 use Rattle.reg_intake.specs.declared.refusal.Refusal.{Refusal}
-use Rattle.reg_intake.specs.declared.refusal.Refusal.TheVariants.{At, TooLong, InputFailed, NoRoom, OutputFailed}
+use Rattle.reg_intake.specs.declared.refusal.Refusal.TheVariants.{At, TooLong, InputFailed}
+use Rattle.reg_intake.specs.declared.refusal.Refusal.TheVariants.{NoRoom, OutputFailed}
 
 -- nothing was pulled
 abbrev pub nothing : Pulls

@@ -4,7 +4,8 @@ use Rattle.history_model.specs.Refusals.{reason_number, reason_other}
 use Rattle.history_model.specs.declared.refusal.BuildError.{BuildError}
 use Rattle.history_model.specs.declared.refusal.BuildError.TheVariants.{Refused, Memory}
 use Rattle.reg_intake.specs.declared.refusal.Refusal.{Refusal}
-use Rattle.reg_intake.specs.declared.refusal.Refusal.TheVariants.{At, TooLong, InputFailed, NoRoom, OutputFailed}
+use Rattle.reg_intake.specs.declared.refusal.Refusal.TheVariants.{At, TooLong, InputFailed}
+use Rattle.reg_intake.specs.declared.refusal.Refusal.TheVariants.{NoRoom, OutputFailed}
 
 -- what a build that failed answers
 abbrev pub of_build : BuildError → Refusal

@@ -1,6 +1,7 @@
 -- The reading of a source turn by turn: what is built, what was read ahead, numbered or not, and what is
 -- held.
-use Rattle.std.specs.Prelude.{◌≡◌, ◌+◌, ◌<◌, ◌≤◌, ◌++◌, ℕ, List, [], true, flat_map, length, take, IfOk, Option, Some, Ok, Err, Result}
+use Rattle.std.specs.Prelude.{◌≡◌, ◌+◌, ◌<◌, ◌≤◌, ◌++◌, ℕ, List, [], true, flat_map}
+use Rattle.std.specs.Prelude.{length, take, IfOk, Option, Some, Ok, Err, Result}
 use Rattle.history_text.specs.Lines.{MayCome}
 use Rattle.history_text.specs.Reading.{history_lines, lines_from}
 use Rattle.history_model.specs.History.{History}
@@ -18,7 +19,8 @@ use Rattle.reg_intake.specs.declared.underway.Grown.{Grown}
 use Rattle.reg_intake.specs.declared.underway.TheConstants.{MOST_WAITING}
 use Rattle.reg_intake.specs.declared.underway.Underway.{Underway}
 use Rattle.reg_intake.specs.declared.refusal.Refusal.{Refusal}
-use Rattle.reg_intake.specs.declared.refusal.Refusal.TheVariants.{At, TooLong, InputFailed, NoRoom, OutputFailed}
+use Rattle.reg_intake.specs.declared.refusal.Refusal.TheVariants.{At, TooLong, InputFailed}
+use Rattle.reg_intake.specs.declared.refusal.Refusal.TheVariants.{NoRoom, OutputFailed}
 
 -- the lines of some parts, in order
 abbrev pub lines_in : List NumberedLines → List Line

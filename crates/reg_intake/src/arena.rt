@@ -48,9 +48,12 @@ fn read_arena<T: Threads + RandomSource + Sync, S: Source>(
     requires line { intake.old.next_line ≡ 1 }
     requires pulled { intake.old.pulled ≡ nothing }
     requires failures { S.failed source.old < 2 ^ 64 - 1 }
-    ensures ok { IfOk result (λ arena. (bytes : List ℕ) × IsAll (S.left source.old) bytes × IsArenaOf bytes arena) }
+    ensures ok { IfOk result (λ arena. (bytes : List ℕ) × IsAll (S.left source.old) bytes
+        × IsArenaOf bytes arena) }
     ensures unfailed { IfOk result (λ _. S.failed source.new ≡ S.failed source.old) }
-    ensures err { IfErr result (IsStopped (S.left source.old) (S.left source.new) (S.failed source.old) (S.failed source.new) intake.new.pulled) }
+    ensures err { IfErr result
+        (IsStopped (S.left source.old) (S.left source.new) (S.failed source.old)
+        (S.failed source.new) intake.new.pulled) }
 {
     let is_alone = is_alone(rt);
     intake.fill(source, first_block_size(rt, is_alone))?;
@@ -70,7 +73,9 @@ fn read_arena<T: Threads + RandomSource + Sync, S: Source>(
 /// ran out, the rest is pulled and dropped, so that too long an input and a failure are known as such.
 fn refusal_of_all<S: Source>(source: &mut S, intake: &mut Intake, first: Refusal) -> Refusal
     requires { MayChange first → (intake.old.pulled.total ≤ MAX_INPUT) × (S.failed source.old < 2 ^ 64 - 1) }
-    ensures { (left : Option (List ℕ)) (failed : ℕ) → IsStopped left (S.left source.old) failed (S.failed source.old) intake.old.pulled first → IsRefusedOf left failed (S.failed source.new) result }
+    ensures { (left : Option (List ℕ)) (failed : ℕ)
+        → IsStopped left (S.left source.old) failed (S.failed source.old) intake.old.pulled first
+        → IsRefusedOf left failed (S.failed source.new) result }
 {
     match first {
         Refusal::TooLong | Refusal::InputFailed | Refusal::OutputFailed => first,
@@ -94,7 +99,8 @@ pub fn arena_of<T: Threads + RandomSource + Sync, S: Source>(
     source: &mut S,
 ) -> Result<Arena, Refusal>
     requires { S.failed source.old < 2 ^ 64 - 1 }
-    ensures ok { IfOk result (λ arena. (bytes : List ℕ) × IsAll (S.left source.old) bytes × IsArenaOf bytes arena) }
+    ensures ok { IfOk result (λ arena. (bytes : List ℕ) × IsAll (S.left source.old) bytes
+        × IsArenaOf bytes arena) }
     ensures unfailed { IfOk result (λ _. S.failed source.new ≡ S.failed source.old) }
     ensures err { IfErr result (IsRefusedOf (S.left source.old) (S.failed source.old) (S.failed source.new)) }
 {

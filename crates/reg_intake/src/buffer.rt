@@ -1,6 +1,7 @@
 //! The bytes that were pulled and whose lines aren't read yet, in a buffer that stays as it is. So bytes are
 //! pulled to where they are held, and no room is cleared for them twice.
-ghost use Rattle.std.specs.Prelude.{◌≡◌, ◌-◌, ◌^◌, ◌<◌, ◌≤◌, ◌++◌, ℕ, List, [], false, drop, length, IfOk, IfErr};
+ghost use Rattle.std.specs.Prelude.{◌≡◌, ◌-◌, ◌^◌, ◌<◌, ◌≤◌, ◌++◌, ℕ, List};
+ghost use Rattle.std.specs.Prelude.{[], false, drop, length, IfOk, IfErr};
 ghost use Rattle.history_text.specs.declared.limits.TheConstants.{MAX_INPUT};
 ghost use Rattle.reg_intake.specs.Pulls.{Gives, GetsNoMore, IsFurther};
 
@@ -60,9 +61,13 @@ impl Buffer {
         requires within { pulled.old.total ≤ MAX_INPUT }
         requires not_ended { pulled.old.is_ended ≡ false }
         requires failures { S.failed source.old < 2 ^ 64 - 1 }
-        ensures ok { IfOk result (λ _. (bytes : List ℕ) × Gives (S.left source.old) (S.left source.new) (S.failed source.old) (S.failed source.new) pulled.old pulled.new bytes × (self.new ≡ self.old ++ bytes)) }
+        ensures ok { IfOk result (λ _. (bytes : List ℕ)
+            × Gives (S.left source.old) (S.left source.new) (S.failed source.old)
+            (S.failed source.new) pulled.old pulled.new bytes × (self.new ≡ self.old ++ bytes)) }
         ensures further { IfOk result (λ _. IsFurther pulled.old pulled.new) }
-        ensures err { IfErr result (GetsNoMore (S.left source.old) (S.left source.new) (S.failed source.old) (S.failed source.new) pulled.old pulled.new) }
+        ensures err { IfErr result
+            (GetsNoMore (S.left source.old) (S.left source.new) (S.failed source.old)
+            (S.failed source.new) pulled.old pulled.new) }
     {
         if self.bytes.len() - self.count < PULL {
             self.bytes.resize(self.count + PULL, 0)?;

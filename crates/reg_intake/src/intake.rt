@@ -1,7 +1,8 @@
 //! The bytes that were pulled and whose lines aren't read yet.
 //!
 //! While the source may have more, what comes after the last line feed is held back, since it may go on.
-ghost use Rattle.std.specs.Prelude.{◌≡◌, ◌+◌, ◌-◌, ◌^◌, ◌<◌, ◌≤◌, ℕ, List, [], true, false, flat_map, length, IfOk, IfErr};
+ghost use Rattle.std.specs.Prelude.{◌≡◌, ◌+◌, ◌-◌, ◌^◌, ◌<◌, ◌≤◌, ℕ, List, []};
+ghost use Rattle.std.specs.Prelude.{true, false, flat_map, length, IfOk, IfErr};
 ghost use Rattle.history_text.specs.declared.limits.TheConstants.{MAX_INPUT};
 ghost use Rattle.reg_intake.specs.Intake.{IsHeld, IsReadOf};
 ghost use Rattle.reg_intake.specs.Pulls.{Gives, GetsNoMore, IsFurther, StopsAt, nothing};
@@ -59,9 +60,14 @@ impl Intake {
     pub(crate) fn fill<S: Source>(&mut self, source: &mut S, enough: usize) -> Result<(), Refusal>
         requires within { self.old.pulled.total ≤ MAX_INPUT }
         requires failures { S.failed source.old < 2 ^ 64 - 1 }
-        ensures ok { IfOk result (λ _. (bytes : List ℕ) × IsHeld (S.left source.old) (S.left source.new) (S.failed source.old) (S.failed source.new) self.old self.new bytes) }
-        ensures further { IfOk result (λ _. self.old.pulled.is_ended ≡ false → length self.old.held < enough → IsFurther self.old.pulled self.new.pulled) }
-        ensures err { IfErr result (GetsNoMore (S.left source.old) (S.left source.new) (S.failed source.old) (S.failed source.new) self.old.pulled self.new.pulled) }
+        ensures ok { IfOk result (λ _. (bytes : List ℕ)
+            × IsHeld (S.left source.old) (S.left source.new) (S.failed source.old)
+            (S.failed source.new) self.old self.new bytes) }
+        ensures further { IfOk result (λ _. self.old.pulled.is_ended ≡ false → length self.old.held < enough
+            → IsFurther self.old.pulled self.new.pulled) }
+        ensures err { IfErr result
+            (GetsNoMore (S.left source.old) (S.left source.new) (S.failed source.old)
+            (S.failed source.new) self.old.pulled self.new.pulled) }
     {
         while !self.pulled.is_ended() && self.held().len() < enough {
             self.held.pull(&mut self.pulled, source)?;
@@ -76,9 +82,13 @@ impl Intake {
     pub(crate) fn drop_rest<S: Source>(&mut self, source: &mut S) -> Result<(), Refusal>
         requires within { self.old.pulled.total ≤ MAX_INPUT }
         requires failures { S.failed source.old < 2 ^ 64 - 1 }
-        ensures ok { IfOk result (λ _. (bytes : List ℕ) × Gives (S.left source.old) (S.left source.new) (S.failed source.old) (S.failed source.new) self.old.pulled self.new.pulled bytes) }
+        ensures ok { IfOk result (λ _. (bytes : List ℕ)
+            × Gives (S.left source.old) (S.left source.new) (S.failed source.old)
+            (S.failed source.new) self.old.pulled self.new.pulled bytes) }
         ensures end { IfOk result (λ _. self.new.pulled.is_ended ≡ true) }
-        ensures err { IfErr result (StopsAt (S.left source.old) (S.left source.new) (S.failed source.old) (S.failed source.new) self.old.pulled) }
+        ensures err { IfErr result
+            (StopsAt (S.left source.old) (S.left source.new) (S.failed source.old)
+            (S.failed source.new) self.old.pulled) }
     {
         self.pulled.drop_rest(source)
     }
@@ -94,7 +104,8 @@ impl Intake {
         alloc: Global,
     ) -> Result<Vec<Vec<Result<LineEvent, LineFault>>>, AllocError>
         requires { self.old.next_line + length self.old.held ≤ MAX_INPUT + 1 }
-        ensures read { IfOk result (λ parts. IsReadOf self.old self.new (flat_map (λ part. part.items) parts.items)) }
+        ensures read { IfOk result (λ parts.
+            IsReadOf self.old self.new (flat_map (λ part. part.items) parts.items)) }
         ensures pulled { self.new.pulled ≡ self.old.pulled }
     {
         let whole = whole_lines(alloc, self.held(), self.next_line, self.is_ended())?;

@@ -50,9 +50,13 @@ impl Pulls {
         requires room { 0 < length piece.old }
         requires failures { S.failed source.old < 2 ^ 64 - 1 }
         ensures bound { IfOk result (λ count. count ≤ length piece.new) }
-        ensures ok { IfOk result (λ count. Gives (S.left source.old) (S.left source.new) (S.failed source.old) (S.failed source.new) self.old self.new (take count piece.new)) }
+        ensures ok { IfOk result (λ count.
+            Gives (S.left source.old) (S.left source.new) (S.failed source.old)
+            (S.failed source.new) self.old self.new (take count piece.new)) }
         ensures further { IfOk result (λ _. IsFurther self.old self.new) }
-        ensures err { IfErr result (StopsAt (S.left source.old) (S.left source.new) (S.failed source.old) (S.failed source.new) self.old) }
+        ensures err { IfErr result
+            (StopsAt (S.left source.old) (S.left source.new) (S.failed source.old)
+            (S.failed source.new) self.old) }
     {
         match source.pull(piece) {
             Err(_) => Err(Refusal::InputFailed),
@@ -74,9 +78,13 @@ impl Pulls {
     pub(crate) fn drop_rest<S: Source>(&mut self, source: &mut S) -> Result<(), Refusal>
         requires within { self.old.total ≤ MAX_INPUT }
         requires failures { S.failed source.old < 2 ^ 64 - 1 }
-        ensures ok { IfOk result (λ _. (bytes : List ℕ) × Gives (S.left source.old) (S.left source.new) (S.failed source.old) (S.failed source.new) self.old self.new bytes) }
+        ensures ok { IfOk result (λ _. (bytes : List ℕ)
+            × Gives (S.left source.old) (S.left source.new) (S.failed source.old)
+            (S.failed source.new) self.old self.new bytes) }
         ensures end { IfOk result (λ _. self.new.is_ended ≡ true) }
-        ensures err { IfErr result (StopsAt (S.left source.old) (S.left source.new) (S.failed source.old) (S.failed source.new) self.old) }
+        ensures err { IfErr result
+            (StopsAt (S.left source.old) (S.left source.new) (S.failed source.old)
+            (S.failed source.new) self.old) }
     {
         let mut piece = [0u8; PIECE];
         while !self.is_ended {

@@ -45,7 +45,8 @@ impl Reader {
     /// Drops the lines that were taken in last, and numbers those that were read.
     fn number(&mut self) -> Result<Vec<NumberedLines>, AllocError>
         ensures lines { IfOk result (λ parts. lines_in parts.items ≡ waiting self.old) }
-        ensures numbered { IfOk result (λ parts. AreNumberedBehind self.old.numbering self.new.numbering parts.items) }
+        ensures numbered { IfOk result (λ parts.
+            AreNumberedBehind self.old.numbering self.new.numbering parts.items) }
         ensures none { self.new.unnumbered.items ≡ [] }
     {
         self.spent.clear();
@@ -60,8 +61,10 @@ impl Reader {
         intake: &mut Intake,
     ) -> Result<Vec<NumberedLines>, AllocError>
         requires { intake.old.next_line + length intake.old.held ≤ MAX_INPUT + 1 }
-        ensures read { IfOk result (λ parts. IsReadOn intake.old intake.new self.old self.new (lines_in parts.items)) }
-        ensures numbered { IfOk result (λ parts. AreNumberedBehind self.old.numbering self.new.numbering parts.items) }
+        ensures read { IfOk result (λ parts.
+            IsReadOn intake.old intake.new self.old self.new (lines_in parts.items)) }
+        ensures numbered { IfOk result (λ parts.
+            AreNumberedBehind self.old.numbering self.new.numbering parts.items) }
         ensures none { IfOk result (λ _. self.new.unnumbered.items ≡ []) }
         ensures pulled { intake.new.pulled ≡ intake.old.pulled }
     {
@@ -78,8 +81,10 @@ impl Reader {
         intake: &mut Intake,
     ) -> Result<Vec<NumberedLines>, AllocError>
         requires { intake.old.next_line + length intake.old.held ≤ MAX_INPUT + 1 }
-        ensures read { IfOk result (λ parts. IsReadOn intake.old intake.new self.old self.new (lines_in parts.items)) }
-        ensures numbered { IfOk result (λ parts. AreNumberedBehind self.old.numbering self.new.numbering parts.items) }
+        ensures read { IfOk result (λ parts.
+            IsReadOn intake.old intake.new self.old self.new (lines_in parts.items)) }
+        ensures numbered { IfOk result (λ parts.
+            AreNumberedBehind self.old.numbering self.new.numbering parts.items) }
         ensures none { IfOk result (λ _. intake.old.held ≡ [] → self.new.unnumbered.items ≡ []) }
         ensures pulled { intake.new.pulled ≡ intake.old.pulled }
     {

@@ -1,10 +1,12 @@
 //! An arena underway: while the lines of one block are taken in, those of the next are numbered, and those of
 //! the one after are read.
-ghost use Rattle.std.specs.Prelude.{◌≡◌, ◌+◌, ◌-◌, ◌^◌, ◌<◌, ◌≤◌, ◌++◌, ℕ, List, [], Option, Some, true, false, drop, length, IfOk, IfErr};
+ghost use Rattle.std.specs.Prelude.{◌≡◌, ◌+◌, ◌-◌, ◌^◌, ◌<◌, ◌≤◌, ◌++◌, ℕ, List, [], Option};
+ghost use Rattle.std.specs.Prelude.{Some, true, false, drop, length, IfOk, IfErr};
 ghost use Rattle.history_text.specs.declared.limits.TheConstants.{MAX_INPUT};
 ghost use Rattle.reg_intake.specs.Intake.{FitsLimit};
 ghost use Rattle.reg_intake.specs.Pulls.{IsFurther};
-ghost use Rattle.reg_intake.specs.Underway.{AreNumberedBehind, IsGrown, IsLast, IsReadOn, IsStopped, IsUnderway, MayGrow, lines_in};
+ghost use Rattle.reg_intake.specs.Underway.{AreNumberedBehind, IsGrown, IsLast, IsReadOn};
+ghost use Rattle.reg_intake.specs.Underway.{IsStopped, IsUnderway, MayGrow, lines_in};
 
 use crate::block::block_size;
 use crate::intake::Intake;
@@ -74,8 +76,10 @@ fn read_and_take_in<T: Threads + Sync>(
 )
     requires room { intake.old.next_line + length intake.old.held ≤ MAX_INPUT + 1 }
     requires grows { MayGrow (Some arena) parts.now }
-    ensures read { IfOk result.0 (λ numbered. IsReadOn intake.old intake.new reader.old reader.new (lines_in numbered.items)) }
-    ensures numbered { IfOk result.0 (λ numbered. AreNumberedBehind reader.old.numbering reader.new.numbering numbered.items) }
+    ensures read { IfOk result.0 (λ numbered.
+        IsReadOn intake.old intake.new reader.old reader.new (lines_in numbered.items)) }
+    ensures numbered { IfOk result.0 (λ numbered.
+        AreNumberedBehind reader.old.numbering reader.new.numbering numbered.items) }
     ensures none { IfOk result.0 (λ _. intake.old.held ≡ [] → reader.new.unnumbered.items ≡ []) }
     ensures pulled { intake.new.pulled ≡ intake.old.pulled }
     ensures grown { IsGrown (Some arena) parts.now result.1 }
@@ -138,10 +142,16 @@ impl Underway {
         requires grows { MayGrow (Some self.arena) self.ahead.items }
         requires fits { FitsLimit intake.old }
         requires failures { S.failed source.old < 2 ^ 64 - 1 }
-        ensures ok { IfOk result (λ after. (left : Option (List ℕ)) (failed : ℕ) → IsUnderway left (S.left source.old) failed (S.failed source.old) intake.old reader.old self → IsUnderway left (S.left source.new) failed (S.failed source.new) intake.new reader.new after) }
-        ensures further { IfOk result (λ _. intake.old.pulled.is_ended ≡ false → IsFurther intake.old.pulled intake.new.pulled) }
-        ensures last { IfOk result (λ _. IsLast intake.old → (intake.new.pulled.is_ended ≡ true) × (reader.new.unnumbered.items ≡ [])) }
-        ensures err { IfErr result (λ refusal. (left : Option (List ℕ)) (failed : ℕ) → IsUnderway left (S.left source.old) failed (S.failed source.old) intake.old reader.old self → IsStopped left (S.left source.new) failed (S.failed source.new) intake.new.pulled refusal) }
+        ensures ok { IfOk result (λ after. (left : Option (List ℕ)) (failed : ℕ)
+            → IsUnderway left (S.left source.old) failed (S.failed source.old) intake.old reader.old self
+            → IsUnderway left (S.left source.new) failed (S.failed source.new) intake.new reader.new after) }
+        ensures further { IfOk result (λ _. intake.old.pulled.is_ended ≡ false
+            → IsFurther intake.old.pulled intake.new.pulled) }
+        ensures last { IfOk result (λ _. IsLast intake.old → (intake.new.pulled.is_ended ≡ true)
+            × (reader.new.unnumbered.items ≡ [])) }
+        ensures err { IfErr result (λ refusal. (left : Option (List ℕ)) (failed : ℕ)
+            → IsUnderway left (S.left source.old) failed (S.failed source.old) intake.old reader.old self
+            → IsStopped left (S.left source.new) failed (S.failed source.new) intake.new.pulled refusal) }
     {
         let held = intake.held().len();
         let enough = held + block_size(reader.is_alone, held);

@@ -30,10 +30,14 @@ pub record IsFirstBadRead (level : Level) (ops : List Operation) (r : Operation)
 
 -- the completed reads numbered from `from` up to and without `to` keep the level
 abbrev pub AllKeep : Level → List Operation → ℕ → ℕ → Type 0
-AllKeep level ops from to = (i : ℕ) (r : Operation) → from ≤ i → i < to → slice_get (completed_reads ops) i ≡ Some r → Keeps level ops r
+AllKeep level ops from to =
+    (i : ℕ) (r : Operation) → from ≤ i → i < to → slice_get (completed_reads ops) i ≡ Some r
+    → Keeps level ops r
 
--- of the completed reads numbered from `from` up to and without `to`, r breaks the level, and those of lesser number keep it
-pub record IsFirstBadWithin (level : Level) (ops : List Operation) (from to : ℕ) (r : Operation) : Type 0 where
+-- of the completed reads numbered from `from` up to and without `to`, r breaks the
+-- level, and those of lesser number keep it
+pub record IsFirstBadWithin (level : Level) (ops : List Operation) (from to : ℕ)
+    (r : Operation) : Type 0 where
   pub place : ℕ
   pub from_on : from ≤ place
   pub below : place < to
@@ -49,4 +53,6 @@ IsFirstBadFound level ops from to (Some r) = IsFirstBadWithin level ops from to 
 -- the same of a register of a history, the read named by the event of its call
 abbrev pub IsFirstBadNamed : History → ℕ → Level → ℕ → ℕ → Option EvId → Type 0
 IsFirstBadNamed h register level from to None = AllKeep level (of_register register (operations h)) from to
-IsFirstBadNamed h register level from to (Some id) = (r : Operation) × IsNamed h (Called id) r × IsFirstBadWithin level (of_register register (operations h)) from to r
+IsFirstBadNamed h register level from to (Some id) =
+    (r : Operation) × IsNamed h (Called id) r
+    × IsFirstBadWithin level (of_register register (operations h)) from to r

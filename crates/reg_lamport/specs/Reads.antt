@@ -16,17 +16,22 @@ pub record ListedReads : Type 0 where
   pub register : ℕ
   pub entries : List ReadEntry
 
--- The entry is of the completed read r; and where the register has a single writer, it has r's old write, and tells whether some write overlaps r.
+-- The entry is of the completed read r; and where the register has a single writer, it has r's old write,
+-- and tells whether some write overlaps r.
 pub record IsEntryOf (h : History) (register : ℕ) (e : ReadEntry) (r : Operation) : Type 0 where
   pub read : IsNamed h (Called e.read) r
   pub reply : e.reply ≡ r.reply
-  pub old_write : HasSingleWriter (of_register register (operations h)) → (w : Operation) × IsNamed h e.old_write w × IsOldWrite (of_register register (operations h)) r w
-  pub overlapped : HasSingleWriter (of_register register (operations h)) → IsTrue e.is_overlapped ↔ ((w : Operation) × IsOverlappedWrite (of_register register (operations h)) r w)
+  pub old_write : HasSingleWriter (of_register register (operations h))
+      → (w : Operation) × IsNamed h e.old_write w × IsOldWrite (of_register register (operations h)) r w
+  pub overlapped : HasSingleWriter (of_register register (operations h))
+      → IsTrue e.is_overlapped
+      ↔ ((w : Operation) × IsOverlappedWrite (of_register register (operations h)) r w)
 
 -- the list has an entry for each completed read of its register, in their order
 pub record IsReadList (h : History) (list : ListedReads) : Type 0 where
   pub recorded : IsRecorded h
-  pub entries : AllZip (IsEntryOf h list.register) list.entries (completed_reads (of_register list.register (operations h)))
+  pub entries : AllZip (IsEntryOf h list.register) list.entries
+      (completed_reads (of_register list.register (operations h)))
 
 -- the entry is one of such a list, of a register with a single writer
 pub record IsListed (h : History) (register : ℕ) (e : ReadEntry) : Type 0 where

@@ -40,7 +40,8 @@ pub fn first_bad(
 /// Whether a read keeps the level.
 fn keeps(arena: &Arena, register: RegId, entry: &ReadEntry, level: Level) -> bool
     requires { IsListed arena.now register.0 entry.now }
-    ensures { (r : Operation) → IsNamed arena.now (Oper.Called entry.now.read) r → IsTrue result ↔ Keeps level (of_register register.0 (operations arena.now)) r }
+    ensures { (r : Operation) → IsNamed arena.now (Oper.Called entry.now.read) r
+        → IsTrue result ↔ Keeps level (of_register register.0 (operations arena.now)) r }
 {
     let name = Oper::Called(entry.read);
     let read = arena.op(name);
@@ -56,7 +57,8 @@ fn keeps(arena: &Arena, register: RegId, entry: &ReadEntry, level: Level) -> boo
 /// Whether a write that overlaps the read, pending or not, has its value.
 fn has_overlapped_value(arena: &Arena, register: RegId, name: Oper, read: &Op) -> bool
     requires { IsReadShown arena.now register.0 name read.now }
-    ensures { (r : Operation) → IsNamed arena.now name r → IsTrue result ↔ HasOverlappedValue (of_register register.0 (operations arena.now)) r }
+    ensures { (r : Operation) → IsNamed arena.now name r
+        → IsTrue result ↔ HasOverlappedValue (of_register register.0 (operations arena.now)) r }
 {
     let Some(reply) = read.reply else {
         return false;
@@ -71,7 +73,8 @@ fn has_overlapped_value(arena: &Arena, register: RegId, name: Oper, read: &Op) -
 fn overlap(arena: &Arena, one: Oper, other: Oper) -> bool
     requires one { IsOper arena.now one }
     requires other { IsOper arena.now other }
-    ensures { (a b : Operation) → IsNamed arena.now one a → IsNamed arena.now other b → IsTrue result ↔ Overlaps a b }
+    ensures { (a b : Operation) → IsNamed arena.now one a → IsNamed arena.now other b
+        → IsTrue result ↔ Overlaps a b }
 {
     !arena.precedes(one, other) && !arena.precedes(other, one)
 }

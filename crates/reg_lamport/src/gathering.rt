@@ -36,7 +36,8 @@ impl ReadEntry {
 #[derive(Drop)]
 pub(crate) struct Gathering {
     entries: Vec<ReadEntry>,
-    /// How many reads were called before the last write: a later write overlaps one of these only if the last does.
+    /// How many reads were called before the last write: a later write
+    /// overlaps one of these only if the last does.
     settled: usize,
     /// The write called last, at first the initial one.
     last: Oper,
@@ -52,7 +53,13 @@ impl Model for Gathering {
 
     ghost Value = { Gathered };
 
-    ghost view = { λ a. record { entries = a.entries.items; settled = a.settled; last = a.last; last_reply = a.last_reply; before_last = a.before_last } };
+    ghost view = { λ a. record {
+      entries = a.entries.items;
+      settled = a.settled;
+      last = a.last;
+      last_reply = a.last_reply;
+      before_last = a.before_last;
+    } };
 
     ghost invariant = { λ a. a.settled ≤ length a.entries.items };
 }

@@ -1,11 +1,13 @@
 //! Safe and regular, by Lamport's definitions, for registers with a single writer.
 //!
-//! What the floor above may rely on: [`single_writer`] tells whether the levels apply to a register, [`reads`] lists its completed reads by call, and
-//! [`first_bad`] gives, of any part of that list, the first read that breaks a level. The laws put the parts together: the first bad read of the whole
-//! is that of the first part that has one, and it is the breaking read that was called first. Only `reads` takes memory; the other calls always answer.
+//! What the floor above may rely on: [`single_writer`] tells whether the levels apply to a register,
+//! [`reads`] lists its completed reads by call, and [`first_bad`] gives, of any part of that list, the
+//! first read that breaks a level. The laws put the parts together: the first bad read of the whole is
+//! that of the first part that has one, and it is the breaking read that was called first. Only `reads`
+//! takes memory; the other calls always answer.
 //!
-//! Read it in this order: `level` and `writer`; `gathering`, one pass over a register's calls, and `read_list`, which makes it; `breaks`, which judges
-//! each read; `laws`.
+//! Read it in this order: `level` and `writer`; `gathering`, one pass over a register's calls, and
+//! `read_list`, which makes it; `breaks`, which judges each read; `laws`.
 #![tactic(auto)]
 
 mod breaks;

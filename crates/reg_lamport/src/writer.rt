@@ -26,7 +26,8 @@ fn is_another(writer: Option<u32>, process: u32) -> bool
     }
 }
 
-/// Whether at most one process calls writes of the register (Lamport, On Interprocess Communication, Part II, 1986).
+/// Whether at most one process calls writes of the register (Lamport, On
+/// Interprocess Communication, Part II, 1986).
 pub fn single_writer(arena: &Arena, register: RegId) -> bool
     ensures { IsTrue result ↔ HasSingleWriter (of_register register.0 (operations arena.now)) }
 {

@@ -1,10 +1,12 @@
 -- A plan has no more pieces than a board may have.
-use Rattle.std.proofs.Common.{◌≡◌, ℕ, zero, suc, ◌+◌, ◌<◌, ◌≤◌, ◌==◌, cond, Bool, true, false, List, [], ◌∷◌, length, slice_get, Option, Some, None, refl, ap, subst, arith, length-append}
+use Rattle.std.proofs.Common.{◌≡◌, ℕ, zero, suc, ◌+◌, ◌<◌, ◌≤◌, ◌==◌, cond, Bool, true, false, List, [], ◌∷◌}
+use Rattle.std.proofs.Common.{length, slice_get, Option, Some, None, refl, ap, subst, arith, length-append}
 use Rattle.std.proofs.lemmas.Bool.{eqb-true}
 use Rattle.std.proofs.lemmas.List.Sums.{length-filter, count_by-le-length}
 use Rattle.history_model.specs.History.{History}
 use Rattle.history_model.specs.Lamport.{completed_reads, is_completed_read}
-use Rattle.history_model.specs.Operations.{Operation, operations, of_register, initial_writes, calls, register_of}
+use Rattle.history_model.specs.Operations.{Operation, operations, of_register}
+use Rattle.history_model.specs.Operations.{initial_writes, calls, register_of}
 use Rattle.reg_lamport.specs.Reads.{ListedReads, IsEntryOf}
 use Rattle.reg_lamport.proofs.Zipped.{zip-length}
 use Rattle.reg_pieces.specs.Plan.{AreCutsOf, AreTasks, IsListOf, PlanShown}
@@ -46,15 +48,18 @@ ones-few r (suc n) a = go (a == r) refl (ones-few (suc r) n a)
     go true e f = let z = ones-none (suc r) n a (omega (arith, eqb-true a r e)) in omega (arith, z)
     go false e f = omega (arith, f)
 
-one-more : (r n : ℕ) (o : Operation) (ops : List Operation) → of_registers r n (o ∷ ops) ≡ ones r n o.register + of_registers r n ops
+one-more : (r n : ℕ) (o : Operation) (ops : List Operation)
+    → of_registers r n (o ∷ ops) ≡ ones r n o.register + of_registers r n ops
 unfolding ones one_if of_registers
 one-more r zero o ops = refl
 one-more r (suc n) o ops =
     let rest = one-more (suc r) n o ops in
-    let here : length (of_register r (o ∷ ops)) ≡ one_if (o.register == r) + length (of_register r ops) = go (o.register == r) in
+    let here : length (of_register r (o ∷ ops)) ≡ one_if (o.register == r) + length (of_register r ops) =
+    go (o.register == r) in
     omega (arith, rest, here)
   where
-    go : (b : Bool) → length (cond b (o ∷ of_register r ops) (of_register r ops)) ≡ one_if b + length (of_register r ops)
+    go : (b : Bool)
+        → length (cond b (o ∷ of_register r ops) (of_register r ops)) ≡ one_if b + length (of_register r ops)
     go true = omega arith
     go false = omega arith
 
@@ -74,32 +79,50 @@ initial-count zero = refl
 initial-count (suc n) = let e = initial-count n in omega (arith, e)
 
 operations-few : (h : History) → length (operations h) ≤ length h.names + length h.events
-operations-few h = omega (arith, length-append (initial_writes (length h.names)) (calls h.events), initial-count (length h.names), calls-few (length h.events + 2) 2 h.events)
+operations-few h =
+    omega (
+      arith,
+      length-append (initial_writes (length h.names)) (calls h.events),
+      initial-count (length h.names),
+      calls-few (length h.events + 2) 2 h.events,
+    )
 
 -- ---- the tasks
 
-cuts-of-few : (h : History) (cut r : ℕ) (list : Option ListedReads) (cuts : List Task) → 0 < cut → IsListOf h r list → AreCutsOf cut r list cuts → length cuts ≤ length (register_of h r)
+cuts-of-few : (h : History) (cut r : ℕ) (list : Option ListedReads) (cuts : List Task) → 0 < cut
+    → IsListOf h r list → AreCutsOf cut r list cuts → length cuts ≤ length (register_of h r)
 cuts-of-few h cut r None cuts p l c = omega (arith, ap length c)
 cuts-of-few h cut r (Some list) cuts p l c =
     let few = cuts-few cut r 0 (length list.entries) cuts p c in
-    let zip = zip-length (IsEntryOf h list.register) list.entries (completed_reads (register_of h list.register)) l.2.entries in
+    let zip =
+    zip-length (IsEntryOf h list.register) list.entries (completed_reads (register_of h list.register))
+    l.2.entries in
     let own = ap (λ n. length (completed_reads (register_of h n))) l.1 in
     let part = length-filter is_completed_read (register_of h r) in
     let less = count_by-le-length is_completed_read (register_of h r) in
     omega (arith, few, zip, own, part, less)
 
-tasks-few : (h : History) (cut r : ℕ) (lists : List (Option ListedReads)) (tasks : List Task) → 0 < cut → ((i : ℕ) (list : Option ListedReads) → slice_get lists i ≡ Some list → IsListOf h (r + i) list) → AreTasks cut r lists tasks
+tasks-few : (h : History) (cut r : ℕ) (lists : List (Option ListedReads)) (tasks : List Task) → 0 < cut
+    → ((i : ℕ) (list : Option ListedReads) → slice_get lists i ≡ Some list → IsListOf h (r + i) list)
+    → AreTasks cut r lists tasks
     → length tasks ≤ length lists + of_registers r (length lists) (operations h)
 unfolding of_registers
 tasks-few h cut r [] tasks p l a = omega (arith, ap length a)
 tasks-few h cut r (list ∷ lists) tasks p l a =
-    let first : IsListOf h r list = let z : r + 0 ≡ r = omega arith in subst (λ n. IsListOf h n list) z (l 0 list refl) in
-    let rest = tasks-few h cut (suc r) lists a.1 p (λ i o e. let z : r + suc i ≡ suc r + i = omega arith in subst (λ n. IsListOf h n o) z (l (suc i) o e)) a.3 in
+    let first : IsListOf h r list =
+    let z : r + 0 ≡ r = omega arith in subst (λ n. IsListOf h n list) z (l 0 list refl) in
+    let rest =
+    tasks-few h cut (suc r) lists a.1 p (λ i o e. let z : r + suc i ≡ suc r + i = omega arith in
+    subst (λ n. IsListOf h n o) z (l (suc i) o e)) a.3 in
     let cuts = cuts-of-few h cut r list a.0 p first a.2 in
     omega (arith, ap length a.4, length-append a.0 a.1, rest, cuts)
 
-pub plan-few : (h : History) (cut : ℕ) (plan : PlanShown) → 0 < cut → length plan.lists ≡ length h.names → ((r : ℕ) (list : Option ListedReads) → slice_get plan.lists r ≡ Some list → IsListOf h r list) → AreTasks cut 0 plan.lists plan.tasks
+pub plan-few : (h : History) (cut : ℕ) (plan : PlanShown) → 0 < cut → length plan.lists ≡ length h.names
+    → ((r : ℕ) (list : Option ListedReads) → slice_get plan.lists r ≡ Some list → IsListOf h r list)
+    → AreTasks cut 0 plan.lists plan.tasks
     → length plan.tasks ≤ length h.names + length h.names + length h.events
 plan-few h cut plan p count lists numbered =
-    let few = tasks-few h cut 0 plan.lists plan.tasks p (λ i o e. let z : i ≡ 0 + i = omega arith in subst (λ n. IsListOf h n o) z (lists i o e)) numbered in
+    let few =
+    tasks-few h cut 0 plan.lists plan.tasks p (λ i o e. let z : i ≡ 0 + i = omega arith in
+    subst (λ n. IsListOf h n o) z (lists i o e)) numbered in
     omega (arith, few, count, all-few 0 (length plan.lists) (operations h), operations-few h)

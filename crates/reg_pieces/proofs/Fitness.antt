@@ -1,5 +1,6 @@
 -- A task of a plan can be done.
-use Rattle.std.proofs.Common.{◌≡◌, ℕ, ◌<◌, ◌≤◌, length, slice_get, Option, Some, None, inl, inr, refl, sym, ap, subst, ◌∙◌, arith}
+use Rattle.std.proofs.Common.{◌≡◌, ℕ, ◌<◌, ◌≤◌, length, slice_get, Option, Some}
+use Rattle.std.proofs.Common.{None, inl, inr, refl, sym, ap, subst, ◌∙◌, arith}
 use Rattle.std.specs.Prelude.{IfSome}
 use Rattle.std.proofs.lemmas.Option.{none-some, same_Some, slice_get_within}
 use Rattle.history_model.specs.History.{History}
@@ -30,7 +31,8 @@ no-judgement-skipped judgement e = cc e
 no-reads-skipped : (reads : BadReads) → piece.Reads reads ≡ Skipped → ⊥
 no-reads-skipped reads e = cc e
 
-module _ (h : History) (plan : PlanShown) (p : (cut : ℕ) × IsPlan h cut plan) (number : ℕ) (t : Task) (at : slice_get plan.tasks number ≡ Some t) where
+module _ (h : History) (plan : PlanShown) (p : (cut : ℕ) × IsPlan h cut plan) (number : ℕ) (t : Task)
+    (at : slice_get plan.tasks number ≡ Some t) where
   fit : IsFit 0 plan.lists t
   fit = tasks-fit p.0 0 plan.lists plan.tasks number t p.1.numbered at
 
@@ -43,13 +45,17 @@ module _ (h : History) (plan : PlanShown) (p : (cut : ℕ) × IsPlan h cut plan)
       let l = slice_get_within plan.lists f.0 (Some f.1) f.3 in omega (arith, f.2, l)
 
   -- the list that the task of a cut names
-  named : (register : RegId) (from to : ℕ) → t ≡ Reads register from to → (list : ListedReads) × (slice_get plan.lists register.0 ≡ Some (Some list)) × (from ≤ to) × (to ≤ length list.entries)
+  named : (register : RegId) (from to : ℕ) → t ≡ Reads register from to
+      → (list : ListedReads) × (slice_get plan.lists register.0 ≡ Some (Some list)) × (from ≤ to)
+      × (to ≤ length list.entries)
   named register from to e =
       let f = subst (IsFit 0 plan.lists) e fit in
       let n : f.0 ≡ register.0 = omega (arith, f.2) in
       (f.1, ap (slice_get plan.lists) (sym n) ∙ f.3, f.4, f.5)
 
-  has-part : (register : RegId) (from to : ℕ) → t ≡ Reads register from to → (o : Option ListedReads) → slice_get plan.lists register.0 ≡ Some o → (list : ListedReads) → o ≡ Some list → IsOwnPart h register from to list
+  has-part : (register : RegId) (from to : ℕ) → t ≡ Reads register from to → (o : Option ListedReads)
+      → slice_get plan.lists register.0 ≡ Some o → (list : ListedReads) → o ≡ Some list
+      → IsOwnPart h register from to list
   has-part register from to e o there list s =
       let f = named register from to e in
       let stands = there ∙ ap (λ x. Some x) s in
@@ -61,7 +67,8 @@ module _ (h : History) (plan : PlanShown) (p : (cut : ℕ) × IsPlan h cut plan)
         part = (f.2, subst (λ (x : ListedReads). to ≤ length x.entries) same f.3);
       }
 
-  has-list : (register : RegId) (from to : ℕ) → t ≡ Reads register from to → (o : Option ListedReads) → slice_get plan.lists register.0 ≡ Some o → o ≡ None → ⊥
+  has-list : (register : RegId) (from to : ℕ) → t ≡ Reads register from to → (o : Option ListedReads)
+      → slice_get plan.lists register.0 ≡ Some o → o ≡ None → ⊥
   has-list register from to e o there s =
       let f = named register from to e in none-some f.0 (sym s ∙ same_Some _ _ (sym there ∙ f.1))
 
@@ -87,7 +94,8 @@ no-first-reads k register from to e = cc e
 same-register : (k register : RegId) → First k ≡ First register → k.0 ≡ register.0
 same-register k register e = let same : k ≡ register = cc e in ap (λ (r : RegId). r.0) same
 
-module _ (h : History) (plan : PlanShown) (p : IsSomePlan h plan) (number : ℕ) (t : Task) (at : slice_get plan.tasks number ≡ Some t) where
+module _ (h : History) (plan : PlanShown) (p : IsSomePlan h plan) (number : ℕ) (t : Task)
+    (at : slice_get plan.tasks number ≡ Some t) where
   -- only a whole plan judges registers
   judge-whole : (register : RegId) → t ≡ Judge register → (cut : ℕ) × IsPlan h cut plan
   judge-whole register e = elim p [
@@ -105,29 +113,40 @@ module _ (h : History) (plan : PlanShown) (p : IsSomePlan h plan) (number : ℕ)
   pub judge-fits : (register : RegId) → t ≡ Judge register → register.0 < length h.names
   judge-fits register e = register-there h plan (judge-whole register e) number t at register e
 
-  pub reads-fit : (register : RegId) (from to : ℕ) → t ≡ Reads register from to → register.0 < length plan.lists
-  reads-fit register from to e = list-there h plan (reads-whole register from to e) number t at register from to e
+  pub reads-fit : (register : RegId) (from to : ℕ) → t ≡ Reads register from to
+      → register.0 < length plan.lists
+  reads-fit register from to e =
+      list-there h plan (reads-whole register from to e) number t at register from to e
 
-  own-part : (register : RegId) (from to : ℕ) → t ≡ Reads register from to → (list : ListedReads) → slice_get plan.lists register.0 ≡ Some (Some list) → IsOwnPart h register from to list
-  own-part register from to e list there = has-part h plan (reads-whole register from to e) number t at register from to e (Some list) there list refl
+  own-part : (register : RegId) (from to : ℕ) → t ≡ Reads register from to → (list : ListedReads)
+      → slice_get plan.lists register.0 ≡ Some (Some list) → IsOwnPart h register from to list
+  own-part register from to e list there =
+      has-part h plan (reads-whole register from to e) number t at register from to e
+      (Some list) there list refl
 
   -- what is asked of a cut's list, and what is said by it
-  pub cut-listed : (register : RegId) (from to : ℕ) → t ≡ Reads register from to → (o : Option ListedReads) → slice_get plan.lists register.0 ≡ Some o → IfSome o (λ l. IsListOf h l.register (Some l))
+  pub cut-listed : (register : RegId) (from to : ℕ) → t ≡ Reads register from to → (o : Option ListedReads)
+      → slice_get plan.lists register.0 ≡ Some o → IfSome o (λ l. IsListOf h l.register (Some l))
   cut-listed register from to e None there = tt
   cut-listed register from to e (Some list) there = (own-part register from to e list there).listed
 
-  pub cut-part : (register : RegId) (from to : ℕ) → t ≡ Reads register from to → (o : Option ListedReads) → slice_get plan.lists register.0 ≡ Some o → IfSome o (λ l. (from ≤ to) × (to ≤ length l.entries))
+  pub cut-part : (register : RegId) (from to : ℕ) → t ≡ Reads register from to → (o : Option ListedReads)
+      → slice_get plan.lists register.0 ≡ Some o → IfSome o (λ l. (from ≤ to) × (to ≤ length l.entries))
   cut-part register from to e None there = tt
   cut-part register from to e (Some list) there = (own-part register from to e list there).part
 
-  pub cut-bad : (register : RegId) (from to : ℕ) → t ≡ Reads register from to → (o : Option ListedReads) → slice_get plan.lists register.0 ≡ Some o → (reads : BadReads)
+  pub cut-bad : (register : RegId) (from to : ℕ) → t ≡ Reads register from to → (o : Option ListedReads)
+      → slice_get plan.lists register.0 ≡ Some o → (reads : BadReads)
       → IfSome o (λ l. AreFirstBad h l.register from to reads) → AreFirstBad h register.0 from to reads
-  cut-bad register from to e None there reads bad = absurd (has-list h plan (reads-whole register from to e) number t at register from to e None there refl)
-  cut-bad register from to e (Some list) there reads bad = subst (λ n. AreFirstBad h n from to reads) (own-part register from to e list there).own bad
+  cut-bad register from to e None there reads bad =
+      absurd (has-list h plan (reads-whole register from to e) number t at register from to e None there refl)
+  cut-bad register from to e (Some list) there reads bad =
+      subst (λ n. AreFirstBad h n from to reads) (own-part register from to e list there).own bad
 
   pub first-fits : (register : RegId) → t ≡ First register → register.0 < length h.names
   first-fits register e = elim p [
-    | inl f ↦ let same = same-register (record { 0 = number }) register (sym (f.each number t at) ∙ e) in let l = slice_get_within plan.tasks number t at in omega (arith, same, l, f.registers)
+    | inl f ↦ let same = same-register (record { 0 = number }) register (sym (f.each number t at) ∙ e) in
+        let l = slice_get_within plan.tasks number t at in omega (arith, same, l, f.registers)
     | inr w ↦ absurd (no-first h plan w number t at register e)
   ]
 

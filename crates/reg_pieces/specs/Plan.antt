@@ -1,5 +1,6 @@
 -- The pieces of work of a history, and what is done for each (this project's own design).
-use Rattle.std.specs.Prelude.{◌≡◌, ℕ, suc, ◌<◌, ◌≤◌, ◌+◌, ◌-◌, min, List, [], ◌∷◌, ◌++◌, length, slice_get, Option, Some, None, Bool, true, false, ◌⊎◌, MatchBool}
+use Rattle.std.specs.Prelude.{◌≡◌, ℕ, suc, ◌<◌, ◌≤◌, ◌+◌, ◌-◌, min, List, [], ◌∷◌, ◌++◌, length}
+use Rattle.std.specs.Prelude.{slice_get, Option, Some, None, Bool, true, false, ◌⊎◌, MatchBool}
 use Rattle.job_board.specs.declared.limits.TheConstants.{MAX_JOBS}
 use Rattle.history_model.specs.History.{History}
 use Rattle.history_model.specs.Lamport.{HasSingleWriter}
@@ -15,7 +16,8 @@ use Rattle.reg_pieces.specs.declared.piece.Piece.TheVariants as piece
 use Rattle.reg_pieces.specs.declared.tasks.Task.{Task}
 use Rattle.reg_pieces.specs.declared.tasks.Task.TheVariants.{Judge, Reads, First}
 
--- what contracts see of a plan: its tasks by number, the completed reads of each register with a single writer, and whether the first register that isn't atomic is all that is asked for
+-- what contracts see of a plan: its tasks by number, the completed reads of each register with a single
+-- writer, and whether the first register that isn't atomic is all that is asked for
 pub record PlanShown : Type 0 where
   pub tasks : List Task
   pub lists : List (Option ListedReads)
@@ -36,10 +38,13 @@ pub record AreRegisters (h : History) (registers : List RegId) : Type 0 where
   pub count : length registers ≡ length h.names
   pub each : (i : ℕ) (r : RegId) → slice_get registers i ≡ Some r → i ≡ r.0
 
--- the reads of register r numbered from `from` up to and without `len`, in cuts of that many, the last perhaps shorter
+-- the reads of register r numbered from `from` up to and without `len`, in
+-- cuts of that many, the last perhaps shorter
 abbrev pub AreCuts : ℕ → ℕ → ℕ → ℕ → List Task → Type 0
 AreCuts cut r from len [] = from ≡ len
-AreCuts cut r from len (t ∷ ts) = (from < len) × (t ≡ Reads (record { 0 = r }) from (from + min (len - from) cut)) × AreCuts cut r (from + min (len - from) cut) len ts
+AreCuts cut r from len (t ∷ ts) =
+    (from < len) × (t ≡ Reads (record { 0 = r }) from (from + min (len - from) cut))
+    × AreCuts cut r (from + min (len - from) cut) len ts
 
 -- all reads of a register with a single writer; none of another
 abbrev pub AreCutsOf : ℕ → ℕ → Option ListedReads → List Task → Type 0
@@ -53,7 +58,9 @@ AddsCuts cut r list old new = (cuts : List Task) × AreCutsOf cut r list cuts ×
 -- register by register from r on: its verdict, then the cuts of its reads
 abbrev pub AreTasks : ℕ → ℕ → List (Option ListedReads) → List Task → Type 0
 AreTasks cut r [] ts = ts ≡ []
-AreTasks cut r (l ∷ ls) ts = (cuts : List Task) × (rest : List Task) × AreCutsOf cut r l cuts × AreTasks cut (suc r) ls rest × (ts ≡ Judge (record { 0 = r }) ∷ cuts ++ rest)
+AreTasks cut r (l ∷ ls) ts =
+    (cuts : List Task) × (rest : List Task) × AreCutsOf cut r l cuts × AreTasks cut (suc r) ls rest
+    × (ts ≡ Judge (record { 0 = r }) ∷ cuts ++ rest)
 
 -- the plan of a history, in cuts of so many reads; it has no more tasks than a board may have jobs
 pub record IsPlan (h : History) (cut : ℕ) (plan : PlanShown) : Type 0 where
@@ -87,8 +94,10 @@ is_cut (Some (First r)) = false
 
 -- what is done for a task
 abbrev pub IsPieceOf : History → Task → Piece → Type 0
-IsPieceOf h (Judge r) p = (judgement : Judgement) × (p ≡ piece.Judged judgement) × IsJudged (register_of h r.0) judgement
-IsPieceOf h (Reads r from to) p = (reads : BadReads) × (p ≡ piece.Reads reads) × AreFirstBad h r.0 from to reads
+IsPieceOf h (Judge r) p =
+    (judgement : Judgement) × (p ≡ piece.Judged judgement) × IsJudged (register_of h r.0) judgement
+IsPieceOf h (Reads r from to) p =
+    (reads : BadReads) × (p ≡ piece.Reads reads) × AreFirstBad h r.0 from to reads
 IsPieceOf h (First r) p = IsLookedAt (register_of h r.0) p
 
 -- there is a task of this number, and this is done for it

@@ -18,8 +18,11 @@ pub record PiecesShown : Type 0 where
 
 -- what is done for this task stands in the slot of this number; a look leaves nothing to keep
 abbrev pub IsKept : History → ℕ → PiecesShown → Task → Type 0
-IsKept h n pieces (Judge r) = (judgement : Judgement) × (slice_get pieces.judgements n ≡ Some judgement) × IsJudged (register_of h r.0) judgement
-IsKept h n pieces (Reads r from to) = (reads : BadReads) × (slice_get pieces.reads n ≡ Some reads) × AreFirstBad h r.0 from to reads
+IsKept h n pieces (Judge r) =
+    (judgement : Judgement) × (slice_get pieces.judgements n ≡ Some judgement)
+    × IsJudged (register_of h r.0) judgement
+IsKept h n pieces (Reads r from to) =
+    (reads : BadReads) × (slice_get pieces.reads n ≡ Some reads) × AreFirstBad h r.0 from to reads
 IsKept h n pieces (First r) = Unit {0}
 
 -- the task of this number, if there is one, has what is done for it in its slot
@@ -40,7 +43,10 @@ AreWithin count done = (i : ℕ) (d : ℕ × Piece) → slice_get done i ≡ Som
 
 -- the slots with one judgement, or with the first bad reads of one cut
 abbrev pub with_judgement : PiecesShown → ℕ → Judgement → PiecesShown
-with_judgement pieces n judgement = record { judgements = set pieces.judgements n judgement; reads = pieces.reads }
+with_judgement pieces n judgement = record {
+  judgements = set pieces.judgements n judgement;
+  reads = pieces.reads;
+}
 
 abbrev pub with_reads : PiecesShown → ℕ → BadReads → PiecesShown
 with_reads pieces n reads = record { judgements = pieces.judgements; reads = set pieces.reads n reads }

@@ -1,5 +1,6 @@
 -- What a worker takes and hands back.
-use Rattle.std.specs.Prelude.{◌≡◌, ◌⊎◌, ◌<◌, ◌≤◌, ℕ, Bool, List, [], ◌∷◌, ◌++◌, length, map, slice_get, Some, true, false}
+use Rattle.std.specs.Prelude.{◌≡◌, ◌⊎◌, ◌<◌, ◌≤◌, ℕ, Bool, List, [], ◌∷◌, ◌++◌}
+use Rattle.std.specs.Prelude.{length, map, slice_get, Some, true, false}
 use Rattle.job_board.specs.Seats.{BoardValue, SeatValue}
 use Rattle.history_model.specs.History.{History}
 use Rattle.history_model.specs.Operations.{register_of}
@@ -39,7 +40,8 @@ abbrev pub faulty_numbers : List (ℕ × Piece) → List ℕ
 faulty_numbers [] = []
 faulty_numbers (d ∷ ds) = number_where (is_faulty d.1) d.0 ++ faulty_numbers ds
 
--- what is flagged for what is done: the numbers of the faults where the first register that isn't atomic is asked for, and else nothing
+-- what is flagged for what is done: the numbers of the faults where the first register that
+-- isn't atomic is asked for, and else nothing
 abbrev pub Flags : Bool → List (ℕ × Piece) → List ℕ → List ℕ → Type 0
 Flags true done old new = new ≡ old ++ faulty_numbers done
 Flags false done old new = new ≡ old
@@ -57,7 +59,8 @@ pub record KeepsSeat (old new : SeatValue) : Type 0 where
   pub seen : new.view.seen ≤ old.view.seen
 
 -- a register is looked at besides, and flagged where it isn't atomic
-pub record AddsRegister (h : History) (number : ℕ) (seat with_it : SeatValue) (old new : List (ℕ × Piece)) : Type 0 where
+pub record AddsRegister (h : History) (number : ℕ) (seat with_it : SeatValue)
+    (old new : List (ℕ × Piece)) : Type 0 where
   pub piece : Piece
   pub looked : IsLookedAt (register_of h number) piece
   pub added : new ≡ old ++ (number, piece) ∷ []
@@ -66,14 +69,17 @@ pub record AddsRegister (h : History) (number : ℕ) (seat with_it : SeatValue) 
 
 -- ---- a worker
 
--- What a worker that was given a seat hands back: the seat, of the same weight. It drew what is done, in its order, and, where memory was refused, at most one number more; where it wasn't, no number was left. It flagged what the plan asks for.
+-- What a worker that was given a seat hands back: the seat, of the same weight. It drew what is done, in
+-- its order, and, where memory was refused, at most one number more; where it wasn't, no number was
+-- left. It flagged what the plan asks for.
 pub record HasWorked (h : History) (plan : PlanShown) (seat : SeatValue) (w : Worked) : Type 0 where
   pub board : w.seat.board ≡ seat.board
   pub weight : w.seat.view.weight ≡ seat.view.weight
   pub jobs : w.seat.view.jobs ≡ seat.view.jobs
   pub flagged : Flags plan.first w.done.items seat.view.flagged w.seat.view.flagged
   pub drawn : (w.seat.view.drawn ≡ seat.view.drawn ++ numbers_of w.done.items)
-      ⊎ ((w.refused ≡ true) × ((number : ℕ) × (w.seat.view.drawn ≡ seat.view.drawn ++ numbers_of w.done.items ++ number ∷ [])))
+      ⊎ ((w.refused ≡ true)
+      × ((number : ℕ) × (w.seat.view.drawn ≡ seat.view.drawn ++ numbers_of w.done.items ++ number ∷ [])))
   pub exhausted : w.refused ≡ false → w.seat.view.exhausted ≡ true
   pub pieces : ArePieces h plan.tasks w.done.items
   pub skipped : AreSkippedAbove w.seat.view.seen w.done.items

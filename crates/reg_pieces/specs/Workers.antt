@@ -1,5 +1,6 @@
 -- What all workers are given and hand back.
-use Rattle.std.specs.Prelude.{◌≡◌, ◌+◌, ◌<◌, ◌≤◌, ◌⊎◌, ℕ, length, Bool, false, true, List, [], ◌∷◌, Option, Some, None}
+use Rattle.std.specs.Prelude.{◌≡◌, ◌+◌, ◌<◌, ◌≤◌, ◌⊎◌, ℕ, length, Bool, false}
+use Rattle.std.specs.Prelude.{true, List, [], ◌∷◌, Option, Some, None}
 use Rattle.job_board.specs.Numbers.{times}
 use Rattle.job_board.specs.Seats.{BoardValue, SeatValue, joint_view}
 use Rattle.job_board.specs.Steps.{ClosesWith}
@@ -29,12 +30,15 @@ weight_of_all (s ∷ ss) = s.view.weight + weight_of_all ss
 
 -- ---- after
 
--- what is known of the registers by a seat: each one that it drew is atomic, or flagged, or above the number that was seen; and no flagged one is atomic
+-- what is known of the registers by a seat: each one that it drew is atomic, or flagged, or above the number
+-- that was seen; and no flagged one is atomic
 pub record IsSearched (h : History) (v : View) : Type 0 where
-  pub passed : (n : ℕ) → 0 < times n v.drawn → IsAtomic (register_of h n) ⊎ ((0 < times n v.flagged) ⊎ (v.seen < n))
+  pub passed : (n : ℕ) → 0 < times n v.drawn
+      → IsAtomic (register_of h n) ⊎ ((0 < times n v.flagged) ⊎ (v.seen < n))
   pub flagged : (n : ℕ) → 0 < times n v.flagged → IsAtomic (register_of h n) → ⊥
 
--- What a worker hands back that was given a new seat: where memory wasn't refused, the seat drew what is done and no more, and no number was left.
+-- What a worker hands back that was given a new seat: where memory wasn't refused, the seat drew what is
+-- done and no more, and no number was left.
 pub record IsHandedBack (h : History) (plan : PlanShown) (board : BoardValue) (w : Worked) : Type 0 where
   pub here : w.seat.board ≡ board.id
   pub drawn : w.refused ≡ false → w.seat.view.drawn ≡ numbers_of w.done.items
@@ -59,22 +63,29 @@ abbrev pub view_with : Option SeatValue → SeatValue → View
 view_with None seat = seat.view
 view_with (Some before) seat = joint_view before.view seat.view
 
--- Seats of this board that were made into one: where no worker was refused memory, each number that they drew has what is done for its task in its slot, and no number was left.
-pub record IsJoined (h : History) (tasks : List Task) (board : BoardValue) (pieces : PiecesShown) (refused : Bool) (seat : SeatValue) : Type 0 where
+-- Seats of this board that were made into one: where no worker was refused memory, each number that they drew
+-- has what is done for its task in its slot, and no number was left.
+pub record IsJoined (h : History) (tasks : List Task) (board : BoardValue) (pieces : PiecesShown)
+    (refused : Bool) (seat : SeatValue) : Type 0 where
   pub here : seat.board ≡ board.id
   pub exhausted : refused ≡ false → seat.view.exhausted ≡ true
   pub full : refused ≡ false → (n : ℕ) → 0 < times n seat.view.drawn → IsDoneAt h tasks pieces n
 
--- Seats of this board that were made into one: where no worker was refused memory, no number was left, and this is known of all that they drew.
-pub record IsJoinedSearch (h : History) (board : BoardValue) (refused : Bool) (seat : SeatValue) : Type 0 where
+-- Seats of this board that were made into one: where no worker was refused memory, no number was left,
+-- and this is known of all that they drew.
+pub record IsJoinedSearch (h : History) (board : BoardValue) (refused : Bool)
+    (seat : SeatValue) : Type 0 where
   pub here : seat.board ≡ board.id
   pub exhausted : refused ≡ false → seat.view.exhausted ≡ true
   pub searched : refused ≡ false → IsSearched h seat.view
 
--- what the closing of a board of so many jobs says: there is the one seat, and if it is exhausted, it drew each number
+-- what the closing of a board of so many jobs says: there is the one seat,
+-- and if it is exhausted, it drew each number
 abbrev pub ClosesWhole : ℕ → Option SeatValue → ℕ → Type 0
 ClosesWhole jobs None least = ⊥
-ClosesWhole jobs (Some seat) least = (seat.view.exhausted ≡ true → (n : ℕ) → n < jobs → 0 < times n seat.view.drawn) × ClosesWith jobs seat.view least
+ClosesWhole jobs (Some seat) least =
+    (seat.view.exhausted ≡ true → (n : ℕ) → n < jobs → 0 < times n seat.view.drawn)
+    × ClosesWith jobs seat.view least
 
 -- ---- the first register that isn't atomic
 

@@ -15,8 +15,8 @@ use reg_arena::Arena;
 use std::alloc::{AllocError, Global};
 use std::thread::Threads;
 
-/// The lowest number that the workers flagged, or the number of registers. Their seats are joined, and the board is
-/// closed.
+/// The lowest number that the workers flagged, or the number of registers. Their
+/// seats are joined, and the board is closed.
 ///
 /// # Errors
 /// Out of memory, if a worker was.
@@ -42,8 +42,8 @@ fn least_flagged(
     if refused { Err(AllocError) } else { Ok(least) }
 }
 
-/// Has as many workers as the settings say look for the first register that isn't atomic at once, past the gate; nothing
-/// if each register is atomic. Neither the number of workers nor the gate changes the answer.
+/// Has as many workers as the settings say look for the first register that isn't atomic at once, past the
+/// gate; nothing if each register is atomic. Neither the number of workers nor the gate changes the answer.
 ///
 /// # Errors
 /// Out of memory, here or in a worker.

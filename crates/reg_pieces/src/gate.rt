@@ -1,7 +1,7 @@
 //! What a worker passes before each piece.
 
-/// What workers pass: each calls `arrive` with the number of each piece that it drew, once, before it does the piece.
-/// Threads share it.
+/// What workers pass: each calls `arrive` with the number of each piece that it drew, once,
+/// before it does the piece. Threads share it.
 pub trait Gate {
     /// Returns when the worker may go on.
     fn arrive(&self, piece: u64);

@@ -1,15 +1,16 @@
 //! The pieces of work of a history, and the workers that do them.
 //!
-//! What the floor above may rely on: [`plan`] numbers the pieces of a history: register by register its verdict, then
-//! its reads in cuts; [`plan_in_parts`] has several threads list the reads. [`work`] is one worker, which draws numbers
-//! from a board and does their pieces. [`do_pieces`] has as many workers as the [`Settings`] say do all of them at
-//! once, and gives what is done by number, each piece the one that its task asks for; [`first_faulty`] has them find
-//! the first register that isn't atomic, with one piece a register. Neither the number of workers nor the [`Gate`] that
-//! they pass changes what is given.
+//! What the floor above may rely on: [`plan`] numbers the pieces of a history: register by register its
+//! verdict, then its reads in cuts; [`plan_in_parts`] has several threads list the reads. [`work`] is one
+//! worker, which draws numbers from a board and does their pieces. [`do_pieces`] has as many workers as the
+//! [`Settings`] say do all of them at once, and gives what is done by number, each piece the one that its
+//! task asks for; [`first_faulty`] has them find the first register that isn't atomic, with one piece a
+//! register. Neither the number of workers nor the [`Gate`] that they pass changes what is given.
 //!
-//! Read it in this order: `settings`; `tasks` and `planning`, which number the work; `order`, `judgement`, `bad_reads`, `look`
-//! and `piece`, what is done for one number; `gate` and `worker`; `pieces`, where what is done is kept; `workers`, all of it at
-//! once; `first_search`, which looks for the first register that isn't atomic.
+//! Read it in this order: `settings`; `tasks` and `planning`, which number the work; `order`,
+//! `judgement`, `bad_reads`, `look` and `piece`, what is done for one number; `gate` and `worker`;
+//! `pieces`, where what is done is kept; `workers`, all of it at once; `first_search`, which looks
+//! for the first register that isn't atomic.
 #![tactic(auto)]
 
 mod bad_reads;

@@ -1,6 +1,7 @@
 //! What is done, by its number.
 ghost use Rattle.std.specs.Prelude.{◌≡◌, ◌<◌, length, slice_get, IfOk, Some};
-ghost use Rattle.reg_pieces.specs.Slots.{AreWithin, with_judgement, with_piece, with_pieces, with_reads, without_judgement};
+ghost use Rattle.reg_pieces.specs.Slots.{AreWithin, with_judgement, with_piece};
+ghost use Rattle.reg_pieces.specs.Slots.{with_pieces, with_reads, without_judgement};
 
 use crate::bad_reads::BadReads;
 use crate::judgement::Judgement;
@@ -9,8 +10,9 @@ use std::alloc::{AllocError, Global};
 use std::marker::Model;
 use std::mem::replace;
 
-/// What is done for the pieces of a plan: the judgements and the bad reads of cuts, each kind in slots of its own, by number;
-/// contracts see the two lists. Where nothing is done, a slot holds the order of no operations, or no bad reads.
+/// What is done for the pieces of a plan: the judgements and the bad reads of cuts, each kind in
+/// slots of its own, by number; contracts see the two lists. Where nothing is done, a slot holds the
+/// order of no operations, or no bad reads.
 #[derive(Drop)]
 pub struct Pieces {
     judgements: Vec<Judgement>,

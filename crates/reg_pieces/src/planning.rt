@@ -2,7 +2,8 @@
 ghost use Rattle.std.specs.Prelude.{◌<◌, ◌≤◌, length, IfOk, OnOk};
 ghost use Rattle.history_text.specs.declared.limits.TheConstants.{MAX_EVENTS};
 ghost use Rattle.job_board.specs.declared.limits.TheConstants.{MAX_JOBS};
-ghost use Rattle.reg_pieces.specs.Plan.{AddsCuts, AreLists, AreRegisters, IsFirstPlan, IsListOf, IsPlan, IsPlanBy, IsSomePlan};
+ghost use Rattle.reg_pieces.specs.Plan.{AddsCuts, AreLists, AreRegisters, IsFirstPlan};
+ghost use Rattle.reg_pieces.specs.Plan.{IsListOf, IsPlan, IsPlanBy, IsSomePlan};
 
 use crate::settings::Settings;
 use crate::tasks::{Plan, Task};

@@ -1,4 +1,5 @@
-//! How many workers there are, how many reads a cut has, and whether the first register that isn't atomic is all that is asked for.
+//! How many workers there are, how many reads a cut has, and whether the first register
+//! that isn't atomic is all that is asked for.
 ghost use Rattle.std.specs.Prelude.{◌≡◌, ◌≤◌, ◌↔◌, false, IsSome, IfSome};
 ghost use Rattle.reg_pieces.specs.Settings.{SettingsShown};
 
@@ -10,8 +11,8 @@ pub const MAX_WORKERS: u32 = 16;
 /// The most reads of a cut.
 pub const MAX_CUT: u32 = 1_048_576;
 
-/// Numbers within their limits: 1 to [`MAX_WORKERS`] workers, and a cut of 1 to [`MAX_CUT`] reads, neither of which changes
-/// a report; and whether the first register that isn't atomic is all that is asked for.
+/// Numbers within their limits: 1 to [`MAX_WORKERS`] workers, and a cut of 1 to [`MAX_CUT`] reads, neither of
+/// which changes a report; and whether the first register that isn't atomic is all that is asked for.
 #[derive(Clone, Copy, Debug, PartialEq, Eq)]
 pub struct Settings {
     workers: u32,
@@ -37,7 +38,8 @@ impl Settings {
     /// These settings, or nothing if a number isn't within its limits.
     pub fn new(workers: u32, cut: u32, first: bool) -> Option<Settings>
         ensures some { IfSome result (λ s. s ≡ record { workers = workers; cut = cut; first = first }) }
-        ensures limits { IsSome result ↔ ((1 ≤ workers) × (workers ≤ MAX_WORKERS) × (1 ≤ cut) × (cut ≤ MAX_CUT)) }
+        ensures limits { IsSome result
+            ↔ ((1 ≤ workers) × (workers ≤ MAX_WORKERS) × (1 ≤ cut) × (cut ≤ MAX_CUT)) }
     {
         if workers == 0 || workers > MAX_WORKERS || cut == 0 || cut > MAX_CUT {
             return None;

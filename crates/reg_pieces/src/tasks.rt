@@ -1,5 +1,5 @@
-//! The pieces of work of a history, numbered from 0: register by register, its verdict, then its reads in cuts; or one a
-//! register, to find the first that isn't atomic.
+//! The pieces of work of a history, numbered from 0: register by register, its verdict, then its reads in
+//! cuts; or one a register, to find the first that isn't atomic.
 ghost use Rattle.std.specs.Prelude.{◌≡◌, ◌<◌, length, slice_get, Some};
 
 use history_model::RegId;
@@ -21,8 +21,8 @@ pub enum Task {
     First(RegId),
 }
 
-/// The pieces of work of a history, with the completed reads of each register that has a single writer. If the first
-/// register that isn't atomic is all that is asked for, they have no reads.
+/// The pieces of work of a history, with the completed reads of each register that has a single writer. If
+/// the first register that isn't atomic is all that is asked for, they have no reads.
 #[derive(Drop)]
 pub struct Plan {
     pub(crate) tasks: Vec<Task>,

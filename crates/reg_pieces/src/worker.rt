@@ -43,8 +43,8 @@ fn do_piece(
     Ok(())
 }
 
-/// Looks for a lower register that isn't atomic, and does the piece of this one if there is none; flags its number
-/// if it isn't atomic.
+/// Looks for a lower register that isn't atomic, and does the piece of this one if there is
+/// none; flags its number if it isn't atomic.
 fn do_register(
     arena: &Arena,
     board: &Board<Global>,
@@ -57,7 +57,8 @@ fn do_register(
     requires number { (number < length arena.now.names) × (number ≤ MAX_JOBS) }
     ensures seat { KeepsSeat seat.old seat.new }
     ensures ok { OnOk result (AddsRegister arena.now number seat.old seat.new done.old.items done.new.items) }
-    ensures err { IsErr result → (done.new.items ≡ done.old.items) × (seat.new.view.flagged ≡ seat.old.view.flagged) }
+    ensures err { IsErr result → (done.new.items ≡ done.old.items)
+        × (seat.new.view.flagged ≡ seat.old.view.flagged) }
 {
     let least = board.look(seat);
     let look = look_at(arena, RegId(number as u32), least);
@@ -69,8 +70,8 @@ fn do_register(
     Ok(())
 }
 
-/// One worker: it draws a piece, passes the gate with its number and does it, until no piece is left or memory runs out.
-/// It takes no right to start threads or to wait.
+/// One worker: it draws a piece, passes the gate with its number and does it, until no piece is left or
+/// memory runs out. It takes no right to start threads or to wait.
 pub fn work<G: Gate>(
     alloc: Global,
     arena: &Arena,

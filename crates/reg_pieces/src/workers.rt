@@ -4,7 +4,8 @@ ghost use Rattle.job_board.specs.declared.limits.TheConstants.{FULL_WEIGHT};
 ghost use Rattle.reg_pieces.specs.Plan.{IsPlan, IsSomePlan};
 ghost use Rattle.reg_pieces.specs.Slots.{AreDone};
 ghost use Rattle.reg_pieces.specs.Work.{HasWorked};
-ghost use Rattle.reg_pieces.specs.Workers.{ClosesWhole, IsHandedBack, IsNewSeat, view_with, weight_back, weight_of_all, weight_so_far};
+ghost use Rattle.reg_pieces.specs.Workers.{ClosesWhole, IsHandedBack, IsNewSeat, view_with};
+ghost use Rattle.reg_pieces.specs.Workers.{weight_back, weight_of_all, weight_so_far};
 
 use crate::gate::Gate;
 use crate::pieces::Pieces;
@@ -81,8 +82,8 @@ pub(crate) fn joined(board: &Board<Global>, before: Option<Seat>, seat: Seat) ->
     }
 }
 
-/// Closes the board with the one seat that all of its seats were made into; the lowest number that was flagged, or the
-/// number of pieces.
+/// Closes the board with the one seat that all of its seats were made into; the lowest number
+/// that was flagged, or the number of pieces.
 pub(crate) fn closed(board: Board<Global>, whole: Option<Seat>) -> u64
     requires board { IfSome whole (λ seat. seat.board ≡ board.id) }
     requires weight { weight_so_far whole ≡ FULL_WEIGHT }

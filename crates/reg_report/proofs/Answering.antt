@@ -1,5 +1,6 @@
 -- The answer to an input within its limit is the answer to its lines.
-use Rattle.std.proofs.Common.{◌≡◌, ◌≤◌, ℕ, List, length, Bool, true, false, nat_lt, Ok, Err, inl, inr, refl, sym, subst, arith}
+use Rattle.std.proofs.Common.{◌≡◌, ◌≤◌, ℕ, List, length, Bool, true, false, nat_lt}
+use Rattle.std.proofs.Common.{Ok, Err, inl, inr, refl, sym, subst, arith}
 use Rattle.std.specs.Prelude.{MatchBool, Result}
 use Rattle.std.specs.Result.{IsErrAnd, IfErr}
 use Rattle.std.proofs.lemmas.Bool.{ltb-true}
@@ -17,28 +18,43 @@ use Rattle.reg_intake.specs.declared.refusal.Refusal.{Refusal}
 use Rattle.reg_intake.specs.declared.refusal.Refusal.TheVariants.{NoRoom, TooLong}
 use Rattle.reg_report.specs.declared.report.Report.{Report}
 
-pub answer-within : (first : Bool) (input : List ℕ) (answer : Result Report Refusal) → length input ≤ MAX_INPUT → IsAnswerToLines first (history_lines input) answer → IsAnswer first input answer
+pub answer-within : (first : Bool) (input : List ℕ) (answer : Result Report Refusal)
+    → length input ≤ MAX_INPUT → IsAnswerToLines first (history_lines input) answer
+    → IsAnswer first input answer
 answer-within first input answer within answered = go (nat_lt MAX_INPUT (length input)) refl
   where
-    go : (b : Bool) → nat_lt MAX_INPUT (length input) ≡ b → MatchBool b (answer ≡ Err TooLong) (IsAnswerToLines first (history_lines input) answer)
+    go : (b : Bool) → nat_lt MAX_INPUT (length input) ≡ b
+        → MatchBool b (answer ≡ Err TooLong) (IsAnswerToLines first (history_lines input) answer)
     go true e = let l = ltb-true MAX_INPUT (length input) e in absurd (omega (arith, l, within))
     go false e = answered
 
 -- the report of an input's arena is the answer
-pub answer-of-arena : (first : Bool) (input : List ℕ) (arena : History) (report : Report) → IsArenaOf input arena → IsReportBy first arena report → IsAnswer first input (Ok report)
-answer-of-arena first input arena report a r = answer-within first input (Ok report) a.within (a.well_formed, subst (λ (h : History). IsReportBy first h report) a.is r)
+pub answer-of-arena : (first : Bool) (input : List ℕ) (arena : History) (report : Report)
+    → IsArenaOf input arena → IsReportBy first arena report → IsAnswer first input (Ok report)
+answer-of-arena first input arena report a r =
+    answer-within first input (Ok report) a.within (
+      a.well_formed,
+      subst (λ (h : History). IsReportBy first h report) a.is r,
+    )
 
 -- what refuses the lines of an input refuses the input
-refused-within : (first : Bool) (input : List ℕ) (e : BuildError) → length input ≤ MAX_INPUT → IsBuildError (history_lines input) e → IsRefused first input (of_build e)
-refused-within first input (Refused r) within refused = inr (answer-within first input (Err (of_build (Refused r))) within refused)
+refused-within : (first : Bool) (input : List ℕ) (e : BuildError) → length input ≤ MAX_INPUT
+    → IsBuildError (history_lines input) e → IsRefused first input (of_build e)
+refused-within first input (Refused r) within refused =
+    inr (answer-within first input (Err (of_build (Refused r))) within refused)
 refused-within first input Memory within refused = inl refl
 
 -- the error of a build that is passed on
-pub refused-by-build : {A : Type 0} (first : Bool) (input : List ℕ) (lines : List Line) (e : BuildError) (r : Result A Refusal) → length input ≤ MAX_INPUT → lines ≡ history_lines input → IsBuildError lines e → IsErrAnd r (λ refusal. refusal ≡ of_build e) → IfErr r (IsRefused first input)
+pub refused-by-build : {A : Type 0} (first : Bool) (input : List ℕ) (lines : List Line) (e : BuildError)
+    (r : Result A Refusal) → length input ≤ MAX_INPUT → lines ≡ history_lines input → IsBuildError lines e
+    → IsErrAnd r (λ refusal. refusal ≡ of_build e) → IfErr r (IsRefused first input)
 refused-by-build first input lines e (Ok a) within same refused passed = absurd passed
-refused-by-build first input lines e (Err refusal) within same refused passed = subst (IsRefused first input) (sym passed) (refused-within first input e within (subst (λ ls. IsBuildError ls e) same refused))
+refused-by-build first input lines e (Err refusal) within same refused passed =
+    subst (IsRefused first input) (sym passed)
+    (refused-within first input e within (subst (λ ls. IsBuildError ls e) same refused))
 
 -- running out of memory, which is passed on
-pub refused-without-memory : {A : Type 0} (first : Bool) (input : List ℕ) (r : Result A Refusal) → IsErrAnd r (λ refusal. refusal ≡ NoRoom) → IfErr r (IsRefused first input)
+pub refused-without-memory : {A : Type 0} (first : Bool) (input : List ℕ) (r : Result A Refusal)
+    → IsErrAnd r (λ refusal. refusal ≡ NoRoom) → IfErr r (IsRefused first input)
 refused-without-memory first input (Ok a) passed = absurd passed
 refused-without-memory first input (Err refusal) passed = inl passed

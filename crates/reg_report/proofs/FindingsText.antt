@@ -1,5 +1,6 @@
 -- The text of the registers' lines, made part by part from what is found of them, is that of all their lines.
-use Rattle.std.proofs.Common.{◌≡◌, ◌∙◌, ℕ, suc, ◌+◌, ◌<◌, List, [], ◌∷◌, ◌++◌, length, take, get_or, Vec, Global, refl, sym, ap, subst, flat_map, append-nil, arith}
+use Rattle.std.proofs.Common.{◌≡◌, ◌∙◌, ℕ, suc, ◌+◌, ◌<◌, List, [], ◌∷◌, ◌++◌, length, take, get_or}
+use Rattle.std.proofs.Common.{Vec, Global, refl, sym, ap, subst, flat_map, append-nil, arith}
 use Rattle.std.specs.List.{AllZip}
 use Rattle.std.proofs.Math.Seq.{take-suc}
 use Rattle.std.proofs.lemmas.List.Concat.{flat_map-append}
@@ -20,14 +21,16 @@ module _ (h : History) where
   abbrev Fits : Finding → RegReport → Type 0
   Fits finding reg = IsRegisterReport h finding.register.0 reg
 
-  both-fit : (fs gs : List Finding) (rs ss : List RegReport) → AllZip Fits fs rs → AllZip Fits gs ss → AllZip Fits (fs ++ gs) (rs ++ ss)
+  both-fit : (fs gs : List Finding) (rs ss : List RegReport) → AllZip Fits fs rs → AllZip Fits gs ss
+      → AllZip Fits (fs ++ gs) (rs ++ ss)
   both-fit [] gs [] ss a b = b
   both-fit [] gs (r ∷ rs) ss a b = absurd a
   both-fit (f ∷ fs) gs [] ss a b = absurd a
   both-fit (f ∷ fs) gs (r ∷ rs) ss a b = (a.0, both-fit fs gs rs ss a.1 b)
 
   -- two texts, one after the other
-  texts-joined : (fs gs : List Finding) (bs cs : List ℕ) → IsTextOf h fs bs → IsTextOf h gs cs → IsTextOf h (fs ++ gs) (bs ++ cs)
+  texts-joined : (fs gs : List Finding) (bs cs : List ℕ) → IsTextOf h fs bs → IsTextOf h gs cs
+      → IsTextOf h (fs ++ gs) (bs ++ cs)
   texts-joined fs gs bs cs a b = (
     a.0 ++ b.0,
     both-fit fs gs a.0 b.0 a.1 b.1,
@@ -35,36 +38,47 @@ module _ (h : History) where
   )
 
   -- the text with one line more
-  pub one-text-more : (findings : List Finding) (i : ℕ) (d : Finding) (reg : RegReport) (out new bytes line : List ℕ)
+  pub one-text-more : (findings : List Finding) (i : ℕ) (d : Finding) (reg : RegReport)
+      (out new bytes line : List ℕ)
       → i < length findings → d ≡ get_or findings i d → IsTextOf h (take i findings) out
-      → IsRegisterReport h d.register.0 reg → bytes ≡ line → line ≡ compact_text (register_json reg) → new ≡ out ++ (bytes ++ 10 ∷ [])
+      → IsRegisterReport h d.register.0 reg → bytes ≡ line → line ≡ compact_text (register_json reg)
+      → new ≡ out ++ (bytes ++ 10 ∷ [])
       → IsTextOf h (take (i + 1) findings) new
   one-text-more findings i d reg out new bytes line inside at before reported same is made =
-      let text : bytes ++ 10 ∷ [] ≡ registers_text (reg ∷ []) = ap (λ l. l ++ 10 ∷ []) (same ∙ is) ∙ sym (append-nil (line_text (register_json reg))) in
+      let text : bytes ++ 10 ∷ [] ≡ registers_text (reg ∷ []) =
+      ap (λ l. l ++ 10 ∷ []) (same ∙ is) ∙ sym (append-nil (line_text (register_json reg))) in
       let here : IsTextOf h (d ∷ []) (bytes ++ 10 ∷ []) = (reg ∷ [], (reported, tt), text) in
       let next : i + 1 ≡ suc i = omega arith in
-      let more : take (i + 1) findings ≡ take i findings ++ d ∷ [] = ap (λ n. take n findings) next ∙ (take-suc findings i d inside ∙ ap (λ x. take i findings ++ x ∷ []) (sym at)) in
-      subst (λ fs. IsTextOf h fs new) (sym more) (subst (IsTextOf h (take i findings ++ d ∷ [])) (sym made) (texts-joined (take i findings) (d ∷ []) out (bytes ++ 10 ∷ []) before here))
+      let more : take (i + 1) findings ≡ take i findings ++ d ∷ [] =
+      ap (λ n. take n findings) next
+      ∙ (take-suc findings i d inside ∙ ap (λ x. take i findings ++ x ∷ []) (sym at)) in
+      subst (λ fs. IsTextOf h fs new) (sym more)
+      (subst (IsTextOf h (take i findings ++ d ∷ [])) (sym made)
+      (texts-joined (take i findings) (d ∷ []) out (bytes ++ 10 ∷ []) before here))
 
-  all_made : (parts : List (List Finding)) (texts : List (Vec ℕ Global)) → AllZip (λ (part : List Finding) (text : Vec ℕ Global). IsTextOf h part text.items) parts texts
+  all_made : (parts : List (List Finding)) (texts : List (Vec ℕ Global))
+      → AllZip (λ (part : List Finding) (text : Vec ℕ Global). IsTextOf h part text.items) parts texts
       → IsTextOf h (flat_map (λ (part : List Finding). part) parts) (bytes-of texts)
   all_made [] [] each = ([], tt, refl)
   all_made [] (text ∷ texts) each = absurd each
   all_made (part ∷ parts) [] each = absurd each
   all_made (part ∷ parts) (text ∷ texts) each =
-      texts-joined part (flat_map (λ (one : List Finding). one) parts) text.items (bytes-of texts) each.0 (all_made parts texts each.1)
+      texts-joined part (flat_map (λ (one : List Finding). one) parts) text.items (bytes-of texts) each.0
+      (all_made parts texts each.1)
 
   -- the texts of the parts of what is found of all registers are the text of all their lines
   pub texts-made : (findings : List Finding) (parts : List (List Finding)) (texts : List (Vec ℕ Global))
       → AreFindings h findings → flat_map (λ (part : List Finding). part) parts ≡ findings
-      → AllZip (λ (part : List Finding) (text : Vec ℕ Global). IsTextOf h part text.items) parts texts → IsLinesText h (bytes-of texts)
+      → AllZip (λ (part : List Finding) (text : Vec ℕ Global). IsTextOf h part text.items) parts texts
+      → IsLinesText h (bytes-of texts)
   texts-made findings parts texts a is each =
       let whole = subst (λ fs. IsTextOf h fs (bytes-of texts)) is (all_made parts texts each) in
       (whole.0, lines-of h findings whole.0 a whole.1, whole.2)
 
 -- the summary's parts behind those of the registers' lines
 pub summary-behind : (parts more all : List (Vec ℕ Global)) (report : Report)
-    → all ≡ parts ++ more → bytes-of parts ≡ registers_text report.regs → bytes-of more ≡ line_text (summary_json report)
+    → all ≡ parts ++ more → bytes-of parts ≡ registers_text report.regs
+    → bytes-of more ≡ line_text (summary_json report)
     → bytes-of all ≡ report_text report
 summary-behind parts more all report joined lines summary =
     ap bytes-of joined

@@ -1,16 +1,23 @@
 -- The lines of one register more, and of two parts of a list of registers.
-use Rattle.std.proofs.Common.{◌≡◌, ℕ, zero, suc, ◌+◌, ◌<◌, List, [], ◌∷◌, ◌++◌, length, map, take, get_or, refl, sym, ◌∙◌, ap, arith, append_assoc, append-nil, add-one}
+use Rattle.std.proofs.Common.{◌≡◌, ℕ, zero, suc, ◌+◌, ◌<◌, List, [], ◌∷◌, ◌++◌, length, map, take}
+use Rattle.std.proofs.Common.{get_or, refl, sym, ◌∙◌, ap, arith, append_assoc, append-nil, add-one}
 use Rattle.serde_json.specs.Written.{compact_text}
 use Rattle.reg_report.specs.Text.{line_text, register_json, registers_text}
 use Rattle.reg_report.specs.declared.report.RegReport.{RegReport}
 use Rattle.std.specs.List.{concat}
 
-pub concat_more : {A : Type 0} (f : A → List ℕ) (xs : List A) (i : ℕ) (d : A) → i < length xs → concat (map f (take (suc i) xs)) ≡ concat (map f (take i xs)) ++ f (get_or xs i d)
+pub concat_more : {A : Type 0} (f : A → List ℕ) (xs : List A) (i : ℕ) (d : A) → i < length xs
+    → concat (map f (take (suc i) xs)) ≡ concat (map f (take i xs)) ++ f (get_or xs i d)
 concat_more f [] i d h = absurd (omega arith)
 concat_more f (x ∷ xs) zero d h = append-nil (f x)
-concat_more f (x ∷ xs) (suc i) d h = ap (λ ys. f x ++ ys) (concat_more f xs i d (omega arith)) ∙ sym (append_assoc (f x) (concat (map f (take i xs))) (f (get_or xs i d)))
+concat_more f (x ∷ xs) (suc i) d h =
+    ap (λ ys. f x ++ ys) (concat_more f xs i d (omega arith))
+    ∙ sym (append_assoc (f x) (concat (map f (take i xs))) (f (get_or xs i d)))
 
-pub one_line_more : (xs : List RegReport) (i : ℕ) (d : RegReport) (out new bytes line : List ℕ) → i < length xs → d ≡ get_or xs i d → out ≡ registers_text (take i xs) → bytes ≡ line → line ≡ compact_text (register_json d) → new ≡ out ++ (bytes ++ 10 ∷ []) → new ≡ registers_text (take (i + 1) xs)
+pub one_line_more : (xs : List RegReport) (i : ℕ) (d : RegReport) (out new bytes line : List ℕ)
+    → i < length xs → d ≡ get_or xs i d → out ≡ registers_text (take i xs) → bytes ≡ line
+    → line ≡ compact_text (register_json d) → new ≡ out ++ (bytes ++ 10 ∷ [])
+    → new ≡ registers_text (take (i + 1) xs)
 one_line_more xs i d out new bytes line h at before same is made =
     let done = registers_text (take i xs) in
     let more = concat_more (λ (reg : RegReport). line_text (register_json reg)) xs i d h in
@@ -20,7 +27,8 @@ one_line_more xs i d out new bytes line h at before same is made =
     ∙ ap (λ x. done ++ line_text (register_json x)) at
     ∙ sym more)
 
-pub lines-append : (xs ys : List RegReport) → registers_text (xs ++ ys) ≡ registers_text xs ++ registers_text ys
+pub lines-append : (xs ys : List RegReport) → registers_text (xs ++ ys) ≡ registers_text xs
+    ++ registers_text ys
 lines-append [] ys = refl
 lines-append (x ∷ xs) ys =
     ap (λ l. line_text (register_json x) ++ l) (lines-append xs ys)

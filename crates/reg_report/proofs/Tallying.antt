@@ -1,5 +1,8 @@
--- Counts of each register's calls, in a pass over the events: what was counted, and what is left, are all calls of the register.
-use Rattle.std.proofs.Common.{◌≡◌, ℕ, zero, ◌+◌, ◌<◌, ◌≤◌, cond, Bool, true, false, not, List, ◌∷◌, length, drop, set, replicate, is_none, slice_get, Some, None, ◌⊎◌, inl, inr, refl, sym, ap, subst, ◌∙◌, arith, suc, ◌==◌}
+-- Counts of each register's calls, in a pass over the events: what was counted, and
+-- what is left, are all calls of the register.
+use Rattle.std.proofs.Common.{◌≡◌, ℕ, zero, ◌+◌, ◌<◌, ◌≤◌, cond, Bool, true, false, not, List}
+use Rattle.std.proofs.Common.{◌∷◌, length, drop, set, replicate, is_none, slice_get, Some, None}
+use Rattle.std.proofs.Common.{◌⊎◌, inl, inr, refl, sym, ap, subst, ◌∙◌, arith, suc, ◌==◌}
 use Rattle.std.specs.List.{count_by}
 use Rattle.std.proofs.lemmas.Bool.{eq-eqb, ne_eqb, cases_eq}
 use Rattle.std.proofs.lemmas.List.{length-set, length-replicate, drop_all}
@@ -25,7 +28,8 @@ calls_left h r n = of_register r (calls_from (length h.events + 2) (n + 2) (drop
 -- what was counted of a register's calls before place n
 pub record IsCounting (h : History) (r n : ℕ) (t : Tally) : Type 0 where
   pub write : count_by is_write (calls_of h r) ≡ t.writes + count_by is_write (calls_left h r n)
-  pub read : count_by (λ o. not (is_write o)) (calls_of h r) ≡ t.reads + count_by (λ o. not (is_write o)) (calls_left h r n)
+  pub read : count_by (λ o. not (is_write o)) (calls_of h r) ≡ t.reads
+      + count_by (λ o. not (is_write o)) (calls_left h r n)
   pub open_calls : count_by is_pending (calls_of h r) ≡ t.pending + count_by is_pending (calls_left h r n)
 
 -- the same of each register
@@ -43,37 +47,52 @@ all-alike zero x i y q = absurd (cc (q))
 all-alike (suc n) x zero y q = cc (q)
 all-alike (suc n) x (suc i) y q = all-alike n x i y q
 
-pub counting-begins : (h : History) (ts : List Tally) (n : ℕ) → ts ≡ replicate n no_calls → n ≡ length h.names → AreCounting h 0 ts
+pub counting-begins : (h : History) (ts : List Tally) (n : ℕ) → ts ≡ replicate n no_calls → n ≡ length h.names
+    → AreCounting h 0 ts
 counting-begins h ts n q few = record {
   count = ap length q ∙ (length-replicate n no_calls ∙ few);
-  each = λ r t at. subst (IsCounting h r 0) (sym (all-alike n no_calls r t (sym (ap (λ xs. slice_get xs r) q) ∙ at))) (none-yet h r);
+  each =
+      λ r t at. subst (IsCounting h r 0)
+      (sym (all-alike n no_calls r t (sym (ap (λ xs. slice_get xs r) q) ∙ at))) (none-yet h r);
 }
 
 -- ---- it goes on
 
 left-at : (h : History) (r n : ℕ) (e : Event) → slice_get h.events n ≡ Some e
-    → calls_left h r n ≡ of_register r (cond (begins_at h.events n e) (called_at h.events n e ∷ calls_from (length h.events + 2) (n + 1 + 2) (drop (n + 1) h.events)) (calls_from (length h.events + 2) (n + 1 + 2) (drop (n + 1) h.events)))
+    → calls_left h r n
+    ≡ of_register r
+    (cond (begins_at h.events n e)
+    (called_at h.events n e ∷ calls_from (length h.events + 2) (n + 1 + 2) (drop (n + 1) h.events))
+    (calls_from (length h.events + 2) (n + 1 + 2) (drop (n + 1) h.events)))
 left-at h r n e at =
     let es = h.events in
     let t : suc (n + 2) ≡ n + 1 + 2 = omega arith in
     let u : suc n ≡ n + 1 = omega arith in
     ap (λ xs. of_register r (calls_from (length es + 2) (n + 2) xs)) (drop-at es n e at)
-    ∙ (ap (λ m. of_register r (cond (begins_at es n e) (called_at es n e ∷ calls_from (length es + 2) m (drop (suc n) es)) (calls_from (length es + 2) m (drop (suc n) es)))) t
-    ∙ ap (λ m. of_register r (cond (begins_at es n e) (called_at es n e ∷ calls_from (length es + 2) (n + 1 + 2) (drop m es)) (calls_from (length es + 2) (n + 1 + 2) (drop m es)))) u)
+    ∙ (ap (λ m. of_register r
+    (cond (begins_at es n e) (called_at es n e ∷ calls_from (length es + 2) m (drop (suc n) es))
+    (calls_from (length es + 2) m (drop (suc n) es)))) t
+    ∙ ap (λ m. of_register r
+    (cond (begins_at es n e) (called_at es n e ∷ calls_from (length es + 2) (n + 1 + 2) (drop m es))
+    (calls_from (length es + 2) (n + 1 + 2) (drop m es)))) u)
 
-left-other : (h : History) (r n : ℕ) (e : Event) → slice_get h.events n ≡ Some e → begins_at h.events n e ≡ false → calls_left h r n ≡ calls_left h r (n + 1)
+left-other : (h : History) (r n : ℕ) (e : Event) → slice_get h.events n ≡ Some e
+    → begins_at h.events n e ≡ false → calls_left h r n ≡ calls_left h r (n + 1)
 left-other h r n e at other =
     let xs = calls_from (length h.events + 2) (n + 1 + 2) (drop (n + 1) h.events) in
     left-at h r n e at ∙ ap (λ b. of_register r (cond b (called_at h.events n e ∷ xs) xs)) other
 
-left-call : (h : History) (r n : ℕ) (e : Event) → slice_get h.events n ≡ Some e → begins_at h.events n e ≡ true
-    → calls_left h r n ≡ cond ((called_at h.events n e).register == r) (called_at h.events n e ∷ calls_left h r (n + 1)) (calls_left h r (n + 1))
+left-call : (h : History) (r n : ℕ) (e : Event) → slice_get h.events n ≡ Some e
+    → begins_at h.events n e ≡ true
+    → calls_left h r n ≡ cond ((called_at h.events n e).register == r)
+    (called_at h.events n e ∷ calls_left h r (n + 1)) (calls_left h r (n + 1))
 left-call h r n e at call =
     let xs = calls_from (length h.events + 2) (n + 1 + 2) (drop (n + 1) h.events) in
     left-at h r n e at ∙ ap (λ b. of_register r (cond b (called_at h.events n e ∷ xs) xs)) call
 
 -- an event that adds nothing to a register
-skip : (h : History) (r n : ℕ) (t : Tally) → calls_left h r n ≡ calls_left h r (n + 1) → IsCounting h r n t → IsCounting h r (n + 1) t
+skip : (h : History) (r n : ℕ) (t : Tally) → calls_left h r n ≡ calls_left h r (n + 1) → IsCounting h r n t
+    → IsCounting h r (n + 1) t
 skip h r n t q c = record {
   write = c.write ∙ ap (λ xs. t.writes + count_by is_write xs) q;
   read = c.read ∙ ap (λ xs. t.reads + count_by (λ o. not (is_write o)) xs) q;
@@ -81,8 +100,12 @@ skip h r n t q c = record {
 }
 
 -- an event that begins no operation adds nothing
-pub counting-skips : (h : History) (n : ℕ) (ts : List Tally) (e : Event) → AreCounting h n ts → slice_get h.events n ≡ Some e → begins_at h.events n e ≡ false → AreCounting h (n + 1) ts
-counting-skips h n ts e c at other = record { count = c.count; each = λ r t q. skip h r n t (left-other h r n e at other) (c.each r t q) }
+pub counting-skips : (h : History) (n : ℕ) (ts : List Tally) (e : Event) → AreCounting h n ts
+    → slice_get h.events n ≡ Some e → begins_at h.events n e ≡ false → AreCounting h (n + 1) ts
+counting-skips h n ts e c at other = record {
+  count = c.count;
+  each = λ r t q. skip h r n t (left-other h r n e at other) (c.each r t q);
+}
 
 pending-shown : (o : Operation) → is_none (op_shown o).reply ≡ is_pending o
 pending-shown o = go o.completed
@@ -91,7 +114,8 @@ pending-shown o = go o.completed
     go true = refl
     go false = refl
 
-count-cons : (p : Operation → Bool) (a : Operation) (xs : List Operation) → count_by p (a ∷ xs) ≡ cond (p a) 1 0 + count_by p xs
+count-cons : (p : Operation → Bool) (a : Operation) (xs : List Operation)
+    → count_by p (a ∷ xs) ≡ cond (p a) 1 0 + count_by p xs
 count-cons p a xs = sum_by-cons (λ x. cond (p x) 1 0) a xs
 
 one-more : (b : Bool) (n m : ℕ) → n + (cond b 1 0 + m) ≡ cond b (n + 1) n + m
@@ -103,19 +127,36 @@ one-less true n m = omega arith
 one-less false n m = omega arith
 
 -- a call adds itself to its register
-more : (h : History) (r n : ℕ) (t : Tally) (a : Operation) (p : Op) → calls_left h r n ≡ a ∷ calls_left h r (n + 1) → p ≡ op_shown a → IsCounting h r n t → IsCounting h r (n + 1) (counted p t)
+more : (h : History) (r n : ℕ) (t : Tally) (a : Operation) (p : Op)
+    → calls_left h r n ≡ a ∷ calls_left h r (n + 1) → p ≡ op_shown a → IsCounting h r n t
+    → IsCounting h r (n + 1) (counted p t)
 more h r n t a p q shown c =
     let rest = calls_left h r (n + 1) in
     let w : is_write a ≡ writes p.kind = sym (ap (λ (x : Op). writes x.kind) shown) in
     let u : is_pending a ≡ is_none p.reply = sym (ap (λ (x : Op). is_none x.reply) shown ∙ pending-shown a) in
     record {
-      write = c.write ∙ (ap (λ xs. t.writes + count_by is_write xs) q ∙ (ap (λ m. t.writes + m) (count-cons is_write a rest) ∙ (one-more (is_write a) t.writes (count_by is_write rest) ∙ ap (λ b. cond b (t.writes + 1) t.writes + count_by is_write rest) w)));
-      read = c.read ∙ (ap (λ xs. t.reads + count_by (λ o. not (is_write o)) xs) q ∙ (ap (λ m. t.reads + m) (count-cons (λ o. not (is_write o)) a rest) ∙ (one-less (is_write a) t.reads (count_by (λ o. not (is_write o)) rest) ∙ ap (λ b. cond b t.reads (t.reads + 1) + count_by (λ o. not (is_write o)) rest) w)));
-      open_calls = c.open_calls ∙ (ap (λ xs. t.pending + count_by is_pending xs) q ∙ (ap (λ m. t.pending + m) (count-cons is_pending a rest) ∙ (one-more (is_pending a) t.pending (count_by is_pending rest) ∙ ap (λ b. cond b (t.pending + 1) t.pending + count_by is_pending rest) u)));
+      write =
+          c.write ∙ (ap (λ xs. t.writes + count_by is_write xs) q
+          ∙ (ap (λ m. t.writes + m) (count-cons is_write a rest)
+          ∙ (one-more (is_write a) t.writes (count_by is_write rest)
+          ∙ ap (λ b. cond b (t.writes + 1) t.writes + count_by is_write rest) w)));
+      read =
+          c.read ∙ (ap (λ xs. t.reads + count_by (λ o. not (is_write o)) xs) q
+          ∙ (ap (λ m. t.reads + m) (count-cons (λ o. not (is_write o)) a rest)
+          ∙ (one-less (is_write a) t.reads (count_by (λ o. not (is_write o)) rest)
+          ∙ ap (λ b. cond b t.reads (t.reads + 1) + count_by (λ o. not (is_write o)) rest) w)));
+      open_calls =
+          c.open_calls ∙ (ap (λ xs. t.pending + count_by is_pending xs) q
+          ∙ (ap (λ m. t.pending + m) (count-cons is_pending a rest)
+          ∙ (one-more (is_pending a) t.pending (count_by is_pending rest)
+          ∙ ap (λ b. cond b (t.pending + 1) t.pending + count_by is_pending rest) u)));
     }
 
-pub counting-adds : (h : History) (n : ℕ) (ts us : List Tally) (e : Event) (a : Operation) (p : Op) → AreCounting h n ts → slice_get h.events n ≡ Some e → begins_at h.events n e ≡ true
-    → IsNamed h (Called (record { 0 = n })) a → p ≡ op_shown a → ((t : Tally) → slice_get ts a.register ≡ Some t → us ≡ set ts a.register (counted p t)) → a.register < length h.names → AreCounting h (n + 1) us
+pub counting-adds : (h : History) (n : ℕ) (ts us : List Tally) (e : Event) (a : Operation) (p : Op)
+    → AreCounting h n ts → slice_get h.events n ≡ Some e → begins_at h.events n e ≡ true
+    → IsNamed h (Called (record { 0 = n })) a → p ≡ op_shown a
+    → ((t : Tally) → slice_get ts a.register ≡ Some t → us ≡ set ts a.register (counted p t))
+    → a.register < length h.names → AreCounting h (n + 1) us
 counting-adds h n ts us e a p c at call named shown new within =
     let x = slice_get_inside ts a.register (omega (arith, c.count, within)) in
     let v = new x.0 x.1 in
@@ -127,27 +168,40 @@ counting-adds h n ts us e a p c at call named shown new within =
     is : a ≡ called_at h.events n e
     is = named-is-called h (record { 0 = n }) e a at named
 
-    left : (r : ℕ) → calls_left h r n ≡ cond (a.register == r) (a ∷ calls_left h r (n + 1)) (calls_left h r (n + 1))
-    left r = left-call h r n e at call ∙ ap (λ (b : Operation). cond (b.register == r) (b ∷ calls_left h r (n + 1)) (calls_left h r (n + 1))) (sym is)
+    left : (r : ℕ)
+        → calls_left h r n ≡ cond (a.register == r) (a ∷ calls_left h r (n + 1)) (calls_left h r (n + 1))
+    left r =
+        left-call h r n e at call
+        ∙ ap (λ (b : Operation).
+        cond (b.register == r) (b ∷ calls_left h r (n + 1)) (calls_left h r (n + 1))) (sym is)
 
-    own : (r : ℕ) (t was : Tally) → slice_get ts a.register ≡ Some was → (r ≡ a.register) ⊎ (r ≡ a.register → ⊥) → slice_get (set ts a.register (counted p was)) r ≡ Some t → IsCounting h r (n + 1) t
+    own : (r : ℕ) (t was : Tally) → slice_get ts a.register ≡ Some was
+        → (r ≡ a.register) ⊎ (r ≡ a.register → ⊥) → slice_get (set ts a.register (counted p was)) r ≡ Some t
+        → IsCounting h r (n + 1) t
     own r t was there (inl q) got =
         let here = slice_get-set ts a.register (counted p was) (omega (arith, c.count, within)) in
         let moved = ap (slice_get (set ts a.register (counted p was))) q in
         let same : t ≡ counted p was = cc (got, here, moved) in
         let d = eq-eqb a.register r (sym q) in
-        subst (IsCounting h r (n + 1)) (sym same) (more h r n was a p (left r ∙ ap (λ b. cond b (a ∷ calls_left h r (n + 1)) (calls_left h r (n + 1))) d) shown (c.each r was (ap (slice_get ts) q ∙ there)))
+        subst (IsCounting h r (n + 1)) (sym same)
+        (more h r n was a p (left r
+        ∙ ap (λ b. cond b (a ∷ calls_left h r (n + 1)) (calls_left h r (n + 1))) d) shown
+        (c.each r was (ap (slice_get ts) q ∙ there)))
     own r t was there (inr ne) got =
         let d = ne_eqb a.register r (λ q. ne (sym q)) in
-        skip h r n t (left r ∙ ap (λ b. cond b (a ∷ calls_left h r (n + 1)) (calls_left h r (n + 1))) d) (c.each r t (sym (slice_get-set_other ts a.register r (counted p was) ne) ∙ got))
+        skip h r n t (left r ∙ ap (λ b. cond b (a ∷ calls_left h r (n + 1)) (calls_left h r (n + 1))) d)
+        (c.each r t (sym (slice_get-set_other ts a.register r (counted p was) ne) ∙ got))
 
 -- ---- it ends
 
-pub counting-ends : (h : History) (n : ℕ) (ts : List Tally) → length h.events ≤ n → AreCounting h n ts → AreTallies h ts
+pub counting-ends : (h : History) (n : ℕ) (ts : List Tally) → length h.events ≤ n → AreCounting h n ts
+    → AreTallies h ts
 counting-ends h n ts l c = record { count = c.count; each = λ r t q. ends r t (c.each r t q) }
   where
     nothing : (p : Operation → Bool) (r : ℕ) → count_by p (calls_left h r n) ≡ 0
-    nothing p r = ap (λ xs. count_by p (of_register r (calls_from (length h.events + 2) (n + 2) xs))) (drop_all n h.events l)
+    nothing p r =
+        ap (λ xs. count_by p (of_register r (calls_from (length h.events + 2) (n + 2) xs)))
+        (drop_all n h.events l)
 
     ends : (r : ℕ) (t : Tally) → IsCounting h r n t → IsTally (calls_of h r) t
     ends r t c = record {
@@ -166,10 +220,15 @@ count-few p h r =
     let c = calls-few (length h.events + 2) 2 h.events in
     omega arith
 
-pub tally-room : (h : History) (n : ℕ) (ts : List Tally) → AreCounting h n ts → length h.events ≤ MAX_EVENTS → (r : ℕ) (t : Tally) → slice_get ts r ≡ Some t → HasRoom t
+pub tally-room : (h : History) (n : ℕ) (ts : List Tally) → AreCounting h n ts → length h.events ≤ MAX_EVENTS
+    → (r : ℕ) (t : Tally) → slice_get ts r ≡ Some t → HasRoom t
 tally-room h n ts cs few r t q =
     let c = cs.each r t q in
     let a = count-few is_write h r in
     let b = count-few (λ o. not (is_write o)) h r in
     let d = count-few is_pending h r in
-    record { writes = omega (arith, c.write); reads = omega (arith, c.read); pending = omega (arith, c.open_calls) }
+    record {
+      writes = omega (arith, c.write);
+      reads = omega (arith, c.read);
+      pending = omega (arith, c.open_calls);
+    }

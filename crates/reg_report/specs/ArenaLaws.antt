@@ -9,7 +9,8 @@ use Rattle.history_model.specs.History.{History}
 use Rattle.history_model.specs.Operations.{Operation, IsHistory, of_register, operations}
 use Rattle.history_model.specs.Naming.{IsEventIn, IsNamed, IsOper, name_of}
 
--- its registers and events are few, and its operations belong to numbered registers and, but for the initial writes, to calls among its events
+-- its registers and events are few, and its operations belong to numbered registers and, but for the
+-- initial writes, to calls among its events
 pub record ObeysLaws (h : History) : Type 0 where
   pub events : length h.events ≤ MAX_EVENTS
   pub registers : length h.names ≤ MAX_EVENTS
@@ -17,4 +18,5 @@ pub record ObeysLaws (h : History) : Type 0 where
   pub numbered : (o : Operation) → In o (operations h) → o.register < length h.names
   pub oper : (o : Operation) → In o (operations h) → IsOper h (name_of o)
   pub named : (name : Oper) (o p : Operation) → IsNamed h name o → IsNamed h name p → o ≡ p
-  pub call : (o : Operation) (p : ℕ) → In o (operations h) → o.process ≡ Some p → (e : Event) × IsEventIn h (o.call - 2) e o × (e.what ≡ Call o.kind)
+  pub call : (o : Operation) (p : ℕ) → In o (operations h) → o.process ≡ Some p
+      → (e : Event) × IsEventIn h (o.call - 2) e o × (e.what ≡ Call o.kind)

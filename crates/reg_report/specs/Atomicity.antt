@@ -10,4 +10,5 @@ use Rattle.reg_report.specs.declared.report.Verdict.{Verdict}
 -- `regular` is what the line says of regular
 abbrev pub IsAtomicityShown : History → List Operation → Verdict → Atomicity → Type 0
 IsAtomicityShown h ops regular (Yes order points) = IsAtomicity h ops true None (Some order) (Some points)
-IsAtomicityShown h ops regular (No fault inversion) = IsAtomicity h ops false (Some fault) None None × IsInversionAnswer h ops false regular inversion
+IsAtomicityShown h ops regular (No fault inversion) =
+    IsAtomicity h ops false (Some fault) None None × IsInversionAnswer h ops false regular inversion

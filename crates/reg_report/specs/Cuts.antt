@@ -14,11 +14,16 @@ cuts_ahead (First r ∷ ts) = 0
 
 -- the tasks begin with all cuts of `len` reads of register r, and no other
 abbrev pub HasCuts : ℕ → ℕ → List Task → Type 0
-HasCuts r len tasks = (cut : ℕ) × (cuts : List Task) × (rest : List Task) × AreCuts cut r 0 len cuts × (tasks ≡ cuts ++ rest) × (cuts_ahead rest ≡ 0)
+HasCuts r len tasks =
+    (cut : ℕ) × (cuts : List Task) × (rest : List Task) × AreCuts cut r 0 len cuts × (tasks ≡ cuts ++ rest)
+    × (cuts_ahead rest ≡ 0)
 
 -- the same of the list that the plan has of register r
 abbrev pub HasCutsOf : ℕ → PlanShown → List Task → Type 0
-HasCutsOf r plan tasks = (cut : ℕ) × (list : Option ListedReads) × (cuts : List Task) × (rest : List Task) × (slice_get plan.lists r ≡ Some list) × AreCutsOf cut r list cuts × (tasks ≡ cuts ++ rest) × (cuts_ahead rest ≡ 0)
+HasCutsOf r plan tasks =
+    (cut : ℕ) × (list : Option ListedReads) × (cuts : List Task) × (rest : List Task)
+    × (slice_get plan.lists r ≡ Some list) × AreCutsOf cut r list cuts × (tasks ≡ cuts ++ rest)
+    × (cuts_ahead rest ≡ 0)
 
 -- from number `start` on the plan has the tasks of the registers from r on
 abbrev pub HasTasks : ℕ → ℕ → PlanShown → Type 0

@@ -8,12 +8,16 @@ use Rattle.reg_report.specs.Meaning.{IsRegisterReport, IsReport}
 use Rattle.reg_report.specs.declared.report.RegReport.{RegReport}
 use Rattle.reg_report.specs.declared.report.Report.{Report}
 
--- the whole history is atomic, and there is no line; or it isn't, and there is the line of the first register by appearance that isn't atomic
+-- the whole history is atomic, and there is no line; or it isn't, and there is the line of the first
+-- register by appearance that isn't atomic
 abbrev pub AreFoundLines : History → Bool → List RegReport → Type 0
 AreFoundLines h true regs = IsAtomic (operations h) × (regs ≡ [])
-AreFoundLines h false regs = (IsAtomic (operations h) → ⊥) × ((r : ℕ) × (reg : RegReport) × IsFirstFaulty h r × IsRegisterReport h r reg × (regs ≡ reg ∷ []))
+AreFoundLines h false regs =
+    (IsAtomic (operations h) → ⊥)
+    × ((r : ℕ) × (reg : RegReport) × IsFirstFaulty h r × IsRegisterReport h r reg × (regs ≡ reg ∷ []))
 
--- the report of the first register that isn't atomic: its line, if there is one, and the summary, without an order and with the counts of the whole history
+-- the report of the first register that isn't atomic: its line, if there is one, and the summary, without an
+-- order and with the counts of the whole history
 pub record IsFirstReport (h : History) (report : Report) : Type 0 where
   pub lines : AreFoundLines h report.atomic report.regs
   pub called : report.operations ≡ length (calls h.events)

@@ -1,5 +1,6 @@
 -- What a report of a history says.
-use Rattle.std.specs.Prelude.{◌≡◌, ◌<◌, ◌-◌, ℕ, List, length, map, get_or, count_by, slice_get, Bool, true, false, not, Option, Some, None, is_some}
+use Rattle.std.specs.Prelude.{◌≡◌, ◌<◌, ◌-◌, ℕ, List, length, map, get_or, count_by, slice_get}
+use Rattle.std.specs.Prelude.{Bool, true, false, not, Option, Some, None, is_some}
 use Rattle.std.specs.List.{filter}
 use Rattle.history_model.specs.History.{History}
 use Rattle.history_model.specs.Legal.{IsLegal, IsAtomic}
@@ -35,10 +36,12 @@ is_pending o = not o.completed
 
 -- ---- a level
 
--- Whether a register keeps a level, and of the reads that break it the line of the one called first. The level is defined for a single writer (Lamport, On Interprocess Communication, Part II, 1986).
+-- Whether a register keeps a level, and of the reads that break it the line of the one called first. The
+-- level is defined for a single writer (Lamport, On Interprocess Communication, Part II, 1986).
 abbrev pub IsVerdict : Level → List Operation → Verdict → Option ℕ → Type 0
 IsVerdict level ops Yes line = HasSingleWriter ops × IsAtLevel level ops × (line ≡ None)
-IsVerdict level ops No line = HasSingleWriter ops × ((r : Operation) × IsFirstBadRead level ops r × (line ≡ Some r.line))
+IsVerdict level ops No line =
+    HasSingleWriter ops × ((r : Operation) × IsFirstBadRead level ops r × (line ≡ Some r.line))
 IsVerdict level ops SeveralWriters line = (HasSingleWriter ops → ⊥) × (line ≡ None)
 
 -- ---- a fault
@@ -60,7 +63,8 @@ ShowsFault h (fault.Early read write) (Early r w) = HasLine h read r × HasLine 
 ShowsFault h (fault.Early read write) (Zones ws f s) = ⊥
 ShowsFault h (fault.Zones writes first second) (Unwritten r) = ⊥
 ShowsFault h (fault.Zones writes first second) (Early r w) = ⊥
-ShowsFault h (fault.Zones writes first second) (Zones ws f s) = HaveLines h writes ws × HaveLines h first f × HaveLines h second s
+ShowsFault h (fault.Zones writes first second) (Zones ws f s) =
+    HaveLines h writes ws × HaveLines h first f × HaveLines h second s
 
 -- the lines of the fault of a register's operations
 abbrev pub IsFaultShown : History → List Operation → FaultLines → Type 0
@@ -78,10 +82,12 @@ pub record IsInversionShown (h : History) (ops : List Operation) (lines : ℕ ×
   pub named : inversion_named fault ≡ Some (name_of first, name_of second)
   pub shown : HaveLines h (name_of first, name_of second) lines
 
--- an inversion is shown for a register with a single writer that is regular and not atomic, and for no other (Lamport, On Interprocess Communication, Part II, 1986)
+-- an inversion is shown for a register with a single writer that is regular and not atomic, and for no other
+-- (Lamport, On Interprocess Communication, Part II, 1986)
 abbrev pub IsInversionAnswer : History → List Operation → Bool → Verdict → Option (ℕ × ℕ) → Type 0
 IsInversionAnswer h ops true regular inversion = inversion ≡ None
-IsInversionAnswer h ops false Yes inversion = (lines : ℕ × ℕ) × IsInversionShown h ops lines × (inversion ≡ Some lines)
+IsInversionAnswer h ops false Yes inversion =
+    (lines : ℕ × ℕ) × IsInversionShown h ops lines × (inversion ≡ Some lines)
 IsInversionAnswer h ops false No inversion = inversion ≡ None
 IsInversionAnswer h ops false SeveralWriters inversion = inversion ≡ None
 
@@ -117,20 +123,25 @@ pub record IsOrderShown (h : History) (ops : List Operation) (lines points : Lis
 
 -- the merged order of the whole history
 abbrev pub IsWholeOrderShown : History → List ℕ → Type 0
-IsWholeOrderShown h lines = (merged : List PlacedOperation) × IsWholeOrder h merged × (lines ≡ lines_of merged)
+IsWholeOrderShown h lines =
+    (merged : List PlacedOperation) × IsWholeOrder h merged × (lines ≡ lines_of merged)
 
 -- ---- atomic
 
--- a register's operations are atomic, with a legal order and its points (Herlihy and Wing, Linearizability: A Correctness Condition for Concurrent Objects, 1990), or they aren't, and the fault says why
-abbrev pub IsAtomicity : History → List Operation → Bool → Option FaultLines → Option (List ℕ) → Option (List ℕ) → Type 0
+-- a register's operations are atomic, with a legal order and its points (Herlihy and Wing, Linearizability: A
+-- Correctness Condition for Concurrent Objects, 1990), or they aren't, and the fault says why
+abbrev pub IsAtomicity : History → List Operation → Bool → Option FaultLines → Option (List ℕ)
+    → Option (List ℕ) → Type 0
 IsAtomicity h ops true fault order points = IsAtomic ops × (fault ≡ None)
-    × ((lines : List ℕ) × (times : List ℕ) × IsOrderShown h ops lines times × (order ≡ Some lines) × (points ≡ Some times))
+    × ((lines : List ℕ) × (times : List ℕ) × IsOrderShown h ops lines times × (order ≡ Some lines)
+    × (points ≡ Some times))
 IsAtomicity h ops false fault order points = (IsAtomic ops → ⊥) × (order ≡ None) × (points ≡ None)
     × ((lines : FaultLines) × IsFaultShown h ops lines × (fault ≡ Some lines))
 
 -- the whole history is atomic, with a legal order, or it isn't
 abbrev pub IsWholeAtomicity : History → Bool → Option (List ℕ) → Type 0
-IsWholeAtomicity h true order = IsAtomic (operations h) × ((lines : List ℕ) × IsWholeOrderShown h lines × (order ≡ Some lines))
+IsWholeAtomicity h true order =
+    IsAtomic (operations h) × ((lines : List ℕ) × IsWholeOrderShown h lines × (order ≡ Some lines))
 IsWholeAtomicity h false order = (IsAtomic (operations h) → ⊥) × (order ≡ None)
 
 -- ---- the report

@@ -1,4 +1,5 @@
--- The merged order of a history whose registers are atomic (this project's profile; points as in Herlihy and Wing, Linearizability: A Correctness Condition for Concurrent Objects, 1990, section 2).
+-- The merged order of a history whose registers are atomic (this project's profile; points as in Herlihy and
+-- Wing, Linearizability: A Correctness Condition for Concurrent Objects, 1990, section 2).
 use Rattle.std.specs.Prelude.{◌≡◌, ℕ, ◌<◌, ◌⊎◌, List, length, map, slice_get, Some}
 use Rattle.std.specs.List.{flat_map}
 use Rattle.history_model.specs.Lists.{In, Before}
@@ -21,7 +22,8 @@ pub record IsMerged (orders : ℕ → List Operation) (merged : List PlacedOpera
   pub all : (r : ℕ) (x : PlacedOperation) → In x (placed (orders r)) → In x merged
   pub ascending : (x y : PlacedOperation) → Before x y merged → MergesBefore orders x y
 
--- The merged order of a history: its registers' canonical orders, merged by their points. It is a legal order of the whole history.
+-- The merged order of a history: its registers' canonical orders, merged by their points.
+-- It is a legal order of the whole history.
 pub record IsWholeOrder (h : History) (merged : List PlacedOperation) : Type 0 where
   pub orders : ℕ → List Operation
   pub canonical : (r : ℕ) → IsCanonical (register_of h r) (orders r)
@@ -39,7 +41,8 @@ AreOrders h orders = AreFirstOrders h (length h.names) orders
 
 -- the canonical orders of the registers below n, one after another
 abbrev pub AreGathered : History → ℕ → List Placed → Type 0
-AreGathered h n gathered = (orders : List (List Placed)) × AreFirstOrders h n orders × (gathered ≡ flat_map (λ order. order) orders)
+AreGathered h n gathered =
+    (orders : List (List Placed)) × AreFirstOrders h n orders × (gathered ≡ flat_map (λ order. order) orders)
 
 -- the merged order, by the operations' names
 pub record IsMergedAnswer (h : History) (answer : List Placed) : Type 0 where

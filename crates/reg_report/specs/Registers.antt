@@ -24,7 +24,8 @@ pub record IsFinding (h : History) (finding : Finding) : Type 0 where
 -- what is found of the registers below n, by number
 pub record AreFirstFindings (h : History) (n : ℕ) (findings : List Finding) : Type 0 where
   pub count : length findings ≡ n
-  pub each : (r : ℕ) (finding : Finding) → slice_get findings r ≡ Some finding → (finding.register.0 ≡ r) × IsFinding h finding
+  pub each : (r : ℕ) (finding : Finding) → slice_get findings r ≡ Some finding
+      → (finding.register.0 ≡ r) × IsFinding h finding
 
 -- what is found of all registers
 abbrev pub AreFindings : History → List Finding → Type 0
@@ -55,4 +56,5 @@ IsMergedIfAtomic h None = IsSomeNotAtomic h
 
 -- the lines of the merged order
 abbrev pub AreMergedLines : History → List ℕ → Type 0
-AreMergedLines h lines = (merged : List Placed) × IsMergedAnswer h merged × (lines ≡ lines_by (call_line h.events) merged)
+AreMergedLines h lines =
+    (merged : List Placed) × IsMergedAnswer h merged × (lines ≡ lines_by (call_line h.events) merged)

@@ -18,7 +18,8 @@ AreLinesOf h findings regs = AllZip (λ finding reg. IsRegisterReport h finding.
 
 -- the text of the lines of these registers
 abbrev pub IsTextOf : History → List Finding → List ℕ → Type 0
-IsTextOf h findings bytes = (regs : List RegReport) × AreLinesOf h findings regs × (bytes ≡ registers_text regs)
+IsTextOf h findings bytes =
+    (regs : List RegReport) × AreLinesOf h findings regs × (bytes ≡ registers_text regs)
 
 -- the text of the lines of all registers
 abbrev pub IsLinesText : History → List ℕ → Type 0
@@ -27,4 +28,6 @@ IsLinesText h bytes = (regs : List RegReport) × AreLines h regs × (bytes ≡ r
 -- the bytes of the report that is asked for, in parts, and its outcome
 abbrev pub IsReportText : Bool → History → ReportText → Type 0
 IsReportText first h text =
-    (report : Report) × IsReportBy first h report × (flat_map (λ part. part.items) text.parts.items ≡ report_text report) × (text.outcome ≡ outcome_of report)
+    (report : Report) × IsReportBy first h report
+    × (flat_map (λ part. part.items) text.parts.items ≡ report_text report)
+    × (text.outcome ≡ outcome_of report)

@@ -12,7 +12,8 @@ use Rattle.reg_report.specs.Answer.{IsAnswer, IsAnswerText}
 use Rattle.reg_report.specs.declared.outcome.Outcome.{Outcome}
 use Rattle.reg_report.specs.declared.outcome.Outcome.TheVariants.{Atomic, NotAtomic}
 use Rattle.reg_intake.specs.declared.refusal.Refusal.{Refusal}
-use Rattle.reg_intake.specs.declared.refusal.Refusal.TheVariants.{At, TooLong, InputFailed, NoRoom, OutputFailed}
+use Rattle.reg_intake.specs.declared.refusal.Refusal.TheVariants.{At, TooLong, InputFailed}
+use Rattle.reg_intake.specs.declared.refusal.Refusal.TheVariants.{NoRoom, OutputFailed}
 
 -- a refusal of the input itself: no failure, and memory didn't run out
 abbrev pub IsOfInput : Refusal → Type 0
@@ -25,9 +26,11 @@ IsOfInput OutputFailed = ⊥
 -- the answer to all the bytes that were left is a report: its bytes were taken, and it has this outcome
 abbrev pub Reports : Bool → Option (List ℕ) → Option (List ℕ) → Option (List ℕ) → Outcome → Type 0
 Reports first left old new outcome =
-    (input : List ℕ) × IsAll left input × (bytes : List ℕ) × IsAnswerText first input bytes outcome × Appends old new bytes
+    (input : List ℕ) × IsAll left input × (bytes : List ℕ) × IsAnswerText first input bytes outcome
+    × Appends old new bytes
 
--- the history in these bytes is atomic, or it isn't (Herlihy and Wing, Linearizability: A Correctness Condition for Concurrent Objects, 1990)
+-- the history in these bytes is atomic, or it isn't (Herlihy and Wing, Linearizability: A
+-- Correctness Condition for Concurrent Objects, 1990)
 abbrev pub IsOutcome : List ℕ → Outcome → Type 0
 IsOutcome input Atomic = IsAtomic (operations (history_of (events_of (history_lines input))))
 IsOutcome input NotAtomic = IsAtomic (operations (history_of (events_of (history_lines input)))) → ⊥
@@ -39,7 +42,8 @@ TellsAtomic left outcome = (input : List ℕ) × IsAll left input × IsOutcome i
 -- the answer to all the bytes that were left is a report, of which a beginning was taken
 abbrev pub ReportsBeginning : Bool → Option (List ℕ) → Option (List ℕ) → Option (List ℕ) → Type 0
 ReportsBeginning first left old new =
-    (input : List ℕ) × IsAll left input × (bytes : List ℕ) × (outcome : Outcome) × IsAnswerText first input bytes outcome × AppendsBeginning old new bytes
+    (input : List ℕ) × IsAll left input × (bytes : List ℕ) × (outcome : Outcome)
+    × IsAnswerText first input bytes outcome × AppendsBeginning old new bytes
 
 -- the answer to all the bytes that were left is this refusal
 abbrev pub IsRefusedWhole : Bool → Option (List ℕ) → Refusal → Type 0

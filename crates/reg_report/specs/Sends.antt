@@ -7,7 +7,9 @@ use Rattle.reg_report.specs.Text.{Field}
 
 abbrev pub SendsFields : List Field → Log → Log → Type 0
 SendsFields [] old new = new ≡ old
-SendsFields (f ∷ fs) old new = (named mid : Log) × Logs old named (field_key f.0 AsIs) × SendsValue f.1 named mid × SendsFields fs mid new
+SendsFields (f ∷ fs) old new =
+    (named mid : Log) × Logs old named (field_key f.0 AsIs) × SendsValue f.1 named mid
+    × SendsFields fs mid new
 
 -- the same for parts, one after another
 abbrev pub SendsParts : List (List Field) → Log → Log → Type 0

@@ -1,4 +1,5 @@
--- The text of the summary of a history with an order, in three parts: up to the first number of the order, the other numbers, and the rest.
+-- The text of the summary of a history with an order, in three parts: up to the first number of
+-- the order, the other numbers, and the rest.
 use Rattle.std.specs.Prelude.{ℕ, codes, Bool, List, ◌∷◌, ◌++◌, cond, flat_map, decimal}
 
 abbrev pub yes_or_no_text : Bool → List ℕ
@@ -7,7 +8,9 @@ yes_or_no_text b = cond b (codes "yes") (codes "no")
 -- up to the first number
 abbrev pub beginning_text : Bool → ℕ → ℕ → List ℕ
 beginning_text atomic operations first =
-    codes "{\"atomic\":\"" ++ (yes_or_no_text atomic ++ (codes "\",\"operations\":" ++ (decimal operations ++ (codes ",\"order\":[" ++ decimal first))))
+    codes "{\"atomic\":\""
+    ++ (yes_or_no_text atomic
+    ++ (codes "\",\"operations\":" ++ (decimal operations ++ (codes ",\"order\":[" ++ decimal first))))
 
 -- each of the other numbers behind a comma
 abbrev pub numbers_text : List ℕ → List ℕ

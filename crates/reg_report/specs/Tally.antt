@@ -1,5 +1,6 @@
 -- Counts of calls.
-use Rattle.std.specs.Prelude.{◌≡◌, ◌+◌, ◌^◌, ◌<◌, ℕ, List, length, slice_get, Some, count_by, not, cond, is_none}
+use Rattle.std.specs.Prelude.{◌≡◌, ◌+◌, ◌^◌, ◌<◌, ℕ, List, length, slice_get}
+use Rattle.std.specs.Prelude.{Some, count_by, not, cond, is_none}
 use Rattle.history_model.specs.History.{History}
 use Rattle.history_model.specs.Operations.{Operation, calls, is_write, writes}
 use Rattle.history_model.specs.declared.op.Op.{Op}

@@ -1,7 +1,9 @@
--- The bytes of a report: compact JSON (RFC 8259), a line for each register and one for the summary, keys in byte order.
+-- The bytes of a report: compact JSON (RFC 8259), a line for each register and
+-- one for the summary, keys in byte order.
 use Rattle.std.specs.Prelude.{ℕ, codes, List, [], ◌∷◌, ◌++◌, map, Bool, true, false, Option, Some, None}
 use Rattle.std.specs.List.{concat}
-use Rattle.serde_json.specs.Data.{Data, string, number, unsigned, array, object, Items, no_items, item, Members, no_members, member}
+use Rattle.serde_json.specs.Data.{Data, string, number, unsigned, array, object, Items}
+use Rattle.serde_json.specs.Data.{no_items, item, Members, no_members, member}
 use Rattle.serde_json.specs.Written.{compact_text}
 use Rattle.reg_report.specs.declared.report.Verdict.{Verdict}
 use Rattle.reg_report.specs.declared.report.Verdict.TheVariants.{Yes, No, SeveralWriters}
@@ -55,9 +57,14 @@ fields_of [] = []
 fields_of (p ∷ ps) = p ++ fields_of ps
 
 abbrev pub fault_parts : FaultLines → List (List Field)
-fault_parts (Unwritten r) = always (codes "kind") (string (codes "unwritten")) ∷ always (codes "read") (number_json r) ∷ []
-fault_parts (Early r w) = always (codes "kind") (string (codes "early")) ∷ always (codes "read") (number_json r) ∷ always (codes "write") (number_json w) ∷ []
-fault_parts (Zones writes first second) = always (codes "first") (pair_json first) ∷ always (codes "kind") (string (codes "zones")) ∷ always (codes "second") (pair_json second) ∷ always (codes "writes") (pair_json writes) ∷ []
+fault_parts (Unwritten r) =
+    always (codes "kind") (string (codes "unwritten")) ∷ always (codes "read") (number_json r) ∷ []
+fault_parts (Early r w) =
+    always (codes "kind") (string (codes "early")) ∷ always (codes "read") (number_json r)
+    ∷ always (codes "write") (number_json w) ∷ []
+fault_parts (Zones writes first second) =
+    always (codes "first") (pair_json first) ∷ always (codes "kind") (string (codes "zones"))
+    ∷ always (codes "second") (pair_json second) ∷ always (codes "writes") (pair_json writes) ∷ []
 
 abbrev pub fault_json : FaultLines → Data
 fault_json fault = object (members_of (fields_of (fault_parts fault)))

@@ -20,8 +20,9 @@ fn report_alone(alloc: Global, arena: &Arena) -> Result<Report, AllocError>
     history_report(alloc, arena, &findings, operations)
 }
 
-/// The report of the history in the input, the same as [`check`](crate::check) gives. It takes no right to start threads
-/// and asks the system for nothing but memory, so the key of the arena's hashes is a digest of all events.
+/// The report of the history in the input, the same as [`check`](crate::check) gives. It takes
+/// no right to start threads and asks the system for nothing but memory, so the key of the
+/// arena's hashes is a digest of all events.
 ///
 /// # Errors
 /// As of [`check`](crate::check).

@@ -6,7 +6,8 @@ use history_model::{
 };
 use reg_arena::Arena;
 
-/// Its events and registers are few, and its operations have names, lines and numbered registers. It does nothing.
+/// Its events and registers are few, and its operations have names, lines
+/// and numbered registers. It does nothing.
 pub(crate) fn arena_laws(arena: &Arena)
     ensures { ObeysLaws arena.now }
 {

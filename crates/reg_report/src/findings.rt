@@ -28,7 +28,8 @@ pub(crate) struct Finding {
     pub(crate) tally: Tally,
 }
 
-/// The order or the fault of one register, its levels, and the number after its pieces, which stand from `start` on.
+/// The order or the fault of one register, its levels, and the number after
+/// its pieces, which stand from `start` on.
 fn register_pieces(
     arena: &Arena,
     plan: &Plan,
@@ -50,7 +51,8 @@ fn register_pieces(
     (judged, levels, next)
 }
 
-/// What is found of all registers, in the order of their first calls, from what is done for each piece of the plan.
+/// What is found of all registers, in the order of their first calls, from
+/// what is done for each piece of the plan.
 fn findings(
     alloc: Global,
     arena: &Arena,
@@ -80,8 +82,8 @@ fn findings(
     Ok(findings)
 }
 
-/// What is found of all registers, and how many operations there are: workers do the pieces of the plan, and meanwhile another
-/// thread counts the calls that didn't fail.
+/// What is found of all registers, and how many operations there are: workers do the pieces of the plan, and
+/// meanwhile another thread counts the calls that didn't fail.
 pub(crate) fn find<R: Threads + Sync, G: Gate + Sync>(
     rt: &R,
     alloc: Global,
@@ -90,7 +92,8 @@ pub(crate) fn find<R: Threads + Sync, G: Gate + Sync>(
     gate: &G,
 ) -> Result<(Vec<Finding>, u32), AllocError>
     requires { settings.first ≡ false }
-    ensures { IfOk result (λ found. AreFindings arena.now found.0.items × (found.1 ≡ length (calls arena.now.events))) }
+    ensures { IfOk result (λ found. AreFindings arena.now found.0.items
+        × (found.1 ≡ length (calls arena.now.events))) }
 {
     let plan = plan_in_parts(rt, alloc, arena, settings)?;
     let (counts, pieces) = both(

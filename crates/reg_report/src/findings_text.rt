@@ -1,5 +1,5 @@
-//! From what is found of all registers to the bytes of the report. Each thread makes the line of a register and writes it
-//! at once, so that no line is kept as values.
+//! From what is found of all registers to the bytes of the report. Each thread makes the line of a register
+//! and writes it at once, so that no line is kept as values.
 ghost use Rattle.std.specs.Prelude.{◌≡◌, ◌<◌, All, false, flat_map, length, is_some, IfOk};
 ghost use Rattle.std.specs.Thread.{IsSync};
 ghost use Rattle.history_model.specs.Operations.{calls};
@@ -35,8 +35,8 @@ fn lines_text(alloc: Global, arena: &Arena, findings: &[Finding]) -> Result<Vec<
     Ok(out)
 }
 
-/// How many registers' lines are made in one part. The lines of few registers are long, and the thread that merges their orders
-/// takes as long as each that makes lines: it keeps a processor to itself.
+/// How many registers' lines are made in one part. The lines of few registers are long, and the thread that
+/// merges their orders takes as long as each that makes lines: it keeps a processor to itself.
 fn part_size(rt: &impl Threads, count: usize) -> usize
     ensures { 0 < result }
 {
@@ -88,14 +88,15 @@ fn order_and_lines<T: Threads + Sync>(
         { whole_order_in_parts(rt, alloc, arena, findings) },
         || -> Result<Vec<Vec<u8>>, AllocError>
             requires { IsSync T.row × AreFindings arena.now findings.now }
-            ensures { IfOk result (λ parts. IsLinesText arena.entry.now (flat_map (λ part. part.items) parts.items)) }
+            ensures { IfOk result (λ parts.
+                IsLinesText arena.entry.now (flat_map (λ part. part.items) parts.items)) }
         { lines_in_parts(rt, alloc, arena, findings) },
     );
     Ok((order?, lines?))
 }
 
-/// The last line of a report and its line feed in parts, made while another thread drops what the report came from, which
-/// takes a while.
+/// The last line of a report and its line feed in parts, made while another thread drops what
+/// the report came from, which takes a while.
 fn summary_beside_drop<T: Threads + Sync>(
     rt: &T,
     alloc: Global,
@@ -103,13 +104,15 @@ fn summary_beside_drop<T: Threads + Sync>(
     arena: Arena,
     findings: Vec<Finding>,
 ) -> Result<Vec<Vec<u8>>, AllocError>
-    ensures { IfOk result (λ parts. flat_map (λ part. part.items) parts.items ≡ line_text (summary_json report.now)) }
+    ensures { IfOk result (λ parts. flat_map (λ part. part.items) parts.items
+        ≡ line_text (summary_json report.now)) }
 {
     let (parts, ()) = both(
         rt,
         || -> Result<Vec<Vec<u8>>, AllocError>
             requires { IsSync T.row }
-            ensures { IfOk result (λ parts. flat_map (λ part. part.items) parts.items ≡ line_text (summary_json report.entry.now)) }
+            ensures { IfOk result (λ parts. flat_map (λ part. part.items) parts.items
+                ≡ line_text (summary_json report.entry.now)) }
         { summary_text(rt, alloc, report) },
         move || drop((arena, findings)),
     );

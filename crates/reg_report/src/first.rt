@@ -54,8 +54,8 @@ fn first_lines(
     }
 }
 
-/// The report of a history whose first register that isn't atomic is `found`: its line, if there is one, and the summary
-/// without an order.
+/// The report of a history whose first register that isn't atomic is `found`: its line, if there
+/// is one, and the summary without an order.
 fn report_of_found(alloc: Global, arena: &Arena, found: Option<RegId>) -> Result<Report, AllocError>
     requires { IsFirstFound arena.now found }
     ensures { IfOk result (IsFirstReport arena.now) }

@@ -3,7 +3,8 @@ ghost use Rattle.std.specs.Prelude.{◌≡◌, length, is_some, IfOk};
 ghost use Rattle.std.specs.Thread.{IsSync};
 ghost use Rattle.history_model.specs.Operations.{calls};
 ghost use Rattle.reg_report.specs.Meaning.{IsRegisterReport, IsReport, IsWholeAtomicity};
-ghost use Rattle.reg_report.specs.Registers.{AreFindings, AreGatheredIfAtomic, AreLines, IsFinding, IsMergedIfAtomic};
+ghost use Rattle.reg_report.specs.Registers.{AreFindings, AreGatheredIfAtomic};
+ghost use Rattle.reg_report.specs.Registers.{AreLines, IsFinding, IsMergedIfAtomic};
 
 use crate::arena_laws::arena_laws;
 use crate::findings::Finding;

@@ -1,5 +1,5 @@
-//! Why a history is as its registers are, and has one report: laws over the definitions alone. Each is the contract of a
-//! function that does nothing.
+//! Why a history is as its registers are, and has one report: laws over the definitions alone. Each is the
+//! contract of a function that does nothing.
 ghost use Rattle.std.specs.Prelude.{◌≡◌, ◌↔◌, ℕ, List};
 ghost use Rattle.history_model.specs.History.{History, IsRecorded};
 ghost use Rattle.history_model.specs.Legal.{IsLegal, IsAtomic};
@@ -19,10 +19,11 @@ pub fn merged_is_legal()
         → IsMerged orders merged → IsLegal ops (operations_of merged) }
 {}
 
-/// A legal order of the whole history, kept to one register's operations, is a legal order of the register (Herlihy and
-/// Wing, 1990, section 3.1: locality).
+/// A legal order of the whole history, kept to one register's operations, is a legal order of the register
+/// (Herlihy and Wing, 1990, section 3.1: locality).
 pub fn restricted_is_legal()
-    ensures { (ops order : List Operation) (r : ℕ) → IsLegal ops order → IsLegal (of_register r ops) (of_register r order) }
+    ensures { (ops order : List Operation) (r : ℕ) → IsLegal ops order
+        → IsLegal (of_register r ops) (of_register r order) }
 {}
 
 /// A history is atomic exactly if each of its registers is.

@@ -76,8 +76,8 @@ pub(crate) fn several_writers() -> Levels
     }
 }
 
-/// The first bad reads of a whole list, from the pieces of its cuts, which stand from `start` on; and the number after
-/// them.
+/// The first bad reads of a whole list, from the pieces of its cuts, which stand
+/// from `start` on; and the number after them.
 fn first_bad_of(
     arena: &Arena,
     plan: &Plan,
@@ -100,7 +100,8 @@ fn first_bad_of(
     (first, next)
 }
 
-/// Both levels of a register, from the pieces of its reads, which stand from `start` on; and the number after them.
+/// Both levels of a register, from the pieces of its reads, which stand
+/// from `start` on; and the number after them.
 pub(crate) fn levels_of(
     arena: &Arena,
     plan: &Plan,

@@ -1,22 +1,25 @@
 //! From the bytes of a history to the bytes of its report.
 //!
-//! What the floor above may rely on: [`run`] pulls all the bytes of a source, and the bytes that it pushes into a sink are
-//! the report of their history; or it answers a refusal, and has pushed nothing, or a beginning if it is the sink that failed.
-//! [`check`] gives the report's values, and so does [`check_alone`] without threads; [`text`] gives their bytes; [`merge`] lists
-//! the operations of all registers in one legal order. [`plan`] and [`work`], handed on from `reg_pieces`, are the pieces of work
-//! and one worker; how many workers there are, and how they take turns, changes no report. Sources and sinks are handed on from
-//! `byte_ends`, and [`Refusal`] from `reg_intake`. [`laws`] says why the whole history is atomic exactly if each of its registers
-//! is, and that a history has one report.
+//! What the floor above may rely on: [`run`] pulls all the bytes of a source, and the bytes that it pushes
+//! into a sink are the report of their history; or it answers a refusal, and has pushed nothing, or a
+//! beginning if it is the sink that failed. [`check`] gives the report's values, and so does [`check_alone`]
+//! without threads; [`text`] gives their bytes; [`merge`] lists the operations of all registers in one legal
+//! order. [`plan`] and [`work`], handed on from `reg_pieces`, are the pieces of work and one worker; how many
+//! workers there are, and how they take turns, changes no report. Sources and sinks are handed on from
+//! `byte_ends`, and [`Refusal`] from `reg_intake`. [`laws`] says why the whole history is atomic exactly if
+//! each of its registers is, and that a history has one report.
 //!
-//! To read, from the arena on, which `reg_intake` makes: `report_text`, which has the report made as bytes, as `report_values` does as
-//! values, from a slice as a source (`slice`), and `alone` without threads; below them `findings`, which has `reg_pieces` do the
-//! work and `tally` count the calls, and puts together what was found of each register, with `levels`, and `lone_thread`, where
-//! one thread does all; `findings_text`, which writes each register's line as soon as it is made, with `summary_text` for the
-//! last line, or `history`, which makes the report's values. If the first register that isn't atomic is all that is asked for,
-//! `first` has `reg_pieces` look for it. `register` makes the line of one register, with `fault_lines` and `order_lines`, and
-//! `merged_order` the order of all, with `by_point`; `merged_lines` finds that order's lines by several threads. Then come
-//! `report` with `lists`, `send` and `bytes`, and `output`, `outcome` and `whole` at last. `wording` says why there is no report,
-//! and `arena_laws` which laws the arena's history obeys.
+//! To read, from the arena on, which `reg_intake` makes: `report_text`, which has the report made as
+//! bytes, as `report_values` does as values, from a slice as a source (`slice`), and `alone` without
+//! threads; below them `findings`, which has `reg_pieces` do the work and `tally` count the calls, and
+//! puts together what was found of each register, with `levels`, and `lone_thread`, where one thread does
+//! all; `findings_text`, which writes each register's line as soon as it is made, with `summary_text` for
+//! the last line, or `history`, which makes the report's values. If the first register that isn't atomic
+//! is all that is asked for, `first` has `reg_pieces` look for it. `register` makes the line of one
+//! register, with `fault_lines` and `order_lines`, and `merged_order` the order of all, with `by_point`;
+//! `merged_lines` finds that order's lines by several threads. Then come `report` with `lists`, `send` and
+//! `bytes`, and `output`, `outcome` and `whole` at last. `wording` says why there is no report, and
+//! `arena_laws` which laws the arena's history obeys.
 #![tactic(auto)]
 
 mod alone;

@@ -64,13 +64,14 @@ fn findings_of(alloc: Global, arena: &Arena, tallies: &[Tally]) -> Result<Vec<Fi
 
 /// What is found of all registers, and how many operations there are.
 ///
-/// The thread judges a register and finds its levels before it goes on to the next one. So its events are likely still at
-/// hand, and nothing is kept of it but what was found.
+/// The thread judges a register and finds its levels before it goes on to the next one. So its events are
+/// likely still at hand, and nothing is kept of it but what was found.
 pub(crate) fn find_one_by_one(
     alloc: Global,
     arena: &Arena,
 ) -> Result<(Vec<Finding>, u32), AllocError>
-    ensures { IfOk result (λ found. AreFindings arena.now found.0.items × (found.1 ≡ length (calls arena.now.events))) }
+    ensures { IfOk result (λ found. AreFindings arena.now found.0.items
+        × (found.1 ≡ length (calls arena.now.events))) }
 {
     let CallCounts {
         operations,

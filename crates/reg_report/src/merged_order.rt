@@ -10,8 +10,9 @@ use reg_pieces::Order;
 use reg_zones::Placed;
 use std::alloc::{AllocError, Global};
 
-/// The merged order of the canonical orders of all registers, which stand by number: ascending by point, then by
-/// register, then as in the register's order, with the initial writes. It is a legal order of the whole history.
+/// The merged order of the canonical orders of all registers, which stand by number:
+/// ascending by point, then by register, then as in the register's order, with the initial
+/// writes. It is a legal order of the whole history.
 pub fn merge(alloc: Global, arena: &Arena, orders: &[Order]) -> Result<Vec<Placed>, AllocError>
     requires { AreOrders arena.now orders.now }
     ensures { IfOk result (λ v. IsMergedAnswer arena.now v.items) }

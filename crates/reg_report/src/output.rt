@@ -25,9 +25,11 @@ fn push_all<S: Sink>(sink: &mut S, bytes: &[u8]) -> Result<(), IoFail>
 /// `IoFail` if a push or the flush failed; then a beginning of the bytes is out.
 pub fn deliver<S: Sink>(sink: &mut S, parts: &[Vec<u8>]) -> Result<(), IoFail>
     requires { S.failed sink.old < 2 ^ 64 - 1 }
-    ensures ok { OnOk result (Appends (S.taken sink.old) (S.taken sink.new) (flat_map (λ part. part.items) parts.now)) }
+    ensures ok { OnOk result
+        (Appends (S.taken sink.old) (S.taken sink.new) (flat_map (λ part. part.items) parts.now)) }
     ensures flushed { OnOk result (S.is_flushed sink.new) }
-    ensures err { OnErr result (AppendsBeginning (S.taken sink.old) (S.taken sink.new) (flat_map (λ part. part.items) parts.now)) }
+    ensures err { OnErr result
+        (AppendsBeginning (S.taken sink.old) (S.taken sink.new) (flat_map (λ part. part.items) parts.now)) }
     ensures failures { Counts (S.failed sink.old) (S.failed sink.new) result }
 {
     for part in parts {

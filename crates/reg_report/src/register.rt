@@ -50,7 +50,8 @@ fn ordered(
     order: &Order,
 ) -> Result<Atomicity, AllocError>
     requires { IsJudged (register_of arena.now register.0) (Judgement.Order order.now) }
-    ensures { (regular : _) → IfOk result (IsAtomicityShown arena.now (register_of arena.now register.0) regular) }
+    ensures { (regular : _)
+        → IfOk result (IsAtomicityShown arena.now (register_of arena.now register.0) regular) }
 {
     arena_laws(arena);
     Ok(Atomicity::Yes {

@@ -13,7 +13,8 @@ pub enum Verdict {
     SeveralWriters,
 }
 
-/// Why a register isn't atomic: the operations of its fault, each by the line of its call, the initial write as 0.
+/// Why a register isn't atomic: the operations of its fault, each by the
+/// line of its call, the initial write as 0.
 #[derive(Clone, Copy, Debug, PartialEq, Eq)]
 pub enum FaultLines {
     /// A read whose value nobody wrote.
@@ -25,8 +26,8 @@ pub enum FaultLines {
         read: u32,
         write: u32,
     },
-    /// Two writes whose zones conflict. In `first` an operation of the first write's cluster precedes one of the
-    /// second's, and in `second` the other way round, so neither write can come before the other.
+    /// Two writes whose zones conflict. In `first` an operation of the first write's cluster precedes one of
+    /// the second's, and in `second` the other way round, so neither write can come before the other.
     Zones {
         writes: (u32, u32),
         first: (u32, u32),
@@ -54,12 +55,13 @@ pub struct RegReport {
     pub atomic: bool,
     /// If it isn't atomic, why.
     pub fault: Option<FaultLines>,
-    /// If it is regular and not atomic, a new-old inversion: a read that gives a new value, and one after it that gives
-    /// an older one.
+    /// If it is regular and not atomic, a new-old inversion: a read that gives a new value,
+    /// and one after it that gives an older one.
     pub inversion: Option<(u32, u32)>,
     /// If it is atomic, its canonical order without the initial write.
     pub order: Option<Lines>,
-    /// If it is atomic, the points of `order`, place by place: each by the line of the call that has that time.
+    /// If it is atomic, the points of `order`, place by place: each by
+    /// the line of the call that has that time.
     pub points: Option<Lines>,
 }
 
@@ -71,7 +73,8 @@ pub struct Report {
     pub operations: u32,
     /// The number of registers.
     pub registers: u32,
-    /// Whether some order of all operations keeps precedence and gives each read the latest write of its register.
+    /// Whether some order of all operations keeps precedence and gives
+    /// each read the latest write of its register.
     pub atomic: bool,
     /// If it is atomic and the whole report was asked for, the merged order without the initial writes.
     pub order: Option<Lines>,

@@ -39,7 +39,8 @@ fn text_of_first<T: Threads + Sync, G: Gate + Sync>(
     })
 }
 
-/// The text of the report of an accepted history that the settings ask for, from its arena, which is dropped on the way.
+/// The text of the report of an accepted history that the settings ask for,
+/// from its arena, which is dropped on the way.
 pub(crate) fn text_by<T: Threads + Sync, G: Gate + Sync>(
     rt: &T,
     alloc: Global,

@@ -35,12 +35,13 @@ fn report_by<R: Threads + Sync, G: Gate + Sync>(
     }
 }
 
-/// The report of the history in the input: of the whole of it, or of its first register that isn't atomic, as the settings
-/// ask. Workers do its pieces, past the gate. Neither their number, nor the cut, nor the gate changes the report.
+/// The report of the history in the input: of the whole of it, or of its first register that isn't
+/// atomic, as the settings ask. Workers do its pieces, past the gate. Neither their number, nor
+/// the cut, nor the gate changes the report.
 ///
-/// # Errors
-/// `TooLong` if the input has more than [`MAX_INPUT`](history_text::MAX_INPUT) bytes, whatever memory there is; `At` for
-/// the first faulty line if the history isn't well formed; `NoRoom` if memory ran out. What was made is dropped then.
+/// # Errors `TooLong` if the input has more than [`MAX_INPUT`](history_text::MAX_INPUT) bytes,
+/// whatever memory there is; `At` for the first faulty line if the history isn't well formed; `NoRoom`
+/// if memory ran out. What was made is dropped then.
 pub fn check<R: Threads + RandomSource + Sync, G: Gate + Sync>(
     rt: &R,
     alloc: Global,

@@ -2,7 +2,9 @@
 ghost use Rattle.std.specs.Prelude.{◌≡◌, ◌+◌, length, OnOk, if◌then◌else◌};
 ghost use Rattle.serde_json.specs.Data.{string};
 ghost use Rattle.serde_json.specs.Events.{SendsValue};
-ghost use Rattle.reg_report.specs.Text.{always, fields_of, shown, number_json, numbers_json, pair_json, yes_or_no, verdict_json, fault_json, register_json, register_parts, summary_json, summary_parts};
+ghost use Rattle.reg_report.specs.Text.{always, fields_of, shown, number_json, numbers_json};
+ghost use Rattle.reg_report.specs.Text.{pair_json, yes_or_no, verdict_json, fault_json, register_json};
+ghost use Rattle.reg_report.specs.Text.{register_parts, summary_json, summary_parts};
 ghost use Rattle.reg_report.specs.Sends.{SendsFields, SendsParts};
 
 use crate::lists::Lines;
@@ -10,14 +12,16 @@ use crate::report::{FaultLines, RegReport, Report, Verdict};
 use serde::{Described, Serialize, Serializer};
 
 fn send_text<S: Serializer>(out: &mut S, key: &str, text: &str) -> Result<(), S::Error>
-    ensures { OnOk result (SendsFields (always key.now (string text.now)) (S.written out.old) (S.written out.new)) }
+    ensures { OnOk result
+        (SendsFields (always key.now (string text.now)) (S.written out.old) (S.written out.new)) }
 {
     out.key(key)?;
     out.str(text)
 }
 
 fn send_number<S: Serializer>(out: &mut S, key: &str, n: u32) -> Result<(), S::Error>
-    ensures { OnOk result (SendsFields (always key.now (number_json n)) (S.written out.old) (S.written out.new)) }
+    ensures { OnOk result
+        (SendsFields (always key.now (number_json n)) (S.written out.old) (S.written out.new)) }
 {
     out.key(key)?;
     out.u64(u64::from(n))
@@ -34,20 +38,23 @@ fn send_items<S: Serializer>(out: &mut S, numbers: &[u32]) -> Result<(), S::Erro
 }
 
 fn send_numbers<S: Serializer>(out: &mut S, key: &str, numbers: &[u32]) -> Result<(), S::Error>
-    ensures { OnOk result (SendsFields (always key.now (numbers_json numbers.now)) (S.written out.old) (S.written out.new)) }
+    ensures { OnOk result
+        (SendsFields (always key.now (numbers_json numbers.now)) (S.written out.old) (S.written out.new)) }
 {
     out.key(key)?;
     send_items(out, numbers)
 }
 
 fn send_pair<S: Serializer>(out: &mut S, key: &str, pair: (u32, u32)) -> Result<(), S::Error>
-    ensures { OnOk result (SendsFields (always key.now (pair_json pair)) (S.written out.old) (S.written out.new)) }
+    ensures { OnOk result
+        (SendsFields (always key.now (pair_json pair)) (S.written out.old) (S.written out.new)) }
 {
     send_numbers(out, key, &[pair.0, pair.1])
 }
 
 fn send_yes_or_no<S: Serializer>(out: &mut S, key: &str, yes: bool) -> Result<(), S::Error>
-    ensures { OnOk result (SendsFields (always key.now (yes_or_no yes)) (S.written out.old) (S.written out.new)) }
+    ensures { OnOk result
+        (SendsFields (always key.now (yes_or_no yes)) (S.written out.old) (S.written out.new)) }
 {
     if yes {
         send_text(out, key, "yes")
@@ -57,7 +64,8 @@ fn send_yes_or_no<S: Serializer>(out: &mut S, key: &str, yes: bool) -> Result<()
 }
 
 fn send_verdict<S: Serializer>(out: &mut S, key: &str, verdict: Verdict) -> Result<(), S::Error>
-    ensures { OnOk result (SendsFields (always key.now (verdict_json verdict)) (S.written out.old) (S.written out.new)) }
+    ensures { OnOk result
+        (SendsFields (always key.now (verdict_json verdict)) (S.written out.old) (S.written out.new)) }
 {
     match verdict {
         Verdict::Yes => send_text(out, key, "yes"),
@@ -67,7 +75,8 @@ fn send_verdict<S: Serializer>(out: &mut S, key: &str, verdict: Verdict) -> Resu
 }
 
 fn show_number<S: Serializer>(out: &mut S, key: &str, n: Option<u32>) -> Result<(), S::Error>
-    ensures { OnOk result (SendsFields (shown key.now number_json n) (S.written out.old) (S.written out.new)) }
+    ensures { OnOk result
+        (SendsFields (shown key.now number_json n) (S.written out.old) (S.written out.new)) }
 {
     match n {
         Some(n) => send_number(out, key, n),
@@ -76,7 +85,8 @@ fn show_number<S: Serializer>(out: &mut S, key: &str, n: Option<u32>) -> Result<
 }
 
 fn show_lines<S: Serializer>(out: &mut S, key: &str, lines: &Option<Lines>) -> Result<(), S::Error>
-    ensures { OnOk result (SendsFields (shown key.now numbers_json lines.now) (S.written out.old) (S.written out.new)) }
+    ensures { OnOk result
+        (SendsFields (shown key.now numbers_json lines.now) (S.written out.old) (S.written out.new)) }
 {
     match lines {
         Some(lines) => send_numbers(out, key, lines.as_slice()),
@@ -85,7 +95,8 @@ fn show_lines<S: Serializer>(out: &mut S, key: &str, lines: &Option<Lines>) -> R
 }
 
 fn send_unwritten<S: Serializer>(out: &mut S, read: u32) -> Result<(), S::Error>
-    ensures { OnOk result (SendsValue (fault_json (FaultLines.Unwritten read)) (S.written out.old) (S.written out.new)) }
+    ensures { OnOk result
+        (SendsValue (fault_json (FaultLines.Unwritten read)) (S.written out.old) (S.written out.new)) }
 {
     out.begin_map(Some(2))?;
     send_text(out, "kind", "unwritten")?;
@@ -94,7 +105,8 @@ fn send_unwritten<S: Serializer>(out: &mut S, read: u32) -> Result<(), S::Error>
 }
 
 fn send_early<S: Serializer>(out: &mut S, read: u32, write: u32) -> Result<(), S::Error>
-    ensures { OnOk result (SendsValue (fault_json (FaultLines.Early read write)) (S.written out.old) (S.written out.new)) }
+    ensures { OnOk result
+        (SendsValue (fault_json (FaultLines.Early read write)) (S.written out.old) (S.written out.new)) }
 {
     out.begin_map(Some(3))?;
     send_text(out, "kind", "early")?;
@@ -109,7 +121,8 @@ fn send_zones<S: Serializer>(
     first: (u32, u32),
     second: (u32, u32),
 ) -> Result<(), S::Error>
-    ensures { OnOk result (SendsValue (fault_json (FaultLines.Zones writes first second)) (S.written out.old) (S.written out.new)) }
+    ensures { OnOk result (SendsValue (fault_json (FaultLines.Zones writes first second)) (S.written out.old)
+        (S.written out.new)) }
 {
     out.begin_map(Some(4))?;
     send_pair(out, "first", first)?;
@@ -138,7 +151,8 @@ fn show_fault<S: Serializer>(
     key: &str,
     fault: Option<FaultLines>,
 ) -> Result<(), S::Error>
-    ensures { OnOk result (SendsFields (shown key.now fault_json fault) (S.written out.old) (S.written out.new)) }
+    ensures { OnOk result
+        (SendsFields (shown key.now fault_json fault) (S.written out.old) (S.written out.new)) }
 {
     match fault {
         Some(fault) => {
@@ -154,7 +168,8 @@ fn show_pair<S: Serializer>(
     key: &str,
     pair: Option<(u32, u32)>,
 ) -> Result<(), S::Error>
-    ensures { OnOk result (SendsFields (shown key.now pair_json pair) (S.written out.old) (S.written out.new)) }
+    ensures { OnOk result
+        (SendsFields (shown key.now pair_json pair) (S.written out.old) (S.written out.new)) }
 {
     match pair {
         Some(pair) => send_pair(out, key, pair),

@@ -1,5 +1,5 @@
-//! The last line of a report in parts. It is long if every register is atomic, so several threads write the numbers of its
-//! order.
+//! The last line of a report in parts. It is long if every register is atomic, so
+//! several threads write the numbers of its order.
 ghost use Rattle.std.specs.Prelude.{◌≡◌, ◌∷◌, Some, flat_map, IfOk};
 ghost use Rattle.reg_report.specs.SummaryText.{yes_or_no_text, beginning_text, end_text, numbers_text};
 ghost use Rattle.reg_report.specs.Text.{line_text, summary_json};
@@ -51,7 +51,8 @@ fn yes_or_no(yes: bool) -> &'static str
 
 /// The last line up to the first number of its order.
 fn beginning(alloc: Global, report: &Report, first: u32) -> Result<Vec<u8>, AllocError>
-    ensures { IfOk result (λ text. text.items ≡ beginning_text report.now.atomic report.now.operations first) }
+    ensures { IfOk result (λ text.
+        text.items ≡ beginning_text report.now.atomic report.now.operations first) }
 {
     let atomic = yes_or_no(report.atomic);
     let operations = report.operations;
@@ -69,7 +70,8 @@ fn end(alloc: Global, registers: u32) -> Result<Vec<u8>, AllocError>
     Ok(text.into_bytes())
 }
 
-/// The last line and its line feed in parts, if the report has an order that begins with the operation `first`.
+/// The last line and its line feed in parts, if the report has an
+/// order that begins with the operation `first`.
 fn ordered(
     rt: &(impl Threads + Sync),
     alloc: Global,
@@ -78,7 +80,8 @@ fn ordered(
     others: &[u32],
 ) -> Result<Vec<Vec<u8>>, AllocError>
     requires { report.now.order ≡ Some (first ∷ others.now) }
-    ensures { IfOk result (λ parts. flat_map (λ part. part.items) parts.items ≡ line_text (summary_json report.now)) }
+    ensures { IfOk result (λ parts. flat_map (λ part. part.items) parts.items
+        ≡ line_text (summary_json report.now)) }
 {
     let mut parts = Vec::new(alloc);
     parts.push(beginning(alloc, report, first)?)?;
@@ -89,7 +92,8 @@ fn ordered(
 
 /// The last line and its line feed as one part.
 fn unordered(alloc: Global, report: &Report) -> Result<Vec<Vec<u8>>, AllocError>
-    ensures { IfOk result (λ parts. flat_map (λ part. part.items) parts.items ≡ line_text (summary_json report.now)) }
+    ensures { IfOk result (λ parts. flat_map (λ part. part.items) parts.items
+        ≡ line_text (summary_json report.now)) }
 {
     let mut line = summary_line(alloc, report)?;
     line.push(b'\n')?;
@@ -104,7 +108,8 @@ pub(crate) fn summary_text(
     alloc: Global,
     report: &Report,
 ) -> Result<Vec<Vec<u8>>, AllocError>
-    ensures { IfOk result (λ parts. flat_map (λ part. part.items) parts.items ≡ line_text (summary_json report.now)) }
+    ensures { IfOk result (λ parts. flat_map (λ part. part.items) parts.items
+        ≡ line_text (summary_json report.now)) }
 {
     match &report.order {
         Some(order) => match order.as_slice() {

@@ -70,8 +70,10 @@ fn none_counted(alloc: Global, count: u32) -> Result<Vec<Tally>, AllocError>
 /// Adds a call to the tally of its register.
 fn add(tallies: &mut Vec<Tally>, op: &Op)
     requires within { op.now.register.0 < length tallies.old.items }
-    requires room { (tally : ATally) → slice_get tallies.old.items op.now.register.0 ≡ Some tally → HasRoom tally }
-    ensures { (tally : ATally) → slice_get tallies.old.items op.now.register.0 ≡ Some tally → tallies.new.items ≡ set tallies.old.items op.now.register.0 (counted op.now tally) }
+    requires room { (tally : ATally) → slice_get tallies.old.items op.now.register.0 ≡ Some tally
+        → HasRoom tally }
+    ensures { (tally : ATally) → slice_get tallies.old.items op.now.register.0 ≡ Some tally
+        → tallies.new.items ≡ set tallies.old.items op.now.register.0 (counted op.now tally) }
 {
     let register = op.register.0 as usize;
     let tally = tallies[register];

@@ -1,5 +1,5 @@
-//! A refusal as one line for a person. The words stand beside each reason: in history_text's `fault.rt`, in history_model's
-//! `refusal.rt`, and in `refusal.rt` here.
+//! A refusal as one line for a person. The words stand beside each reason: in history_text's `fault.rt`, in
+//! history_model's `refusal.rt`, and in `refusal.rt` here.
 use reg_intake::Refusal;
 use std::alloc::{AllocError, Global};
 

@@ -22,7 +22,8 @@ listed-member ops a (inr r) = record { within = r.0; value = refl; counts = inr 
 
 module _ (ops : List Operation) (y : IsHistory ops) (ok : HasNoFault ops) where
   -- a completed read has a write, which is kept
-  kept_write : (r : Operation) → In r ops → IsCompletedRead r → (w : Operation) × IsKept ops w × (w.value ≡ r.value)
+  kept_write : (r : Operation) → In r ops → IsCompletedRead r
+      → (w : Operation) × IsKept ops w × (w.value ≡ r.value)
   kept_write r i d =
       let w = ok.written r i d in
       (w.0, record { within = w.1; write = w.2; kept = inr (r, i, w.3) }, sym w.3.value)
@@ -31,7 +32,8 @@ module _ (ops : List Operation) (y : IsHistory ops) (ok : HasNoFault ops) where
   listed-write a (inl k) = (a, k, refl)
   listed-write a (inr r) = kept_write a r.0 r.1
 
-  no_conflict : (a b : Operation) → IsListed ops a → IsListed ops b → (a.value ≡ b.value → ⊥) → first_reply ops a.value < last_call ops b.value → first_reply ops b.value < last_call ops a.value → ⊥
+  no_conflict : (a b : Operation) → IsListed ops a → IsListed ops b → (a.value ≡ b.value → ⊥)
+      → first_reply ops a.value < last_call ops b.value → first_reply ops b.value < last_call ops a.value → ⊥
   no_conflict a b la lb ne p q =
       let v = listed-write a la in
       let w = listed-write b lb in
@@ -39,8 +41,12 @@ module _ (ops : List Operation) (y : IsHistory ops) (ok : HasNoFault ops) where
         left = v.1;
         right = w.1;
         differ = λ e. ne (sym v.2 ∙ (e ∙ w.2));
-        one = subst (λ k. first_reply ops k < last_call ops w.0.value) (sym v.2) (subst (λ k. first_reply ops a.value < last_call ops k) (sym w.2) p);
-        other = subst (λ k. first_reply ops k < last_call ops v.0.value) (sym w.2) (subst (λ k. first_reply ops b.value < last_call ops k) (sym v.2) q);
+        one =
+            subst (λ k. first_reply ops k < last_call ops w.0.value) (sym v.2)
+            (subst (λ k. first_reply ops a.value < last_call ops k) (sym w.2) p);
+        other =
+            subst (λ k. first_reply ops k < last_call ops v.0.value) (sym w.2)
+            (subst (λ k. first_reply ops b.value < last_call ops k) (sym v.2) q);
       })
 
   -- what comes sooner isn't preceded
@@ -53,7 +59,13 @@ module _ (ops : List Operation) (y : IsHistory ops) (ok : HasNoFault ops) where
           | inr r ↦ elim r.1 [
             | inl k ↦ elim lb [
               | inl kb ↦ false≢true (sym k.1 ∙ kb.write)
-              | inr rb ↦ ok.in_time b a (record { within = rb.0; write_within = listed-in ops a la; write = k.0; read = record { read = k.1; completed = rb.1.completed; value = sym e }; early = p })
+              | inr rb ↦ ok.in_time b a (record {
+                within = rb.0;
+                write_within = listed-in ops a la;
+                write = k.0;
+                read = record { read = k.1; completed = rb.1.completed; value = sym e };
+                early = p;
+              })
             ]
             | inr k ↦ omega (arith, k.1)
           ]
@@ -81,19 +93,24 @@ module _ (ops : List Operation) (y : IsHistory ops) (ok : HasNoFault ops) where
   sooner-low a b (inr r) = omega (arith, r.0)
 
   module _ (order : List Operation) (c : IsCanonical ops order) where
-    nearest : (r : Operation) → In r order → IsCompletedRead r → (w : Operation) × IsNearestWrite order w r × (w.value ≡ r.value)
+    nearest : (r : Operation) → In r order → IsCompletedRead r → (w : Operation) × IsNearestWrite order w r
+        × (w.value ≡ r.value)
     nearest r i d =
         let k = kept_write r (listed-in ops r (c.listed r i)) d in
         let w = k.0 in
         let j = c.all w (inl k.1) in
         let same = ap (low_end ops) k.2 in
         let before : Before w r order = elim (Before-total w r order j i) [
-          | inl e ↦ absurd (false≢true (sym d.read ∙ (ap (λ (x : Operation). is_write x) (sym e) ∙ k.1.write)))
+          | inl e ↦ absurd
+              (false≢true (sym d.read ∙ (ap (λ (x : Operation). is_write x) (sym e) ∙ k.1.write)))
           | inr b ↦ elim b [
             | inl b ↦ b
             | inr b ↦ elim (c.ascending r w b) [
               | inl lt ↦ absurd (omega arith)
-              | inr q ↦ elim q.1 [ inl t ↦ absurd (false≢true (sym d.read ∙ t.0)) | inr t ↦ absurd (false≢true (sym d.read ∙ (t.0 ∙ k.1.write))) ]
+              | inr q ↦ elim q.1 [
+                | inl t ↦ absurd (false≢true (sym d.read ∙ t.0))
+                | inr t ↦ absurd (false≢true (sym d.read ∙ (t.0 ∙ k.1.write)))
+              ]
             ]
           ]
         ] in (
@@ -106,7 +123,9 @@ module _ (ops : List Operation) (y : IsHistory ops) (ok : HasNoFault ops) where
                 let lw = sooner-low w v (c.ascending w v bw) in
                 let lr = sooner-low v r (c.ascending v r br) in
                 let lv = c.listed v (Before-first v r order br) in
-                let eq = low_apart ops y v.value w.value v w (listed-member ops v lv) (listed-member ops w (inl k.1)) (omega (arith, same, lw, lr)) in
+                let eq =
+                low_apart ops y v.value w.value v w (listed-member ops v lv)
+                (listed-member ops w (inl k.1)) (omega (arith, same, lw, lr)) in
                 let one = y.values v w (listed-in ops v lv) k.1.within u k.1.write eq in
                 sooner-irrefl w (c.ascending w w (subst (λ x. Before w x order) one bw));
           },
@@ -118,8 +137,15 @@ module _ (ops : List Operation) (y : IsHistory ops) (ok : HasNoFault ops) where
       completion = record {
         once = λ a b. sooner-irrefl a (c.ascending a a b);
         only = λ a i. listed-in ops a (c.listed a i);
-        all = λ a i d. c.all a (elim (cases_Bool (is_write a)) [ inl u ↦ inl (record { within = i; write = u; kept = inl d }) | inr u ↦ inr (i, record { read = u; completed = d }) ]);
+        all =
+            λ a i d. c.all a
+            (elim (cases_Bool (is_write a)) [
+              | inl u ↦ inl (record { within = i; write = u; kept = inl d })
+              | inr u ↦ inr (i, record { read = u; completed = d })
+            ]);
       };
-      keeps = λ a b s p. keeps a b (c.listed a (Before-first a b order s)) (c.listed b (Before-second a b order s)) (c.ascending a b s) p;
+      keeps =
+          λ a b s p. keeps a b (c.listed a (Before-first a b order s))
+          (c.listed b (Before-second a b order s)) (c.ascending a b s) p;
       latest = nearest;
     }

@@ -1,13 +1,16 @@
 -- The ends of a zone: bounds that some member reaches.
-use Rattle.std.proofs.Common.{◌≡◌, ℕ, ◌≤◌, Option, ◌||◌, min, max, List, [], ◌∷◌, ◌⊎◌, inl, inr, refl, sym, subst, ◌∙◌, arith}
-use Rattle.std.proofs.lemmas.Bool.{cases_Bool, cases_lt, and_parts, and_from, false≢true, or_cases, or_left, or_right}
+use Rattle.std.proofs.Common.{◌≡◌, ℕ, ◌≤◌, Option, ◌||◌, min, max, List, [], ◌∷◌}
+use Rattle.std.proofs.Common.{◌⊎◌, inl, inr, refl, sym, subst, ◌∙◌, arith}
+use Rattle.std.proofs.lemmas.Bool.{cases_Bool, cases_lt, and_parts, and_from}
+use Rattle.std.proofs.lemmas.Bool.{false≢true, or_cases, or_left, or_right}
 use Rattle.history_text.specs.Values.{same_value}
 use Rattle.history_text.specs.declared.event.Val.{Val}
 use Rattle.history_model.specs.Lists.{In}
 use Rattle.history_model.specs.Operations.{Operation, IsHistory, IsReadOf, is_write}
 use Rattle.history_model.proofs.Lists.{In-map, map-In, In-filter, filter-In}
 use Rattle.reg_zones.proofs.Values.{same-true, eq-same}
-use Rattle.reg_zones.specs.Clusters.{least, least_from, greatest, IsKept, IsInCluster, is_member, cluster, first_reply, last_call}
+use Rattle.reg_zones.specs.Clusters.{least, least_from, greatest, IsKept, IsInCluster}
+use Rattle.reg_zones.specs.Clusters.{is_member, cluster, first_reply, last_call}
 
 least_from-le : (n : ℕ) (ms : List ℕ) (x : ℕ) → In x (n ∷ ms) → least_from n ms ≤ x
 least_from-le n [] x (inl e) = omega arith
@@ -18,7 +21,8 @@ least_from-le n (m ∷ ms) x (inr h) = omega (arith, least_from-le m ms x h)
 least_from-in : (n : ℕ) (ms : List ℕ) → In (least_from n ms) (n ∷ ms)
 least_from-in n [] = inl refl
 least_from-in n (m ∷ ms) = elim (cases_lt (least_from m ms) n) [
-  | inl h ↦ let e : min n (least_from m ms) ≡ least_from m ms = omega arith in inr (subst (λ k. In k (m ∷ ms)) (sym e) (least_from-in m ms))
+  | inl h ↦ let e : min n (least_from m ms) ≡ least_from m ms = omega arith in
+      inr (subst (λ k. In k (m ∷ ms)) (sym e) (least_from-in m ms))
   | inr h ↦ inl (omega arith)
 ]
 
@@ -39,14 +43,22 @@ pub greatest-in : (ns : List ℕ) (x : ℕ) → In x ns → In (greatest ns) ns
 greatest-in [] x h = absurd h
 greatest-in (n ∷ []) x h = inl (omega arith)
 greatest-in (n ∷ m ∷ ns) x h = elim (cases_lt n (greatest (m ∷ ns))) [
-  | inl l ↦ let e : max n (greatest (m ∷ ns)) ≡ greatest (m ∷ ns) = omega arith in inr (subst (λ k. In k (m ∷ ns)) (sym e) (greatest-in (m ∷ ns) m (inl refl)))
+  | inl l ↦ let e : max n (greatest (m ∷ ns)) ≡ greatest (m ∷ ns) = omega arith in
+      inr (subst (λ k. In k (m ∷ ns)) (sym e) (greatest-in (m ∷ ns) m (inl refl)))
   | inr l ↦ inl (omega arith)
 ]
 
-pub IsInCluster-in : (ops : List Operation) (v : Option Val) (a : Operation) → IsInCluster ops v a → In a (cluster ops v)
-IsInCluster-in ops v a m = In-filter (is_member v) a ops m.within (and_from _ _ (eq-same a.value v m.value) (elim m.counts [ inl w ↦ or_left (is_write a) a.completed w | inr d ↦ or_right (is_write a) a.completed d ]))
+pub IsInCluster-in : (ops : List Operation) (v : Option Val) (a : Operation) → IsInCluster ops v a
+    → In a (cluster ops v)
+IsInCluster-in ops v a m =
+    In-filter (is_member v) a ops m.within
+    (and_from _ _ (eq-same a.value v m.value) (elim m.counts [
+      | inl w ↦ or_left (is_write a) a.completed w
+      | inr d ↦ or_right (is_write a) a.completed d
+    ]))
 
-pub IsInCluster-from : (ops : List Operation) (v : Option Val) (a : Operation) → In a (cluster ops v) → IsInCluster ops v a
+pub IsInCluster-from : (ops : List Operation) (v : Option Val) (a : Operation) → In a (cluster ops v)
+    → IsInCluster ops v a
 IsInCluster-from ops v a i =
     let r = filter-In (is_member v) a ops i in
     let p = and_parts (same_value a.value v) (is_write a || a.completed) r.1 in
@@ -72,14 +84,16 @@ module _ (ops : List Operation) (v : Option Val) (a : Operation) (m : IsInCluste
       (r.0, IsInCluster-from ops v r.0 r.1, sym r.2)
 
 -- a bound that some member reaches
-pub first_reply-is : (ops : List Operation) (v : Option Val) (a : Operation) → IsInCluster ops v a → ((b : Operation) → IsInCluster ops v b → a.reply ≤ b.reply) → first_reply ops v ≡ a.reply
+pub first_reply-is : (ops : List Operation) (v : Option Val) (a : Operation) → IsInCluster ops v a
+    → ((b : Operation) → IsInCluster ops v b → a.reply ≤ b.reply) → first_reply ops v ≡ a.reply
 first_reply-is ops v a m below =
     let r = first_reply-at ops v a m in
     let up = below r.0 r.1 in
     let down = first_reply-le ops v a m in
     omega (arith, up, down, r.2)
 
-pub last_call-is : (ops : List Operation) (v : Option Val) (a : Operation) → IsInCluster ops v a → ((b : Operation) → IsInCluster ops v b → b.call ≤ a.call) → last_call ops v ≡ a.call
+pub last_call-is : (ops : List Operation) (v : Option Val) (a : Operation) → IsInCluster ops v a
+    → ((b : Operation) → IsInCluster ops v b → b.call ≤ a.call) → last_call ops v ≡ a.call
 last_call-is ops v a m above =
     let r = last_call-at ops v a m in
     let down = above r.0 r.1 in
@@ -91,8 +105,13 @@ pub kept-member : (ops : List Operation) (w : Operation) → IsKept ops w → Is
 kept-member ops w k = record { within = k.within; value = refl; counts = inl k.write }
 
 -- a member of w's cluster is w, or a completed read of it
-pub member-is : (ops : List Operation) (y : IsHistory ops) (w a : Operation) → IsKept ops w → IsInCluster ops w.value a → (a ≡ w) ⊎ IsReadOf w a
+pub member-is : (ops : List Operation) (y : IsHistory ops) (w a : Operation) → IsKept ops w
+    → IsInCluster ops w.value a → (a ≡ w) ⊎ IsReadOf w a
 member-is ops y w a k m = elim (cases_Bool (is_write a)) [
   | inl u ↦ inl (y.values a w m.within k.within u k.write m.value)
-  | inr u ↦ inr (record { read = u; completed = elim m.counts [ inl t ↦ absurd (false≢true (sym u ∙ t)) | inr d ↦ d ]; value = m.value })
+  | inr u ↦ inr (record {
+    read = u;
+    completed = elim m.counts [ inl t ↦ absurd (false≢true (sym u ∙ t)) | inr d ↦ d ];
+    value = m.value;
+  })
 ]

@@ -3,7 +3,8 @@ use Rattle.std.proofs.Common.{◌≡◌, List, [], ◌∷◌, ◌⊎◌, ◌↔�
 use Rattle.std.proofs.lemmas.Bool.{cases_Bool, cases_order, false≢true}
 use Rattle.history_model.specs.Legal.{IsAtomic}
 use Rattle.history_model.specs.Lists.{In}
-use Rattle.history_model.specs.Operations.{Operation, IsWrite, IsCompleted, IsCompletedRead, IsReadOf, IsHistory, is_write}
+use Rattle.history_model.specs.Operations.{Operation, IsWrite, IsCompleted, IsCompletedRead}
+use Rattle.history_model.specs.Operations.{IsReadOf, IsHistory, is_write}
 use Rattle.reg_zones.proofs.Complete.{listed-in, listed-member, legal}
 use Rattle.reg_zones.proofs.LowEnds.{low_apart}
 use Rattle.reg_zones.proofs.Sorting.{sorted, picked}
@@ -14,10 +15,13 @@ use Rattle.reg_zones.specs.Faults.{HasNoFault}
 use Rattle.reg_zones.specs.Order.{IsListed, IsSooner, IsCanonical}
 
 -- a completed read of a write, or that there is none
-pub find_read : (ops : List Operation) (w : Operation) → ((r : Operation) × In r ops × IsReadOf w r) ⊎ ((r : Operation) → In r ops → IsReadOf w r → ⊥)
+pub find_read : (ops : List Operation) (w : Operation) → ((r : Operation) × In r ops × IsReadOf w r)
+    ⊎ ((r : Operation) → In r ops → IsReadOf w r → ⊥)
 find_read [] w = inr (λ r i k. elim i [ ])
 find_read (a ∷ ops) w =
-    let no : (IsReadOf w a → ⊥) → ((r : Operation) → In r ops → IsReadOf w r → ⊥) → (r : Operation) → In r (a ∷ ops) → IsReadOf w r → ⊥ = λ n m r i k. elim i [ inl s ↦ n (subst (IsReadOf w) s k) | inr j ↦ m r j k ] in
+    let no : (IsReadOf w a → ⊥) → ((r : Operation) → In r ops → IsReadOf w r → ⊥) → (r : Operation)
+    → In r (a ∷ ops) → IsReadOf w r → ⊥ =
+    λ n m r i k. elim i [ inl s ↦ n (subst (IsReadOf w) s k) | inr j ↦ m r j k ] in
     elim (find_read ops w) [
       | inl r ↦ inl (r.0, inr r.1, r.2)
       | inr m ↦ elim (cases_value a.value w.value) [
@@ -51,7 +55,10 @@ counts ops a = elim (cases_Bool (is_write a)) [
   ]
   | inr f ↦ elim (cases_Bool a.completed) [
     | inl d ↦ inl (inr (record { read = f; completed = d }))
-    | inr n ↦ inr (λ q. elim q [ inl k ↦ false≢true (sym f ∙ k.0) | inr k ↦ false≢true (sym n ∙ k.completed) ])
+    | inr n ↦ inr (λ q. elim q [
+      | inl k ↦ false≢true (sym f ∙ k.0)
+      | inr k ↦ false≢true (sym n ∙ k.completed)
+    ])
   ]
 ]
 
@@ -66,7 +73,8 @@ listed-counts ops a (inl k) = inl (k.write, k.kept)
 listed-counts ops a (inr r) = inr r.1
 
 module _ (ops : List Operation) (y : IsHistory ops) where
-  pub sooner_total : (a b : Operation) → IsListed ops a → IsListed ops b → (a ≡ b) ⊎ (IsSooner ops a b ⊎ IsSooner ops b a)
+  pub sooner_total : (a b : Operation) → IsListed ops a → IsListed ops b
+      → (a ≡ b) ⊎ (IsSooner ops a b ⊎ IsSooner ops b a)
   sooner_total a b la lb = elim (cases_order (low_end ops a.value) (low_end ops b.value)) [
     | inr r ↦ inr (elim r [ inl lt ↦ inl (inl lt) | inr gt ↦ inr (inl gt) ])
     | inl e ↦
@@ -80,13 +88,17 @@ module _ (ops : List Operation) (y : IsHistory ops) where
             | inl u ↦ inr (inr (inr (sym e, inl (u, f))))
             | inr g ↦ elim (cases_order a.call b.call) [
               | inl c ↦ inl (y.calls a b (listed-in ops a la) (listed-in ops b lb) c)
-              | inr r ↦ inr (elim r [ inl lt ↦ inl (inr (e, inr (f ∙ sym g, lt))) | inr gt ↦ inr (inr (sym e, inr (g ∙ sym f, gt))) ])
+              | inr r ↦ inr (elim r [
+                | inl lt ↦ inl (inr (e, inr (f ∙ sym g, lt)))
+                | inr gt ↦ inr (inr (sym e, inr (g ∙ sym f, gt)))
+              ])
             ]
           ]
         ]
   ]
 
-  sooner_trans : (a b c : Operation) → IsListed ops a → IsListed ops b → IsListed ops c → IsSooner ops a b → IsSooner ops b c → IsSooner ops a c
+  sooner_trans : (a b c : Operation) → IsListed ops a → IsListed ops b → IsListed ops c → IsSooner ops a b
+      → IsSooner ops b c → IsSooner ops a c
   sooner_trans a b c la lb lc (inl p) (inl q) = inl (omega arith)
   sooner_trans a b c la lb lc (inl p) (inr q) = inl (omega (arith, q.0))
   sooner_trans a b c la lb lc (inr p) (inl q) = inl (omega (arith, p.0))
@@ -101,7 +113,9 @@ module _ (ops : List Operation) (y : IsHistory ops) where
   pub canonical : (order : List Operation) × IsCanonical ops order
   canonical =
       let p = picked (Counts ops) (counts ops) ops in
-      let s = sorted (IsListed ops) (IsSooner ops) sooner_total sooner_trans p.0 (λ a i. listed-from ops a (p.1 a i).0 (p.1 a i).1) in (
+      let s =
+      sorted (IsListed ops) (IsSooner ops) sooner_total sooner_trans p.0
+      (λ a i. listed-from ops a (p.1 a i).0 (p.1 a i).1) in (
         s.0,
         record {
           listed = λ a i. let k = p.1 a (s.1.only a i) in listed-from ops a k.0 k.1;

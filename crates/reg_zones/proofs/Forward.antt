@@ -3,16 +3,23 @@ use Rattle.std.proofs.Common.{◌≡◌, ◌<◌, List, inl, inr, ap, arith}
 use Rattle.std.proofs.lemmas.Bool.{cases_lt}
 use Rattle.history_model.specs.Operations.{Operation, IsHistory}
 use Rattle.reg_zones.proofs.LowEnds.{same_low}
-use Rattle.reg_zones.specs.Clusters.{first_reply, last_call, low_end, IsConflict, IsLastForward, IsClearBelow, IsFirstConflict}
+use Rattle.reg_zones.specs.Clusters.{first_reply, last_call, low_end, IsConflict}
+use Rattle.reg_zones.specs.Clusters.{IsLastForward, IsClearBelow, IsFirstConflict}
 
 -- a zone that conflicts with an earlier one, before any other does, does so with the last forward one
-pub last_forward : (ops : List Operation) (v w : Operation) → IsConflict ops v w → low_end ops v.value < low_end ops w.value → IsClearBelow ops (low_end ops w.value) → IsLastForward ops v (low_end ops w.value)
+pub last_forward : (ops : List Operation) (v w : Operation) → IsConflict ops v w
+    → low_end ops v.value < low_end ops w.value → IsClearBelow ops (low_end ops w.value)
+    → IsLastForward ops v (low_end ops w.value)
 last_forward ops v w c lt clear =
     let one = c.one in
     let other = c.other in
     record {
       kept = c.left;
-      forward = elim (cases_lt (first_reply ops v.value) (last_call ops v.value)) [ inl p ↦ p | inr p ↦ absurd (omega arith) ];
+      forward =
+          elim (cases_lt (first_reply ops v.value) (last_call ops v.value)) [
+            | inl p ↦ p
+            | inr p ↦ absurd (omega arith)
+          ];
       below = lt;
       last = λ u k p q. elim (cases_lt (low_end ops v.value) (low_end ops u.value)) [
         | inr r ↦ r
@@ -27,14 +34,22 @@ last_forward ops v w c lt clear =
     }
 
 -- so there is one such pair only
-pub one_conflict : (ops : List Operation) (v w a b : Operation) → IsHistory ops → IsFirstConflict ops v w → IsFirstConflict ops a b → (v ≡ a) × (w ≡ b)
+pub one_conflict : (ops : List Operation) (v w a b : Operation) → IsHistory ops → IsFirstConflict ops v w
+    → IsFirstConflict ops a b → (v ≡ a) × (w ≡ b)
 one_conflict ops v w a b y f g =
-    let lw : low_end ops w.value ≡ low_end ops b.value = elim (cases_lt (low_end ops w.value) (low_end ops b.value)) [
+    let lw : low_end ops w.value ≡ low_end ops b.value =
+    elim (cases_lt (low_end ops w.value) (low_end ops b.value)) [
       | inl p ↦ absurd (g.first v w f.conflict f.order p)
-      | inr p ↦ elim (cases_lt (low_end ops b.value) (low_end ops w.value)) [ inl q ↦ absurd (f.first a b g.conflict g.order q) | inr q ↦ omega arith ]
+      | inr p ↦ elim (cases_lt (low_end ops b.value) (low_end ops w.value)) [
+        | inl q ↦
+            absurd (f.first a b g.conflict g.order q)
+        | inr q ↦ omega arith
+      ]
     ] in
     let m = last_forward ops v w f.conflict f.order f.first in
     let n = last_forward ops a b g.conflict g.order g.first in
     let p = m.last a n.kept n.forward (omega (arith, n.below, lw)) in
-    let q = n.last v m.kept m.forward (omega (arith, m.below, lw)) in
-    (same_low ops y v a m.kept n.kept (omega (arith, p, q)), same_low ops y w b f.conflict.right g.conflict.right lw)
+    let q = n.last v m.kept m.forward (omega (arith, m.below, lw)) in (
+      same_low ops y v a m.kept n.kept (omega (arith, p, q)),
+      same_low ops y w b f.conflict.right g.conflict.right lw,
+    )

@@ -3,7 +3,8 @@ use Rattle.std.proofs.Common.{◌≡◌, List, None, inl, inr, refl, sym, ap, �
 use Rattle.std.proofs.lemmas.Bool.{cases_eq, cases_Bool}
 use Rattle.history_model.specs.Legal.{IsLegal}
 use Rattle.history_model.specs.Lists.{In, Before}
-use Rattle.history_model.specs.Operations.{Operation, IsHistory, IsWrite, IsCompleted, Precedes, is_write, initial_write}
+use Rattle.history_model.specs.Operations.{Operation, IsHistory, IsWrite, IsCompleted}
+use Rattle.history_model.specs.Operations.{Precedes, is_write, initial_write}
 use Rattle.reg_zones.proofs.Complete.{listed-member}
 use Rattle.reg_zones.proofs.Ends.{first_reply-le, first_reply-at, last_call-at}
 use Rattle.history_model.proofs.Lists.{Before-total}
@@ -11,7 +12,8 @@ use Rattle.reg_zones.proofs.Values.{cases_value}
 use Rattle.reg_zones.specs.Clusters.{IsInCluster, low_end}
 use Rattle.reg_zones.specs.Order.{IsListed, IsSooner}
 
-module _ (ops : List Operation) (y : IsHistory ops) (i : Operation) (j : In i ops) (z : i.process ≡ None) where
+module _ (ops : List Operation) (y : IsHistory ops) (i : Operation) (j : In i ops)
+    (z : i.process ≡ None) where
   is : i ≡ initial_write i.register
   is = y.initial i j z
 
@@ -52,15 +54,18 @@ module _ (ops : List Operation) (y : IsHistory ops) (i : Operation) (j : In i op
         | inr d ↦
             let f = first_reply-at ops a.value a ma in
             let s = last_call-at ops a.value a ma in
-            let nf : Precedes i f.0 = after f.0 f.1.within (λ e. d (sym (ap (λ (o : Operation). o.value) (sym e) ∙ f.1.value))) in
-            let ns : Precedes i s.0 = after s.0 s.1.within (λ e. d (sym (ap (λ (o : Operation). o.value) (sym e) ∙ s.1.value))) in
+            let nf : Precedes i f.0 =
+            after f.0 f.1.within (λ e. d (sym (ap (λ (o : Operation). o.value) (sym e) ∙ f.1.value))) in
+            let ns : Precedes i s.0 =
+            after s.0 s.1.within (λ e. d (sym (ap (λ (o : Operation). o.value) (sym e) ∙ s.1.value))) in
             let le = first_reply-le ops i.value i mi in
             let lives = y.life f.0 f.1.within in
             inl (omega (arith, f.2, s.2, replied))
       ]
 
   -- in each legal order, so that each operation after it has a nearest write
-  pub initial_first : (order : List Operation) → IsLegal ops order → (a : Operation) → In a order → (a ≡ i → ⊥) → Before i a order
+  pub initial_first : (order : List Operation) → IsLegal ops order → (a : Operation) → In a order
+      → (a ≡ i → ⊥) → Before i a order
   initial_first order l a k ne = elim (Before-total i a order (l.completion.all i j completed) k) [
     | inl e ↦ absurd (ne (sym e))
     | inr b ↦ elim b [ inl b ↦ b | inr b ↦ absurd (l.keeps a i b (after a (l.completion.only a k) ne)) ]

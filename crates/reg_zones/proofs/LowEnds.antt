@@ -8,7 +8,8 @@ use Rattle.reg_zones.proofs.Ends.{kept-member, first_reply-at, last_call-at}
 
 module _ (ops : List Operation) (y : IsHistory ops) where
   -- two clusters with one low end are one
-  pub low_apart : (v u : Option Val) (a b : Operation) → IsInCluster ops v a → IsInCluster ops u b → low_end ops v ≡ low_end ops u → v ≡ u
+  pub low_apart : (v u : Option Val) (a b : Operation) → IsInCluster ops v a → IsInCluster ops u b
+      → low_end ops v ≡ low_end ops u → v ≡ u
   low_apart v u a b m n e =
       let f = first_reply-at ops v a m in
       let s = last_call-at ops v a m in
@@ -18,7 +19,9 @@ module _ (ops : List Operation) (y : IsHistory ops) where
         | inl p ↦ elim (cases_lt (first_reply ops u) (last_call ops u)) [
           | inl q ↦ elim (cases_Bool f.0.completed) [
             | inl d ↦ elim (cases_Bool g.0.completed) [
-              | inl k ↦ sym f.1.value ∙ (ap (λ (x : Operation). x.value) (y.replies f.0 g.0 f.1.within g.1.within d k (omega (arith, f.2, g.2))) ∙ g.1.value)
+              | inl k ↦ sym f.1.value
+                  ∙ (ap (λ (x : Operation). x.value)
+                  (y.replies f.0 g.0 f.1.within g.1.within d k (omega (arith, f.2, g.2))) ∙ g.1.value)
               | inr k ↦ absurd (omega (arith, y.pending g.0 t.0 g.1.within t.1.within k, g.2, t.2))
             ]
             | inr d ↦ absurd (omega (arith, y.pending f.0 s.0 f.1.within s.1.within d, f.2, s.2))
@@ -27,9 +30,14 @@ module _ (ops : List Operation) (y : IsHistory ops) where
         ]
         | inr p ↦ elim (cases_lt (first_reply ops u) (last_call ops u)) [
           | inl q ↦ absurd (y.apart g.0 s.0 g.1.within s.1.within (omega (arith, g.2, s.2)))
-          | inr q ↦ sym s.1.value ∙ (ap (λ (x : Operation). x.value) (y.calls s.0 t.0 s.1.within t.1.within (omega (arith, s.2, t.2))) ∙ t.1.value)
+          | inr q ↦ sym s.1.value
+              ∙ (ap (λ (x : Operation). x.value)
+              (y.calls s.0 t.0 s.1.within t.1.within (omega (arith, s.2, t.2))) ∙ t.1.value)
         ]
       ]
 
-  pub same_low : (u w : Operation) → IsKept ops u → IsKept ops w → low_end ops u.value ≡ low_end ops w.value → u ≡ w
-  same_low u w a b e = y.values u w a.within b.within a.write b.write (low_apart u.value w.value u w (kept-member ops u a) (kept-member ops w b) e)
+  pub same_low : (u w : Operation) → IsKept ops u → IsKept ops w
+      → low_end ops u.value ≡ low_end ops w.value → u ≡ w
+  same_low u w a b e =
+      y.values u w a.within b.within a.write b.write
+      (low_apart u.value w.value u w (kept-member ops u a) (kept-member ops w b) e)

@@ -11,36 +11,52 @@ use Rattle.reg_zones.proofs.Forward.{one_conflict}
 use Rattle.reg_zones.proofs.ClearBelow.{one_first_reply, one_last_call}
 
 pub fault_is_none : (ops : List Operation) (f : Fault) → IsFault ops f → HasNoFault ops → ⊥
-fault_is_none ops (Unwritten read) f ok = let w = ok.written f.0 f.1.fault.within f.1.fault.read in f.1.fault.unwritten w.0 w.1 w.2 w.3
+fault_is_none ops (Unwritten read) f ok =
+    let w = ok.written f.0 f.1.fault.within f.1.fault.read in f.1.fault.unwritten w.0 w.1 w.2 w.3
 fault_is_none ops (Early read write) f ok = ok.in_time f.0 f.1 f.2.fault
 fault_is_none ops (Zones writes first second) f ok = ok.compatible f.0 f.1 f.6.conflict.conflict
 
 module _ (ops : List Operation) (y : IsHistory ops) where
   one_unwritten : (r q : Operation) → IsFirstUnwritten ops r → IsFirstUnwritten ops q → r ≡ q
-  one_unwritten r q a b = y.calls r q a.fault.within b.fault.within (omega (arith, a.first q b.fault, b.first r a.fault))
+  one_unwritten r q a b =
+      y.calls r q a.fault.within b.fault.within (omega (arith, a.first q b.fault, b.first r a.fault))
 
   one_early : (r w q u : Operation) → IsFirstEarly ops r w → IsFirstEarly ops q u → (r ≡ q) × (w ≡ u)
   one_early r w q u a b =
-      let e = y.calls r q a.fault.within b.fault.within (omega (arith, a.first q u b.fault, b.first r w a.fault)) in
-      (e, y.values w u a.fault.write_within b.fault.write_within a.fault.write b.fault.write (sym a.fault.read.value ∙ (ap (λ (o : Operation). o.value) e ∙ b.fault.read.value)))
+      let e =
+      y.calls r q a.fault.within b.fault.within (omega (
+        arith,
+        a.first q u b.fault,
+        b.first r w a.fault,
+      )) in (
+        e,
+        y.values w u a.fault.write_within b.fault.write_within a.fault.write b.fault.write
+            (sym a.fault.read.value ∙ (ap (λ (o : Operation). o.value) e ∙ b.fault.read.value)),
+      )
 
-  one_witness : (v w v' w' a b a' b' : Operation) → IsKept ops v → v ≡ v' → w ≡ w' → IsWitness ops v w a b → IsWitness ops v' w' a' b' → (a ≡ a') × (b ≡ b')
+  one_witness : (v w v' w' a b a' b' : Operation) → IsKept ops v → v ≡ v' → w ≡ w' → IsWitness ops v w a b
+      → IsWitness ops v' w' a' b' → (a ≡ a') × (b ≡ b')
   one_witness v w v' w' a b a' b' k ev ew f g = (
-    one_first_reply ops v a a' y k f.reply (subst (λ (x : Operation). HasFirstReply ops x.value a') (sym ev) g.reply),
+    one_first_reply ops v a a' y k f.reply
+        (subst (λ (x : Operation). HasFirstReply ops x.value a') (sym ev) g.reply),
     one_last_call ops w b b' y f.call (subst (λ (x : Operation). HasLastCall ops x.value b') (sym ew) g.call),
   )
 
-  named : (a b a' b' : Operation) → a ≡ a' → b ≡ b' → ◌≡◌ {A = Oper × Oper} (name_of a, name_of b) (name_of a', name_of b')
-  named a b a' b' e f = ap (λ (x : Operation). (name_of x, name_of b)) e ∙ ap (λ (x : Operation). (name_of a', name_of x)) f
+  named : (a b a' b' : Operation) → a ≡ a' → b ≡ b'
+      → ◌≡◌ {A = Oper × Oper} (name_of a, name_of b) (name_of a', name_of b')
+  named a b a' b' e f =
+      ap (λ (x : Operation). (name_of x, name_of b)) e ∙ ap (λ (x : Operation). (name_of a', name_of x)) f
 
   pub one_fault : (f g : Fault) → IsFault ops f → IsFault ops g → f ≡ g
-  one_fault (Unwritten r) (Unwritten q) f g = ap (λ n. Unwritten n) (sym f.2 ∙ (ap name_of (one_unwritten f.0 g.0 f.1 g.1) ∙ g.2))
+  one_fault (Unwritten r) (Unwritten q) f g =
+      ap (λ n. Unwritten n) (sym f.2 ∙ (ap name_of (one_unwritten f.0 g.0 f.1 g.1) ∙ g.2))
   one_fault (Unwritten r) (Early q u) f g = absurd (g.2.written f.0 f.1.fault)
   one_fault (Unwritten r) (Zones v a b) f g = absurd (g.6.written f.0 f.1.fault)
   one_fault (Early r w) (Unwritten q) f g = absurd (f.2.written g.0 g.1.fault)
   one_fault (Early r w) (Early q u) f g =
       let e = one_early f.0 f.1 g.0 g.1 f.2 g.2 in
-      ap (λ n. Early n w) (sym f.3 ∙ (ap name_of e.0 ∙ g.3)) ∙ ap (λ n. Early q n) (sym f.4 ∙ (ap name_of e.1 ∙ g.4))
+      ap (λ n. Early n w) (sym f.3 ∙ (ap name_of e.0 ∙ g.3))
+      ∙ ap (λ n. Early q n) (sym f.4 ∙ (ap name_of e.1 ∙ g.4))
   one_fault (Early r w) (Zones v a b) f g = absurd (g.6.in_time f.0 f.1 f.2.fault)
   one_fault (Zones v a b) (Unwritten q) f g = absurd (f.6.written g.0 g.1.fault)
   one_fault (Zones v a b) (Early q u) f g = absurd (f.6.in_time g.0 g.1 g.2.fault)

@@ -1,5 +1,6 @@
 -- The listed operations, sorted by their places, are the canonical order.
-use Rattle.std.proofs.Common.{◌≡◌, ℕ, max, map, List, [], ◌∷◌, inl, inr, refl, sym, ap, subst, ◌∙◌, arith, AllPairs}
+use Rattle.std.proofs.Common.{◌≡◌, ℕ, max, map, List, [], ◌∷◌, inl, inr}
+use Rattle.std.proofs.Common.{refl, sym, ap, subst, ◌∙◌, arith, AllPairs}
 use Rattle.std.proofs.lemmas.List.Sorted.{Contains-permutation, IsPermutation-sym}
 use Rattle.std.specs.List.Sorted.{IsPermutation}
 use Rattle.history_model.specs.Lists.{In}
@@ -29,11 +30,16 @@ moved-In : (xs ys : List Entry) (x : Entry) → IsPermutation xs ys → In x xs 
 moved-In xs ys x p i = In-from_Contains ys x (Contains-permutation xs ys x p (Contains-from_In xs x i))
 
 -- the points of the entries are those of the operations
-entries_placed-of : (ops : List Operation) (n : ℕ) (order : List Operation) → entries_placed n (map (entry_of ops) order) ≡ map shown (placed_from n order)
+entries_placed-of : (ops : List Operation) (n : ℕ) (order : List Operation)
+    → entries_placed n (map (entry_of ops) order) ≡ map shown (placed_from n order)
 entries_placed-of ops n [] = refl
-entries_placed-of ops n (a ∷ order) = ap (λ xs. shown (record { operation = a; point = max n a.call }) ∷ xs) (entries_placed-of ops (max n a.call) order)
+entries_placed-of ops n (a ∷ order) =
+    ap (λ xs. shown (record { operation = a; point = max n a.call }) ∷ xs)
+    (entries_placed-of ops (max n a.call) order)
 
-module _ (h : History) (r : ℕ) (y : IsKnown h r) (entries sorted : List Entry) (l : IsListing (of_register r (operations h)) entries) (p : IsPermutation entries sorted) (up : AllPairs ComesFirst sorted) where
+module _ (h : History) (r : ℕ) (y : IsKnown h r) (entries sorted : List Entry)
+    (l : IsListing (of_register r (operations h)) entries) (p : IsPermutation entries sorted)
+    (up : AllPairs ComesFirst sorted) where
   abbrev ops : List Operation
   ops = of_register r (operations h)
 
@@ -41,17 +47,21 @@ module _ (h : History) (r : ℕ) (y : IsKnown h r) (entries sorted : List Entry)
   sorted-is order c = ascending_one ComesFirst first_one_way sorted (map (entry_of ops) order)
       (λ x i.
       let o = l.only x (moved-In sorted entries x (IsPermutation-sym entries sorted p) i) in
-      subst (λ z. In z (map (entry_of ops) order)) (sym o.2) (In-map (entry_of ops) o.0 order (c.all o.0 o.1)))
+      subst (λ z. In z (map (entry_of ops) order)) (sym o.2)
+      (In-map (entry_of ops) o.0 order (c.all o.0 o.1)))
       (λ x i.
       let o = map-In (entry_of ops) x order i in
       moved-In entries sorted x p (subst (λ z. In z entries) (sym o.2) (l.all o.0 (c.listed o.0 o.1))))
       (Before-from_pairs ComesFirst sorted up)
       (λ u v s.
       let o = map-Before (entry_of ops) u v order s in
-      let f = sooner-first h r y o.0 o.1 (c.listed o.0 (Before-first o.0 o.1 order o.2)) (c.listed o.1 (Before-second o.0 o.1 order o.2)) (c.ascending o.0 o.1 o.2) in
+      let f =
+      sooner-first h r y o.0 o.1 (c.listed o.0 (Before-first o.0 o.1 order o.2))
+      (c.listed o.1 (Before-second o.0 o.1 order o.2)) (c.ascending o.0 o.1 o.2) in
       subst (λ z. ComesFirst z v) (sym o.3) (subst (ComesFirst (entry_of ops o.0)) (sym o.4) f))
 
-  pub ordered : HasNoFault ops → (answer : List Placed) → answer ≡ entries_placed 0 sorted → IsOrder ops answer
+  pub ordered : HasNoFault ops → (answer : List Placed) → answer ≡ entries_placed 0 sorted
+      → IsOrder ops answer
   ordered ok answer e =
       let o = canonical ops y.history in
       let k = legal ops y.history ok o.0 o.1 in

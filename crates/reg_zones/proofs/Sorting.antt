@@ -11,8 +11,16 @@ pub record IsSortedOf {X : Type 0} (R : X → X → Type 0) (xs ys : List X) : T
 module _ {X : Type 0} (P : X → Type 0) (R : X → X → Type 0)
     (total : (a b : X) → P a → P b → (a ≡ b) ⊎ (R a b ⊎ R b a))
     (trans : (a b c : X) → P a → P b → P c → R a b → R b c → R a c) where
-  insert : (a : X) (ys : List X) → P a → ((x : X) → In x ys → P x) → ((x z : X) → Before x z ys → R x z) → (zs : List X) × IsSortedOf R (a ∷ ys) zs
-  insert a [] p ps up = (a ∷ [], record { only = λ x i. i; all = λ x i. i; ascending = λ x z b. elim b [ inl h ↦ absurd h.1 | inr h ↦ absurd h ] })
+  insert : (a : X) (ys : List X) → P a → ((x : X) → In x ys → P x) → ((x z : X) → Before x z ys → R x z)
+      → (zs : List X) × IsSortedOf R (a ∷ ys) zs
+  insert a [] p ps up = (
+    a ∷ [],
+    record {
+      only = λ x i. i;
+      all = λ x i. i;
+      ascending = λ x z b. elim b [ inl h ↦ absurd h.1 | inr h ↦ absurd h ];
+    },
+  )
   insert a (y ∷ ys) p ps up =
       let rest = insert a ys p (λ x i. ps x (inr i)) (λ x z b. up x z (inr b)) in
       elim (total a y p (ps y (inl refl))) [
@@ -42,10 +50,22 @@ module _ {X : Type 0} (P : X → Type 0) (R : X → X → Type 0)
           | inr gt ↦ (
             y ∷ rest.0,
             record {
-              only = λ x i. elim i [ inl s ↦ inr (inl s) | inr k ↦ elim (rest.1.only x k) [ inl s ↦ inl s | inr t ↦ inr (inr t) ] ];
-              all = λ x i. elim i [ inl s ↦ inr (rest.1.all x (inl s)) | inr k ↦ elim k [ inl s ↦ inl s | inr t ↦ inr (rest.1.all x (inr t)) ] ];
+              only =
+                  λ x i. elim i [
+                    | inl s ↦ inr (inl s)
+                    | inr k ↦ elim (rest.1.only x k) [ inl s ↦ inl s | inr t ↦ inr (inr t) ]
+                  ];
+              all =
+                  λ x i. elim i [
+                    | inl s ↦ inr (rest.1.all x (inl s))
+                    | inr k ↦ elim k [ inl s ↦ inl s | inr t ↦ inr (rest.1.all x (inr t)) ]
+                  ];
               ascending = λ x z b. elim b [
-                | inl h ↦ subst (λ w. R w z) (sym h.0) (elim (rest.1.only z h.1) [ inl s ↦ subst (R y) (sym s) gt | inr t ↦ up y z (inl (refl, t)) ])
+                | inl h ↦ subst (λ w. R w z) (sym h.0)
+                    (elim (rest.1.only z h.1) [
+                      | inl s ↦ subst (R y) (sym s) gt
+                      | inr t ↦ up y z (inl (refl, t))
+                    ])
                 | inr h ↦ rest.1.ascending x z h
               ];
             },
@@ -67,11 +87,20 @@ module _ {X : Type 0} (P : X → Type 0) (R : X → X → Type 0)
       )
 
 -- the elements that pass a test
-pub picked : {X : Type 0} (Q : X → Type 0) → ((x : X) → Q x ⊎ (Q x → ⊥)) → (xs : List X) → (ys : List X) × ((x : X) → In x ys → In x xs × Q x) × ((x : X) → In x xs → Q x → In x ys)
+pub picked : {X : Type 0} (Q : X → Type 0) → ((x : X) → Q x ⊎ (Q x → ⊥)) → (xs : List X)
+    → (ys : List X) × ((x : X) → In x ys → In x xs × Q x) × ((x : X) → In x xs → Q x → In x ys)
 picked Q d [] = ([], λ x i. elim i [ ], λ x i q. i)
 picked Q d (a ∷ xs) =
     let r = picked Q d xs in
     elim (d a) [
-      | inl q ↦ (a ∷ r.0, λ x i. elim i [ inl s ↦ (inl s, subst Q (sym s) q) | inr k ↦ (inr (r.1 x k).0, (r.1 x k).1) ], λ x i p. elim i [ inl s ↦ inl s | inr k ↦ inr (r.2 x k p) ])
-      | inr n ↦ (r.0, λ x i. (inr (r.1 x i).0, (r.1 x i).1), λ x i p. elim i [ inl s ↦ absurd (n (subst Q s p)) | inr k ↦ r.2 x k p ])
+      | inl q ↦ (
+        a ∷ r.0,
+        λ x i. elim i [ inl s ↦ (inl s, subst Q (sym s) q) | inr k ↦ (inr (r.1 x k).0, (r.1 x k).1) ],
+        λ x i p. elim i [ inl s ↦ inl s | inr k ↦ inr (r.2 x k p) ],
+      )
+      | inr n ↦ (
+        r.0,
+        λ x i. (inr (r.1 x i).0, (r.1 x i).1),
+        λ x i p. elim i [ inl s ↦ absurd (n (subst Q s p)) | inr k ↦ r.2 x k p ],
+      )
     ]

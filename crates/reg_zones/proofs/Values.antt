@@ -30,4 +30,8 @@ pub eq-same : (a b : Option Val) → a ≡ b → same_value a b ≡ true
 eq-same a b e = subst (λ v. same_value a v ≡ true) e (same-refl a)
 
 pub cases_value : (a b : Option Val) → (a ≡ b) ⊎ (a ≡ b → ⊥)
-cases_value a b = elim (cases_Bool (same_value a b)) [ inl t ↦ inl (same-true a b t) | inr f ↦ inr (λ e. false≢true (sym f ∙ eq-same a b e)) ]
+cases_value a b =
+    elim (cases_Bool (same_value a b)) [
+      | inl t ↦ inl (same-true a b t)
+      | inr f ↦ inr (λ e. false≢true (sym f ∙ eq-same a b e))
+    ]

@@ -1,4 +1,5 @@
--- Clusters of a register's operations, `ops`, their zones, and which zones conflict (Gibbons and Korach, Testing Shared Memories, SIAM Journal on Computing, 1997, section 3).
+-- Clusters of a register's operations, `ops`, their zones, and which zones conflict (Gibbons and Korach,
+-- Testing Shared Memories, SIAM Journal on Computing, 1997, section 3).
 use Rattle.std.specs.Prelude.{◌≡◌, ℕ, ◌<◌, ◌≤◌, ◌&&◌, ◌||◌, ◌⊎◌, min, max, map, Bool, List, [], ◌∷◌, Option}
 use Rattle.std.specs.List.{filter}
 use Rattle.history_text.specs.declared.event.Val.{Val}
@@ -6,7 +7,8 @@ use Rattle.history_text.specs.Values.{same_value}
 use Rattle.history_model.specs.Lists.{In}
 use Rattle.history_model.specs.Operations.{Operation, IsWrite, IsCompleted, IsReadOf, is_write}
 
--- a write that is initial or completed, or pending with a completed read of its value (the initial write counts as completed)
+-- a write that is initial or completed, or pending with a completed read of its
+-- value (the initial write counts as completed)
 pub record IsKept (ops : List Operation) (w : Operation) : Type 0 where
   pub within : In w ops
   pub write : IsWrite w
@@ -73,7 +75,8 @@ pub record HasLastCall (ops : List Operation) (v : Option Val) (a : Operation) :
 
 -- ---- conflicts
 
--- two kept writes of different clusters whose zones conflict: some operation of each cluster precedes one of the other
+-- two kept writes of different clusters whose zones conflict: some operation
+-- of each cluster precedes one of the other
 pub record IsConflict (ops : List Operation) (v w : Operation) : Type 0 where
   pub left : IsKept ops v
   pub right : IsKept ops w
@@ -83,7 +86,9 @@ pub record IsConflict (ops : List Operation) (v w : Operation) : Type 0 where
 
 -- no two conflicting zones have their low ends below n
 abbrev pub IsClearBelow : List Operation → ℕ → Type 0
-IsClearBelow ops n = (v w : Operation) → IsConflict ops v w → low_end ops v.value < low_end ops w.value → low_end ops w.value < n → ⊥
+IsClearBelow ops n =
+    (v w : Operation) → IsConflict ops v w → low_end ops v.value < low_end ops w.value
+    → low_end ops w.value < n → ⊥
 
 -- the conflicting pair whose second low end is least, the first below the second
 pub record IsFirstConflict (ops : List Operation) (v w : Operation) : Type 0 where
@@ -96,4 +101,5 @@ pub record IsLastForward (ops : List Operation) (v : Operation) (n : ℕ) : Type
   pub kept : IsKept ops v
   pub forward : IsForward ops v.value
   pub below : low_end ops v.value < n
-  pub last : (u : Operation) → IsKept ops u → IsForward ops u.value → low_end ops u.value < n → low_end ops u.value ≤ low_end ops v.value
+  pub last : (u : Operation) → IsKept ops u → IsForward ops u.value → low_end ops u.value < n
+      → low_end ops u.value ≤ low_end ops v.value

@@ -1,5 +1,6 @@
 -- Listed operations with what places them in the canonical order.
-use Rattle.std.specs.Prelude.{◌≡◌, ℕ, ◌<◌, ◌==◌, ◌&&◌, ◌⊎◌, max, false, cond, Bool, List, [], ◌∷◌, AllPairs, Option, Some, None}
+use Rattle.std.specs.Prelude.{◌≡◌, ℕ, ◌<◌, ◌==◌, ◌&&◌, ◌⊎◌, max, false, cond, Bool}
+use Rattle.std.specs.Prelude.{List, [], ◌∷◌, AllPairs, Option, Some, None}
 use Rattle.std.specs.List.Sorted.{IsPermutation}
 use Rattle.history_model.specs.Lists.{In}
 use Rattle.history_model.specs.Operations.{Operation, is_write}
@@ -38,8 +39,11 @@ IsListedAt ops n (Some x) = (a : Operation) × IsListed ops a × (a.call ≡ n) 
 -- the operations in their order, each with the last call up to it; n is that of those before
 abbrev pub entries_placed : ℕ → List Entry → List Placed
 entries_placed n [] = []
-entries_placed n (x ∷ entries) = record { oper = x.oper; point = max n x.call } ∷ entries_placed (max n x.call) entries
+entries_placed n (x ∷ entries) =
+    record { oper = x.oper; point = max n x.call } ∷ entries_placed (max n x.call) entries
 
 -- the operations of the entries in the order of their places, each with its point
 abbrev pub IsRanking : List Entry → List Placed → Type 0
-IsRanking entries answer = (sorted : List Entry) × IsPermutation entries sorted × AllPairs ComesFirst sorted × (answer ≡ entries_placed 0 sorted)
+IsRanking entries answer =
+    (sorted : List Entry) × IsPermutation entries sorted × AllPairs ComesFirst sorted
+    × (answer ≡ entries_placed 0 sorted)

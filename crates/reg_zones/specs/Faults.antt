@@ -1,4 +1,5 @@
--- Why a register isn't atomic: its fault, the first kind that applies (the kinds are those of Gibbons and Korach, Testing Shared Memories, 1997, section 3; which one is named is this project's profile).
+-- Why a register isn't atomic: its fault, the first kind that applies (the kinds are those of Gibbons and
+-- Korach, Testing Shared Memories, 1997, section 3; which one is named is this project's profile).
 use Rattle.std.specs.Prelude.{◌≡◌, ◌≤◌, List}
 use Rattle.history_model.specs.Lists.{In}
 use Rattle.history_model.specs.Operations.{Operation, IsWrite, IsCompletedRead, IsReadOf, Precedes}
@@ -23,7 +24,8 @@ pub record IsEarly (ops : List Operation) (r w : Operation) : Type 0 where
 
 -- no fault: each completed read has its write, no read is early, and no two zones conflict
 pub record HasNoFault (ops : List Operation) : Type 0 where
-  pub written : (r : Operation) → In r ops → IsCompletedRead r → (w : Operation) × In w ops × IsWrite w × IsReadOf w r
+  pub written : (r : Operation) → In r ops → IsCompletedRead r → (w : Operation) × In w ops × IsWrite w
+      × IsReadOf w r
   pub in_time : (r w : Operation) → IsEarly ops r w → ⊥
   pub compatible : (v w : Operation) → IsConflict ops v w → ⊥
 
@@ -53,10 +55,13 @@ pub record IsWitness (ops : List Operation) (v w a b : Operation) : Type 0 where
 
 -- ---- the fault, whose operations go by their names
 
--- The fault of a register's operations. Of a conflict the two writes are named, then for each of the two an operation that precedes one of the other's.
+-- The fault of a register's operations. Of a conflict the two writes are named, then for each of the two an
+-- operation that precedes one of the other's.
 abbrev pub IsFault : List Operation → Fault → Type 0
 IsFault ops (Unwritten read) = (r : Operation) × IsFirstUnwritten ops r × (name_of r ≡ read)
-IsFault ops (Early read write) = (r : Operation) × (w : Operation) × IsFirstEarly ops r w × (name_of r ≡ read) × (name_of w ≡ write)
-IsFault ops (Zones writes first second) = (v : Operation) × (w : Operation) × (a : Operation) × (b : Operation) × (c : Operation) × (d : Operation)
+IsFault ops (Early read write) =
+    (r : Operation) × (w : Operation) × IsFirstEarly ops r w × (name_of r ≡ read) × (name_of w ≡ write)
+IsFault ops (Zones writes first second) =
+    (v : Operation) × (w : Operation) × (a : Operation) × (b : Operation) × (c : Operation) × (d : Operation)
     × IsConflictFault ops v w × IsWitness ops v w a b × IsWitness ops w v c d
     × (writes ≡ (name_of v, name_of w)) × (first ≡ (name_of a, name_of b)) × (second ≡ (name_of c, name_of d))

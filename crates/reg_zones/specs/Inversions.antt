@@ -1,4 +1,5 @@
--- New-old inversions of a register's operations, `ops`: a read gives a new value, and a later read an old one (Lamport, On Interprocess Communication, Part II, 1986, section 2).
+-- New-old inversions of a register's operations, `ops`: a read gives a new value, and a later read an old one
+-- (Lamport, On Interprocess Communication, Part II, 1986, section 2).
 use Rattle.std.specs.Prelude.{List, Option, Some, None}
 use Rattle.history_model.specs.declared.ids.Oper.{Oper}
 use Rattle.history_model.specs.Lamport.{KeepsRegular}
@@ -30,7 +31,8 @@ pub record IsInversion (ops : List Operation) (r s : Operation) : Type 0 where
 abbrev pub HasInversion : List Operation → Type 0
 HasInversion ops = (r : Operation) × (s : Operation) × IsInversion ops r s
 
--- the pair of a conflict that may be an inversion: an operation of the second write's cluster, which precedes one of the first's
+-- the pair of a conflict that may be an inversion: an operation of the second write's
+-- cluster, which precedes one of the first's
 abbrev pub inversion_named : Fault → Option (Oper × Oper)
 inversion_named (Unwritten read) = None
 inversion_named (Early read write) = None

@@ -1,4 +1,6 @@
--- The canonical order of a register without fault, and the point of each of its operations (this project's profile; points as in Herlihy and Wing, Linearizability: A Correctness Condition for Concurrent Objects, 1990, section 2).
+-- The canonical order of a register without fault, and the point of each of its operations
+-- (this project's profile; points as in Herlihy and Wing, Linearizability: A Correctness
+-- Condition for Concurrent Objects, 1990, section 2).
 use Rattle.std.specs.Prelude.{◌≡◌, ℕ, ◌<◌, ◌≤◌, ◌⊎◌, max, map, true, false, List, [], ◌∷◌}
 use Rattle.history_model.specs.Lists.{In, Before}
 use Rattle.history_model.specs.Operations.{Operation, IsCompletedRead, is_write}
@@ -14,7 +16,8 @@ IsListed ops a = IsKept ops a ⊎ (In a ops × IsCompletedRead a)
 -- a comes sooner than b: by the low end of the cluster, then the write first, then by call
 abbrev pub IsSooner : List Operation → Operation → Operation → Type 0
 IsSooner ops a b = (low_end ops a.value < low_end ops b.value)
-    ⊎ ((low_end ops a.value ≡ low_end ops b.value) × (((is_write a ≡ true) × (is_write b ≡ false)) ⊎ ((is_write a ≡ is_write b) × (a.call < b.call))))
+    ⊎ ((low_end ops a.value ≡ low_end ops b.value)
+    × (((is_write a ≡ true) × (is_write b ≡ false)) ⊎ ((is_write a ≡ is_write b) × (a.call < b.call))))
 
 -- the kept writes and the completed reads, ascending
 pub record IsCanonical (ops order : List Operation) : Type 0 where
@@ -52,7 +55,8 @@ pub record IsWithinLife (x : PlacedOperation) : Type 0 where
 abbrev pub shown : PlacedOperation → Placed
 shown x = record { oper = name_of x.operation; point = x.point }
 
--- The canonical order with its points, by the operations' names. It is a legal order of the completion that it lists, each point lies in its operation's life, and no point falls.
+-- The canonical order with its points, by the operations' names. It is a legal order of the completion that
+-- it lists, each point lies in its operation's life, and no point falls.
 pub record IsOrder (ops : List Operation) (answer : List Placed) : Type 0 where
   pub order : List Operation
   pub canonical : IsCanonical ops order

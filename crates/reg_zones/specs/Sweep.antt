@@ -7,11 +7,13 @@ use Rattle.history_model.specs.declared.ids.Oper.TheVariants.{Initial, Called}
 use Rattle.history_model.specs.declared.op.Op.{Op}
 use Rattle.history_model.specs.Lists.{In}
 use Rattle.history_model.specs.History.{History}
-use Rattle.history_model.specs.Operations.{Operation, IsWrite, IsCompleted, IsCompletedRead, IsReadOf, of_register, operations}
+use Rattle.history_model.specs.Operations.{Operation, IsWrite, IsCompleted, IsCompletedRead}
+use Rattle.history_model.specs.Operations.{IsReadOf, of_register, operations}
 use Rattle.history_model.specs.Walking.{by_value, key_at}
 use Rattle.history_model.specs.Naming.{IsNamed, IsEventOf, name_of, op_shown}
 use Rattle.history_model.specs.OfValue.{IsMember, IsFirstReply, IsLastCall}
-use Rattle.reg_zones.specs.Clusters.{IsKept, IsConflict, IsFirstConflict, IsClearBelow, IsForward, IsLastForward, first_reply, last_call, low_end}
+use Rattle.reg_zones.specs.Clusters.{IsKept, IsConflict, IsFirstConflict, IsClearBelow, IsForward}
+use Rattle.reg_zones.specs.Clusters.{IsLastForward, first_reply, last_call, low_end}
 use Rattle.reg_zones.specs.Faults.{IsUnwritten, IsEarly}
 use Rattle.reg_zones.specs.declared.zone.Zone.{Zone}
 use Rattle.reg_zones.specs.declared.pass.Cluster.{Cluster}
@@ -28,10 +30,13 @@ pub record IsBelonging (h : History) (r i : ℕ) (o : Operation) (op : Op) : Typ
   pub event : IsEventOf i o
   pub shown : op ≡ op_shown o
 
--- what the event at place i is to register r: the call of an operation, which has this name; the reply to one; or no event of any
+-- what the event at place i is to register r: the call of an operation, which has this
+-- name; the reply to one; or no event of any
 abbrev pub IsMetAt : History → ℕ → ℕ → Met → Type 0
-IsMetAt h r i (Call oper op) = (o : Operation) × IsBelonging h r i o op × (oper ≡ name_of o) × (o.call ≡ i + 2)
-IsMetAt h r i Reply = (o : Operation) × In o (of_register r (operations h)) × IsCompleted o × (o.reply ≡ i + 2)
+IsMetAt h r i (Call oper op) =
+    (o : Operation) × IsBelonging h r i o op × (oper ≡ name_of o) × (o.call ≡ i + 2)
+IsMetAt h r i Reply =
+    (o : Operation) × In o (of_register r (operations h)) × IsCompleted o × (o.reply ≡ i + 2)
 IsMetAt h r i Nothing = (o : Operation) → In o (of_register r (operations h)) → IsEventOf i o → ⊥
 
 -- when the operation of this name was called; the event at place i has time i + 2
@@ -55,16 +60,22 @@ IsZoneFound h r v (Some zone) = IsFirstReply h r v (Some zone.f) × IsLastCall h
 abbrev pub IsKeptWrite : History → Oper → Type 0
 IsKeptWrite h name = (w : Operation) × IsNamed h name w × IsKept (of_register w.register (operations h)) w
 
--- an event of register r that has the value of the operation to which the event at place i belongs, if it belongs to one that has a value; a pending read has none
+-- an event of register r that has the value of the operation to which the event at place i belongs, if it
+-- belongs to one that has a value; a pending read has none
 abbrev pub IsValueOf : History → ℕ → ℕ → Option EvId → Type 0
-IsValueOf h r i None = (o : Operation) → In o (of_register r (operations h)) → IsEventOf i o → IsWrite o ⊎ IsCompleted o → ⊥
-IsValueOf h r i (Some id) = (o : Operation) × In o (of_register r (operations h)) × IsEventOf i o × ((v : Val) × (o.value ≡ Some v) × (key_at by_value h.events id.0 ≡ Some (r, v)) × (IsWrite o ⊎ IsCompleted o))
+IsValueOf h r i None =
+    (o : Operation) → In o (of_register r (operations h)) → IsEventOf i o → IsWrite o ⊎ IsCompleted o → ⊥
+IsValueOf h r i (Some id) =
+    (o : Operation) × In o (of_register r (operations h)) × IsEventOf i o
+    × ((v : Val) × (o.value ≡ Some v) × (key_at by_value h.events id.0 ≡ Some (r, v))
+    × (IsWrite o ⊎ IsCompleted o))
 
 -- ---- reads without a write, and early reads
 
 -- each completed read has its write
 abbrev pub AreWritten : List Operation → Type 0
-AreWritten ops = (r : Operation) → In r ops → IsCompletedRead r → (w : Operation) × In w ops × IsWrite w × IsReadOf w r
+AreWritten ops =
+    (r : Operation) → In r ops → IsCompletedRead r → (w : Operation) × In w ops × IsWrite w × IsReadOf w r
 
 -- no read is early
 abbrev pub AreInTime : List Operation → Type 0
@@ -72,22 +83,29 @@ AreInTime ops = (r w : Operation) → IsEarly ops r w → ⊥
 
 -- the read is one of the operations, completed, with its value and its reply
 abbrev pub IsReadOfRegister : List Operation → Read → Type 0
-IsReadOfRegister ops read = (r : Operation) × In r ops × IsCompletedRead r × (r.value ≡ Some read.value) × (r.reply ≡ read.reply)
+IsReadOfRegister ops read =
+    (r : Operation) × In r ops × IsCompletedRead r × (r.value ≡ Some read.value) × (r.reply ≡ read.reply)
 
 -- the completed read that is called at time n, if there is one
 abbrev pub IsReadCalledAt : List Operation → ℕ → Option Read → Type 0
 IsReadCalledAt ops n None = (r : Operation) → In r ops → IsCompletedRead r → r.call ≡ n → ⊥
-IsReadCalledAt ops n (Some read) = (r : Operation) × In r ops × IsCompletedRead r × (r.call ≡ n) × (name_of r ≡ read.oper) × (r.value ≡ Some read.value) × (r.reply ≡ read.reply)
+IsReadCalledAt ops n (Some read) =
+    (r : Operation) × In r ops × IsCompletedRead r × (r.call ≡ n) × (name_of r ≡ read.oper)
+    × (r.value ≡ Some read.value) × (r.reply ≡ read.reply)
 
 -- the completed read that is called at time n, if it has no write
 abbrev pub IsUnwrittenAt : List Operation → ℕ → Option Oper → Type 0
-IsUnwrittenAt ops n None = (r : Operation) → In r ops → IsCompletedRead r → r.call ≡ n → (w : Operation) × In w ops × IsWrite w × IsReadOf w r
+IsUnwrittenAt ops n None =
+    (r : Operation) → In r ops → IsCompletedRead r → r.call ≡ n → (w : Operation) × In w ops × IsWrite w
+    × IsReadOf w r
 IsUnwrittenAt ops n (Some read) = (r : Operation) × IsUnwritten ops r × (r.call ≡ n) × (name_of r ≡ read)
 
 -- the read that is called at time n, with its write, if it is early
 abbrev pub IsEarlyAt : List Operation → ℕ → Option (Oper × Oper) → Type 0
 IsEarlyAt ops n None = (r w : Operation) → IsEarly ops r w → r.call ≡ n → ⊥
-IsEarlyAt ops n (Some pair) = (r : Operation) × (w : Operation) × IsEarly ops r w × (r.call ≡ n) × (name_of r ≡ pair.0) × (name_of w ≡ pair.1)
+IsEarlyAt ops n (Some pair) =
+    (r : Operation) × (w : Operation) × IsEarly ops r w × (r.call ≡ n) × (name_of r ≡ pair.0)
+    × (name_of w ≡ pair.1)
 
 -- ---- conflicts
 
@@ -123,9 +141,12 @@ IsConflictWith last cluster (Some c) = (last ≡ Some c) × ZonesConflict c.zone
 
 -- the first two clusters that conflict
 abbrev pub AreFirstConflict : List Operation → Cluster → Cluster → Type 0
-AreFirstConflict ops first second = (v : Operation) × (w : Operation) × IsFirstConflict ops v w × IsClusterOf ops v first × IsClusterOf ops w second
+AreFirstConflict ops first second =
+    (v : Operation) × (w : Operation) × IsFirstConflict ops v w × IsClusterOf ops v first
+    × IsClusterOf ops w second
 
--- what a pass that has met each low end before time n knows of the zones: no conflict and the last forward cluster, or the first conflict
+-- what a pass that has met each low end before time n knows of the zones: no conflict and the
+-- last forward cluster, or the first conflict
 abbrev pub AreCompared : List Operation → ℕ → Compared → Type 0
 AreCompared ops n (Clear last) = AreClear ops n last
 AreCompared ops n (Conflict first second) = AreFirstConflict ops first second
@@ -140,7 +161,10 @@ conflict_in (Conflict first second) = Some (first, second)
 -- of the early reads, the one called first, with its write; or there is none
 abbrev pub IsEarlyFound : List Operation → Option (Oper × Oper) → Type 0
 IsEarlyFound ops None = AreInTime ops
-IsEarlyFound ops (Some pair) = (r : Operation) × (w : Operation) × IsEarly ops r w × ((q u : Operation) → IsEarly ops q u → r.call ≤ q.call) × (name_of r ≡ pair.0) × (name_of w ≡ pair.1)
+IsEarlyFound ops (Some pair) =
+    (r : Operation) × (w : Operation) × IsEarly ops r w
+    × ((q u : Operation) → IsEarly ops q u → r.call ≤ q.call) × (name_of r ≡ pair.0)
+    × (name_of w ≡ pair.1)
 
 -- the first two clusters that conflict; or no two do
 abbrev pub IsConflictFound : List Operation → Option (Cluster × Cluster) → Type 0

@@ -8,7 +8,8 @@ ghost use Rattle.reg_zones.specs.Ahead.{IsAhead};
 use crate::register::Register;
 use history_model::{EvId, Oper};
 
-/// The two events that a walk comes to next, each with the operation that it belongs to, if it belongs to one, and the event after them.
+/// The two events that a walk comes to next, each with the operation that it belongs to, if it
+/// belongs to one, and the event after them.
 #[derive(Clone, Copy)]
 pub(crate) struct Ahead {
     pub(crate) next: Option<EvId>,
@@ -21,7 +22,8 @@ pub(crate) struct Ahead {
 impl Ahead {
     /// What is ahead before the first event.
     pub(crate) fn of(register: Register<'_>) -> Self
-        ensures first { IsFirstOf by_register register.entry.arena.now.events register.entry.id.0 result.next }
+        ensures first { IsFirstOf by_register register.entry.arena.now.events register.entry.id.0
+            result.next }
         ensures ahead { IsAhead register.entry.arena.now register.entry.id.0 result }
     {
         let next = register.arena.first_of_register(register.id);
@@ -37,11 +39,12 @@ impl Ahead {
 
     /// What is ahead one event further on.
     ///
-    /// It reads the row of the third event, which may be far from that of the event at hand. So a step calls it first: the row
-    /// is fetched while the event at hand and the one after it are judged.
+    /// It reads the row of the third event, which may be far from that of the event at hand. So a step calls
+    /// it first: the row is fetched while the event at hand and the one after it are judged.
     pub(crate) fn further(self, register: Register<'_>) -> Self
         requires { IsAhead register.arena.now register.id.0 self }
-        ensures next { (id : AnEvId) → self.next ≡ Some id → IsNextOf by_register register.entry.arena.now.events id.0 result.next }
+        ensures next { (id : AnEvId) → self.next ≡ Some id
+            → IsNextOf by_register register.entry.arena.now.events id.0 result.next }
         ensures ahead { IsAhead register.entry.arena.now register.entry.id.0 result }
     {
         Ahead {
@@ -68,7 +71,8 @@ fn oper_at(register: Register<'_>, event: Option<EvId>) -> Option<Oper>
 /// The event after an event of the register, if there is an event.
 fn event_after(register: Register<'_>, event: Option<EvId>) -> Option<EvId>
     requires { IsOnWalk register.arena.now.events register.id.0 event }
-    ensures next { (id : AnEvId) → event ≡ Some id → IsNextOf by_register register.entry.arena.now.events id.0 result }
+    ensures next { (id : AnEvId) → event ≡ Some id
+        → IsNextOf by_register register.entry.arena.now.events id.0 result }
     ensures on { IsOnWalk register.entry.arena.now.events register.entry.id.0 result }
 {
     match event {

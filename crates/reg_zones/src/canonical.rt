@@ -16,11 +16,11 @@ use history_model::RegId;
 use reg_arena::Arena;
 use std::alloc::{AllocError, Global};
 
-/// The canonical order of a register that is atomic, with the point of each operation; of any other register the fault
-/// that [`sweep`](crate::sweep) names.
+/// The canonical order of a register that is atomic, with the point of each operation; of any other register
+/// the fault that [`sweep`](crate::sweep) names.
 ///
-/// The order is a legal one of the completion that it lists. Each point lies at or after its operation's call and before
-/// its reply, and no point falls.
+/// The order is a legal one of the completion that it lists. Each point lies at or after its operation's call
+/// and before its reply, and no point falls.
 ///
 /// # Errors
 /// If memory was refused; the arena is as before.
@@ -31,8 +31,10 @@ pub fn order_or_fault(
 ) -> Result<Result<Vec<Placed>, Fault>, AllocError>
     requires { register.0 < length arena.now.names }
     ensures { IfOk result (λ judged. MatchResult judged
-        (λ v. IsAtomic (of_register register.0 (operations arena.now)) × IsOrder (of_register register.0 (operations arena.now)) v.items)
-        (λ fault. (IsAtomic (of_register register.0 (operations arena.now)) → ⊥) × IsFault (of_register register.0 (operations arena.now)) fault)) }
+        (λ v. IsAtomic (of_register register.0 (operations arena.now))
+        × IsOrder (of_register register.0 (operations arena.now)) v.items)
+        (λ fault. (IsAtomic (of_register register.0 (operations arena.now)) → ⊥)
+        × IsFault (of_register register.0 (operations arena.now)) fault)) }
 {
     let register = Register::new(arena, register);
     match found_and_listed(alloc, register)? {

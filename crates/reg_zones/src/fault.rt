@@ -23,11 +23,11 @@ pub enum Fault {
         read: Oper,
         write: Oper,
     },
-    /// The writes of two clusters whose zones conflict, the one with the earlier low end first. Of all such pairs it is
-    /// the one whose second low end comes first.
+    /// The writes of two clusters whose zones conflict, the one with the earlier low end first. Of all such
+    /// pairs it is the one whose second low end comes first.
     ///
-    /// In `first` an operation of the first cluster precedes one of the second: the one that replies first, and the
-    /// one called last. In `second` one of the second cluster precedes one of the first, likewise.
+    /// In `first` an operation of the first cluster precedes one of the second: the one that replies first,
+    /// and the one called last. In `second` one of the second cluster precedes one of the first, likewise.
     Zones {
         writes: (Oper, Oper),
         first: (Oper, Oper),
@@ -69,7 +69,8 @@ fn called_at(register: Register<'_>, time: u32) -> Oper
 /// The operation of a register that replied at a time.
 fn replied_at(register: Register<'_>, time: u32) -> Oper
     requires { (a : Operation) × In a (operations_of register) × IsCompleted a × (a.reply ≡ time) }
-    ensures { (a : Operation) → In a (operations_of register.entry) → IsCompleted a → a.reply ≡ time → name_of a ≡ result }
+    ensures { (a : Operation) → In a (operations_of register.entry) → IsCompleted a → a.reply ≡ time
+        → name_of a ≡ result }
 {
     let initial = Oper::Initial(register.id);
     if time < 2 {

@@ -1,16 +1,17 @@
 //! Which registers are atomic: the fault of one that is not, and the order of one that is.
 //!
-//! What the floor above may rely on: [`order_or_fault`] gives the canonical order of a register that is atomic (Herlihy
-//! and Wing, 1990), which is a legal one, with a point for each operation between its call and its reply; and of any other
-//! register the fault that the definitions name. [`sweep`] gives that fault alone, and takes no memory. No floor above
-//! calls [`order`], the order of a register without fault, or [`is_kept`] and [`zone_of`], which tell a kept write and a
-//! zone. [`laws`] says why zones decide.
+//! What the floor above may rely on: [`order_or_fault`] gives the canonical order of a register that is
+//! atomic (Herlihy and Wing, 1990), which is a legal one, with a point for each operation between its call
+//! and its reply; and of any other register the fault that the definitions name. [`sweep`] gives that fault
+//! alone, and takes no memory. No floor above calls [`order`], the order of a register without fault, or
+//! [`is_kept`] and [`zone_of`], which tell a kept write and a zone. [`laws`] says why zones decide.
 //!
-//! The method is that of Gibbons and Korach (Testing Shared Memories, 1997) for distinct written values. To read: `zone`,
-//! then `reads` (the two faults of single reads) and `pass` (one pass over the events, which also compares zones by their
-//! low ends), from which `atomic` answers; then `entry`, `walk` (the same pass, which also lists the operations) and
-//! `canonical` for the order, and `inversion`. `register` is a register with what is known of it, `ahead` what both passes
-//! know of the events to come, and `valued` asks for an operation's value.
+//! The method is that of Gibbons and Korach (Testing Shared Memories, 1997) for distinct written values.
+//! To read: `zone`, then `reads` (the two faults of single reads) and `pass` (one pass over the events,
+//! which also compares zones by their low ends), from which `atomic` answers; then `entry`, `walk` (the
+//! same pass, which also lists the operations) and `canonical` for the order, and `inversion`.
+//! `register` is a register with what is known of it, `ahead` what both passes know of the events to
+//! come, and `valued` asks for an operation's value.
 #![tactic(auto)]
 
 mod ahead;

@@ -1,9 +1,11 @@
-//! One pass over a register's events, in order of time: its completed reads by call, and its zones by low ends.
+//! One pass over a register's events, in order of time: its completed
+//! reads by call, and its zones by low ends.
 ghost use Rattle.std.specs.Prelude.{◌≡◌, ◌+◌, IfOk, IfErr};
 ghost use Rattle.history_model.specs.Operations.{initial_write};
 ghost use Rattle.reg_zones.specs.Faults.{IsFault};
 ghost use Rattle.reg_zones.specs.Register.{operations_of};
-ghost use Rattle.reg_zones.specs.Sweep.{AreCompared, IsConflictWith, IsClusterOf, IsFound, IsLowEndAt, AreClear, IsMetAt, conflict_in};
+ghost use Rattle.reg_zones.specs.Sweep.{AreCompared, IsConflictWith, IsClusterOf, IsFound};
+ghost use Rattle.reg_zones.specs.Sweep.{IsLowEndAt, AreClear, IsMetAt, conflict_in};
 
 use crate::ahead::Ahead;
 use crate::fault::Fault;
@@ -53,9 +55,9 @@ pub(crate) struct Found {
 
 /// The first completed read without a write, or else what was found of early reads and of zones.
 ///
-/// At each event that is the low end of a cluster, that cluster's zone is compared with the last forward zone met, and
-/// with no other, until two conflict. Of the first two that conflict, the one with the earlier low end is forward, and
-/// no forward zone comes between them.
+/// At each event that is the low end of a cluster, that cluster's zone is compared with the last forward zone
+/// met, and with no other, until two conflict. Of the first two that conflict, the one with the earlier low
+/// end is forward, and no forward zone comes between them.
 pub(crate) fn pass(register: Register<'_>) -> Result<Found, Fault>
     ensures ok { IfOk result (λ found. IsFound (operations_of register.entry) found) }
     ensures err { IfErr result (λ fault. IsFault (operations_of register.entry) fault) }
@@ -97,7 +99,8 @@ pub(crate) fn initial_cluster(register: Register<'_>) -> Cluster
     Cluster { write, zone }
 }
 
-/// Takes the event `id` into what is known of the zones. That changes only where a forward cluster, or one that conflicts, has its low end.
+/// Takes the event `id` into what is known of the zones. That changes only where a forward
+/// cluster, or one that conflicts, has its low end.
 pub(crate) fn compare_at(register: Register<'_>, clusters: &mut Compared, met: Met, id: EvId)
     requires here { IsMetAt register.arena.now register.id.0 id.0 met }
     requires so_far { AreCompared (operations_of register) (id.0 + 2) clusters.old }

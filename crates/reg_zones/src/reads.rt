@@ -5,7 +5,8 @@ ghost use Rattle.history_model.specs.Naming.{IsOper};
 ghost use Rattle.history_model.specs.OfValue.{IsWriteOf};
 ghost use Rattle.reg_zones.specs.declared.fault.Fault.TheVariants.{Unwritten};
 ghost use Rattle.reg_zones.specs.Register.{operations_of};
-ghost use Rattle.reg_zones.specs.Sweep.{IsEarlyAt, IsMetAt, IsReadCalledAt, IsReadOfRegister, IsUnwrittenAt, call_named};
+ghost use Rattle.reg_zones.specs.Sweep.{IsEarlyAt, IsMetAt, IsReadCalledAt};
+ghost use Rattle.reg_zones.specs.Sweep.{IsReadOfRegister, IsUnwrittenAt, call_named};
 
 use crate::fault::Fault;
 use crate::register::{Met, Register};
@@ -22,8 +23,8 @@ pub(crate) struct Read {
     pub(crate) reply: u32,
 }
 
-/// The completed read that the event calls, with its write, if the read precedes the write. The error says that the read
-/// has no write.
+/// The completed read that the event calls, with its write, if the read precedes the write.
+/// The error says that the read has no write.
 pub(crate) fn early_at(
     register: Register<'_>,
     met: Met,

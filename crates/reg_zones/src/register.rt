@@ -45,7 +45,8 @@ impl<'a> Register<'a> {
     pub(crate) fn with_operation(arena: &'a Arena, oper: Oper) -> (Self, Op)
         requires { IsOper arena.now oper }
         ensures arena { result.0.arena.now ≡ arena.now }
-        ensures operation { (o : Operation) × IsNamed arena.now oper o × (result.1 ≡ op_shown o) × (result.0.id.0 ≡ o.register) }
+        ensures operation { (o : Operation) × IsNamed arena.now oper o × (result.1 ≡ op_shown o)
+            × (result.0.id.0 ≡ o.register) }
     {
         // The register of an operation of such a history is one of the arena's.
         let _count = arena.event_count();

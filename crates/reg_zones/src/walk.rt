@@ -1,4 +1,5 @@
-//! One walk over a register's events that looks for a fault, as `pass` does, and lists the operations as it goes.
+//! One walk over a register's events that looks for a fault, as `pass`
+//! does, and lists the operations as it goes.
 //!
 //! Each event is met once for both. Callers that want the fault alone use `pass`, which takes no memory.
 ghost use Rattle.std.specs.Prelude.{◌≡◌, ◌≤◌, IfOk, OnOk, MatchResult};
@@ -22,8 +23,8 @@ const STRETCH: usize = 64;
 
 /// How many operations begin with the register's next `STRETCH` events.
 ///
-/// The rows of a register's events lie far apart. A step here does so little that the processor fetches several rows at a
-/// time, and the walk, which does more at each event, then finds them at hand.
+/// The rows of a register's events lie far apart. A step here does so little that the processor fetches
+/// several rows at a time, and the walk, which does more at each event, then finds them at hand.
 fn room_for(register: Register<'_>, from: Option<EvId>) -> usize
     requires { IsOnWalk register.arena.now.events register.id.0 from }
     ensures { result ≤ STRETCH }
@@ -44,8 +45,8 @@ fn room_for(register: Register<'_>, from: Option<EvId>) -> usize
     room
 }
 
-/// Asks for the room of the next stretch's operations if no event is left of this one. Gives back how many events are left
-/// behind the event at hand.
+/// Asks for the room of the next stretch's operations if no event is left of this one. Gives back how many
+/// events are left behind the event at hand.
 fn next_left(
     register: Register<'_>,
     next: Option<EvId>,
@@ -62,14 +63,15 @@ fn next_left(
     Ok(STRETCH - 1)
 }
 
-/// What a walk found of early reads and of zones, with the kept writes and the completed reads, each once, by call; or the
-/// first completed read without a write.
+/// What a walk found of early reads and of zones, with the kept writes and the completed reads, each once, by
+/// call; or the first completed read without a write.
 pub(crate) fn found_and_listed(
     alloc: Global,
     register: Register<'_>,
 ) -> Result<Result<(Found, Vec<Entry>), Fault>, AllocError>
     ensures { IfOk result (λ walked. MatchResult walked
-        (λ both. IsFound (operations_of register.entry) both.0 × IsListing (operations_of register.entry) both.1.items)
+        (λ both. IsFound (operations_of register.entry) both.0
+        × IsListing (operations_of register.entry) both.1.items)
         (λ fault. IsFault (operations_of register.entry) fault)) }
 {
     let initial = initial_cluster(register);

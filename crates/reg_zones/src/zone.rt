@@ -43,7 +43,8 @@ impl Zone {
 /// completed read has.
 pub fn is_kept(arena: &Arena, oper: Oper) -> bool
     requires { IsOper arena.now oper }
-    ensures { (w : Operation) → IsNamed arena.now oper w → (IsTrue result ↔ IsKept (of_register w.register (operations arena.now)) w) }
+    ensures { (w : Operation) → IsNamed arena.now oper w
+        → (IsTrue result ↔ IsKept (of_register w.register (operations arena.now)) w) }
 {
     let (register, op) = Register::with_operation(arena, oper);
     match (op.kind, op.value) {
@@ -55,7 +56,8 @@ pub fn is_kept(arena: &Arena, oper: Oper) -> bool
 /// The zone of the cluster of a kept write.
 pub fn zone_of(arena: &Arena, write: Oper) -> Zone
     requires { IsKeptWrite arena.now write }
-    ensures { (w : Operation) → IsNamed arena.now write w → IsZone (of_register w.register (operations arena.now)) w.value result }
+    ensures { (w : Operation) → IsNamed arena.now write w
+        → IsZone (of_register w.register (operations arena.now)) w.value result }
 {
     let (register, op) = Register::with_operation(arena, write);
     let found = match op.value {
@@ -77,7 +79,8 @@ fn zone_with(register: Register<'_>, value: Val) -> Option<Zone>
 /// The same of the register and the value of an event; of a read's call, which has no value, `None`.
 pub(crate) fn zone_at(arena: &Arena, id: EvId) -> Option<Zone>
     requires { id.0 < length arena.now.events }
-    ensures { (k : ℕ × AVal) → key_at by_value arena.now.events id.0 ≡ Some k → IsZoneFound arena.now k.0 k.1 result }
+    ensures { (k : ℕ × AVal) → key_at by_value arena.now.events id.0 ≡ Some k
+        → IsZoneFound arena.now k.0 k.1 result }
 {
     let f = arena.first_reply_of(id)?;
     let s = arena.last_call_of(id)?;

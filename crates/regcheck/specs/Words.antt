@@ -25,7 +25,9 @@ first_rule = record (new_rule (codes "first")) { long = Some (codes "first"); ac
 
 -- the command line that the program takes
 abbrev pub command_line : App
-command_line = with_rule (with_rule (with_rule (with_rule (program (codes "regcheck")) file_rule) workers_rule) cut_rule) first_rule
+command_line =
+    with_rule (with_rule (with_rule (with_rule (program (codes "regcheck")) file_rule) workers_rule) cut_rule)
+    first_rule
 
 -- what the parser says of the flag: `true` where the words have it, and else `false`
 unfoldable pub first_given : List Text → Option Text
@@ -33,4 +35,6 @@ first_given words = one_of (codes "first") (matches_of command_line words)
 
 -- a flag is set where the parser says so, and not set where it says not or nothing
 abbrev pub IsFlag : Option Text → Bool → Type 0
-IsFlag given flag = (given ≡ Some (codes "true") → flag ≡ true) × (given ≡ Some (codes "false") → flag ≡ false) × (given ≡ None → flag ≡ false)
+IsFlag given flag =
+    (given ≡ Some (codes "true") → flag ≡ true) × (given ≡ Some (codes "false") → flag ≡ false)
+    × (given ≡ None → flag ≡ false)

@@ -71,19 +71,26 @@ fn command<'a>(alloc: Global) -> Result<Command<'a>, AllocError>
         .arg(first(alloc))
 }
 
-/// Reads the words after the program's name: one file at most, `--workers N`, `--cut N` and `--first`. If they don't
-/// say, there are 4 workers, and the cut is 4096. The word `-` is standard input, as no word is.
+/// Reads the words after the program's name: one file at most, `--workers N`, `--cut N` and `--first`. If
+/// they don't say, there are 4 workers, and the cut is 4096. The word `-` is standard input, as no word is.
 ///
 /// # Errors
 /// `Bad` if the words are others, or ask for help or the version; `Memory` if memory was refused.
 pub fn read_words(alloc: Global, words: &[String]) -> Result<Words, WordsFault>
-    ensures file { IfOk result (λ read. option_map string_bytes read.file ≡ file_named command_line (map string_bytes words.now)) }
-    ensures workers { IfOk result (λ read. Some read.settings.workers ≡ number_named command_line (codes "workers") (map string_bytes words.now)) }
-    ensures cut { IfOk result (λ read. Some read.settings.cut ≡ number_named command_line (codes "cut") (map string_bytes words.now)) }
-    ensures first { IfOk result (λ read. IsFlag (first_given (map string_bytes words.now)) read.settings.first) }
-    ensures limits { IfOk result (λ read. (1 ≤ read.settings.workers) × (read.settings.workers ≤ MAX_WORKERS) × (1 ≤ read.settings.cut) × (read.settings.cut ≤ MAX_CUT)) }
+    ensures file { IfOk result (λ read.
+        option_map string_bytes read.file ≡ file_named command_line (map string_bytes words.now)) }
+    ensures workers { IfOk result (λ read.
+        Some read.settings.workers ≡ number_named command_line (codes "workers")
+        (map string_bytes words.now)) }
+    ensures cut { IfOk result (λ read.
+        Some read.settings.cut ≡ number_named command_line (codes "cut") (map string_bytes words.now)) }
+    ensures first { IfOk result (λ read.
+        IsFlag (first_given (map string_bytes words.now)) read.settings.first) }
+    ensures limits { IfOk result (λ read. (1 ≤ read.settings.workers) × (read.settings.workers ≤ MAX_WORKERS)
+        × (1 ≤ read.settings.cut) × (read.settings.cut ≤ MAX_CUT)) }
     ensures faultless { IfOk result (λ _. IsFaultless command_line (map string_bytes words.now)) }
-    ensures taken { IfErr result (λ fault. IsTaken command_line (map string_bytes words.now) → fault ≡ WordsFault.Memory) }
+    ensures taken { IfErr result (λ fault. IsTaken command_line (map string_bytes words.now)
+        → fault ≡ WordsFault.Memory) }
 {
     let matches = read(alloc, command(alloc)?, words)?;
     let workers = matches.get_one("workers").unwrap();

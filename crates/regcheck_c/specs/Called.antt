@@ -1,5 +1,7 @@
--- What a call answers, and what it leaves in the place for the report (this project's own interface; docs/embedding.md).
-use Rattle.std.specs.Prelude.{◌≡◌, ◌⊎◌, ◌++◌, ℕ, List, false, length, drop, nat_le, ◌==◌, ◌||◌, if◌then◌else◌, Option, Some, None, Ok, Err}
+-- What a call answers, and what it leaves in the place for the report (this
+-- project's own interface; docs/embedding.md).
+use Rattle.std.specs.Prelude.{◌≡◌, ◌⊎◌, ◌++◌, ℕ, List, false, length, drop, nat_le}
+use Rattle.std.specs.Prelude.{◌==◌, ◌||◌, if◌then◌else◌, Option, Some, None, Ok, Err}
 use Rattle.reg_report.specs.Answer.{IsAnswer, IsRefused}
 use Rattle.reg_intake.specs.Refusals.{number_of, line_of, other_of}
 use Rattle.reg_report.specs.Run.{IsOutcome}
@@ -15,11 +17,18 @@ with_text text old = if nat_le (length text) (length old) then text ++ drop (len
 
 -- the status of a report, if there is room for so many bytes
 abbrev pub status_of_report : ℕ → Report → ℕ
-status_of_report room report = if nat_le (length (report_text report)) room then (if report.atomic then 0 else 1) else 5
+status_of_report room report =
+    if nat_le (length (report_text report)) room then (if report.atomic then 0 else 1) else 5
 
 -- what is said of a report
 abbrev pub answer_of_report : ℕ → Report → Answer
-answer_of_report room report = record { status = status_of_report room report; number = 0; line = 0; other = 0; length = length (report_text report) }
+answer_of_report room report = record {
+  status = status_of_report room report;
+  number = 0;
+  line = 0;
+  other = 0;
+  length = length (report_text report);
+}
 
 -- a line, or 0 if there is none
 abbrev pub line_or_0 : Option ℕ → ℕ
@@ -42,7 +51,8 @@ answer_of_refusal refusal = record {
 
 -- the report is said, and put into the place if there is room
 abbrev pub IsPut : Report → List ℕ → List ℕ → Answer → Type 0
-IsPut report old new answer = (answer ≡ answer_of_report (length old) report) × (new ≡ with_text (report_text report) old)
+IsPut report old new answer =
+    (answer ≡ answer_of_report (length old) report) × (new ≡ with_text (report_text report) old)
 
 -- the refusal is said, and the place is as it was
 abbrev pub IsRefusal : Refusal → List ℕ → List ℕ → Answer → Type 0
@@ -56,7 +66,8 @@ IsAnswered input old new answer =
 
 -- a line of this length is put into the place if there is room; or there is none, and the place is as it was
 abbrev pub IsWorded : List ℕ → List ℕ → ℕ → Type 0
-IsWorded old new size = ((size ≡ 0) × (new ≡ old)) ⊎ ((line : List ℕ) × (size ≡ length line) × (new ≡ with_text line old))
+IsWorded old new size =
+    ((size ≡ 0) × (new ≡ old)) ⊎ ((line : List ℕ) × (size ≡ length line) × (new ≡ with_text line old))
 
 -- a line of this length is said of an input only if it is refused
 abbrev pub IsSaidOf : List ℕ → ℕ → Type 0

@@ -16,7 +16,8 @@ pub struct Answer {
     pub number: u32,
     /// The refused line, from 1; 0 if no line is refused.
     pub line: u32,
-    /// The line of the open call (refusal 9), of the earlier write (refusal 13) or of the crash (refusal 19); else 0.
+    /// The line of the open call (refusal 9), of the earlier write (refusal
+    /// 13) or of the crash (refusal 19); else 0.
     pub other: u32,
     /// The bytes of the report, whether there is room for them or not; 0 if there is none.
     pub length: u64,

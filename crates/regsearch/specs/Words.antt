@@ -20,4 +20,6 @@ configurations_rule = option_rule (codes "configurations") (Unsigned 1 MAX_CONFI
 
 -- the command line that the program takes
 abbrev pub command_line : App
-command_line = with_rule (with_rule (with_rule (with_rule (program (codes "regsearch")) file_rule) workers_rule) steps_rule) configurations_rule
+command_line =
+    with_rule (with_rule (with_rule (with_rule (program (codes "regsearch")) file_rule) workers_rule)
+    steps_rule) configurations_rule

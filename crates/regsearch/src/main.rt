@@ -1,5 +1,5 @@
-//! Decides whether each register of a recorded history with compare-and-swap is atomic, as far as the bounds allow, and writes
-//! its report to standard output.
+//! Decides whether each register of a recorded history with compare-and-swap is atomic, as far as the bounds
+//! allow, and writes its report to standard output.
 #![tactic(auto)]
 
 mod words;

@@ -1,5 +1,6 @@
 //! The words of the command line.
-ghost use Rattle.std.specs.Prelude.{◌≡◌, ◌≤◌, ◌<◌, ◌^◌, codes, map, option_map, string_bytes, IfOk, IfErr, Some};
+ghost use Rattle.std.specs.Prelude.{◌≡◌, ◌≤◌, ◌<◌, ◌^◌, codes, map, option_map};
+ghost use Rattle.std.specs.Prelude.{string_bytes, IfOk, IfErr, Some};
 ghost use Rattle.clap.specs.Words.{app_of};
 ghost use Rattle.clap.specs.declared.builder.value_parser.ValueParser.TheVariants.{Unsigned};
 ghost use Rattle.command_words.specs.Words.{file_named, number_named, IsFaultless, IsTaken};
@@ -71,21 +72,32 @@ fn command<'a>(alloc: Global) -> Result<Command<'a>, AllocError>
         .help(CONFIGURATIONS))
 }
 
-/// Reads the words after the program's name: one file at most, `--workers N`, `--steps N` and `--configurations N`. If they
-/// don't say, there are 4 workers, 10,000,000,000 steps and 65,536 configurations. The word `-` is standard input, as no word is.
+/// Reads the words after the program's name: one file at most, `--workers N`, `--steps N` and
+/// `--configurations N`. If they don't say, there are 4 workers, 10,000,000,000 steps and 65,536
+/// configurations. The word `-` is standard input, as no word is.
 ///
 /// # Errors
 /// `Bad` if the words are others, or ask for help or the version; `Memory` if memory was refused.
 pub fn read_words(alloc: Global, words: &[String]) -> Result<Words, WordsFault>
-    ensures file { IfOk result (λ read. option_map string_bytes read.file ≡ file_named command_line (map string_bytes words.now)) }
-    ensures workers { IfOk result (λ read. Some read.settings.workers ≡ number_named command_line (codes "workers") (map string_bytes words.now)) }
-    ensures steps { IfOk result (λ read. Some read.settings.bounds.steps ≡ number_named command_line (codes "steps") (map string_bytes words.now)) }
-    ensures configurations { IfOk result (λ read. Some read.settings.bounds.configurations ≡ number_named command_line (codes "configurations") (map string_bytes words.now)) }
-    ensures workers_limits { IfOk result (λ read. (1 ≤ read.settings.workers) × (read.settings.workers ≤ MAX_WORKERS)) }
-    ensures steps_limits { IfOk result (λ read. (1 ≤ read.settings.bounds.steps) × (read.settings.bounds.steps ≤ MAX_STEPS)) }
-    ensures configurations_limits { IfOk result (λ read. (1 ≤ read.settings.bounds.configurations) × (read.settings.bounds.configurations ≤ MAX_CONFIGURATIONS)) }
+    ensures file { IfOk result (λ read.
+        option_map string_bytes read.file ≡ file_named command_line (map string_bytes words.now)) }
+    ensures workers { IfOk result (λ read.
+        Some read.settings.workers ≡ number_named command_line (codes "workers")
+        (map string_bytes words.now)) }
+    ensures steps { IfOk result (λ read.
+        Some read.settings.bounds.steps ≡ number_named command_line (codes "steps")
+        (map string_bytes words.now)) }
+    ensures configurations { IfOk result (λ read. Some read.settings.bounds.configurations
+        ≡ number_named command_line (codes "configurations") (map string_bytes words.now)) }
+    ensures workers_limits { IfOk result (λ read. (1 ≤ read.settings.workers)
+        × (read.settings.workers ≤ MAX_WORKERS)) }
+    ensures steps_limits { IfOk result (λ read. (1 ≤ read.settings.bounds.steps)
+        × (read.settings.bounds.steps ≤ MAX_STEPS)) }
+    ensures configurations_limits { IfOk result (λ read. (1 ≤ read.settings.bounds.configurations)
+        × (read.settings.bounds.configurations ≤ MAX_CONFIGURATIONS)) }
     ensures faultless { IfOk result (λ _. IsFaultless command_line (map string_bytes words.now)) }
-    ensures taken { IfErr result (λ fault. IsTaken command_line (map string_bytes words.now) → fault ≡ WordsFault.Memory) }
+    ensures taken { IfErr result (λ fault. IsTaken command_line (map string_bytes words.now)
+        → fault ≡ WordsFault.Memory) }
 {
     let matches = read(alloc, command(alloc)?, words)?;
     let workers: u64 = matches.get_one("workers").unwrap();

@@ -12,7 +12,8 @@ use search_report::{Answer as Verdict, Refusal, Report};
 pub struct Answer {
     /// [`ATOMIC`], [`NOT_ATOMIC`], [`REFUSED`], [`NO_MEMORY`], [`TOO_SMALL`] or [`UNKNOWN`].
     pub status: u32,
-    /// The number of the refusal, 1 to 12, 14, 15, or 19 to 21, or 17 if memory ran out; 0 if there is a report.
+    /// The number of the refusal, 1 to 12, 14, 15, or 19 to 21, or 17
+    /// if memory ran out; 0 if there is a report.
     pub number: u32,
     /// The refused line, from 1; 0 if no line is refused.
     pub line: u32,

@@ -4,7 +4,8 @@ ghost use Rattle.regsearch_c.specs.Called.{configurations_of, steps_of};
 
 use cas_search::{Bounds, MAX_CONFIGURATIONS, MAX_STEPS};
 
-/// The bounds of a search: 0 stands for what the program does if nobody says otherwise, and more than the most for the most.
+/// The bounds of a search: 0 stands for what the program does if nobody says
+/// otherwise, and more than the most for the most.
 pub(crate) fn bounds_of(steps: u64, configurations: usize) -> Bounds
     ensures steps { result.steps ≡ steps_of steps }
     ensures configurations { result.configurations ≡ configurations_of configurations }

@@ -1,12 +1,13 @@
-//! The search for programs in C, and for languages that call C: two functions on bytes, for histories of any registers. They
-//! start no thread, open no file and keep nothing between calls.
+//! The search for programs in C, and for languages that call C: two functions on bytes, for histories of any
+//! registers. They start no thread, open no file and keep nothing between calls.
 //!
-//! What a C program may rely on: [`regsearch_report`] says of the history in its input what `regsearch` would say within the
-//! same bounds, and writes the same report if there is room for all of it. [`regsearch_refusal`] writes what the program says
-//! of a history that it refuses. `library/regcheck.h` declares both.
+//! What a C program may rely on: [`regsearch_report`] says of the history in its input what
+//! `regsearch` would say within the same bounds, and writes the same report if there is room
+//! for all of it. [`regsearch_refusal`] writes what the program says of a history that it
+//! refuses. `library/regcheck.h` declares both.
 //!
-//! Read it in this order: `status`, which numbers the endings; `answer`, what a call says; `place`, where the report or the
-//! line of a refusal goes; `bounds`, how far a search goes.
+//! Read it in this order: `status`, which numbers the endings; `answer`, what a call says; `place`, where the
+//! report or the line of a refusal goes; `bounds`, how far a search goes.
 #![tactic(auto)]
 
 ghost use Rattle.regsearch_c.specs.Called.{IsAnswered, IsSaidOf, IsWorded, TellsAtomic};
@@ -26,8 +27,9 @@ use search_report::{Refusal, check_alone};
 pub use status::{ATOMIC, NO_MEMORY, NOT_ATOMIC, REFUSED, TOO_SMALL, UNKNOWN};
 use std::alloc::Global;
 
-/// Checks the history in the input within these bounds, puts a report of it at the beginning of `out`, and says in `answer` what
-/// came of it. `out` stays as it was if there is no report, or no room for all of it. A bound of 0 is the program's default.
+/// Checks the history in the input within these bounds, puts a report of it at the beginning of `out`, and
+/// says in `answer` what came of it. `out` stays as it was if there is no report, or no room for all of
+/// it. A bound of 0 is the program's default.
 #[unsafe(no_mangle)]
 pub extern "C" fn regsearch_report(
     alloc: Global,
@@ -37,7 +39,8 @@ pub extern "C" fn regsearch_report(
     out: &mut [u8],
     answer: &mut Answer,
 )
-    // What is said, and the bytes at `out`, are those of a report or the refusal of the input, or memory ran out.
+    // What is said, and the bytes at `out`, are those of a report or the
+    // refusal of the input, or memory ran out.
     ensures answered { IsAnswered input.now out.old out.new answer.new }
 
     // A status of 0 or 1 says whether that history is atomic.
@@ -49,8 +52,8 @@ pub extern "C" fn regsearch_report(
     };
 }
 
-/// Puts the line that `regsearch` writes of a refused input at the beginning of `out`, without its end, if there is room for all
-/// of it. Gives its length, or 0 if the input isn't refused, or if memory ran out.
+/// Puts the line that `regsearch` writes of a refused input at the beginning of `out`, without its end, if
+/// there is room for all of it. Gives its length, or 0 if the input isn't refused, or if memory ran out.
 #[unsafe(no_mangle)]
 pub extern "C" fn regsearch_refusal(alloc: Global, input: &[u8], out: &mut [u8]) -> usize
     // So many bytes are put into `out`, or none.

@@ -143,7 +143,8 @@ fn rooms(rt: HostRuntime) -> Result<(), Fail> {
     Ok(())
 }
 
-// A refused history, the room for its line, the line's length, and what is put there; and a history that isn't refused.
+// A refused history, the room for its line, the line's length, and what is put
+// there; and a history that isn't refused.
 const LINES: [(&str, usize, usize, &str); 4] = [
     ("\n[]\n", ROOM, 21, "line 2: not an object"),
     ("\n[]\n", 21, 21, "line 2: not an object"),

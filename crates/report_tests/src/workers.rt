@@ -183,7 +183,8 @@ impl Gate for HoldsEach {
     }
 }
 
-// A write and so many reads of it, one after another: in cuts of one read, a piece for each read and one more.
+// A write and so many reads of it, one after another: in cuts of one
+// read, a piece for each read and one more.
 fn reads_of_a_write(alloc: Global, count: u32) -> Result<String, AllocError> {
     let mut input = String::from_str(
         alloc,

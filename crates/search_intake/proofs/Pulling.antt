@@ -1,5 +1,7 @@
 -- Pulls, one after the other.
-use Rattle.std.proofs.Common.{◌≡◌, ℕ, Bool, true, false, ◌+◌, ◌<◌, ◌≤◌, List, [], ◌++◌, length, take, drop, Option, Some, None, refl, sym, ◌∙◌, ap, arith, length-append, append-nil, append_assoc}
+use Rattle.std.proofs.Common.{◌≡◌, ℕ, Bool, true, false, ◌+◌, ◌<◌, ◌≤◌, List, [], ◌++◌}
+use Rattle.std.proofs.Common.{length, take, drop, Option, Some, None, refl, sym, ◌∙◌}
+use Rattle.std.proofs.Common.{ap, arith, length-append, append-nil, append_assoc}
 use Rattle.std.proofs.Math.Seq.{take-append-add}
 use Rattle.std.proofs.lemmas.List.{length-drop, length-take, take-append-le, take-take}
 use Rattle.std.specs.Prelude.{if◌then◌else◌}
@@ -10,19 +12,24 @@ use Rattle.reg_intake.specs.Ends.{IsAll, IsTooLong}
 use Rattle.search_intake.specs.Input.{IsRefusedOf}
 use Rattle.search_intake.specs.Pulled.{Gives, StopsAt}
 use Rattle.search_intake.specs.declared.refusal.Refusal.{Refusal}
-use Rattle.search_intake.specs.declared.refusal.Refusal.TheVariants.{At, TooLong, InputFailed, NoRoom, OutputFailed}
+use Rattle.search_intake.specs.declared.refusal.Refusal.TheVariants.{At, TooLong, InputFailed}
+use Rattle.search_intake.specs.declared.refusal.Refusal.TheVariants.{NoRoom, OutputFailed}
 
 -- nothing is pulled
-pub gives-none : (left : Option (List ℕ)) (failed before : ℕ) → before ≤ MAX_INPUT → Gives left left failed failed before []
+pub gives-none : (left : Option (List ℕ)) (failed before : ℕ) → before ≤ MAX_INPUT
+    → Gives left left failed failed before []
 gives-none left failed before within = record {
   gave = Consumes-nil left;
   within = omega arith;
   no_failure = refl;
 }
 
-module _ (left mid now : Option (List ℕ)) (failed failed_mid failed_now before : ℕ) (bytes : List ℕ) (first : Gives left mid failed failed_mid before bytes) (total : ℕ) (place : total ≡ before + length bytes) where
+module _ (left mid now : Option (List ℕ)) (failed failed_mid failed_now before : ℕ) (bytes : List ℕ)
+    (first : Gives left mid failed failed_mid before bytes) (total : ℕ)
+    (place : total ≡ before + length bytes) where
   -- more was given behind what was given
-  pub gives-more : (more : List ℕ) → Gives mid now failed_mid failed_now total more → Gives left now failed failed_now before (bytes ++ more)
+  pub gives-more : (more : List ℕ) → Gives mid now failed_mid failed_now total more
+      → Gives left now failed failed_now before (bytes ++ more)
   gives-more more after = record {
     gave = Consumes-trans left mid now bytes more first.gave after.gave;
     within = (let within = after.within in let both = length-append bytes more in omega arith);
@@ -30,7 +37,8 @@ module _ (left mid now : Option (List ℕ)) (failed failed_mid failed_now before
   }
 
   -- what stops the pulls stops them from the first on
-  pub stops-after : (refusal : Refusal) → StopsAt mid now failed_mid failed_now total refusal → StopsAt left now failed failed_now before refusal
+  pub stops-after : (refusal : Refusal) → StopsAt mid now failed_mid failed_now total refusal
+      → StopsAt left now failed failed_now before refusal
   stops-after (At r) stops = stops
   stops-after TooLong stops = record {
     bytes = bytes ++ stops.bytes;
@@ -43,33 +51,41 @@ module _ (left mid now : Option (List ℕ)) (failed failed_mid failed_now before
   stops-after OutputFailed stops = stops
 
 -- bytes behind which there are no more are all
-pub all-given : (left now : Option (List ℕ)) (bytes : List ℕ) → Consumes left now bytes → IsAtEnd now → IsAll left bytes
+pub all-given : (left now : Option (List ℕ)) (bytes : List ℕ) → Consumes left now bytes → IsAtEnd now
+    → IsAll left bytes
 all-given None now bytes gave end = tt
 all-given (Some xs) None bytes gave end = absurd gave
 all-given (Some xs) (Some ys) bytes gave end = gave ∙ ap (λ zs. bytes ++ zs) end ∙ append-nil bytes
 
 -- so many bytes pulled are no more than all that were left
-too-long : (left now : Option (List ℕ)) (bytes : List ℕ) → Consumes left now bytes → MAX_INPUT < length bytes → IsTooLong left
+too-long : (left now : Option (List ℕ)) (bytes : List ℕ) → Consumes left now bytes → MAX_INPUT < length bytes
+    → IsTooLong left
 too-long None now bytes gave more = (bytes, tt, more)
 too-long (Some xs) None bytes gave more = absurd gave
-too-long (Some xs) (Some ys) bytes gave more = (xs, refl, let whole = ap length gave in let joined = length-append bytes ys in omega arith)
+too-long (Some xs) (Some ys) bytes gave more =
+    (xs, refl, let whole = ap length gave in let joined = length-append bytes ys in omega arith)
 
 -- what stopped the pulls is why there is no history
-pub stopped : (left now : Option (List ℕ)) (failed failed_now : ℕ) (refusal : Refusal) → StopsAt left now failed failed_now 0 refusal → IsRefusedOf left failed failed_now refusal
+pub stopped : (left now : Option (List ℕ)) (failed failed_now : ℕ) (refusal : Refusal)
+    → StopsAt left now failed failed_now 0 refusal → IsRefusedOf left failed failed_now refusal
 stopped left now failed failed_now (At r) stops = absurd stops
-stopped left now failed failed_now TooLong stops = (too-long left now stops.bytes stops.gave (let over = stops.over in omega arith), stops.no_failure)
+stopped left now failed failed_now TooLong stops =
+    (too-long left now stops.bytes stops.gave (let over = stops.over in omega arith), stops.no_failure)
 stopped left now failed failed_now InputFailed stops = stops
 stopped left now failed failed_now NoRoom stops = absurd stops
 stopped left now failed failed_now OutputFailed stops = absurd stops
 
 -- the front stays when a list is cut behind it and filled up, or stays as it is
-pub front-of-resized : (xs ys more : List ℕ) (b : Bool) (k n : ℕ) → k ≤ length xs → ys ≡ (if b then take (k + n) xs ++ more else xs) → take k ys ≡ take k xs
+pub front-of-resized : (xs ys more : List ℕ) (b : Bool) (k n : ℕ) → k ≤ length xs
+    → ys ≡ (if b then take (k + n) xs ++ more else xs) → take k ys ≡ take k xs
 front-of-resized xs ys more true k n within resized =
-    ap (take k) resized ∙ take-append-le k (take (k + n) xs) more (let long = length-take (k + n) xs in omega (arith, within)) ∙ take-take k (k + n) xs (omega arith)
+    ap (take k) resized ∙ take-append-le k (take (k + n) xs) more (let long = length-take (k + n) xs in
+    omega (arith, within)) ∙ take-take k (k + n) xs (omega arith)
 front-of-resized xs ys more false k n within resized = ap (take k) resized
 
 -- what is written behind the front stands behind it, whatever follows
-pub written-behind : (front piece rest tail : List ℕ) (k n long : ℕ) → length front ≡ k → n ≤ length piece → k + n ≤ long → take (k + n) (take long ((front ++ (piece ++ rest)) ++ tail)) ≡ front ++ take n piece
+pub written-behind : (front piece rest tail : List ℕ) (k n long : ℕ) → length front ≡ k → n ≤ length piece
+    → k + n ≤ long → take (k + n) (take long ((front ++ (piece ++ rest)) ++ tail)) ≡ front ++ take n piece
 written-behind front piece rest tail k n long at within fits =
     take-take (k + n) long ((front ++ (piece ++ rest)) ++ tail) fits
     ∙ ap (take (k + n)) (append_assoc front (piece ++ rest) tail)
@@ -79,7 +95,8 @@ written-behind front piece rest tail k n long at within fits =
     ∙ ap (λ xs. front ++ xs) (take-append-le n piece (rest ++ tail) within)
 
 -- and it is held
-pub written-held : (front piece rest tail : List ℕ) (k n long : ℕ) → length front ≡ k → n ≤ length piece → k + n ≤ long → k + n ≤ length (take long ((front ++ (piece ++ rest)) ++ tail))
+pub written-held : (front piece rest tail : List ℕ) (k n long : ℕ) → length front ≡ k → n ≤ length piece
+    → k + n ≤ long → k + n ≤ length (take long ((front ++ (piece ++ rest)) ++ tail))
 written-held front piece rest tail k n long at within fits =
     let all = length-take long ((front ++ (piece ++ rest)) ++ tail) in
     let ends = length-append (front ++ (piece ++ rest)) tail in
@@ -88,7 +105,8 @@ written-held front piece rest tail k n long at within fits =
     omega arith
 
 -- what is no longer than a part behind the front ends within the list
-pub fits-behind : (xs : List ℕ) (k m n : ℕ) → length (take k xs) ≡ k → n ≤ length (take m (drop k xs)) → k + n ≤ length xs
+pub fits-behind : (xs : List ℕ) (k m n : ℕ) → length (take k xs) ≡ k → n ≤ length (take m (drop k xs))
+    → k + n ≤ length xs
 fits-behind xs k m n at within =
     let front = length-take k xs in
     let part = length-take m (drop k xs) in

@@ -1,5 +1,7 @@
 -- A line more behind those that were taken in.
-use Rattle.std.proofs.Common.{◌≡◌, ℕ, zero, suc, ◌<◌, ◌≤◌, List, [], ◌∷◌, ◌++◌, length, take, slice_get, Option, Some, None, true, false, inl, inr, refl, sym, ap, subst, ◌∙◌, arith, option_and_then}
+use Rattle.std.proofs.Common.{◌≡◌, ℕ, zero, suc, ◌<◌, ◌≤◌, List, [], ◌∷◌, ◌++◌, length}
+use Rattle.std.proofs.Common.{take, slice_get, Option, Some, None, true, false, inl, inr}
+use Rattle.std.proofs.Common.{refl, sym, ap, subst, ◌∙◌, arith, option_and_then}
 use Rattle.std.specs.Prelude.{Result, Ok, Err}
 use Rattle.std.specs.Result.{result_ok, IfErr, OnOk}
 use Rattle.std.proofs.lemmas.Bool.{cases_order}
@@ -23,7 +25,8 @@ pub read-blank : (n : ℕ) (bytes : List ℕ) → is_blank bytes ≡ true → re
 read-blank n bytes e = rw e refl
 
 -- and any other is
-pub read-other : (n : ℕ) (bytes : List ℕ) → is_blank bytes ≡ false → read_line n bytes ≡ event_reading n bytes ∷ []
+pub read-other : (n : ℕ) (bytes : List ℕ) → is_blank bytes ≡ false
+    → read_line n bytes ≡ event_reading n bytes ∷ []
 read-other n bytes e = rw e refl
 
 -- what stands behind a list doesn't change what is taken of it
@@ -43,16 +46,21 @@ get-behind [] y ys = refl
 get-behind (x ∷ xs) y ys = get-behind xs y ys
 
 -- the refusal at a place depends on nothing behind it
-refusal-front : (lines more : List Line) (i : ℕ) → i < length lines → refusal_at (lines ++ more) i ≡ refusal_at lines i
+refusal-front : (lines more : List Line) (i : ℕ) → i < length lines
+    → refusal_at (lines ++ more) i ≡ refusal_at lines i
 refusal-front lines more i l =
-    ap (λ front. option_and_then (line_refusal front) (slice_get (lines ++ more) i)) (take-front lines more i (omega (arith, l)))
+    ap (λ front. option_and_then (line_refusal front) (slice_get (lines ++ more) i))
+    (take-front lines more i (omega (arith, l)))
     ∙ ap (option_and_then (line_refusal (take i lines))) (get-front lines more i l)
 
 -- the refusal of the line behind some lines
-refusal-behind : (lines : List Line) (line : Line) (more : List Line) → refusal_at (lines ++ line ∷ more) (length lines) ≡ line_refusal lines line
+refusal-behind : (lines : List Line) (line : Line) (more : List Line)
+    → refusal_at (lines ++ line ∷ more) (length lines) ≡ line_refusal lines line
 refusal-behind lines line more =
-    ap (option_and_then (line_refusal (take (length lines) (lines ++ line ∷ more)))) (get-behind lines line more)
-    ∙ ap (λ front. line_refusal front line) (take-front lines (line ∷ more) (length lines) (omega arith) ∙ take_all (length lines) lines (omega arith))
+    ap (option_and_then (line_refusal (take (length lines) (lines ++ line ∷ more))))
+    (get-behind lines line more)
+    ∙ ap (λ front. line_refusal front line) (take-front lines (line ∷ more) (length lines) (omega arith)
+    ∙ take_all (length lines) lines (omega arith))
 
 -- past the end there is none
 refusal-past : (lines : List Line) (i : ℕ) → length lines ≤ i → refusal_at lines i ≡ None
@@ -71,15 +79,21 @@ module _ (done : List Line) (events : List CasEvent) (taken : AreTaken done even
   free-before more i l = refusal-front done more i l ∙ taken.well_formed i
 
   -- the refusal of an event behind those of the lines
-  of-event : (e : CasEvent) (r : Option LineRefusal) → event_refusal events e ≡ r → line_refusal done (Ok e) ≡ r
+  of-event : (e : CasEvent) (r : Option LineRefusal) → event_refusal events e ≡ r
+      → line_refusal done (Ok e) ≡ r
   of-event e r is = ap (λ before. event_refusal before e) (sym taken.are) ∙ is
 
   -- a line more that has an event
-  pub taken-more : (e : CasEvent) → event_refusal events e ≡ None → AreTaken (done ++ Ok e ∷ []) (events ++ e ∷ [])
+  pub taken-more : (e : CasEvent) → event_refusal events e ≡ None
+      → AreTaken (done ++ Ok e ∷ []) (events ++ e ∷ [])
   taken-more e accepted = record {
     well_formed = λ i. elim (cases_order i (length done)) [
-      | inl q ↦ ap (refusal_at (done ++ Ok e ∷ [])) q ∙ (refusal-behind done (Ok e) [] ∙ of-event e None accepted)
-      | inr c ↦ elim c [ inl lt ↦ free-before (Ok e ∷ []) i lt | inr gt ↦ refusal-past (done ++ Ok e ∷ []) i (past i gt) ]
+      | inl q ↦ ap (refusal_at (done ++ Ok e ∷ [])) q
+          ∙ (refusal-behind done (Ok e) [] ∙ of-event e None accepted)
+      | inr c ↦ elim c [
+        | inl lt ↦ free-before (Ok e ∷ []) i lt
+        | inr gt ↦ refusal-past (done ++ Ok e ∷ []) i (past i gt)
+      ]
     ];
     are = ap (λ before. before ++ e ∷ []) taken.are ∙ sym (filter_map-append result_ok done (Ok e ∷ []));
   }
@@ -88,16 +102,26 @@ module _ (done : List Line) (events : List CasEvent) (taken : AreTaken done even
       past i gt = grind (arith, length-append done (Ok e ∷ []))
 
   -- a refused line refuses all lines that begin so
-  pub refused-line : (line : Line) (r : LineRefusal) (after : List Line) → line_refusal done line ≡ Some r → IsRefusal (done ++ line ∷ after) r
-  refused-line line r after is = record { place = length done; there = refusal-behind done line after ∙ is; least = free-before (line ∷ after) }
+  pub refused-line : (line : Line) (r : LineRefusal) (after : List Line) → line_refusal done line ≡ Some r
+      → IsRefusal (done ++ line ∷ after) r
+  refused-line line r after is = record {
+    place = length done;
+    there = refusal-behind done line after ∙ is;
+    least = free-before (line ∷ after);
+  }
 
   -- so does a refused event
-  pub refused-event : (e : CasEvent) (r : LineRefusal) (after : List Line) → event_refusal events e ≡ Some r → IsRefusal (done ++ Ok e ∷ after) r
+  pub refused-event : (e : CasEvent) (r : LineRefusal) (after : List Line) → event_refusal events e ≡ Some r
+      → IsRefusal (done ++ Ok e ∷ after) r
   refused-event e r after is = refused-line (Ok e) r after (of-event e (Some r) is)
 
 -- nothing is taken in for a blank line
-pub blank-taken : (n : ℕ) (bytes : List ℕ) → is_blank bytes ≡ true → (events : List CasEvent) (done : List Line) → AreTaken done events → AreTaken (done ++ read_line n bytes) events
-blank-taken n bytes blank events done taken = subst (λ ls. AreTaken ls events) (sym (append-nil done) ∙ ap (λ ls. done ++ ls) (sym (read-blank n bytes blank))) taken
+pub blank-taken : (n : ℕ) (bytes : List ℕ) → is_blank bytes ≡ true
+    → (events : List CasEvent) (done : List Line) → AreTaken done events
+    → AreTaken (done ++ read_line n bytes) events
+blank-taken n bytes blank events done taken =
+    subst (λ ls. AreTaken ls events) (sym (append-nil done)
+    ∙ ap (λ ls. done ++ ls) (sym (read-blank n bytes blank))) taken
 
 module _ (n : ℕ) (bytes : List ℕ) (other : is_blank bytes ≡ false) where
   module _ (e : CasEvent) (reading : event_reading n bytes ≡ Ok e) where
@@ -105,23 +129,36 @@ module _ (n : ℕ) (bytes : List ℕ) (other : is_blank bytes ≡ false) where
     read-is = read-other n bytes other ∙ ap (λ l. l ∷ []) reading
 
     -- the event of the line was taken in
-    pub event-taken : {T : Type 0} (events now : List CasEvent) (r : Result T BuildError) → OnOk r (now ≡ events ++ e ∷ []) → OnOk r (event_refusal events e ≡ None)
+    pub event-taken : {T : Type 0} (events now : List CasEvent) (r : Result T BuildError)
+        → OnOk r (now ≡ events ++ e ∷ []) → OnOk r (event_refusal events e ≡ None)
         → OnOk r ((done : List Line) → AreTaken done events → AreTaken (done ++ read_line n bytes) now)
     event-taken events now (Ok x) is accepted = λ done taken.
-        subst (AreTaken (done ++ read_line n bytes)) (sym is) (subst (λ ls. AreTaken (done ++ ls) (events ++ e ∷ [])) (sym read-is) (taken-more done events taken e accepted))
+        subst (AreTaken (done ++ read_line n bytes)) (sym is)
+        (subst (λ ls. AreTaken (done ++ ls) (events ++ e ∷ [])) (sym read-is)
+        (taken-more done events taken e accepted))
     event-taken events now (Err x) is accepted = tt
 
     -- or why it wasn't
-    pub event-refused : {T : Type 0} (events : List CasEvent) (r : Result T BuildError) → IfErr r (IsTakeError events e)
-        → IfErr r (λ error. (done after : List Line) → AreTaken done events → IsNoHistory (done ++ (read_line n bytes ++ after)) error)
+    pub event-refused : {T : Type 0} (events : List CasEvent) (r : Result T BuildError)
+        → IfErr r (IsTakeError events e)
+        → IfErr r (λ error. (done after : List Line) → AreTaken done events
+        → IsNoHistory (done ++ (read_line n bytes ++ after)) error)
     event-refused events (Ok x) h = tt
-    event-refused events (Err (Refused r)) h = λ done after taken. subst (λ ls. IsRefusal (done ++ (ls ++ after)) r) (sym read-is) (refused-event done events taken e r after h)
+    event-refused events (Err (Refused r)) h =
+        λ done after taken.
+        subst (λ ls. IsRefusal (done ++ (ls ++ after)) r) (sym read-is)
+        (refused-event done events taken e r after h)
     event-refused events (Err Memory) h = λ done after taken. tt
 
   -- the line has no event
-  pub no-event : (error : EventError) → GivesEvent (event_reading n bytes) (Err error) → (stop : BuildError) → stop ≡ of_event error
-      → (events : List CasEvent) (done after : List Line) → AreTaken done events → IsNoHistory (done ++ (read_line n bytes ++ after)) stop
+  pub no-event : (error : EventError) → GivesEvent (event_reading n bytes) (Err error) → (stop : BuildError)
+      → stop ≡ of_event error
+      → (events : List CasEvent) (done after : List Line) → AreTaken done events
+      → IsNoHistory (done ++ (read_line n bytes ++ after)) stop
   no-event (event_error.Fault fault) meant stop is events done after taken =
       subst (IsNoHistory (done ++ (read_line n bytes ++ after))) (sym is)
-      (subst (λ ls. IsNoHistory (done ++ (ls ++ after)) (of_event (event_error.Fault fault))) (sym (read-other n bytes other ∙ ap (λ l. l ∷ []) meant)) (refused-line done events taken (Err fault) _ after refl))
-  no-event event_error.Memory meant stop is events done after taken = subst (IsNoHistory (done ++ (read_line n bytes ++ after))) (sym is) tt
+      (subst (λ ls. IsNoHistory (done ++ (ls ++ after)) (of_event (event_error.Fault fault)))
+      (sym (read-other n bytes other ∙ ap (λ l. l ∷ []) meant))
+      (refused-line done events taken (Err fault) _ after refl))
+  no-event event_error.Memory meant stop is events done after taken =
+      subst (IsNoHistory (done ++ (read_line n bytes ++ after))) (sym is) tt

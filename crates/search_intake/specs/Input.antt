@@ -8,7 +8,8 @@ use Rattle.cas_history.specs.History.{IsHistoryOf}
 use Rattle.cas_history.specs.Refusals.{Line, IsRefusal, IsWellFormed, events_of}
 use Rattle.cas_history.specs.declared.history.History.{History}
 use Rattle.search_intake.specs.declared.refusal.Refusal.{Refusal}
-use Rattle.search_intake.specs.declared.refusal.Refusal.TheVariants.{At, TooLong, InputFailed, NoRoom, OutputFailed}
+use Rattle.search_intake.specs.declared.refusal.Refusal.TheVariants.{At, TooLong, InputFailed}
+use Rattle.search_intake.specs.declared.refusal.Refusal.TheVariants.{NoRoom, OutputFailed}
 
 -- what an input means: of each line that isn't blank its event or its least fault
 abbrev pub history_lines : List ℕ → List Line
@@ -22,7 +23,9 @@ pub record IsHistoryOfInput (input : List ℕ) (history : History) : Type 0 wher
 
 -- why there is no history of all the bytes that a source had left
 abbrev pub IsRefusedOf : Option (List ℕ) → ℕ → ℕ → Refusal → Type 0
-IsRefusedOf left failed failed_now (At r) = (bytes : List ℕ) × IsAll left bytes × (length bytes ≤ MAX_INPUT) × IsRefusal (history_lines bytes) r × (failed_now ≡ failed)
+IsRefusedOf left failed failed_now (At r) =
+    (bytes : List ℕ) × IsAll left bytes × (length bytes ≤ MAX_INPUT) × IsRefusal (history_lines bytes) r
+    × (failed_now ≡ failed)
 IsRefusedOf left failed failed_now TooLong = IsTooLong left × (failed_now ≡ failed)
 IsRefusedOf left failed failed_now InputFailed = failed < failed_now
 IsRefusedOf left failed failed_now NoRoom = IsWithinLimit left × (failed_now ≡ failed)

@@ -4,7 +4,8 @@ use Rattle.cas_history.specs.Refusals.{reason_number, reason_other}
 use Rattle.cas_history.specs.declared.refusal.BuildError.{BuildError}
 use Rattle.cas_history.specs.declared.refusal.BuildError.TheVariants.{Refused, Memory}
 use Rattle.search_intake.specs.declared.refusal.Refusal.{Refusal}
-use Rattle.search_intake.specs.declared.refusal.Refusal.TheVariants.{At, TooLong, InputFailed, NoRoom, OutputFailed}
+use Rattle.search_intake.specs.declared.refusal.Refusal.TheVariants.{At, TooLong, InputFailed}
+use Rattle.search_intake.specs.declared.refusal.Refusal.TheVariants.{NoRoom, OutputFailed}
 
 -- what an event that isn't taken in answers
 abbrev pub of_build : BuildError → Refusal

@@ -14,14 +14,14 @@ use std::alloc::Global;
 /// How many bytes are pulled at once: as many as a pipe of Linux holds.
 const PULL: usize = 65_536;
 
-/// How many bytes are pulled at once if they are to be dropped. They lie on the stack, of which a caller may have little.
+/// How many bytes are pulled at once if they are to be dropped. They lie on the
+/// stack, of which a caller may have little.
 const PIECE: usize = 16_384;
 
 /// All the bytes that the source has left.
 ///
-/// # Errors
-/// `InputFailed` if a pull failed, `TooLong` if there are more bytes than the limit of an input, and `NoRoom` if memory was
-/// refused and what was left was pulled without either.
+/// # Errors `InputFailed` if a pull failed, `TooLong` if there are more bytes than the limit of an input, and
+/// `NoRoom` if memory was refused and what was left was pulled without either.
 pub(crate) fn all_bytes<S: Source>(alloc: Global, source: &mut S) -> Result<Vec<u8>, Refusal>
     requires { S.failed source.old < 2 ^ 64 - 1 }
     ensures all { IfOk result (λ bytes. IsAll (S.left source.old) bytes.items) }
@@ -44,7 +44,8 @@ pub(crate) fn all_bytes<S: Source>(alloc: Global, source: &mut S) -> Result<Vec<
     Err(Refusal::NoRoom)
 }
 
-/// Pulls the next bytes to the front of a piece, behind so many others, and says how many they are. None is the end.
+/// Pulls the next bytes to the front of a piece, behind so many others, and
+/// says how many they are. None is the end.
 ///
 /// # Errors
 /// `InputFailed` if the pull failed, and `TooLong` if there are more bytes than the limit of an input.
@@ -53,9 +54,12 @@ fn pull<S: Source>(source: &mut S, piece: &mut [u8], before: usize) -> Result<us
     requires room { 0 < length piece.old }
     requires failures { S.failed source.old < 2 ^ 64 - 1 }
     ensures bound { IfOk result (λ count. count ≤ length piece.new) }
-    ensures ok { IfOk result (λ count. Gives (S.left source.old) (S.left source.new) (S.failed source.old) (S.failed source.new) before (take count piece.new)) }
+    ensures ok { IfOk result (λ count.
+        Gives (S.left source.old) (S.left source.new) (S.failed source.old) (S.failed source.new) before
+        (take count piece.new)) }
     ensures end { IfOk result (λ count. count ≡ 0 → IsAtEnd (S.left source.new)) }
-    ensures err { IfErr result (StopsAt (S.left source.old) (S.left source.new) (S.failed source.old) (S.failed source.new) before) }
+    ensures err { IfErr result
+        (StopsAt (S.left source.old) (S.left source.new) (S.failed source.old) (S.failed source.new) before) }
 {
     match source.pull(piece) {
         Err(_) => Err(Refusal::InputFailed),
@@ -73,8 +77,11 @@ fn pull<S: Source>(source: &mut S, piece: &mut [u8], before: usize) -> Result<us
 fn drop_rest<S: Source>(source: &mut S, before: usize) -> Result<(), Refusal>
     requires within { before ≤ MAX_INPUT }
     requires failures { S.failed source.old < 2 ^ 64 - 1 }
-    ensures ok { IfOk result (λ _. (bytes : List ℕ) × Gives (S.left source.old) (S.left source.new) (S.failed source.old) (S.failed source.new) before bytes × IsAtEnd (S.left source.new)) }
-    ensures err { IfErr result (StopsAt (S.left source.old) (S.left source.new) (S.failed source.old) (S.failed source.new) before) }
+    ensures ok { IfOk result (λ _. (bytes : List ℕ)
+        × Gives (S.left source.old) (S.left source.new) (S.failed source.old)
+        (S.failed source.new) before bytes × IsAtEnd (S.left source.new)) }
+    ensures err { IfErr result
+        (StopsAt (S.left source.old) (S.left source.new) (S.failed source.old) (S.failed source.new) before) }
 {
     let mut piece = [0u8; PIECE];
     let mut total = before;

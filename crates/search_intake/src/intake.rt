@@ -19,7 +19,8 @@ use std::alloc::Global;
 /// - `NoRoom`: memory ran out.
 pub fn history_of<S: Source>(alloc: Global, source: &mut S) -> Result<History, Refusal>
     requires { S.failed source.old < 2 ^ 64 - 1 }
-    ensures ok { IfOk result (λ history. (bytes : List ℕ) × IsAll (S.left source.old) bytes × IsHistoryOfInput bytes history) }
+    ensures ok { IfOk result (λ history. (bytes : List ℕ) × IsAll (S.left source.old) bytes
+        × IsHistoryOfInput bytes history) }
     ensures unfailed { IfOk result (λ _. S.failed source.new ≡ S.failed source.old) }
     ensures err { IfErr result (IsRefusedOf (S.left source.old) (S.failed source.old) (S.failed source.new)) }
 {

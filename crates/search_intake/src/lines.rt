@@ -1,4 +1,5 @@
-//! From bytes to the history of their lines, which are read one after another up to the first that is refused.
+//! From bytes to the history of their lines, which are read one after
+//! another up to the first that is refused.
 ghost use Rattle.std.specs.Prelude.{◌≡◌, ◌≤◌, ◌++◌, List, length, IfErr, IfOk, OnOk};
 ghost use Rattle.history_text.specs.declared.limits.TheConstants.{MAX_INPUT};
 ghost use Rattle.history_text.specs.Lines.{is_blank as is_blank_line};
@@ -38,8 +39,10 @@ pub fn history_in(alloc: Global, bytes: &[u8]) -> Result<History, BuildError>
 /// # Errors
 /// `Refused` if the line is faulty, and `Memory`.
 fn take_line(alloc: Global, events: &mut Events, bytes: &[u8], line: u32) -> Result<(), BuildError>
-    ensures ok { OnOk result ((done : List Line) → AreTaken done events.old → AreTaken (done ++ read_line line bytes.now) events.new) }
-    ensures err { IfErr result (λ error. (done after : List Line) → AreTaken done events.old → IsNoHistory (done ++ (read_line line bytes.now ++ after)) error) }
+    ensures ok { OnOk result ((done : List Line) → AreTaken done events.old
+        → AreTaken (done ++ read_line line bytes.now) events.new) }
+    ensures err { IfErr result (λ error. (done after : List Line) → AreTaken done events.old
+        → IsNoHistory (done ++ (read_line line bytes.now ++ after)) error) }
 {
     if is_blank(bytes) {
         return Ok(());

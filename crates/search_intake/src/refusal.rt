@@ -7,12 +7,12 @@ use reg_intake::Refusal as PlainRefusal;
 use std::alloc::AllocError;
 use thiserror::Error;
 
-/// Why there is no report. Nothing was written then, but for `OutputFailed`. All but the first have the texts of histories
-/// without cas.
+/// Why there is no report. Nothing was written then, but for `OutputFailed`. All but the first
+/// have the texts of histories without cas.
 #[derive(Clone, Copy, Debug, PartialEq, Eq, Error)]
 pub enum Refusal {
-    /// 1 to 12, 14, or 19 to 21: the history isn't well formed. Its first faulty line is refused, for the lowest-numbered
-    /// reason that applies there.
+    /// 1 to 12, 14, or 19 to 21: the history isn't well formed. Its first faulty line is refused, for the
+    /// lowest-numbered reason that applies there.
     #[error(transparent)]
     At(LineRefusal),
     /// 15: the input is longer than its limit, [`MAX_INPUT`](history_text::MAX_INPUT).

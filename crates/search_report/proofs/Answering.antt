@@ -16,12 +16,17 @@ use Rattle.search_report.specs.Answer.{IsAnswer, IsAnswerToLines, IsRefused}
 use Rattle.search_report.specs.Meaning.{IsReport}
 use Rattle.std.proofs.lemmas.Bool.{le-ltb}
 
-pub answer-to : (input : List ℕ) (history : History) (report : Report) → IsHistoryOfInput input history → IsReport (events_of (history_lines input)) report → IsAnswer input (Ok report)
+pub answer-to : (input : List ℕ) (history : History) (report : Report) → IsHistoryOfInput input history
+    → IsReport (events_of (history_lines input)) report → IsAnswer input (Ok report)
 answer-to input history report read is =
-    subst (λ b. MatchBool b (◌≡◌ {A = Result Report Refusal} (Ok report) (Err TooLong)) (IsAnswerToLines (history_lines input) (Ok report)))
+    subst (λ b. MatchBool b (◌≡◌ {A = Result Report Refusal} (Ok report) (Err TooLong))
+    (IsAnswerToLines (history_lines input) (Ok report)))
     (sym (le-ltb MAX_INPUT (length input) read.within)) (read.well_formed, is)
 
-pub refused-within : (input : List ℕ) → length input ≤ MAX_INPUT → (e : BuildError) → IsNoHistory (history_lines input) e → IsRefused input (of_build e)
+pub refused-within : (input : List ℕ) → length input ≤ MAX_INPUT → (e : BuildError)
+    → IsNoHistory (history_lines input) e → IsRefused input (of_build e)
 refused-within input within (Refused r) is =
-    inr (subst (λ b. MatchBool b (◌≡◌ {A = Result Report Refusal} (Err (At r)) (Err TooLong)) (IsAnswerToLines (history_lines input) (Err (At r)))) (sym (le-ltb MAX_INPUT (length input) within)) is)
+    inr (subst (λ b. MatchBool b (◌≡◌ {A = Result Report Refusal} (Err (At r)) (Err TooLong))
+    (IsAnswerToLines (history_lines input) (Err (At r))))
+    (sym (le-ltb MAX_INPUT (length input) within)) is)
 refused-within input within Memory is = inl refl

@@ -1,5 +1,6 @@
 -- The lines of the registers are the report of the history, and what they say decides the whole.
-use Rattle.std.proofs.Common.{◌≡◌, ◌↔◌, ◌||◌, ℕ, zero, suc, ◌<◌, Bool, true, false, cond, List, [], ◌∷◌, length, slice_get, Some, inl, inr, ◌⊎◌, refl, sym, ap, subst, ◌∙◌, arith}
+use Rattle.std.proofs.Common.{◌≡◌, ◌↔◌, ◌||◌, ℕ, zero, suc, ◌<◌, Bool, true, false, cond, List, [], ◌∷◌}
+use Rattle.std.proofs.Common.{length, slice_get, Some, inl, inr, ◌⊎◌, refl, sym, ap, subst, ◌∙◌, arith}
 use Rattle.std.proofs.lemmas.Bool.{cases_Bool, cases_lt, false≢true, true≢false, or_parts}
 use Rattle.std.proofs.lemmas.Option.{same_Some, slice_get_within}
 use Rattle.std.specs.List.{list_any}
@@ -20,7 +21,8 @@ use Rattle.search_text.specs.declared.report.Answer.TheVariants as answer
 use Rattle.search_text.specs.declared.report.Atomicity.{Atomicity}
 use Rattle.search_text.specs.declared.report.Atomicity.TheVariants.{Yes, No, Unknown}
 use Rattle.search_text.specs.declared.report.RegisterReport.{RegisterReport}
-use Rattle.search_report.specs.Meaning.{IsAtomicity, IsRegisterReport, IsWholeAnswer, answer_of, event_lines, is_no, is_unknown}
+use Rattle.search_report.specs.Meaning.{IsAtomicity, IsRegisterReport, IsWholeAnswer}
+use Rattle.search_report.specs.Meaning.{answer_of, event_lines, is_no, is_unknown}
 use Rattle.search_report.specs.Registers.{AreFirstLines, IsLine}
 
 -- ---- what the answer says if each register's line says so of P
@@ -42,17 +44,23 @@ told_yes P (No fault) e f t = absurd (true≢false e)
 told_yes P (Unknown bound) e f t = absurd (true≢false f)
 
 -- some one of the list passes the test, or each one fails it
-some_passes : (test : RegisterReport → Bool) (reports : List RegisterReport) → list_any test reports ≡ true → (r : ℕ) × (report : RegisterReport) × (slice_get reports r ≡ Some report) × (test report ≡ true)
+some_passes : (test : RegisterReport → Bool) (reports : List RegisterReport) → list_any test reports ≡ true
+    → (r : ℕ) × (report : RegisterReport) × (slice_get reports r ≡ Some report) × (test report ≡ true)
 some_passes test [] e = absurd (false≢true e)
 some_passes test (report ∷ reports) e = elim (cases_Bool (test report)) [
   | inl y ↦ (0, report, refl, y)
-  | inr n ↦ let rest = some_passes test reports (subst (λ b. (b || list_any test reports) ≡ true) n e) in (suc rest.0, rest.1, rest.2, rest.3)
+  | inr n ↦ let rest = some_passes test reports (subst (λ b. (b || list_any test reports) ≡ true) n e) in
+      (suc rest.0, rest.1, rest.2, rest.3)
 ]
 
-each_fails : (test : RegisterReport → Bool) (reports : List RegisterReport) → list_any test reports ≡ false → (r : ℕ) (report : RegisterReport) → slice_get reports r ≡ Some report → test report ≡ false
+each_fails : (test : RegisterReport → Bool) (reports : List RegisterReport) → list_any test reports ≡ false
+    → (r : ℕ) (report : RegisterReport) → slice_get reports r ≡ Some report → test report ≡ false
 each_fails test [] e r report at = let l = slice_get_within [] r report at in absurd (omega (arith, l))
-each_fails test (first ∷ reports) e zero report at = subst (λ (x : RegisterReport). test x ≡ false) (same_Some _ _ at) (or_parts (test first) (list_any test reports) e).0
-each_fails test (first ∷ reports) e (suc r) report at = each_fails test reports (or_parts (test first) (list_any test reports) e).1 r report at
+each_fails test (first ∷ reports) e zero report at =
+    subst (λ (x : RegisterReport). test x ≡ false) (same_Some _ _ at)
+    (or_parts (test first) (list_any test reports) e).0
+each_fails test (first ∷ reports) e (suc r) report at =
+    each_fails test reports (or_parts (test first) (list_any test reports) e).1 r report at
 
 -- what is known of P at the numbers below a count, as the answer says
 abbrev Known : (ℕ → Type 0) → ℕ → Answer → Type 0
@@ -60,14 +68,23 @@ Known P count answer.Yes = (r : ℕ) → r < count → P r
 Known P count answer.No = (r : ℕ) × (r < count) × (P r → ⊥)
 Known P count answer.Unknown = Unit {0}
 
-all_known : (P : ℕ → Type 0) (reports : List RegisterReport) → ((r : ℕ) (report : RegisterReport) → slice_get reports r ≡ Some report → Tells (P r) report.atomicity) → Known P (length reports) (answer_of reports)
+all_known : (P : ℕ → Type 0) (reports : List RegisterReport)
+    → ((r : ℕ) (report : RegisterReport) → slice_get reports r ≡ Some report → Tells (P r) report.atomicity)
+    → Known P (length reports) (answer_of reports)
 all_known P reports each = elim (cases_Bool (list_any (λ reg. is_no reg.atomicity) reports)) [
   | inl y ↦
       let some = some_passes (λ reg. is_no reg.atomicity) reports y in
-      subst (λ b. Known P (length reports) (cond b answer.No (cond (list_any (λ reg. is_unknown reg.atomicity) reports) answer.Unknown answer.Yes))) (sym y)
-      (some.0, slice_get_within reports some.0 some.1 some.2, told_no (P some.0) some.1.atomicity some.3 (each some.0 some.1 some.2))
+      subst (λ b. Known P (length reports)
+      (cond b answer.No
+      (cond (list_any (λ reg. is_unknown reg.atomicity) reports) answer.Unknown answer.Yes))) (sym y) (
+        some.0,
+        slice_get_within reports some.0 some.1 some.2,
+        told_no (P some.0) some.1.atomicity some.3 (each some.0 some.1 some.2),
+      )
   | inr n ↦
-      subst (λ b. Known P (length reports) (cond b answer.No (cond (list_any (λ reg. is_unknown reg.atomicity) reports) answer.Unknown answer.Yes))) (sym n)
+      subst (λ b. Known P (length reports)
+      (cond b answer.No
+      (cond (list_any (λ reg. is_unknown reg.atomicity) reports) answer.Unknown answer.Yes))) (sym n)
       (elim (cases_Bool (list_any (λ reg. is_unknown reg.atomicity) reports)) [
         | inl y ↦ subst (λ b. Known P (length reports) (cond b answer.Unknown answer.Yes)) (sym y) tt
         | inr m ↦ subst (λ b. Known P (length reports) (cond b answer.Unknown answer.Yes)) (sym m) (λ r l.
@@ -89,13 +106,26 @@ timed_with_initial r ops timed = record { life = life; apart = apart }
     some_one t q = sym (same_Some 1 t q)
 
     life : (a : Operation) (t : ℕ) → In a (initial_write r ∷ ops) → a.reply ≡ Some t → a.call < t
-    life a t (inl e) q = let one = some_one t (subst (λ (x : Operation). x.reply ≡ Some t) e q) in subst (λ (x : Operation). x.call < t) (sym e) (omega (arith, one))
+    life a t (inl e) q =
+        let one =
+        some_one t (subst (λ (x : Operation). x.reply ≡ Some t) e q) in
+        subst (λ (x : Operation). x.call < t) (sym e) (omega (arith, one))
     life a t (inr i) q = timed.life a t i q
 
-    apart : (a b : Operation) (t : ℕ) → In a (initial_write r ∷ ops) → In b (initial_write r ∷ ops) → a.reply ≡ Some t → t ≡ b.call → ⊥
-    apart a b t (inl e) (inl f) q same = let one = some_one t (subst (λ (x : Operation). x.reply ≡ Some t) e q) in let zero_call = ap (λ (x : Operation). x.call) f in omega (arith, one, same, zero_call)
-    apart a b t (inl e) (inr j) q same = let one = some_one t (subst (λ (x : Operation). x.reply ≡ Some t) e q) in let late = timed.called b j in omega (arith, one, same, late)
-    apart a b t (inr i) (inl f) q same = let early = timed.life a t i q in let zero_call = ap (λ (x : Operation). x.call) f in omega (arith, early, same, zero_call)
+    apart : (a b : Operation) (t : ℕ) → In a (initial_write r ∷ ops) → In b (initial_write r ∷ ops)
+        → a.reply ≡ Some t → t ≡ b.call → ⊥
+    apart a b t (inl e) (inl f) q same =
+        let one =
+        some_one t (subst (λ (x : Operation). x.reply ≡ Some t) e q) in let zero_call =
+        ap (λ (x : Operation). x.call) f in omega (arith, one, same, zero_call)
+    apart a b t (inl e) (inr j) q same =
+        let one =
+        some_one t (subst (λ (x : Operation). x.reply ≡ Some t) e q) in let late =
+        timed.called b j in omega (arith, one, same, late)
+    apart a b t (inr i) (inl f) q same =
+        let early =
+        timed.life a t i q in let zero_call =
+        ap (λ (x : Operation). x.call) f in omega (arith, early, same, zero_call)
     apart a b t (inr i) (inr j) q same = timed.apart a b t i j q same
 
 nothing_is_atomic : IsAtomic []
@@ -114,41 +144,58 @@ module _ (events : List CasEvent) where
   IsRegisterAtomic r = IsAtomic (initial_write r ∷ calls_of events r)
 
   is_named : (r : ℕ) → (r < length (register_names events)) ⊎ (r < length (register_names events) → ⊥)
-  is_named r = elim (cases_lt r (length (register_names events))) [ inl l ↦ inl l | inr g ↦ inr (λ l. omega (arith, l, g)) ]
+  is_named r =
+      elim (cases_lt r (length (register_names events))) [
+        | inl l ↦ inl l
+        | inr g ↦ inr (λ l. omega (arith, l, g))
+      ]
 
   each_timed : (r : ℕ) → AreTimed (of_register r (operations events))
   each_timed r = elim (is_named r) [
-    | inl l ↦ subst AreTimed (sym (of-named events r l)) (timed_with_initial r (calls_of events r) (calls-timed events r))
-    | inr n ↦ subst AreTimed (sym (of-none events r n)) (record { life = λ a t i _. absurd i; apart = λ a b t i _ _ _. i })
+    | inl l ↦ subst AreTimed (sym (of-named events r l))
+        (timed_with_initial r (calls_of events r) (calls-timed events r))
+    | inr n ↦ subst AreTimed (sym (of-none events r n)) (record {
+      life = λ a t i _. absurd i;
+      apart = λ a b t i _ _ _. i;
+    })
   ]
 
   decides : IsAtomic (operations events) ↔ ((r : ℕ) → IsAtomic (of_register r (operations events)))
   decides = each_decides (operations events) each_timed
 
-  whole_answer : (told : Answer) → Known IsRegisterAtomic (length (register_names events)) told → IsWholeAnswer events told
+  whole_answer : (told : Answer) → Known IsRegisterAtomic (length (register_names events)) told
+      → IsWholeAnswer events told
   whole_answer answer.Yes known = decides.1 (λ r. elim (is_named r) [
     | inl l ↦ subst IsAtomic (sym (of-named events r l)) (known r l)
     | inr n ↦ subst IsAtomic (sym (of-none events r n)) nothing_is_atomic
   ])
-  whole_answer answer.No known = λ atomic. known.2 (subst IsAtomic (of-named events known.0 known.1) (decides.0 atomic known.0))
+  whole_answer answer.No known =
+      λ atomic. known.2 (subst IsAtomic (of-named events known.0 known.1) (decides.0 atomic known.0))
   whole_answer answer.Unknown known = tt
 
-  module _ (h : History) (is : IsHistoryOf events h) (reports : List RegisterReport) (lines : AreFirstLines h (length h.names.items) reports) where
-    pub line-is : (r : ℕ) (report : RegisterReport) → slice_get reports r ≡ Some report → IsRegisterReport events r report
+  module _ (h : History) (is : IsHistoryOf events h) (reports : List RegisterReport)
+      (lines : AreFirstLines h (length h.names.items) reports) where
+    pub line-is : (r : ℕ) (report : RegisterReport) → slice_get reports r ≡ Some report
+        → IsRegisterReport events r report
     line-is r report at =
         let l = lines.each r report at in
         let ops : l.1.items ≡ calls_of events r = is.registers r l.1 l.3 in
         let line = subst (λ xs. IsLine h.lines.items l.0 xs report) ops l.4 in
         record {
-          name = subst (λ names. slice_get names r ≡ Some report.register) is.names (l.2 ∙ ap Some (sym line.name_is));
+          name =
+              subst (λ names. slice_get names r ≡ Some report.register) is.names (l.2
+              ∙ ap Some (sym line.name_is));
           cas = line.cas;
           pending = line.pending;
           reads = line.reads;
           writes = line.writes;
-          atomicity = subst (λ xs. IsAtomicity xs r (calls_of events r) report.atomicity) is.lines (line.atomicity r (calls-timed events r));
+          atomicity =
+              subst (λ xs. IsAtomicity xs r (calls_of events r) report.atomicity) is.lines
+              (line.atomicity r (calls-timed events r));
         }
 
-    tells : (r : ℕ) (a : Atomicity) → IsAtomicity (event_lines events) r (calls_of events r) a → Tells (IsRegisterAtomic r) a
+    tells : (r : ℕ) (a : Atomicity) → IsAtomicity (event_lines events) r (calls_of events r) a
+        → Tells (IsRegisterAtomic r) a
     tells r (Yes order points) says = says.0
     tells r (No fault) says = says.0
     tells r (Unknown bound) says = tt
@@ -159,4 +206,5 @@ module _ (events : List CasEvent) where
     pub answer-is : IsWholeAnswer events (answer_of reports)
     answer-is = whole_answer (answer_of reports)
         (subst (λ n. Known IsRegisterAtomic n (answer_of reports)) count-is
-        (all_known IsRegisterAtomic reports (λ r report at. tells r report.atomicity (line-is r report at).atomicity)))
+        (all_known IsRegisterAtomic reports (λ r report at.
+        tells r report.atomicity (line-is r report at).atomicity)))

@@ -1,5 +1,6 @@
 -- What is found of each register makes the lines of all registers.
-use Rattle.std.proofs.Common.{◌≡◌, ℕ, zero, suc, ◌+◌, ◌<◌, ◌≤◌, drop, List, [], ◌∷◌, ◌++◌, length, slice_get, Some, Vec, Global, inl, inr, refl, sym, ap, subst, ◌∙◌, arith}
+use Rattle.std.proofs.Common.{◌≡◌, ℕ, zero, suc, ◌+◌, ◌<◌, ◌≤◌, drop, List, [], ◌∷◌, ◌++◌, length}
+use Rattle.std.proofs.Common.{slice_get, Some, Vec, Global, inl, inr, refl, sym, ap, subst, ◌∙◌, arith}
 use Rattle.std.specs.List.{AllZip}
 use Rattle.std.proofs.lemmas.Bool.{cases_eq, cases_lt}
 use Rattle.std.proofs.lemmas.List.{length_push}
@@ -12,17 +13,29 @@ use Rattle.search_report.specs.declared.register.Finding.{Finding}
 use Rattle.search_text.specs.declared.report.RegisterReport.{RegisterReport}
 
 pub no-line : (h : History) → AreFirstLines h 0 []
-no-line h = record { count_is = refl; each = λ r report at. let l = slice_get_within [] r report at in absurd (omega (arith, l)) }
+no-line h = record {
+  count_is = refl;
+  each = λ r report at. let l = slice_get_within [] r report at in absurd (omega (arith, l));
+}
 
-pub one-line-more : (h : History) (n : ℕ) (reports : List RegisterReport) (report : RegisterReport) (name : List ℕ) (ops : Vec Operation Global) → AreFirstLines h n reports
-    → slice_get h.names.items n ≡ Some name → slice_get h.registers.items n ≡ Some ops → IsLine h.lines.items name ops.items report → AreFirstLines h (n + 1) (reports ++ report ∷ [])
+pub one-line-more : (h : History) (n : ℕ) (reports : List RegisterReport) (report : RegisterReport)
+    (name : List ℕ) (ops : Vec Operation Global) → AreFirstLines h n reports
+    → slice_get h.names.items n ≡ Some name → slice_get h.registers.items n ≡ Some ops
+    → IsLine h.lines.items name ops.items report → AreFirstLines h (n + 1) (reports ++ report ∷ [])
 one-line-more h n reports report name ops first named there line = record {
   count_is = length_push reports report ∙ ap (λ k. k + 1) first.count_is;
   each = λ r other at. elim (cases_eq r (length reports)) [
     | inl e ↦
         let r_is : r ≡ n = e ∙ first.count_is in
-        let same = same_Some _ _ (sym (slice_get-push reports report) ∙ (ap (slice_get (reports ++ report ∷ [])) (sym e) ∙ at)) in
-        (name, ops, ap (slice_get h.names.items) r_is ∙ named, ap (slice_get h.registers.items) r_is ∙ there, subst (IsLine h.lines.items name ops.items) same line)
+        let same =
+        same_Some _ _ (sym (slice_get-push reports report)
+        ∙ (ap (slice_get (reports ++ report ∷ [])) (sym e) ∙ at)) in (
+          name,
+          ops,
+          ap (slice_get h.names.items) r_is ∙ named,
+          ap (slice_get h.registers.items) r_is ∙ there,
+          subst (IsLine h.lines.items name ops.items) same line,
+        )
     | inr d ↦ first.each r other (sym (slice_get-push_other reports report r d) ∙ at)
   ];
 }
@@ -30,16 +43,21 @@ one-line-more h n reports report name ops first named there line = record {
 -- ---- one register after another
 
 abbrev Go : History → List (Vec Operation Global) → List Finding → Type 0
-Go h registers findings = AllZip (λ (ops : Vec Operation Global) finding. IsFinding h.lines.items ops.items finding) registers findings
+Go h registers findings =
+    AllZip (λ (ops : Vec Operation Global) finding. IsFinding h.lines.items ops.items finding) registers
+    findings
 
-first_of : (h : History) (n : ℕ) (registers : List (Vec Operation Global)) (finding : Finding) (rest : List Finding) → Go h (drop n registers) (finding ∷ rest)
-    → (ops : Vec Operation Global) × (slice_get registers n ≡ Some ops) × IsFinding h.lines.items ops.items finding × Go h (drop (suc n) registers) rest
+first_of : (h : History) (n : ℕ) (registers : List (Vec Operation Global)) (finding : Finding)
+    (rest : List Finding) → Go h (drop n registers) (finding ∷ rest)
+    → (ops : Vec Operation Global) × (slice_get registers n ≡ Some ops)
+    × IsFinding h.lines.items ops.items finding × Go h (drop (suc n) registers) rest
 first_of h zero [] finding rest go = absurd go
 first_of h zero (ops ∷ registers) finding rest go = (ops, refl, go.0, go.1)
 first_of h (suc n) [] finding rest go = absurd go
 first_of h (suc n) (ops ∷ registers) finding rest go = first_of h n registers finding rest go
 
-none_of : (h : History) (n : ℕ) (registers : List (Vec Operation Global)) → Go h (drop n registers) [] → length registers ≤ n
+none_of : (h : History) (n : ℕ) (registers : List (Vec Operation Global)) → Go h (drop n registers) []
+    → length registers ≤ n
 none_of h zero [] go = omega arith
 none_of h zero (ops ∷ registers) go = absurd go
 none_of h (suc n) [] go = omega arith
@@ -53,26 +71,35 @@ one_more : (n : ℕ) → n + 1 ≡ suc n
 one_more n = omega arith
 
 module _ (h : History) (as_many : length h.registers.items ≡ length h.names.items) where
-  pub has-name : (n : ℕ) (findings rest : List Finding) (finding : Finding) → Go h (drop n h.registers.items) findings → findings ≡ finding ∷ rest → n < length h.names.items
+  pub has-name : (n : ℕ) (findings rest : List Finding) (finding : Finding)
+      → Go h (drop n h.registers.items) findings → findings ≡ finding ∷ rest → n < length h.names.items
   has-name n findings rest finding go is =
       let one = first_of h n h.registers.items finding rest (subst (Go h (drop n h.registers.items)) is go) in
       let l = slice_get_within h.registers.items n one.0 one.1 in
       omega (arith, l, as_many)
 
-  pub next-line : (reports after : List RegisterReport) (findings rest : List Finding) (finding : Finding) (report : RegisterReport) (name : List ℕ)
-      → AreFirstLines h (length reports) reports → Go h (drop (length reports) h.registers.items) findings → findings ≡ finding ∷ rest
-      → slice_get h.names.items (length reports) ≡ Some name → ((lines : List ℕ) (ops : List Operation) → IsFinding lines ops finding → IsLine lines name ops report)
-      → after ≡ reports ++ report ∷ [] → AreFirstLines h (length after) after × Go h (drop (length after) h.registers.items) rest
+  pub next-line : (reports after : List RegisterReport) (findings rest : List Finding) (finding : Finding)
+      (report : RegisterReport) (name : List ℕ)
+      → AreFirstLines h (length reports) reports → Go h (drop (length reports) h.registers.items) findings
+      → findings ≡ finding ∷ rest
+      → slice_get h.names.items (length reports) ≡ Some name
+      → ((lines : List ℕ) (ops : List Operation) → IsFinding lines ops finding → IsLine lines name ops report)
+      → after ≡ reports ++ report ∷ [] → AreFirstLines h (length after) after
+      × Go h (drop (length after) h.registers.items) rest
   next-line reports after findings rest finding report name first go is named line grown =
       let n = length reports in
       let one = first_of h n h.registers.items finding rest (subst (Go h (drop n h.registers.items)) is go) in
-      let more = one-line-more h n reports report name one.0 first named one.1 (line h.lines.items one.0.items one.2) in
+      let more =
+      one-line-more h n reports report name one.0 first named one.1
+      (line h.lines.items one.0.items one.2) in
       let size : length after ≡ n + 1 = ap length grown ∙ length_push reports report in (
         subst (λ k. AreFirstLines h k after) (sym size) (subst (AreFirstLines h (n + 1)) (sym grown) more),
         subst (λ k. Go h (drop k h.registers.items) rest) (sym (size ∙ one_more n)) one.3,
       )
 
-  pub all-lines : (reports : List RegisterReport) (findings : List Finding) → AreFirstLines h (length reports) reports → Go h (drop (length reports) h.registers.items) findings → findings ≡ []
+  pub all-lines : (reports : List RegisterReport) (findings : List Finding)
+      → AreFirstLines h (length reports) reports → Go h (drop (length reports) h.registers.items) findings
+      → findings ≡ []
       → AreFirstLines h (length h.names.items) reports
   all-lines reports findings first go is =
       let n = length reports in

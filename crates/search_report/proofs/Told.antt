@@ -1,5 +1,6 @@
 -- What the verdict of a search says, by lines.
-use Rattle.std.proofs.Common.{◌≡◌, ℕ, ◌-◌, List, ◌∷◌, map, get_or, slice_get, Option, Some, None, Result, Ok, Err, Vec, Global, sym, ap, subst, ◌∙◌}
+use Rattle.std.proofs.Common.{◌≡◌, ℕ, ◌-◌, List, ◌∷◌, map, get_or, slice_get, Option, Some}
+use Rattle.std.proofs.Common.{None, Result, Ok, Err, Vec, Global, sym, ap, subst, ◌∙◌}
 use Rattle.std.specs.Prelude.{IfOk, IfSome}
 use Rattle.std.proofs.lemmas.Option.{same_Some, slice_get-get_or, slice_get_within}
 use Rattle.std.proofs.lemmas.Simd.{map-map}
@@ -23,13 +24,21 @@ use Rattle.search_report.specs.Registers.{AreLinesBefore, AreOpenLines, IsReplyL
 use Rattle.search_report.proofs.Placing.{known-lines}
 
 pub are-calls : (r : ℕ) (ops : List Operation) → AreTimedCalls r ops → AreCalls r ops
-are-calls r ops timed = record { register = timed.register; called = timed.called; ascending = timed.ascending }
+are-calls r ops timed = record {
+  register = timed.register;
+  called = timed.called;
+  ascending = timed.ascending;
+}
 
 pub are-times : (r : ℕ) (ops : List Operation) → AreTimedCalls r ops → AreTimes ops
-are-times r ops timed = record { timed = record { life = timed.life; apart = timed.apart }; replies = timed.replies }
+are-times r ops timed = record {
+  timed = record { life = timed.life; apart = timed.apart };
+  replies = timed.replies;
+}
 
 module _ (lines : List ℕ) (r : ℕ) (ops : List Operation) where
-  pub unwritten-told : (k : ℕ) (d : Operation) → AreTimedCalls r ops → IsFirstUnwritten ops (Some k) → ((s : ℕ) → AreCalls s ops → IsAtomic (initial_write s ∷ ops) → ⊥)
+  pub unwritten-told : (k : ℕ) (d : Operation) → AreTimedCalls r ops → IsFirstUnwritten ops (Some k)
+      → ((s : ℕ) → AreCalls s ops → IsAtomic (initial_write s ∷ ops) → ⊥)
       → IsAtomicity lines r ops (No (Unwritten (get_or ops k d).line))
   unwritten-told k d timed first none =
       let a = first.0.0 in
@@ -40,11 +49,14 @@ module _ (lines : List ℕ) (r : ℕ) (ops : List Operation) where
           operation = a;
           there = first.0.1;
           first = first;
-          line = ap (λ (x : Operation). x.line) (same_Some _ _ (sym (slice_get-get_or ops k d within) ∙ first.0.1));
+          line =
+              ap (λ (x : Operation). x.line) (same_Some _ _ (sym (slice_get-get_or ops k d within)
+              ∙ first.0.1));
         },
       )
 
-  pub order-told : (places points : List ℕ) (order times : Vec ℕ Global) → order.items ≡ lines_of (operations_at ops places) → times.items ≡ map (line_at lines) points
+  pub order-told : (places points : List ℕ) (order times : Vec ℕ Global)
+      → order.items ≡ lines_of (operations_at ops places) → times.items ≡ map (line_at lines) points
       → IsCheckedOrder r ops places points → IsAtomicity lines r ops (Yes order times)
   order-told places points order times e f checked = (
     (initial_write r ∷ operations_at ops places, checked.legal),
@@ -53,26 +65,37 @@ module _ (lines : List ℕ) (r : ℕ) (ops : List Operation) where
       legal = checked.legal;
       unreplied = checked.points_are.unreplied;
       order_is = e;
-      points_are = f ∙ (ap (map (line_at lines)) checked.points_are.is ∙ map-map (line_at lines) (λ (x : PlacedOperation). x.point) (placed (operations_at ops places)));
+      points_are =
+          f ∙ (ap (map (line_at lines)) checked.points_are.is
+          ∙ map-map (line_at lines) (λ (x : PlacedOperation). x.point)
+          (placed (operations_at ops places)));
     },
   )
 
-  before_told : (timed : AreTimedCalls r ops) (k time : ℕ) (a : Operation) → slice_get ops k ≡ Some a → a.reply ≡ Some time → (before shown : Option (Vec ℕ Global)) → AreLinesBefore ops before shown
-      → IfSome before (λ places. IsBefore r ops k places.items) → IfSome shown (λ order. IsOrderBefore time r ops order.items)
-  before_told timed k time a at replies None shown is legal = subst (λ o. IfSome o (λ order. IsOrderBefore time r ops order.items)) (sym is) tt
+  before_told : (timed : AreTimedCalls r ops) (k time : ℕ) (a : Operation) → slice_get ops k ≡ Some a
+      → a.reply ≡ Some time → (before shown : Option (Vec ℕ Global)) → AreLinesBefore ops before shown
+      → IfSome before (λ places. IsBefore r ops k places.items)
+      → IfSome shown (λ order. IsOrderBefore time r ops order.items)
+  before_told timed k time a at replies None shown is legal =
+      subst (λ o. IfSome o (λ order. IsOrderBefore time r ops order.items)) (sym is) tt
   before_told timed k time a at replies (Some places) shown is legal =
       let same_op : a ≡ legal.replies.0 = same_Some _ _ (sym at ∙ legal.replies.1) in
-      let same_time : legal.time ≡ time = same_Some _ _ (sym legal.replies.2 ∙ (ap (λ (x : Operation). x.reply) (sym same_op) ∙ replies)) in
+      let same_time : legal.time ≡ time =
+      same_Some _ _ (sym legal.replies.2 ∙ (ap (λ (x : Operation). x.reply) (sym same_op) ∙ replies)) in
       let order : IsOrderBefore legal.time r ops is.0.items = (
         operations_at (cut_at (legal.time - 1) ops) places.items,
         legal.legal.legal,
-        is.2 ∙ sym (known-lines (legal.time - 1) r ops (are-calls r ops timed) places.items legal.legal.within),
+        is.2 ∙ sym (known-lines (legal.time - 1) r ops (are-calls r ops timed) places.items
+            legal.legal.within),
       ) in
-      subst (λ o. IfSome o (λ order. IsOrderBefore time r ops order.items)) (sym is.1) (subst (λ t. IsOrderBefore t r ops is.0.items) same_time order)
+      subst (λ o. IfSome o (λ order. IsOrderBefore time r ops order.items)) (sym is.1)
+      (subst (λ t. IsOrderBefore t r ops is.0.items) same_time order)
 
-  pub no-told : AreTimedCalls r ops → IsFirstUnwritten ops None → (k line : ℕ) (asks : Vec ℕ Global) (before shown : Option (Vec ℕ Global))
+  pub no-told : AreTimedCalls r ops → IsFirstUnwritten ops None
+      → (k line : ℕ) (asks : Vec ℕ Global) (before shown : Option (Vec ℕ Global))
       → IsReplyLine lines ops k line → AreOpenLines ops k asks.items → AreLinesBefore ops before shown
-      → IsRefuted r ops k → IfSome before (λ places. IsBefore r ops k places.items) → IsAtomicity lines r ops (No (Search asks shown line))
+      → IsRefuted r ops k → IfSome before (λ places. IsBefore r ops k places.items)
+      → IsAtomicity lines r ops (No (Search asks shown line))
   no-told timed first k line asks before shown is_line are_open is refuted legal =
       let a = refuted.replies.0 in (
         refuted.whole,
@@ -86,21 +109,25 @@ module _ (lines : List ℕ) (r : ℕ) (ops : List Operation) where
             line = is_line a refuted.time refuted.replies.1 refuted.replies.2;
             none = refuted.beginning;
             asks_are = are_open a refuted.time refuted.replies.1 refuted.replies.2;
-            order = before_told timed k refuted.time a refuted.replies.1 refuted.replies.2 before shown is legal;
+            order =
+                before_told timed k refuted.time a refuted.replies.1 refuted.replies.2 before shown is legal;
           },
         ),
       )
 
 -- what is told of a verdict that is right is right
-pub told-of : {E : Type 0} (lines : List ℕ) (ops : List Operation) (verdict : Verdict) (result : Result Atomicity E)
-    → IfOk result (λ a. (r : ℕ) → AreTimedCalls r ops → IsFirstUnwritten ops None → IsVerdict r ops verdict → IsAtomicity lines r ops a)
+pub told-of : {E : Type 0} (lines : List ℕ) (ops : List Operation) (verdict : Verdict)
+    (result : Result Atomicity E)
+    → IfOk result (λ a. (r : ℕ) → AreTimedCalls r ops → IsFirstUnwritten ops None → IsVerdict r ops verdict
+    → IsAtomicity lines r ops a)
     → ((r : ℕ) → AreTimedCalls r ops → IsVerdict r ops verdict)
     → IfOk result (λ a. (r : ℕ) → AreTimedCalls r ops → IsFirstUnwritten ops None → IsAtomicity lines r ops a)
 told-of lines ops verdict (Ok a) told right = λ r timed first. told r timed first (right r timed)
 told-of lines ops verdict (Err e) told right = tt
 
 -- what a search finds if no value is unwritten
-pub searched-of : {E : Type 0} (lines : List ℕ) (ops : List Operation) (result : Result Atomicity E) → IsFirstUnwritten ops None
+pub searched-of : {E : Type 0} (lines : List ℕ) (ops : List Operation) (result : Result Atomicity E)
+    → IsFirstUnwritten ops None
     → IfOk result (λ a. (r : ℕ) → AreTimedCalls r ops → IsFirstUnwritten ops None → IsAtomicity lines r ops a)
     → IfOk result (λ a. (r : ℕ) → AreTimedCalls r ops → IsAtomicity lines r ops a)
 searched-of lines ops (Ok a) first found = λ r timed. found r timed first

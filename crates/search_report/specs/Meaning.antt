@@ -1,7 +1,9 @@
 -- What a report of a history with cas says.
 use Rattle.std.specs.Global.{Global}
 use Rattle.std.specs.List.{filter, list_any}
-use Rattle.std.specs.Prelude.{◌≡◌, ◌<◌, ◌-◌, ◌&&◌, nat_lt, nat_le, ℕ, Vec, Option, if◌then◌else◌, List, ◌∷◌, length, map, get_or, count_by, slice_get, Bool, true, false, is_none, Some, None, IfSome}
+use Rattle.std.specs.Prelude.{◌≡◌, ◌<◌, ◌-◌, ◌&&◌, nat_lt, nat_le, ℕ, Vec, Option}
+use Rattle.std.specs.Prelude.{if◌then◌else◌, List, ◌∷◌, length, map, get_or, count_by}
+use Rattle.std.specs.Prelude.{slice_get, Bool, true, false, is_none, Some, None, IfSome}
 use Rattle.history_model.specs.Lists.{In}
 use Rattle.cas_text.specs.declared.event.CasEvent.{CasEvent}
 use Rattle.cas_model.specs.declared.act.Act.{Act}
@@ -76,17 +78,21 @@ abbrev pub is_unanswered : ℕ → Option ℕ → Bool
 is_unanswered t None = true
 is_unanswered t (Some s) = nat_le t s
 
--- The operation is open at time t: its call comes before that time, and no reply of it does. So one that is pending is open from its call on, and one that replies at time t still is.
+-- The operation is open at time t: its call comes before that time, and no reply of it does. So one that is
+-- pending is open from its call on, and one that replies at time t still is.
 abbrev pub is_open_at : ℕ → Operation → Bool
 is_open_at t a = nat_lt a.call t && is_unanswered t a.reply
 
 -- ---- a register: events have these lines, register r has the calls `ops`
 
--- a legal order of the register's operations, its initial write left out, and its points, each of which comes before the operation's reply (Herlihy and Wing, Linearizability: A Correctness Condition for Concurrent Objects, 1990)
+-- a legal order of the register's operations, its initial write left out, and its points, each
+-- of which comes before the operation's reply (Herlihy and Wing, Linearizability: A
+-- Correctness Condition for Concurrent Objects, 1990)
 pub record IsOrderShown (lines : List ℕ) (r : ℕ) (ops : List Operation) (order points : List ℕ) : Type 0 where
   pub operations : List Operation
   pub legal : IsLegal (initial_write r ∷ ops) (initial_write r ∷ operations)
-  pub unreplied : (x : PlacedOperation) (t : ℕ) → In x (placed operations) → x.operation.reply ≡ Some t → x.point < t
+  pub unreplied : (x : PlacedOperation) (t : ℕ) → In x (placed operations) → x.operation.reply ≡ Some t
+      → x.point < t
   pub order_is : order ≡ lines_of operations
   pub points_are : points ≡ points_of lines operations
 
@@ -100,10 +106,14 @@ pub record IsUnwrittenShown (ops : List Operation) (call : ℕ) : Type 0 where
 
 -- an order of what was known before a time: a legal one, by lines
 abbrev pub IsOrderBefore : ℕ → ℕ → List Operation → List ℕ → Type 0
-IsOrderBefore t r ops before = (order : List Operation) × IsLegal (initial_write r ∷ cut_at (t - 1) ops) (initial_write r ∷ order) × (before ≡ lines_of order)
+IsOrderBefore t r ops before =
+    (order : List Operation) × IsLegal (initial_write r ∷ cut_at (t - 1) ops) (initial_write r ∷ order)
+    × (before ≡ lines_of order)
 
--- the reply of some call, by its line: what is known at its time has no legal order, these calls are open then, in their order, and the order of what was known before it, if there is one, is legal
-pub record IsHopelessShown (lines : List ℕ) (r : ℕ) (ops : List Operation) (asks : List ℕ) (before : Option (Vec ℕ Global)) (reply : ℕ) : Type 0 where
+-- the reply of some call, by its line: what is known at its time has no legal order, these calls are open
+-- then, in their order, and the order of what was known before it, if there is one, is legal
+pub record IsHopelessShown (lines : List ℕ) (r : ℕ) (ops : List Operation) (asks : List ℕ)
+    (before : Option (Vec ℕ Global)) (reply : ℕ) : Type 0 where
   pub operation : Operation
   pub time : ℕ
   pub within : In operation ops
@@ -116,11 +126,14 @@ pub record IsHopelessShown (lines : List ℕ) (r : ℕ) (ops : List Operation) (
 -- why a register isn't atomic
 abbrev pub IsFaultShown : List ℕ → ℕ → List Operation → Fault → Type 0
 IsFaultShown lines r ops (Unwritten call) = IsUnwrittenShown ops call
-IsFaultShown lines r ops (Search asks before reply) = IsFirstUnwritten ops None × IsHopelessShown lines r ops asks.items before reply
+IsFaultShown lines r ops (Search asks before reply) =
+    IsFirstUnwritten ops None × IsHopelessShown lines r ops asks.items before reply
 
--- A yes has a legal order, and after a no there is none. The search is asked only if no value is unwritten; if it gave up, no more is said.
+-- A yes has a legal order, and after a no there is none. The search is asked only if no value is
+-- unwritten; if it gave up, no more is said.
 abbrev pub IsAtomicity : List ℕ → ℕ → List Operation → Atomicity → Type 0
-IsAtomicity lines r ops (Yes order points) = IsAtomic (initial_write r ∷ ops) × IsOrderShown lines r ops order.items points.items
+IsAtomicity lines r ops (Yes order points) =
+    IsAtomic (initial_write r ∷ ops) × IsOrderShown lines r ops order.items points.items
 IsAtomicity lines r ops (No fault) = (IsAtomic (initial_write r ∷ ops) → ⊥) × IsFaultShown lines r ops fault
 IsAtomicity lines r ops (Unknown bound) = IsFirstUnwritten ops None
 
@@ -151,7 +164,9 @@ is_unknown (Unknown bound) = true
 
 -- "no" if some register isn't atomic, else "unknown" if the search gave up on some, else "yes"
 abbrev pub answer_of : List RegisterReport → Answer
-answer_of reports = if list_any (λ reg. is_no reg.atomicity) reports then answer.No else (if list_any (λ reg. is_unknown reg.atomicity) reports then answer.Unknown else answer.Yes)
+answer_of reports =
+    if list_any (λ reg. is_no reg.atomicity) reports then answer.No
+    else (if list_any (λ reg. is_unknown reg.atomicity) reports then answer.Unknown else answer.Yes)
 
 -- a yes says that the whole history is atomic, and a no that it isn't (Herlihy and Wing, 1990)
 abbrev pub IsWholeAnswer : List CasEvent → Answer → Type 0
@@ -162,7 +177,8 @@ IsWholeAnswer events answer.Unknown = Unit {0}
 -- the report of a history: the line of each register in the order of the first calls, and the summary
 pub record IsReport (events : List CasEvent) (report : Report) : Type 0 where
   pub count : length report.registers.items ≡ length (register_names events)
-  pub each : (r : ℕ) (reg : RegisterReport) → slice_get report.registers.items r ≡ Some reg → IsRegisterReport events r reg
+  pub each : (r : ℕ) (reg : RegisterReport) → slice_get report.registers.items r ≡ Some reg
+      → IsRegisterReport events r reg
   pub called : report.operations ≡ length (calls events)
   pub summary : report.atomic ≡ answer_of report.registers.items
   pub whole : IsWholeAnswer events report.atomic

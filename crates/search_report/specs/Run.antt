@@ -5,7 +5,8 @@ use Rattle.cas_history.specs.Refusals.{events_of}
 use Rattle.reg_intake.specs.Ends.{IsAll}
 use Rattle.search_intake.specs.Input.{history_lines}
 use Rattle.search_intake.specs.declared.refusal.Refusal.{Refusal}
-use Rattle.search_intake.specs.declared.refusal.Refusal.TheVariants.{At, TooLong, InputFailed, NoRoom, OutputFailed}
+use Rattle.search_intake.specs.declared.refusal.Refusal.TheVariants.{At, TooLong, InputFailed}
+use Rattle.search_intake.specs.declared.refusal.Refusal.TheVariants.{NoRoom, OutputFailed}
 use Rattle.search_report.specs.Answer.{IsAnswer, IsAnswerText}
 use Rattle.search_report.specs.Ends.{AppendsBeginning}
 use Rattle.search_report.specs.Meaning.{IsWholeAnswer}
@@ -19,19 +20,24 @@ IsOfInput InputFailed = ⊥
 IsOfInput NoRoom = ⊥
 IsOfInput OutputFailed = ⊥
 
--- the answer to all the bytes that were left is a report: its bytes were taken, and it says this of the whole history
+-- the answer to all the bytes that were left is a report: its bytes were
+-- taken, and it says this of the whole history
 abbrev pub Reports : Option (List ℕ) → Option (List ℕ) → Option (List ℕ) → Answer → Type 0
 Reports left old new answer =
-    (input : List ℕ) × IsAll left input × (bytes : List ℕ) × IsAnswerText input bytes answer × Appends old new bytes
+    (input : List ℕ) × IsAll left input × (bytes : List ℕ) × IsAnswerText input bytes answer
+    × Appends old new bytes
 
--- the history in all the bytes that were left is atomic if the answer is yes, and isn't if it is no (Herlihy and Wing, Linearizability: A Correctness Condition for Concurrent Objects, 1990)
+-- the history in all the bytes that were left is atomic if the answer is yes, and isn't if it is no (Herlihy
+-- and Wing, Linearizability: A Correctness Condition for Concurrent Objects, 1990)
 abbrev pub TellsAtomic : Option (List ℕ) → Answer → Type 0
-TellsAtomic left answer = (input : List ℕ) × IsAll left input × IsWholeAnswer (events_of (history_lines input)) answer
+TellsAtomic left answer =
+    (input : List ℕ) × IsAll left input × IsWholeAnswer (events_of (history_lines input)) answer
 
 -- the answer to all the bytes that were left is a report, of which a beginning was taken
 abbrev pub ReportsBeginning : Option (List ℕ) → Option (List ℕ) → Option (List ℕ) → Type 0
 ReportsBeginning left old new =
-    (input : List ℕ) × IsAll left input × (bytes : List ℕ) × (answer : Answer) × IsAnswerText input bytes answer × AppendsBeginning old new bytes
+    (input : List ℕ) × IsAll left input × (bytes : List ℕ) × (answer : Answer)
+    × IsAnswerText input bytes answer × AppendsBeginning old new bytes
 
 -- the answer to all the bytes that were left is this refusal
 abbrev pub IsRefusedWhole : Option (List ℕ) → Refusal → Type 0

@@ -13,18 +13,21 @@ use search_intake::{Refusal, history_in};
 use search_text::Report;
 use std::alloc::Global;
 
-/// A report of the history in the input; [`text`](crate::text) gives the bytes that [`run`](crate::run) pushes within the same
-/// bounds. It takes no right to start threads, and asks the system for nothing but memory.
+/// A report of the history in the input; [`text`](crate::text) gives the bytes that
+/// [`run`](crate::run) pushes within the same bounds. It takes no right to start threads,
+/// and asks the system for nothing but memory.
 ///
-/// # Errors
-/// `TooLong` if the input has more than [`MAX_INPUT`](history_text::MAX_INPUT) bytes, whatever memory there is; `At` for the
-/// first faulty line if the history isn't well formed; `NoRoom` if memory ran out.
+/// # Errors `TooLong` if the input has more than [`MAX_INPUT`](history_text::MAX_INPUT)
+/// bytes, whatever memory there is; `At` for the first faulty line if the history isn't
+/// well formed; `NoRoom` if memory ran out.
 pub fn check_alone(alloc: Global, input: &[u8], bounds: Bounds) -> Result<Report, Refusal>
-    // The report is one of the input: of each register it says yes, with a legal order; no, if there is none; or unknown.
+    // The report is one of the input: of each register it says yes, with a legal
+    // order; no, if there is none; or unknown.
     ensures ok { IfOk result (λ report. IsAnswer input.now (Ok report)) }
 
     // A yes says that the whole history is atomic, and a no that it isn't.
-    ensures atomic { IfOk result (λ report. IsWholeAnswer (events_of (history_lines input.now)) report.atomic) }
+    ensures atomic { IfOk result (λ report.
+        IsWholeAnswer (events_of (history_lines input.now)) report.atomic) }
     ensures err { IfErr result (IsRefused input.now) }
     ensures long { MAX_INPUT < length input.now → result ≡ Err Refusal.TooLong }
 {

@@ -3,7 +3,8 @@ ghost use Rattle.std.specs.Prelude.{◌≡◌, length, List, IfOk};
 ghost use Rattle.std.specs.List.{list_any};
 ghost use Rattle.cas_text.specs.declared.event.CasEvent.{CasEvent as AnEvent};
 ghost use Rattle.cas_history.specs.History.{IsHistoryOf};
-ghost use Rattle.search_report.specs.Meaning.{IsReport, answer_of, is_no as is_no_of, is_unknown as is_unknown_of};
+ghost use Rattle.search_report.specs.Meaning.{IsReport, answer_of, is_no as is_no_of};
+ghost use Rattle.search_report.specs.Meaning.{is_unknown as is_unknown_of};
 ghost use Rattle.search_report.specs.Registers.{AreFindings};
 
 use crate::register::Finding;
@@ -58,7 +59,8 @@ fn answer(reports: &[RegisterReport]) -> Answer
 fn report_of(alloc: Global, history: &History, findings: Vec<Finding>) -> Result<Report, AllocError>
     requires names { length history.now.registers.items ≡ length history.now.names.items }
     requires findings { AreFindings history.now findings.items }
-    ensures { IfOk result (λ report. (events : List AnEvent) → IsHistoryOf events history.now → IsReport events report) }
+    ensures { IfOk result (λ report. (events : List AnEvent) → IsHistoryOf events history.now
+        → IsReport events report) }
 {
     let registers = lines_of_registers(alloc, history, findings)?;
     let atomic = answer(&registers);
@@ -77,7 +79,8 @@ pub(crate) fn report(
     settings: Settings,
 ) -> Result<Report, AllocError>
     requires { length history.now.registers.items ≡ length history.now.names.items }
-    ensures { IfOk result (λ report. (events : List AnEvent) → IsHistoryOf events history.now → IsReport events report) }
+    ensures { IfOk result (λ report. (events : List AnEvent) → IsHistoryOf events history.now
+        → IsReport events report) }
 {
     report_of(alloc, history, findings(rt, alloc, history, settings)?)
 }
@@ -89,7 +92,8 @@ pub(crate) fn report_alone(
     bounds: Bounds,
 ) -> Result<Report, AllocError>
     requires { length history.now.registers.items ≡ length history.now.names.items }
-    ensures { IfOk result (λ report. (events : List AnEvent) → IsHistoryOf events history.now → IsReport events report) }
+    ensures { IfOk result (λ report. (events : List AnEvent) → IsHistoryOf events history.now
+        → IsReport events report) }
 {
     report_of(alloc, history, findings_alone(alloc, history, bounds)?)
 }

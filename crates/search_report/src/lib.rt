@@ -1,18 +1,20 @@
-//! From the bytes of a history with compare-and-swap (cas) to the bytes of its report: each register is atomic, or it isn't, or
-//! the search gave up within its bounds.
+//! From the bytes of a history with compare-and-swap (cas) to the bytes of its report: each register is
+//! atomic, or it isn't, or the search gave up within its bounds.
 //!
-//! What the floor above may rely on: [`run`] pulls all the bytes of a source, and the bytes that it pushes into a sink are a
-//! report of their history; or it answers a refusal, and has pushed nothing, or a beginning if it is the sink that failed.
-//! A yes of a report names a legal order of the register's operations. After a no there is none, not even of what was called
-//! before the reply that it names, with what the whole history tells of each call and later replies taken away; and it lists the
-//! calls that are open at that reply. The whole is called atomic only if each register is, and not atomic only if one isn't. A
-//! value that nobody wrote is found whatever the bounds are.
+//! What the floor above may rely on: [`run`] pulls all the bytes of a source, and the bytes that it pushes
+//! into a sink are a report of their history; or it answers a refusal, and has pushed nothing, or a
+//! beginning if it is the sink that failed. A yes of a report names a legal order of the register's
+//! operations. After a no there is none, not even of what was called before the reply that it names, with
+//! what the whole history tells of each call and later replies taken away; and it lists the calls that are
+//! open at that reply. The whole is called atomic only if each register is, and not atomic only if one
+//! isn't. A value that nobody wrote is found whatever the bounds are.
 //!
-//! [`check_alone`] gives the report's values for bytes at hand, by the calling thread alone, and [`text`] their bytes.
+//! [`check_alone`] gives the report's values for bytes at hand, by the
+//! calling thread alone, and [`text`] their bytes.
 //!
-//! Read it in this order: `settings`; `lines`, `counts` and `register`, the line of one register; `registers`, those of all,
-//! shared among workers or by one thread; `history`, the report; `delivery` and `whole`, from source to sink; `alone`, from bytes
-//! to the report; `wording`, why there is no report.
+//! Read it in this order: `settings`; `lines`, `counts` and `register`, the line of one register;
+//! `registers`, those of all, shared among workers or by one thread; `history`, the report; `delivery` and
+//! `whole`, from source to sink; `alone`, from bytes to the report; `wording`, why there is no report.
 #![tactic(auto)]
 
 mod alone;

@@ -79,7 +79,8 @@ fn is_awaited(reply: Option<u32>, time: u32) -> bool
 
 /// Adds the line of the call of one more operation.
 fn add_line(lines: &mut Vec<u32>, ops: &[Operation], place: u32) -> Result<(), AllocError>
-    ensures { OnOk result (lines.new.items ≡ lines.old.items ++ lines_of (operations_at ops.now (place ∷ []))) }
+    ensures { OnOk result (lines.new.items ≡ lines.old.items
+        ++ lines_of (operations_at ops.now (place ∷ []))) }
 {
     if let Some(op) = ops.get(place as usize) {
         lines.push(op.line)?;

@@ -97,14 +97,16 @@ fn searched(
     told(alloc, lines, ops, verdict)
 }
 
-/// Whether a register with these operations is atomic, as far as the bounds allow: its events have these lines.
+/// Whether a register with these operations is atomic, as far as the
+/// bounds allow: its events have these lines.
 fn atomicity(
     alloc: Global,
     lines: &[u32],
     ops: &[Operation],
     bounds: Bounds,
 ) -> Result<Atomicity, AllocError>
-    ensures { IfOk result (λ atomicity. (r : ℕ) → AreTimedCalls r ops.now → IsAtomicity lines.now r ops.now atomicity) }
+    ensures { IfOk result (λ atomicity. (r : ℕ) → AreTimedCalls r ops.now
+        → IsAtomicity lines.now r ops.now atomicity) }
 {
     match first_unwritten(alloc, ops)? {
         Some(place) => Ok(Atomicity::No(Fault::Unwritten {

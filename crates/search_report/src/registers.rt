@@ -67,7 +67,8 @@ pub(crate) fn findings_alone(
 
 /// A register's line, of its name and what is found of it.
 fn named(alloc: Global, name: &Name, finding: Finding) -> Result<RegisterReport, AllocError>
-    ensures { IfOk result (λ report. (lines : List ℕ) (ops : List AnOperation) → IsFinding lines ops finding → IsLine lines name.now ops report) }
+    ensures { IfOk result (λ report. (lines : List ℕ) (ops : List AnOperation) → IsFinding lines ops finding
+        → IsLine lines name.now ops report) }
 {
     Ok(RegisterReport {
         register: Name::new(alloc, name.as_str())?,
@@ -87,7 +88,8 @@ pub(crate) fn lines_of_registers(
 ) -> Result<Vec<RegisterReport>, AllocError>
     requires names { length history.now.registers.items ≡ length history.now.names.items }
     requires findings { AreFindings history.now findings.items }
-    ensures { IfOk result (λ reports. AreFirstLines history.now (length history.now.names.items) reports.items) }
+    ensures { IfOk result (λ reports.
+        AreFirstLines history.now (length history.now.names.items) reports.items) }
 {
     let mut reports = Vec::new(alloc);
     for finding in findings {

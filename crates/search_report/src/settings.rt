@@ -6,8 +6,8 @@ use cas_search::Bounds;
 /// The most workers that share the registers.
 pub const MAX_WORKERS: u32 = 16;
 
-/// How many workers share the registers, and how far the search for an order of each may go. The number of workers changes no
-/// report.
+/// How many workers share the registers, and how far the search for an order of each may go.
+/// The number of workers changes no report.
 #[derive(Clone, Copy, Debug)]
 pub struct Settings {
     workers: u32,
@@ -17,7 +17,8 @@ pub struct Settings {
 impl Settings {
     /// Settings, if there are 1 to [`MAX_WORKERS`] workers.
     pub fn new(workers: u32, bounds: Bounds) -> Option<Settings>
-        ensures some { (1 ≤ workers) → (workers ≤ MAX_WORKERS) → result ≡ Some (record { workers = workers; bounds = bounds }) }
+        ensures some { (1 ≤ workers) → (workers ≤ MAX_WORKERS)
+            → result ≡ Some (record { workers = workers; bounds = bounds }) }
         ensures none { ((1 ≤ workers) × (workers ≤ MAX_WORKERS) → ⊥) → result ≡ None }
     {
         if workers < 1 || workers > MAX_WORKERS {

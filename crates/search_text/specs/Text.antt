@@ -1,7 +1,9 @@
--- The bytes of a report: compact JSON (RFC 8259), a line for each register and one for the summary, keys in byte order.
+-- The bytes of a report: compact JSON (RFC 8259), a line for each register and
+-- one for the summary, keys in byte order.
 use Rattle.std.specs.Prelude.{ℕ, codes, List, [], ◌∷◌, ◌++◌, length, map, Option, Some, None}
 use Rattle.std.specs.List.{concat}
-use Rattle.serde_json.specs.Data.{Data, string, number, unsigned, array, object, Items, no_items, item, Members, no_members, member}
+use Rattle.serde_json.specs.Data.{Data, string, number, unsigned, array, object, Items}
+use Rattle.serde_json.specs.Data.{no_items, item, Members, no_members, member}
 use Rattle.serde_json.specs.Written.{compact_text}
 use Rattle.configurations.specs.declared.bounds.Bound.{Bound}
 use Rattle.configurations.specs.declared.bounds.Bound.TheVariants.{Configurations, Steps}
@@ -50,7 +52,8 @@ abbrev pub object_json : List (List Field) → Data
 object_json parts = object (members_of (fields_of parts))
 
 abbrev pub fault_parts : Fault → List (List Field)
-fault_parts (Unwritten call) = always (codes "call") (number_json call) ∷ always (codes "kind") (string (codes "unwritten")) ∷ []
+fault_parts (Unwritten call) =
+    always (codes "call") (number_json call) ∷ always (codes "kind") (string (codes "unwritten")) ∷ []
 fault_parts (Search asks before reply) =
     always (codes "asks") (numbers_json asks.items)
     ∷ shown (codes "before") (λ lines. numbers_json lines.items) before
@@ -73,7 +76,9 @@ abbrev pub pending_field : RegisterReport → List Field
 pending_field reg = always (codes "pending") (number_json reg.pending)
 
 abbrev pub last_fields : RegisterReport → List (List Field)
-last_fields reg = always (codes "reads") (number_json reg.reads) ∷ always (codes "register") (string reg.register) ∷ always (codes "writes") (number_json reg.writes) ∷ []
+last_fields reg =
+    always (codes "reads") (number_json reg.reads) ∷ always (codes "register") (string reg.register)
+    ∷ always (codes "writes") (number_json reg.writes) ∷ []
 
 -- the parts of a register's line, each of them one field or none
 abbrev pub register_parts : RegisterReport → Atomicity → List (List Field)

@@ -1,7 +1,8 @@
 //! What the report of a history with compare-and-swap (cas) says of each register, and its bytes.
 //!
-//! What the floor above may rely on: [`text`] gives the bytes of a [`Report`]: a line of compact JSON for each register and one
-//! for the summary, keys in byte order. What a report has to say of a history is told by the floor above.
+//! What the floor above may rely on: [`text`] gives the bytes of a [`Report`]: a line of compact
+//! JSON for each register and one for the summary, keys in byte order. What a report has to say
+//! of a history is told by the floor above.
 //!
 //! Read it in this order: `report`, the values; `send`, what is sent to a serializer; `written`, the bytes.
 #![tactic(auto)]

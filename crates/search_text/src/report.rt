@@ -5,14 +5,16 @@ use history_text::Name;
 /// Why a register isn't atomic.
 #[derive(Debug, Drop, PartialEq)]
 pub enum Fault {
-    /// The completed read, or the cas that took place, with the first call whose value nobody wrote: the line of its call.
+    /// The completed read, or the cas that took place, with the first call whose
+    /// value nobody wrote: the line of its call.
     Unwritten {
         call: u32,
     },
-    /// What was called before the reply of this line has no legal order, with what each call is known to have done and later
-    /// replies taken away. `asks` has the calls that are open at that reply, each by its line and in the order of the lines: they
-    /// came before it, and no earlier reply is theirs, so the call that it answers is one of them. `before` is a legal order of
-    /// what was known just before that reply, where one was found.
+    /// What was called before the reply of this line has no legal order, with what each call is known
+    /// to have done and later replies taken away. `asks` has the calls that are open at that reply,
+    /// each by its line and in the order of the lines: they came before it, and no earlier reply is
+    /// theirs, so the call that it answers is one of them. `before` is a legal order of what was known
+    /// just before that reply, where one was found.
     Search {
         asks: Vec<u32>,
         before: Option<Vec<u32>>,
@@ -23,8 +25,8 @@ pub enum Fault {
 /// Whether a register is atomic.
 #[derive(Debug, Drop, PartialEq)]
 pub enum Atomicity {
-    /// It is: a legal order of its operations without the initial write, by the lines of their calls, and the point of each,
-    /// as the line of the call that has that time.
+    /// It is: a legal order of its operations without the initial write, by the lines of their calls, and the
+    /// point of each, as the line of the call that has that time.
     Yes { order: Vec<u32>, points: Vec<u32> },
     /// It isn't.
     No(Fault),
@@ -37,7 +39,8 @@ pub enum Atomicity {
 pub struct RegisterReport {
     pub register: Name,
     pub atomicity: Atomicity,
-    /// How many cas there are: those that took place, that missed, and that are pending. A call that failed isn't counted.
+    /// How many cas there are: those that took place, that missed, and that are
+    /// pending. A call that failed isn't counted.
     pub cas: usize,
     /// How many of all its operations are pending.
     pub pending: usize,

@@ -2,7 +2,10 @@
 ghost use Rattle.std.specs.Prelude.{◌≡◌, length, OnOk};
 ghost use Rattle.serde_json.specs.Data.{string};
 ghost use Rattle.serde_json.specs.Events.{SendsValue};
-ghost use Rattle.search_text.specs.Text.{always, shown, number_json, numbers_json, bound_json, answer_json, object_json, fields_of, fault_parts, gave_up_parts, cas_field, pending_field, last_fields, register_json, register_parts, summary_json, summary_parts};
+ghost use Rattle.search_text.specs.Text.{always, shown, number_json, numbers_json, bound_json};
+ghost use Rattle.search_text.specs.Text.{answer_json, object_json, fields_of, fault_parts};
+ghost use Rattle.search_text.specs.Text.{gave_up_parts, cas_field, pending_field, last_fields};
+ghost use Rattle.search_text.specs.Text.{register_json, register_parts, summary_json, summary_parts};
 ghost use Rattle.search_text.specs.Sends.{SendsFields, SendsParts};
 
 use crate::report::{Answer, Atomicity, Fault, RegisterReport, Report};
@@ -10,14 +13,16 @@ use cas_search::Bound;
 use serde::{Described, Serialize, Serializer};
 
 fn send_text<S: Serializer>(out: &mut S, key: &str, text: &str) -> Result<(), S::Error>
-    ensures { OnOk result (SendsFields (always key.now (string text.now)) (S.written out.old) (S.written out.new)) }
+    ensures { OnOk result
+        (SendsFields (always key.now (string text.now)) (S.written out.old) (S.written out.new)) }
 {
     out.key(key)?;
     out.str(text)
 }
 
 fn send_number<S: Serializer>(out: &mut S, key: &str, n: u64) -> Result<(), S::Error>
-    ensures { OnOk result (SendsFields (always key.now (number_json n)) (S.written out.old) (S.written out.new)) }
+    ensures { OnOk result
+        (SendsFields (always key.now (number_json n)) (S.written out.old) (S.written out.new)) }
 {
     out.key(key)?;
     out.u64(n)
@@ -34,7 +39,8 @@ fn send_items<S: Serializer>(out: &mut S, numbers: &[u32]) -> Result<(), S::Erro
 }
 
 fn send_numbers<S: Serializer>(out: &mut S, key: &str, numbers: &[u32]) -> Result<(), S::Error>
-    ensures { OnOk result (SendsFields (always key.now (numbers_json numbers.now)) (S.written out.old) (S.written out.new)) }
+    ensures { OnOk result
+        (SendsFields (always key.now (numbers_json numbers.now)) (S.written out.old) (S.written out.new)) }
 {
     out.key(key)?;
     send_items(out, numbers)
@@ -45,7 +51,9 @@ fn show_numbers<S: Serializer>(
     key: &str,
     numbers: &Option<Vec<u32>>,
 ) -> Result<(), S::Error>
-    ensures { OnOk result (SendsFields (shown key.now (λ lines. numbers_json lines.items) numbers.now) (S.written out.old) (S.written out.new)) }
+    ensures { OnOk result
+        (SendsFields (shown key.now (λ lines. numbers_json lines.items) numbers.now) (S.written out.old)
+        (S.written out.new)) }
 {
     match numbers {
         Some(numbers) => send_numbers(out, key, numbers.as_slice()),
@@ -54,7 +62,8 @@ fn show_numbers<S: Serializer>(
 }
 
 fn send_bound<S: Serializer>(out: &mut S, key: &str, bound: Bound) -> Result<(), S::Error>
-    ensures { OnOk result (SendsFields (always key.now (bound_json bound)) (S.written out.old) (S.written out.new)) }
+    ensures { OnOk result
+        (SendsFields (always key.now (bound_json bound)) (S.written out.old) (S.written out.new)) }
 {
     match bound {
         Bound::Configurations => send_text(out, key, "configurations"),
@@ -63,7 +72,8 @@ fn send_bound<S: Serializer>(out: &mut S, key: &str, bound: Bound) -> Result<(),
 }
 
 fn send_answer<S: Serializer>(out: &mut S, key: &str, answer: Answer) -> Result<(), S::Error>
-    ensures { OnOk result (SendsFields (always key.now (answer_json answer)) (S.written out.old) (S.written out.new)) }
+    ensures { OnOk result
+        (SendsFields (always key.now (answer_json answer)) (S.written out.old) (S.written out.new)) }
 {
     match answer {
         Answer::Yes => send_text(out, key, "yes"),
@@ -86,7 +96,8 @@ fn fault_len(fault: &Fault) -> usize
 }
 
 fn send_unwritten<S: Serializer>(out: &mut S, call: u32) -> Result<(), S::Error>
-    ensures { OnOk result (SendsParts (fault_parts (Fault.Unwritten call)) (S.written out.old) (S.written out.new)) }
+    ensures { OnOk result
+        (SendsParts (fault_parts (Fault.Unwritten call)) (S.written out.old) (S.written out.new)) }
 {
     send_number(out, "call", u64::from(call))?;
     send_text(out, "kind", "unwritten")
@@ -98,7 +109,9 @@ fn send_search<S: Serializer>(
     before: &Option<Vec<u32>>,
     reply: u32,
 ) -> Result<(), S::Error>
-    ensures { OnOk result (SendsParts (fault_parts (Fault.Search asks.now before.now reply)) (S.written out.old) (S.written out.new)) }
+    ensures { OnOk result
+        (SendsParts (fault_parts (Fault.Search asks.now before.now reply)) (S.written out.old)
+        (S.written out.new)) }
 {
     send_numbers(out, "asks", asks.as_slice())?;
     show_numbers(out, "before", before)?;
@@ -120,7 +133,8 @@ fn send_fault_parts<S: Serializer>(out: &mut S, fault: &Fault) -> Result<(), S::
 }
 
 fn send_fault<S: Serializer>(out: &mut S, fault: &Fault) -> Result<(), S::Error>
-    ensures { OnOk result (SendsValue (object_json (fault_parts fault.now)) (S.written out.old) (S.written out.new)) }
+    ensures { OnOk result
+        (SendsValue (object_json (fault_parts fault.now)) (S.written out.old) (S.written out.new)) }
 {
     out.begin_map(Some(fault_len(fault)))?;
     send_fault_parts(out, fault)?;
@@ -128,7 +142,8 @@ fn send_fault<S: Serializer>(out: &mut S, fault: &Fault) -> Result<(), S::Error>
 }
 
 fn send_gave_up<S: Serializer>(out: &mut S, bound: Bound) -> Result<(), S::Error>
-    ensures { OnOk result (SendsValue (object_json (gave_up_parts bound)) (S.written out.old) (S.written out.new)) }
+    ensures { OnOk result
+        (SendsValue (object_json (gave_up_parts bound)) (S.written out.old) (S.written out.new)) }
 {
     out.begin_map(Some(1))?;
     send_bound(out, "bound", bound)?;
@@ -161,7 +176,9 @@ fn send_yes<S: Serializer>(
     order: &Vec<u32>,
     points: &Vec<u32>,
 ) -> Result<(), S::Error>
-    ensures { OnOk result (SendsParts (register_parts reg.now (Atomicity.Yes order.now points.now)) (S.written out.old) (S.written out.new)) }
+    ensures { OnOk result
+        (SendsParts (register_parts reg.now (Atomicity.Yes order.now points.now)) (S.written out.old)
+        (S.written out.new)) }
 {
     send_text(out, "atomic", "yes")?;
     send_cas(out, reg)?;
@@ -172,7 +189,8 @@ fn send_yes<S: Serializer>(
 }
 
 fn send_no<S: Serializer>(out: &mut S, reg: &RegisterReport, fault: &Fault) -> Result<(), S::Error>
-    ensures { OnOk result (SendsParts (register_parts reg.now (Atomicity.No fault.now)) (S.written out.old) (S.written out.new)) }
+    ensures { OnOk result (SendsParts (register_parts reg.now (Atomicity.No fault.now)) (S.written out.old)
+        (S.written out.new)) }
 {
     send_text(out, "atomic", "no")?;
     send_cas(out, reg)?;
@@ -187,7 +205,8 @@ fn send_unknown<S: Serializer>(
     reg: &RegisterReport,
     bound: Bound,
 ) -> Result<(), S::Error>
-    ensures { OnOk result (SendsParts (register_parts reg.now (Atomicity.Unknown bound)) (S.written out.old) (S.written out.new)) }
+    ensures { OnOk result (SendsParts (register_parts reg.now (Atomicity.Unknown bound)) (S.written out.old)
+        (S.written out.new)) }
 {
     send_text(out, "atomic", "unknown")?;
     send_cas(out, reg)?;
@@ -207,7 +226,8 @@ fn register_len(reg: &RegisterReport) -> usize
 }
 
 fn send_register_parts<S: Serializer>(out: &mut S, reg: &RegisterReport) -> Result<(), S::Error>
-    ensures { OnOk result (SendsParts (register_parts reg.now reg.now.atomicity) (S.written out.old) (S.written out.new)) }
+    ensures { OnOk result
+        (SendsParts (register_parts reg.now reg.now.atomicity) (S.written out.old) (S.written out.new)) }
 {
     match &reg.atomicity {
         Atomicity::Yes { order, points } => send_yes(out, reg, order, points),

@@ -1,5 +1,6 @@
 //! A set of slots.
-ghost use Rattle.std.specs.Prelude.{◌≡◌, ◌↔◌, ◌&&◌, ◌||◌, ◌==◌, ◌*◌, ◌<◌, ◌≤◌, ◌^◌, ◌+◌, IsTrue, List, MatchOption, cond, not, true, false, ℕ};
+ghost use Rattle.std.specs.Prelude.{◌≡◌, ◌↔◌, ◌&&◌, ◌||◌, ◌==◌, ◌*◌, ◌<◌, ◌≤◌, ◌^◌, ◌+◌};
+ghost use Rattle.std.specs.Prelude.{IsTrue, List, MatchOption, cond, not, true, false, ℕ};
 ghost use Rattle.slot_sets.specs.Sets.{has};
 
 use std::marker::Model;

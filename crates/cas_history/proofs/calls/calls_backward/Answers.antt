@@ -1,5 +1,6 @@
 -- One event more at the front: its call, and its process's next event.
-use Rattle.std.proofs.Common.{◌≡◌, ◌+◌, ◌-◌, ℕ, drop, reverse, Some, None, refl, sym, ap, subst, ◌∙◌, arith, append-nil}
+use Rattle.std.proofs.Common.{◌≡◌, ◌+◌, ◌-◌, ℕ, drop, reverse, Some, None}
+use Rattle.std.proofs.Common.{refl, sym, ap, subst, ◌∙◌, arith, append-nil}
 use Rattle.std.specs.Prelude.{Vec}
 use Rattle.std.specs.Global.{Global}
 use Rattle.cas_model.specs.declared.operation.Operation.{Operation}
@@ -20,19 +21,30 @@ loop-place-preserved c =
     let event = c.index-events-place.result in
     let before : c.loop-place.place ≡ i + 1 = omega arith in
     let at = slice_get_read events _ i event refl (omega arith) c.index-events-place.is in
-    let next = subst (λ n. (p : ℕ) → next_of p (n + 2) (drop n events) ≡ event_at events (get nat_cmp c.loop-place.next_places p)) before c.loop-place.invariant.next in
-    let calls = subst (λ n. reverse c.loop-place.calls.items ≡ calls_from names (n + 2) (drop n events)) before c.loop-place.invariant.calls in
-    let is = c.operation_at.ensures ∙ ap (operation_at names (i + 2) event) (c.next_event-next.ensures ∙ sym (next event.process)) in
+    let next =
+    subst (λ n. (p : ℕ)
+    → next_of p (n + 2) (drop n events) ≡ event_at events (get nat_cmp c.loop-place.next_places p))
+    before c.loop-place.invariant.next in
+    let calls =
+    subst (λ n. reverse c.loop-place.calls.items ≡ calls_from names (n + 2) (drop n events)) before
+    c.loop-place.invariant.calls in
+    let is =
+    c.operation_at.ensures
+    ∙ ap (operation_at names (i + 2) event) (c.next_event-next.ensures ∙ sym (next event.process)) in
     record {
       calls = elim c.match-operation_at.branch [
         | in-Some+in_ok-push w ↦
             ap (λ (calls : Vec Operation Global). reverse calls.items) w.calls-is
             ∙ (ap reverse w.in_ok-push.ensures.items
-            ∙ calls-step names events i event at c.loop-place.calls.items (Some w.in-Some.operation) calls (sym w.in-Some.is ∙ is))
+            ∙ calls-step names events i event at c.loop-place.calls.items (Some w.in-Some.operation) calls
+            (sym w.in-Some.is ∙ is))
         | in_default w ↦
             ap (λ (calls : Vec Operation Global). reverse calls.items) w.calls-is
             ∙ (ap reverse (sym (append-nil c.loop-place.calls.items))
-            ∙ calls-step names events i event at c.loop-place.calls.items None calls (sym w.in_default.is ∙ is))
+            ∙ calls-step names events i event at c.loop-place.calls.items None calls
+            (sym w.in_default.is ∙ is))
       ];
-      next = next-step names events i event at (get nat_cmp c.loop-place.next_places) (get nat_cmp c.insert.new.self) next c.in_ok-insert.ensures.updates.0;
+      next =
+          next-step names events i event at (get nat_cmp c.loop-place.next_places)
+          (get nat_cmp c.insert.new.self) next c.in_ok-insert.ensures.updates.0;
     }

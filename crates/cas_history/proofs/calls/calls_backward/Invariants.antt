@@ -9,5 +9,6 @@ use Rattle.cas_history.proofs.calls.calls_backward.Given as goal
 abbrev pub invariant-loop-place : goal.invariant-loop-place
 invariant-loop-place l = record {
   calls : reverse l.calls.items ≡ calls_from l.naming (l.place + 2) (drop l.place l.events);
-  next : (p : ℕ) → next_of p (l.place + 2) (drop l.place l.events) ≡ event_at l.events (get nat_cmp l.next_places p);
+  next : (p : ℕ)
+      → next_of p (l.place + 2) (drop l.place l.events) ≡ event_at l.events (get nat_cmp l.next_places p);
 }

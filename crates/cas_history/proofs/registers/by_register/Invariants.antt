@@ -9,7 +9,8 @@ use Rattle.cas_history.proofs.registers.by_register.Given as goal
 abbrev pub invariant-loop-operation : goal.invariant-loop-operation
 invariant-loop-operation l = record {
   count : length l.registers.items ≡ l.count;
-  each : (r : ℕ) (own : Vec Operation Global) → slice_get l.registers.items r ≡ Some own → of_register r (reverse l.fn.backward.items) ≡ own.items ++ of_register r (reverse l.backward.items);
+  each : (r : ℕ) (own : Vec Operation Global) → slice_get l.registers.items r ≡ Some own
+      → of_register r (reverse l.fn.backward.items) ≡ own.items ++ of_register r (reverse l.backward.items);
 }
 
 abbrev pub decreases-loop-operation : goal.decreases-loop-operation

@@ -4,4 +4,6 @@ use Rattle.cas_model.specs.Operations.{IsCompleted}
 use Rattle.cas_search.proofs.check.has_completed.Given as goal
 
 abbrev pub invariant-loop-place : goal.invariant-loop-place
-invariant-loop-place l = (k : ℕ) (a : Operation) → k < l.place → slice_get l.ops k ≡ Some a → IsCompleted a → slice_get l.marks k ≡ Some true
+invariant-loop-place l =
+    (k : ℕ) (a : Operation) → k < l.place → slice_get l.ops k ≡ Some a → IsCompleted a
+    → slice_get l.marks k ≡ Some true

@@ -5,4 +5,6 @@ use Rattle.cas_search.specs.Timeline.{operations_at}
 use Rattle.cas_search.proofs.check.meets.Given as goal
 
 abbrev pub invariant-loop-number : goal.invariant-loop-number
-invariant-loop-number l = Meets l.value (operations_at l.ops (drop l.number-index l.order)) → Meets Null (operations_at l.ops l.order)
+invariant-loop-number l =
+    Meets l.value (operations_at l.ops (drop l.number-index l.order))
+    → Meets Null (operations_at l.ops l.order)

@@ -6,6 +6,8 @@ use Rattle.cas_search.proofs.check.points_of.Given as goal
 
 abbrev pub invariant-loop-number : goal.invariant-loop-number
 invariant-loop-number l = record {
-  is : points (placed (operations_at l.ops l.order)) ≡ l.points.items ++ points (placed_from l.last (operations_at l.ops (drop l.number-index l.order)));
-  unreplied : AreUnreplied (placed_from l.last (operations_at l.ops (drop l.number-index l.order))) → AreUnreplied (placed (operations_at l.ops l.order));
+  is : points (placed (operations_at l.ops l.order)) ≡ l.points.items
+      ++ points (placed_from l.last (operations_at l.ops (drop l.number-index l.order)));
+  unreplied : AreUnreplied (placed_from l.last (operations_at l.ops (drop l.number-index l.order)))
+      → AreUnreplied (placed (operations_at l.ops l.order));
 }

@@ -11,5 +11,7 @@ returns-in-Hopeless c =
     let events = c.args.events.now in
     let numbered = c.deref.result.now in
     let same = subst (AreByNumbers ops) (sym c.deref.ensures.value) c.in_ok-numbered.ensures in
-    let none = subst (λ found. AreInOrder numbered [] events → IsFound numbered events found) c.in-Hopeless.is c.in_ok-place.ensures in
+    let none =
+    subst (λ found. AreInOrder numbered [] events
+    → IsFound numbered events found) c.in-Hopeless.is c.in_ok-place.ensures in
     found-hopeless ops events numbered c.in-Hopeless.place c.hopeless.result same none c.hopeless.ensures

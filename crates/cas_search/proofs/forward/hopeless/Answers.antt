@@ -11,6 +11,7 @@ returns-in_ok-order_of-in-Some-Reply c =
     let reply = c.in-Some-Reply.reply in
     let event = c.in-Some-Reply.field-0.now in
     let there : slice_get events place ≡ Some event =
-    slice_get_read events (length events) place event refl (search rules) (c.in-Some-Reply.ensures.lookup).1 in
+    slice_get_read events (length events) place event refl (search rules)
+    (c.in-Some-Reply.ensures.lookup).1 in
     let at : slice_get events place ≡ Some (Reply reply) = there ∙ ap Some c.in-Some-Reply.field-0-is in
     λ r line none. refuted-at r c.args.ops.now events line place reply at none

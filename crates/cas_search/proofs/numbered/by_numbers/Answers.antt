@@ -24,5 +24,6 @@ returns c =
     record {
       number = number;
       numbering = numbering c.loop-op.numbers c.loop-op.invariant.numbers;
-      each = subst (λ ops. AllZip (IsByNumber number) ops c.loop-op.numbered.items) all c.loop-op.invariant.each;
+      each =
+          subst (λ ops. AllZip (IsByNumber number) ops c.loop-op.numbered.items) all c.loop-op.invariant.each;
     }

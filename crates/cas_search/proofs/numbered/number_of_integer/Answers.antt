@@ -7,4 +7,5 @@ use Rattle.cas_search.proofs.numbered.number_of_integer.Goals as goal
 pub returns-in-Some-clause-number : goal.returns-in-Some-clause-number
 returns-in-Some-clause-number c =
     let number = c.in-Some.number.now in
-    sym (subst (λ n. Some number ≡ get int_cmp c.args.numbers.now n) (to_z-of_z c.ranges.value) c.in-Some.ensures.value)
+    sym (subst (λ n. Some number ≡ get int_cmp c.args.numbers.now n)
+    (to_z-of_z c.ranges.value) c.in-Some.ensures.value)

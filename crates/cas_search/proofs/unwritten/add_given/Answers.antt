@@ -11,5 +11,10 @@ returns-in-None c = λ ops. one-silent ops c.args.op.now c.args.given.now (sym c
 pub returns-in-Some : goal.returns-in-Some
 returns-in-Some c =
     let fits : FitsSigned w64 c.in-Some.number = search rules in
-    let adds = subst (λ m. IfOk c.add_number.result (λ _. (q : ℤ) → contains int_cmp c.add_number.new.given q ≡ cond (int_eq m q) true (contains int_cmp c.args.given.now q))) (to_z-of_z fits) c.add_number.ensures in
-    given-or-not c.add_number.result c.args.op.now c.args.given.now c.add_number.new.given c.in-Some.number (sym c.in-Some.ensures) adds
+    let adds =
+    subst (λ m. IfOk c.add_number.result (λ _. (q : ℤ)
+    → contains int_cmp c.add_number.new.given q
+    ≡ cond (int_eq m q) true (contains int_cmp c.args.given.now q)))
+    (to_z-of_z fits) c.add_number.ensures in
+    given-or-not c.add_number.result c.args.op.now c.args.given.now c.add_number.new.given c.in-Some.number
+    (sym c.in-Some.ensures) adds

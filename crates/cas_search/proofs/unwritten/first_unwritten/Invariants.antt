@@ -4,4 +4,5 @@ use Rattle.cas_search.specs.Unwritten.{IsUnwritten}
 use Rattle.cas_search.proofs.unwritten.first_unwritten.Given as goal
 
 abbrev pub invariant-loop-place : goal.invariant-loop-place
-invariant-loop-place l = (j : ℕ) (a : Operation) → j < l.place → slice_get l.ops j ≡ Some a → IsUnwritten l.ops a → ⊥
+invariant-loop-place l =
+    (j : ℕ) (a : Operation) → j < l.place → slice_get l.ops j ≡ Some a → IsUnwritten l.ops a → ⊥

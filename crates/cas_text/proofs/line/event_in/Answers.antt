@@ -20,4 +20,6 @@ returns-in-Ok c =
 
 pub returns-else-is_memory : goal.returns-else-is_memory
 returns-else-is_memory c =
-    line_event-refused _ _ (omega arith) (json_of-refused _ (c.in-Err.ensures.err (λ memory. let no : false ≡ true = c.if-is_memory.ensures.1 memory in cc)))
+    line_event-refused _ _ (omega arith)
+    (json_of-refused _
+    (c.in-Err.ensures.err (λ memory. let no : false ≡ true = c.if-is_memory.ensures.1 memory in cc)))

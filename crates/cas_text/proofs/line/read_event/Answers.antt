@@ -1,4 +1,5 @@
--- That a line which `history_text` reads means the same here is a law of the definitions, whatever comes of the call.
+-- That a line which `history_text` reads means the same here is a law of the
+-- definitions, whatever comes of the call.
 use Rattle.cas_text.proofs.WithoutCas.{means_the_same}
 use Rattle.cas_text.proofs.line.read_event.Goals as goal
 

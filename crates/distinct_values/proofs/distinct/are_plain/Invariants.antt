@@ -4,4 +4,5 @@ use Rattle.distinct_values.specs.SomeOperations.{is_plain}
 use Rattle.distinct_values.proofs.distinct.are_plain.Given as goal
 
 abbrev pub invariant-loop-op : goal.invariant-loop-op
-invariant-loop-op l = (k : ℕ) (a : Operation) → k < l.op-index → slice_get l.ops k ≡ Some a → is_plain a.act ≡ true
+invariant-loop-op l =
+    (k : ℕ) (a : Operation) → k < l.op-index → slice_get l.ops k ≡ Some a → is_plain a.act ≡ true

@@ -7,4 +7,5 @@ pub returns-clause-text : goal.returns-clause-text
 returns-clause-text c =
     let n = c.in_ok-number.number in
     let rest = c.in_ok-number.rest.now in
-    subst (λ t. Scalar t (whole_data n) rest) (sym c.in_ok-number.ensures.text) (whole_number n rest (omega arith))
+    subst (λ t. Scalar t (whole_data n) rest) (sym c.in_ok-number.ensures.text)
+    (whole_number n rest (omega arith))

@@ -19,4 +19,6 @@ returns-in-Ok c =
 
 pub returns-else-is_memory : goal.returns-else-is_memory
 returns-else-is_memory c =
-    line_form-refused _ _ (omega arith) (json_of-refused _ (c.in-Err.ensures.err (λ memory. let no : false ≡ true = c.if-is_memory.ensures.1 memory in cc)))
+    line_form-refused _ _ (omega arith)
+    (json_of-refused _
+    (c.in-Err.ensures.err (λ memory. let no : false ≡ true = c.if-is_memory.ensures.1 memory in cc)))

@@ -13,8 +13,10 @@ loop-count-preserved c =
     let line = c.loop-count.line in
     let from = c.loop-count.from in
     let k = c.in-Some.count in
-    subst (λ (spans : List Span). ArePassed bytes c.args.first spans (line + 1) (from + k + 1)) (sym c.in_ok-add.ensures.spans)
-    (passed-more bytes c.args.first c.loop-count.spans.items line from k c.loop-count.invariant c.in-Some.ensures)
+    subst (λ (spans : List Span). ArePassed bytes c.args.first spans (line + 1) (from + k + 1))
+    (sym c.in_ok-add.ensures.spans)
+    (passed-more bytes c.args.first c.loop-count.spans.items line from k c.loop-count.invariant
+    c.in-Some.ensures)
 
 pub returns-clause-whole : goal.returns-clause-whole
 returns-clause-whole c =
@@ -25,12 +27,31 @@ returns-clause-whole c =
     let from = c.loop-count.from in
     elim c.if-is_ended.branch [
       | then-is_ended+in_ok-add-2 w ↦
-          whole-ended bytes first c.args.is_ended found.items from (record { spans = c.if-is_ended.spans; next_line = line; byte_count = c.if-is_ended.from }) c.loop-count.invariant c.in_default.ensures
-          (ap (λ (v : Vec Span Global). v.items) w.spans-is ∙ w.in_ok-add-2.ensures.spans) w.from-is w.if-is_ended.true
+          whole-ended bytes first c.args.is_ended found.items from (record {
+            spans = c.if-is_ended.spans;
+            next_line = line;
+            byte_count = c.if-is_ended.from;
+          }) c.loop-count.invariant c.in_default.ensures
+          (ap (λ (v : Vec Span Global). v.items) w.spans-is
+          ∙ w.in_ok-add-2.ensures.spans) w.from-is w.if-is_ended.true
       | else-is_ended w ↦
-          subst (λ (spans : Vec Span Global). AreWhole bytes first c.args.is_ended (record { spans = spans; next_line = line; byte_count = c.if-is_ended.from })) (sym w.spans-is)
-          (subst (λ (end : ℕ). AreWhole bytes first c.args.is_ended (record { spans = found; next_line = line; byte_count = end })) (sym w.from-is)
-          (whole-open bytes first c.args.is_ended (record { spans = found; next_line = line; byte_count = from }) c.loop-count.invariant c.in_default.ensures w.if-is_ended.false))
+          subst (λ (spans : Vec Span Global).
+          AreWhole bytes first c.args.is_ended (record {
+            spans = spans;
+            next_line = line;
+            byte_count = c.if-is_ended.from;
+          })) (sym w.spans-is)
+          (subst (λ (end : ℕ).
+          AreWhole bytes first c.args.is_ended (record {
+            spans = found;
+            next_line = line;
+            byte_count = end;
+          })) (sym w.from-is)
+          (whole-open bytes first c.args.is_ended (record {
+            spans = found;
+            next_line = line;
+            byte_count = from;
+          }) c.loop-count.invariant c.in_default.ensures w.if-is_ended.false))
     ]
 
 pub returns-clause-within : goal.returns-clause-within
@@ -40,12 +61,18 @@ returns-clause-within c =
     let so_far = c.loop-count.invariant in
     elim c.if-is_ended.branch [
       | then-is_ended+in_ok-add-2 w ↦
-          subst (All (IsWithin bytes)) (sym (ap (λ (v : Vec Span Global). v.items) w.spans-is ∙ w.in_ok-add-2.ensures.spans))
+          subst (All (IsWithin bytes)) (sym (ap (λ (v : Vec Span Global). v.items) w.spans-is
+          ∙ w.in_ok-add-2.ensures.spans))
           (inside-last bytes found c.loop-count.line c.loop-count.from so_far.inside so_far.within)
-      | else-is_ended w ↦ subst (λ (v : Vec Span Global). All (IsWithin bytes) v.items) (sym w.spans-is) so_far.inside
+      | else-is_ended w ↦
+          subst (λ (v : Vec Span Global). All (IsWithin bytes) v.items) (sym w.spans-is) so_far.inside
     ]
 
 pub returns-clause-readings : goal.returns-clause-readings
 returns-clause-readings c =
-    read-whole c.args.bytes.now c.args.first c.args.is_ended (record { spans = c.if-is_ended.spans; next_line = c.loop-count.line; byte_count = c.if-is_ended.from })
+    read-whole c.args.bytes.now c.args.first c.args.is_ended (record {
+      spans = c.if-is_ended.spans;
+      next_line = c.loop-count.line;
+      byte_count = c.if-is_ended.from;
+    })
     (returns-clause-whole c) (returns-clause-within c)

@@ -9,4 +9,6 @@ returns c =
     let front = c.args.front.now in
     let rest = drop (length front) text in
     front_read text front (omega arith) (λ k l. c.loop-i.invariant k (omega arith))
-    ∙ ap (λ r. front ++ r) (sym (take_all (length text - length front) rest (omega (arith, length-drop (length front) text))))
+    ∙ ap (λ r. front
+    ++ r) (sym (take_all (length text - length front) rest
+    (omega (arith, length-drop (length front) text))))

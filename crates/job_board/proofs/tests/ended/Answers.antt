@@ -9,5 +9,7 @@ loop-handle-preserved g c =
     let kept = c.in_ok-join.ensures in
     let was = c.in-Some.ensures.items in
     let now = c.push.ensures.items in
-    let mine = handles (length c.pop.new.self.items) c.in-Some.handle in
-    ((λ k d lt. grind (arith, common_steps, handles k d)), (λ k d lt. grind (arith, common_steps, back k d, mine)))
+    let mine = handles (length c.pop.new.self.items) c.in-Some.handle in (
+      (λ k d lt. grind (arith, common_steps, handles k d)),
+      (λ k d lt. grind (arith, common_steps, back k d, mine)),
+    )

@@ -3,7 +3,8 @@ use Rattle.std.proofs.Common.{◌≡◌, ℕ, inl, inr, length, refl, subst, ari
 use Rattle.reg_arena.specs.Tables.{IsSetAt, item_at}
 use Rattle.reg_arena.specs.Pairs.{in_table, key_of}
 use Rattle.reg_arena.proofs.Entering.{entered-ascending, entered-table}
-use Rattle.reg_arena.proofs.pairs.enter.Goals.{then-pair-gt0+in_ok-set_in_table, else-pair-gt0+in_ok-keep_in_table}
+use Rattle.reg_arena.proofs.pairs.enter.Goals.{then-pair-gt0+in_ok-set_in_table}
+use Rattle.reg_arena.proofs.pairs.enter.Goals.{else-pair-gt0+in_ok-keep_in_table}
 use Rattle.reg_arena.proofs.pairs.enter.Goals as goal
 
 pub returns-clause-pairs : goal.returns-clause-pairs
@@ -18,8 +19,10 @@ returns-clause-pairs c =
         | inl f ↦
             let new_top = item_at w.set_in_table.new.table.items in
             rw (c.in_ok-push.ensures.items, w.tops-is, w.table-is)
-            (entered-ascending items top new_top table table c.requires.pairs p c.requires.new f.1.0 f.1.1 f.0 f.1.2
-            (subst (λ (n : ℕ). IsSetAt p.register n top new_top) place w.in_ok-set_in_table.ensures) (λ k. refl))
+            (entered-ascending items top new_top table table c.requires.pairs p c.requires.new f.1.0 f.1.1
+            f.0 f.1.2
+            (subst (λ (n : ℕ). IsSetAt p.register n top new_top) place w.in_ok-set_in_table.ensures)
+            (λ k. refl))
         | inr f ↦ absurd (let deep = w.if-pair-gt0.true in let flat = f.0 in omega (arith, deep, flat))
       ]
       | else-pair-gt0+in_ok-keep_in_table w ↦ elim c.requires.fits [

@@ -6,7 +6,8 @@ use Rattle.history_model.specs.Refusals.{Line, IsBuildError}
 use Rattle.reg_arena.specs.Built.{IsBuilt}
 use Rattle.reg_arena.specs.declared.numbering.NumberedLines.{NumberedLines}
 use Rattle.reg_intake.proofs.Passing.{passed-on}
-use Rattle.reg_intake.proofs.Turning.{ended-ok, first-turn, less-to-do, no-room, none-read, refused-behind, stopped-by-build}
+use Rattle.reg_intake.proofs.Turning.{ended-ok, first-turn, less-to-do, no-room}
+use Rattle.reg_intake.proofs.Turning.{none-read, refused-behind, stopped-by-build}
 use Rattle.reg_intake.specs.Refusals.{of_build}
 use Rattle.reg_intake.specs.Underway.{AreNumberedBehind, IsReadOn, IsStopped, lines_in}
 use Rattle.reg_intake.specs.declared.refusal.Refusal.TheVariants.{NoRoom}

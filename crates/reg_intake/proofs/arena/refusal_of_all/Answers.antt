@@ -1,5 +1,6 @@
 -- A refusal that may be another one is so if the rest can't be pulled.
-use Rattle.reg_intake.proofs.Refusing.{may-not-change, may-change, refused-after-rest, refused-in-rest, refused-now}
+use Rattle.reg_intake.proofs.Refusing.{may-not-change, may-change, refused-after-rest}
+use Rattle.reg_intake.proofs.Refusing.{refused-in-rest, refused-now}
 use Rattle.reg_intake.proofs.arena.refusal_of_all.Goals as goal
 
 pub returns-in-TooLong : goal.returns-in-TooLong

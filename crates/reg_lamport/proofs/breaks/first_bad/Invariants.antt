@@ -4,4 +4,5 @@ use Rattle.reg_lamport.specs.Levels.{AllKeep}
 use Rattle.reg_lamport.proofs.breaks.first_bad.Given as goal
 
 abbrev pub invariant-loop-entry : goal.invariant-loop-entry
-invariant-loop-entry l = AllKeep l.level (of_register l.list.register (operations l.arena)) l.from (l.from + l.entry-index)
+invariant-loop-entry l =
+    AllKeep l.level (of_register l.list.register (operations l.arena)) l.from (l.from + l.entry-index)

@@ -16,17 +16,29 @@ loop-worked-preserved c =
     let rest = c.pop.new.self.items in
     let popped = c.in-Some.ensures.items in
     let one = last-one (IsHandedBack h plan board) l.back.items rest w popped l.invariant.back in
-    let both : c.if-refused.refused ≡ false → (l.refused ≡ false) × (w.refused ≡ false) = λ f. elim c.if-refused.branch [
+    let both : c.if-refused.refused ≡ false → (l.refused ≡ false) × (w.refused ≡ false) =
+    λ f. elim c.if-refused.branch [
       | then-refused k ↦ absurd (false≢true (sym f ∙ (k.refused-is ∙ k.if-refused.true)))
       | else-refused k ↦ (k.if-refused.false, sym k.refused-is ∙ f)
     ] in
     record {
       back = first-ones (IsHandedBack h plan board) l.back.items rest w popped l.invariant.back;
-      weight = omega (arith, ap (λ v. v.weight) c.joined.ensures.view, weight-with l.whole w.seat, ap weight_back popped, back-push rest w, l.invariant.weight);
-      whole = search-joined h plan c.requires.plan board l.refused w one l.whole c.joined.result c.if-refused.refused l.invariant.whole c.joined.ensures.board c.joined.ensures.view both;
+      weight =
+          omega (
+            arith,
+            ap (λ v. v.weight) c.joined.ensures.view,
+            weight-with l.whole w.seat,
+            ap weight_back popped,
+            back-push rest w,
+            l.invariant.weight,
+          );
+      whole =
+          search-joined h plan c.requires.plan board l.refused w one l.whole c.joined.result
+          c.if-refused.refused l.invariant.whole c.joined.ensures.board c.joined.ensures.view both;
     }
 
 pub returns : goal.returns
 returns c =
     let l = c.loop-worked in
-    closed-found c.args.arena.now c.args.board l.refused l.whole _ c.args.board.jobs c.closed-least.result l.invariant.whole c.closed-least.ensures c.if-refused-2.false c.requires.jobs
+    closed-found c.args.arena.now c.args.board l.refused l.whole _ c.args.board.jobs c.closed-least.result
+    l.invariant.whole c.closed-least.ensures c.if-refused-2.false c.requires.jobs

@@ -13,8 +13,11 @@ loop-number-preserved c =
     let new = c.in_ok-push.ensures.items in
     record {
       count = ap length new ∙ (length_push l.lists.items list ∙ ap (λ k. k + 1) l.invariant.count);
-      each = λ r other e. elim (push-cases l.lists.items list other r (sym (ap (λ xs. slice_get xs r) new) ∙ e)) [
-        | inl k ↦ l.invariant.each r other k
-        | inr k ↦ subst (λ (x : Option ListedReads). IsListOf h r x) k.1 (subst (λ m. IsListOf h m list) (sym (k.0 ∙ l.invariant.count)) c.in_ok-list_of.ensures)
-      ];
+      each =
+          λ r other e. elim (push-cases l.lists.items list other r
+          (sym (ap (λ xs. slice_get xs r) new) ∙ e)) [
+            | inl k ↦ l.invariant.each r other k
+            | inr k ↦ subst (λ (x : Option ListedReads). IsListOf h r x) k.1
+                (subst (λ m. IsListOf h m list) (sym (k.0 ∙ l.invariant.count)) c.in_ok-list_of.ensures)
+          ];
     }

@@ -6,5 +6,6 @@ use Rattle.reg_pieces.proofs.planning.lists.Given as goal
 abbrev pub invariant-loop-number : goal.invariant-loop-number
 invariant-loop-number l = record {
   count : length l.lists.items ≡ l.number;
-  each : (r : ℕ) (list : Option ListedReads) → slice_get l.lists.items r ≡ Some list → IsListOf l.arena r list;
+  each : (r : ℕ) (list : Option ListedReads) → slice_get l.lists.items r ≡ Some list
+      → IsListOf l.arena r list;
 }

@@ -12,5 +12,7 @@ returns g c =
     let all = subst (AreRegisters h) (sym c.deref.ensures.value) c.in_ok-registers.ensures in
     ok-then _ (λ v. AreLists h v.items) c.map_each.result c.map_each.ensures
     (λ v made.
-    let own = all-given _ _ (λ register list. IsListOf h register.0 list) (λ register list is. is) registers v.items made in
+    let own =
+    all-given _ _ (λ register list. IsListOf h register.0 list) (λ register list is.
+    is) registers v.items made in
     lists-made h registers v.items all own)

@@ -11,8 +11,10 @@ loop-number-preserved c =
     let new = c.in_ok-push.ensures.items in
     record {
       count = ap length new ∙ (length_push l.registers.items register ∙ ap (λ k. k + 1) l.invariant.count);
-      each = λ i r e. elim (push-cases l.registers.items register r i (sym (ap (λ xs. slice_get xs i) new) ∙ e)) [
-        | inl k ↦ l.invariant.each i r k
-        | inr k ↦ k.0 ∙ (l.invariant.count ∙ ap (λ (x : RegId). x.0) k.1)
-      ];
+      each =
+          λ i r e. elim (push-cases l.registers.items register r i
+          (sym (ap (λ xs. slice_get xs i) new) ∙ e)) [
+            | inl k ↦ l.invariant.each i r k
+            | inr k ↦ k.0 ∙ (l.invariant.count ∙ ap (λ (x : RegId). x.0) k.1)
+          ];
     }

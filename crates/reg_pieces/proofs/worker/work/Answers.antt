@@ -5,7 +5,8 @@ use Rattle.job_board.specs.Seats.{SeatValue}
 use Rattle.job_board.specs.declared.view.View.{View}
 use Rattle.reg_pieces.specs.declared.piece.Piece.{Piece}
 use Rattle.reg_pieces.proofs.Putting.{on_success}
-use Rattle.reg_pieces.proofs.Working.{IsWorking, first-plan, lacks-drawn, whole-plan, working-done, working-looked}
+use Rattle.reg_pieces.proofs.Working.{IsWorking, first-plan, lacks-drawn}
+use Rattle.reg_pieces.proofs.Working.{whole-plan, working-done, working-looked}
 use Rattle.reg_pieces.proofs.worker.work.Goals as goal
 use Rattle.reg_pieces.proofs.worker.work.Goals.{then-is_first, else-is_first}
 use Rattle.job_board.proofs.Lacking.{drawn_there}
@@ -13,7 +14,8 @@ use Rattle.job_board.proofs.Lacking.{drawn_there}
 pub do_register-added-requires-clause-drawn : goal.do_register-added-requires-clause-drawn
 do_register-added-requires-clause-drawn g c =
     let n = c.in-Some.number in
-    subst (λ (v : View). 0 < times n v.drawn) (sym c.in-Some.ensures.some.3) (drawn_there n c.loop-number.seat.view.drawn)
+    subst (λ (v : View). 0 < times n v.drawn) (sym c.in-Some.ensures.some.3)
+    (drawn_there n c.loop-number.seat.view.drawn)
 
 pub loop-number-smaller : goal.loop-number-smaller
 loop-number-smaller g c =
@@ -23,8 +25,13 @@ loop-number-smaller g c =
     elim c.if-is_first.branch [
       | then-is_first w ↦
           let kept = w.do_register-added.ensures.seat in
-          lacks (ap (λ (s : SeatValue). s.view.jobs) w.seat-is ∙ (kept.jobs ∙ ap (λ (v : View). v.jobs) some.3)) (ap (λ (s : SeatValue). s.view.drawn) w.seat-is ∙ (kept.drawn ∙ ap (λ (v : View). v.drawn) some.3))
-      | else-is_first w ↦ lacks (ap (λ (s : SeatValue). s.view.jobs) w.seat-is ∙ ap (λ (v : View). v.jobs) some.3) (ap (λ (s : SeatValue). s.view.drawn) w.seat-is ∙ ap (λ (v : View). v.drawn) some.3)
+          lacks (ap (λ (s : SeatValue). s.view.jobs) w.seat-is
+          ∙ (kept.jobs ∙ ap (λ (v : View). v.jobs) some.3))
+          (ap (λ (s : SeatValue). s.view.drawn) w.seat-is
+          ∙ (kept.drawn ∙ ap (λ (v : View). v.drawn) some.3))
+      | else-is_first w ↦ lacks (ap (λ (s : SeatValue). s.view.jobs) w.seat-is
+          ∙ ap (λ (v : View). v.jobs) some.3) (ap (λ (s : SeatValue). s.view.drawn) w.seat-is
+          ∙ ap (λ (v : View). v.drawn) some.3)
     ]
 
 pub loop-number-preserved : goal.loop-number-preserved
@@ -41,12 +48,25 @@ loop-number-preserved g c =
           let call = w.do_register-added in
           let added = on_success call.result call.ensures.ok (ap is_err (sym w.added-is) ∙ succeeded) in
           let first = first-plan h plan c.requires.plan (sym c.is_first.ensures ∙ w.if-is_first.true) in
-          let working = working-looked h plan given l.seat c.draw.new.seat n l.done.items call.new.done.items l.invariant c.in-Some.ensures.board some.3 call.new.seat first (omega (arith, some.1, l.invariant.jobs, c.requires.seat.jobs)) call.ensures.seat added in
-          subst (λ (s : SeatValue). IsWorking h plan given s c.if-is_first.done.items) (sym w.seat-is) (subst (λ (v : Vec (ℕ × Piece) Global). IsWorking h plan given call.new.seat v.items) (sym w.done-is) working)
+          let working =
+          working-looked h plan given l.seat c.draw.new.seat n l.done.items call.new.done.items
+          l.invariant c.in-Some.ensures.board some.3 call.new.seat first (omega (
+            arith,
+            some.1,
+            l.invariant.jobs,
+            c.requires.seat.jobs,
+          )) call.ensures.seat added in
+          subst (λ (s : SeatValue). IsWorking h plan given s c.if-is_first.done.items) (sym w.seat-is)
+          (subst (λ (v : Vec (ℕ × Piece) Global). IsWorking h plan given call.new.seat v.items)
+          (sym w.done-is) working)
       | else-is_first w ↦
           let call = w.do_piece-added in
           let added = on_success call.result call.ensures.ok (ap is_err (sym w.added-is) ∙ succeeded) in
           let whole = sym c.is_first.ensures ∙ w.if-is_first.false in
-          let working = working-done h plan given l.seat c.draw.new.seat n l.done.items call.new.done.items l.invariant c.in-Some.ensures.board some.3 (whole-plan h plan c.requires.plan whole) whole added in
-          subst (λ (s : SeatValue). IsWorking h plan given s c.if-is_first.done.items) (sym w.seat-is) (subst (λ (v : Vec (ℕ × Piece) Global). IsWorking h plan given c.draw.new.seat v.items) (sym w.done-is) working)
+          let working =
+          working-done h plan given l.seat c.draw.new.seat n l.done.items call.new.done.items l.invariant
+          c.in-Some.ensures.board some.3 (whole-plan h plan c.requires.plan whole) whole added in
+          subst (λ (s : SeatValue). IsWorking h plan given s c.if-is_first.done.items) (sym w.seat-is)
+          (subst (λ (v : Vec (ℕ × Piece) Global). IsWorking h plan given c.draw.new.seat v.items)
+          (sym w.done-is) working)
     ]

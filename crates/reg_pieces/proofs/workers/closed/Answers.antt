@@ -8,5 +8,8 @@ pub returns-in-Ok : goal.returns-in-Ok
 returns-in-Ok c =
     let closes = c.in-Ok.ensures.ok.1 in
     let drawn = closes.drawn in
-    subst (λ whole. ClosesWhole c.args.board.jobs whole c.in-Ok.least) (sym c.in-Some.is)
-    (λ exhausted n l. let all = ap (times_below n) (drawn.3 exhausted) in omega (arith, drawn.2 n, all, once_low n c.args.board.jobs l), closes)
+    subst (λ whole. ClosesWhole c.args.board.jobs whole c.in-Ok.least) (sym c.in-Some.is) (
+      λ exhausted n l. let all = ap (times_below n) (drawn.3 exhausted) in
+          omega (arith, drawn.2 n, all, once_low n c.args.board.jobs l),
+      closes,
+    )

@@ -16,7 +16,12 @@ returns-clause-ok c =
     (arena.0, subst (λ (h : History). IsReport h report) arena.1 c.in_ok-report_alone.ensures))
 
 pub returns-in_err-arena-clause-err : goal.returns-in_err-arena-clause-err
-returns-in_err-arena-clause-err c = refused-by-build false c.args.input.now c.in_ok-lines.lines.items c.in_err-arena.field-0.0 c.from_residual-in_err-arena.result (omega (arith, c.if-input-gt-MAX_INPUT.false)) c.in_ok-lines.ensures.lines c.in_err-arena.ensures.err c.from_residual-in_err-arena.ensures.1
+returns-in_err-arena-clause-err c =
+    refused-by-build false c.args.input.now c.in_ok-lines.lines.items c.in_err-arena.field-0.0
+    c.from_residual-in_err-arena.result (omega (arith, c.if-input-gt-MAX_INPUT.false))
+    c.in_ok-lines.ensures.lines c.in_err-arena.ensures.err c.from_residual-in_err-arena.ensures.1
 
 pub returns-in_err-report_alone-clause-err : goal.returns-in_err-report_alone-clause-err
-returns-in_err-report_alone-clause-err c = refused-without-memory false c.args.input.now c.from_residual-in_err-report_alone.result c.from_residual-in_err-report_alone.ensures.1
+returns-in_err-report_alone-clause-err c =
+    refused-without-memory false c.args.input.now c.from_residual-in_err-report_alone.result
+    c.from_residual-in_err-report_alone.ensures.1

@@ -19,4 +19,5 @@ returns g c =
     let h = c.args.arena.now in
     ok-then c.map_parts.result _ _ c.map_parts.ensures
     (λ texts made. texts-made h c.args.findings.now made.0 texts.items c.requires made.1
-    (all-given _ _ (λ (part : List Finding) (text : Vec ℕ Global). IsTextOf h part text.items) (λ part text is. is) made.0 texts.items made.2))
+    (all-given _ _ (λ (part : List Finding) (text : Vec ℕ Global). IsTextOf h part text.items)
+    (λ part text is. is) made.0 texts.items made.2))

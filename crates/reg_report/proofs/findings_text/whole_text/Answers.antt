@@ -22,8 +22,12 @@ returns g c =
         each = lines.1.each;
         called = c.requires.operations;
         named = c.register_count.ensures.count;
-        atomic = subst (λ atomic. IsWholeAtomicity h atomic c.in_ok-order.order) (sym c.is_some.ensures) c.in_ok-order.ensures.order;
+        atomic =
+            subst (λ atomic. IsWholeAtomicity h atomic c.in_ok-order.order)
+            (sym c.is_some.ensures) c.in_ok-order.ensures.order;
       },
-      summary-behind c.in_ok-order.parts.items c.in_ok-summary_beside_drop.field-0.items c.append.new.self.items report c.in_ok-append.ensures.items lines.2 c.in_ok-summary_beside_drop.ensures,
+      summary-behind c.in_ok-order.parts.items c.in_ok-summary_beside_drop.field-0.items
+          c.append.new.self.items report c.in_ok-append.ensures.items lines.2
+          c.in_ok-summary_beside_drop.ensures,
       c.of.ensures,
     )

@@ -10,7 +10,8 @@ use Rattle.reg_report.proofs.history.register_reports_in_parts.Goals as goal
 
 pub map_each-requires-after_bounds : goal.map_each-requires-after_bounds
 map_each-requires-after_bounds g c κs within k d inside finding at =
-    each-found c.args.arena.now c.args.findings.now c.args.findings.now k d finding.now c.requires refl inside at
+    each-found c.args.arena.now c.args.findings.now c.args.findings.now k d finding.now c.requires refl
+    inside at
 
 pub returns : goal.returns
 returns g c =
@@ -18,4 +19,5 @@ returns g c =
     let findings = c.args.findings.now in
     ok-then c.map_each.result _ _ c.map_each.ensures
     (λ regs made. lines-of h findings regs.items c.requires
-    (all-given _ _ (λ (finding : Finding) (reg : RegReport). IsRegisterReport h finding.register.0 reg) (λ finding reg is. is) findings regs.items made))
+    (all-given _ _ (λ (finding : Finding) (reg : RegReport). IsRegisterReport h finding.register.0 reg)
+    (λ finding reg is. is) findings regs.items made))

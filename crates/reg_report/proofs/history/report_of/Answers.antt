@@ -12,5 +12,6 @@ returns c =
       each = regs.each;
       called = c.requires.operations;
       named = c.register_count.ensures.count;
-      atomic = subst (λ atomic. IsWholeAtomicity h atomic c.args.order) (sym c.is_some.ensures) c.requires.order;
+      atomic =
+          subst (λ atomic. IsWholeAtomicity h atomic c.args.order) (sym c.is_some.ensures) c.requires.order;
     }

@@ -8,5 +8,8 @@ pub returns : goal.returns
 returns c h y =
     let both = each (operations h) (c.accepted_is_history.ensures h y) in (
       λ a r l. both.0 a r,
-      λ all. both.1 (λ r. elim (cases_lt r (length h.names)) [ inl l ↦ all r l | inr l ↦ nothing_atomic h r (c.registers_are_numbered.ensures h y) l ]),
+      λ all. both.1 (λ r. elim (cases_lt r (length h.names)) [
+        | inl l ↦ all r l
+        | inr l ↦ nothing_atomic h r (c.registers_are_numbered.ensures h y) l
+      ]),
     )

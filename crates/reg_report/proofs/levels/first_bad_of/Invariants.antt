@@ -3,7 +3,8 @@ use Rattle.reg_report.proofs.Cutting.{IsPutTogether}
 use Rattle.reg_report.proofs.levels.first_bad_of.Given as goal
 
 abbrev pub invariant-loop-first : goal.invariant-loop-first
-invariant-loop-first l = IsPutTogether l.arena l.plan.tasks l.list.register (length l.list.entries) l.start l.next l.first l.pieces
+invariant-loop-first l =
+    IsPutTogether l.arena l.plan.tasks l.list.register (length l.list.entries) l.start l.next l.first l.pieces
 
 abbrev pub decreases-loop-first : goal.decreases-loop-first
 decreases-loop-first l = length l.plan.tasks - l.next

@@ -9,11 +9,14 @@ loop-number-preserved c =
     let h = c.args.arena.now in
     let l = c.loop-number in
     let found = c.in_ok-finding_of.ensures in
-    rw c.in_ok-push.ensures.items (one-finding-more h l.number l.findings.items c.in_ok-finding_of.field-0 l.invariant (ap (λ (r : RegId). r.0) found.register) found.finding)
+    rw c.in_ok-push.ensures.items
+    (one-finding-more h l.number l.findings.items c.in_ok-finding_of.field-0 l.invariant
+    (ap (λ (r : RegId). r.0) found.register) found.finding)
 
 pub returns : goal.returns
 returns c =
     let h = c.args.arena.now in
     let l = c.loop-number in
-    let whole : l.number ≡ length h.names = omega (arith, l.auto.number-end, c.loop-number-test.false, c.register_count-count.ensures.count) in
+    let whole : l.number ≡ length h.names =
+    omega (arith, l.auto.number-end, c.loop-number-test.false, c.register_count-count.ensures.count) in
     subst (λ (n : ℕ). AreFirstFindings h n l.findings.items) whole l.invariant

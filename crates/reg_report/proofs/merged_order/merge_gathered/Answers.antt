@@ -7,7 +7,16 @@ use Rattle.reg_report.proofs.Gathered.{few, merged_answer, names}
 use Rattle.reg_report.proofs.merged_order.merge_gathered.Goals as goal
 
 pub by_point-requires : goal.by_point-requires
-by_point-requires c = let count = few c.args.arena.now c.arena_laws.ensures c.requires.0 c.requires.1 in omega (arith, count, ap length c.requires.2, c.arena_laws.ensures.events, c.arena_laws.ensures.registers)
+by_point-requires c =
+    let count =
+    few c.args.arena.now c.arena_laws.ensures c.requires.0 c.requires.1 in
+    omega (
+      arith,
+      count,
+      ap length c.requires.2,
+      c.arena_laws.ensures.events,
+      c.arena_laws.ensures.registers,
+    )
 
 pub returns : goal.returns
 returns c =
@@ -17,5 +26,6 @@ returns c =
     IfOk-weaker c.by_point.result
     (λ listed. IsByPoint c.args.operations.items listed.items)
     (λ listed. IsMergedAnswer h listed.items)
-    (λ listed is. merged_answer h c.arena_laws.ensures os c.requires.1 listed.items (subst (λ (ops : List Placed). IsByPoint ops listed.items) given is))
+    (λ listed is. merged_answer h c.arena_laws.ensures os c.requires.1 listed.items
+    (subst (λ (ops : List Placed). IsByPoint ops listed.items) given is))
     c.by_point.ensures

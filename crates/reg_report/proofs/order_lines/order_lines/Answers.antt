@@ -14,9 +14,17 @@ loop-placed-preserved c =
       | in-Called+in_ok-push w ↦
           let pushed = w.in_ok-push.ensures in
           let items = ap (λ (v : Vec ℕ Global). v.items) w.lines-is ∙ pushed.items in
-          called-more (call_line h.events) order i _ w.in-Called.id w.event.result.line c.loop-placed.lines.items c.match-placed.lines.items (lines_by (call_line h.events) order) c.loop-placed-test.true w.in-Called.is
-          (sym (ap (λ o. line_at h.events (call_of o)) w.in-Called.is ∙ line_at-event h.events _ w.in-Called.id.0 w.event.result (omega arith) w.event.ensures.at)) items c.loop-placed.invariant
+          called-more (call_line h.events) order i _ w.in-Called.id w.event.result.line
+          c.loop-placed.lines.items c.match-placed.lines.items (lines_by (call_line h.events) order)
+          c.loop-placed-test.true w.in-Called.is
+          (sym (ap (λ o. line_at h.events (call_of o)) w.in-Called.is
+          ∙ line_at-event h.events _ w.in-Called.id.0 w.event.result (omega arith) w.event.ensures.at))
+          items c.loop-placed.invariant
       | in_default w ↦
-          subst (λ (v : Vec ℕ Global). v.items ++ lines_by (call_line h.events) (drop (i + 1) order) ≡ lines_by (call_line h.events) order) (sym w.lines-is)
-          (initial-more (call_line h.events) order i _ w.in_default.field-0 c.loop-placed.lines.items (lines_by (call_line h.events) order) c.loop-placed-test.true w.in_default.is c.loop-placed.invariant)
+          subst (λ (v : Vec ℕ Global). v.items
+          ++ lines_by (call_line h.events) (drop (i + 1) order) ≡ lines_by (call_line h.events) order)
+          (sym w.lines-is)
+          (initial-more (call_line h.events) order i _ w.in_default.field-0 c.loop-placed.lines.items
+          (lines_by (call_line h.events) order) c.loop-placed-test.true w.in_default.is
+          c.loop-placed.invariant)
     ]

@@ -18,4 +18,5 @@ returns g c =
     ok-then c.joined.result _ _ c.joined.ensures
     (λ lines is. is
     ∙ (ap (flat_map (λ (part : List _). part)) c.deref.ensures.value
-    ∙ joined-given _ _ (λ lines. lines) (lines_by line) refl (lines-append line) (λ part lines is. is) c.args.order.now c.in_ok-parts.parts.items c.in_ok-parts.ensures))
+    ∙ joined-given _ _ (λ lines. lines) (lines_by line) refl (lines-append line) (λ part lines is.
+    is) c.args.order.now c.in_ok-parts.parts.items c.in_ok-parts.ensures))

@@ -6,6 +6,7 @@ use Rattle.reg_report.proofs.output.deliver.Given as goal
 
 abbrev pub invariant-loop-part : goal.invariant-loop-part
 invariant-loop-part g l = record {
-  out : Appends (g.S.Sink.taken l.initial.sink) (g.S.Sink.taken l.sink) (bytes-of (take l.part-index l.parts));
+  out : Appends (g.S.Sink.taken l.initial.sink) (g.S.Sink.taken l.sink)
+      (bytes-of (take l.part-index l.parts));
   failures : g.S.Sink.failed l.sink ≡ g.S.Sink.failed l.initial.sink;
 }

@@ -1,4 +1,5 @@
--- The fields that the line has of the order or of the fault say what is said of whether the register is atomic.
+-- The fields that the line has of the order or of the fault say what
+-- is said of whether the register is atomic.
 use Rattle.std.proofs.Common.{rules, refl, subst, sym}
 use Rattle.history_model.specs.Operations.{register_of}
 use Rattle.reg_report.specs.Atomicity.{IsAtomicityShown}
@@ -12,12 +13,15 @@ returns c =
     let ops = register_of h c.args.finding.now.register.0 in
     let regular = c.args.finding.now.levels.regular.verdict in
     let t = c.match-atomicity.atomic in
-    let said : IsAtomicity h ops t.0 t.1 t.3 t.4 × IsInversionAnswer h ops t.0 regular t.2 = elim c.match-atomicity.branch [
+    let said : IsAtomicity h ops t.0 t.1 t.3 t.4 × IsInversionAnswer h ops t.0 regular t.2 =
+    elim c.match-atomicity.branch [
       | in-Yes w ↦
-          subst (λ t. IsAtomicity h ops t.0 t.1 t.3 t.4 × IsInversionAnswer h ops t.0 regular t.2) (sym w.atomic-is)
+          subst (λ t. IsAtomicity h ops t.0 t.1 t.3 t.4 × IsInversionAnswer h ops t.0 regular t.2)
+          (sym w.atomic-is)
           (subst (IsAtomicityShown h ops regular) w.in-Yes.is c.in_ok-atomicity.ensures, refl)
       | in-No w ↦
-          subst (λ t. IsAtomicity h ops t.0 t.1 t.3 t.4 × IsInversionAnswer h ops t.0 regular t.2) (sym w.atomic-is)
+          subst (λ t. IsAtomicity h ops t.0 t.1 t.3 t.4 × IsInversionAnswer h ops t.0 regular t.2)
+          (sym w.atomic-is)
           (subst (IsAtomicityShown h ops regular) w.in-No.is c.in_ok-atomicity.ensures)
     ] in
     record {

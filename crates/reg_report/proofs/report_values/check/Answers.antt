@@ -7,4 +7,5 @@ pub returns-clause-ok : goal.returns-clause-ok
 returns-clause-ok g c =
     let arena = c.in_ok-arena.ensures.ok in
     answer-of-arena c.args.settings.first c.args.input.now c.in_ok-arena.arena c.in_ok-report_by.field-0
-    (subst (λ (bytes : List ℕ). IsArenaOf bytes c.in_ok-arena.arena) (sym arena.1 ∙ c.new.ensures) arena.2) c.in_ok-report_by.ensures
+    (subst (λ (bytes : List ℕ). IsArenaOf bytes c.in_ok-arena.arena) (sym arena.1 ∙ c.new.ensures) arena.2)
+    c.in_ok-report_by.ensures

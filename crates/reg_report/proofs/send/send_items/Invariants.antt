@@ -7,4 +7,6 @@ use Rattle.reg_report.proofs.send.send_items.Given as goal
 -- whatever ends it well from here ends it well from the start
 abbrev pub invariant-loop-n : goal.invariant-loop-n
 invariant-loop-n g l =
-    (end : Log) → SendsItems (items_of (map number_json (drop l.n-index l.numbers))) (g.S.Serializer.written l.out) end → SendsItems (items_of (map number_json l.numbers)) (g.S.Serializer.written l.initial.out) end
+    (end : Log) → SendsItems (items_of (map number_json (drop l.n-index l.numbers)))
+    (g.S.Serializer.written l.out) end
+    → SendsItems (items_of (map number_json l.numbers)) (g.S.Serializer.written l.initial.out) end

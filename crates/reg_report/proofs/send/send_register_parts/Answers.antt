@@ -8,7 +8,9 @@ use Rattle.reg_report.proofs.send.send_register_parts.Goals as goal
 pub returns : goal.returns
 returns g c =
     let at = g.S.Serializer.written in
-    let named = subst (λ t. SendsFields (always (codes "register") (string t)) (at c.send_number-2.new.out) (at c.send_text.new.out)) c.as_str.ensures.text c.in_ok-send_text.ensures in
+    let named =
+    subst (λ t. SendsFields (always (codes "register") (string t)) (at c.send_number-2.new.out)
+    (at c.send_text.new.out)) c.as_str.ensures.text c.in_ok-send_text.ensures in
     on_ok_weaker c.send_number-3.result (λ e. (
       at c.send_yes_or_no.new.out,
       c.in_ok-send_yes_or_no.ensures,

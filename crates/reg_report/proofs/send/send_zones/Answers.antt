@@ -9,7 +9,9 @@ pub returns : goal.returns
 returns g c =
     let at = g.S.Serializer.written in
     on_ok_weaker c.end_map.result (λ e.
-    sends_object (fault_parts (Zones c.args.writes c.args.first c.args.second)) 4 (at c.args.out.now) (at c.begin_map.new.self) (at c.send_pair-3.new.out) (at c.end_map.new.self) refl c.in_ok-begin_map.ensures (
+    sends_object (fault_parts (Zones c.args.writes c.args.first c.args.second)) 4 (at c.args.out.now)
+    (at c.begin_map.new.self) (at c.send_pair-3.new.out)
+    (at c.end_map.new.self) refl c.in_ok-begin_map.ensures (
       at c.send_pair.new.out,
       c.in_ok-send_pair.ensures,
       (

@@ -10,4 +10,5 @@ pub returns : goal.returns
 returns g c =
     ok-then c.map_parts.result _ _ c.map_parts.ensures
     (λ parts made.
-    joined-given _ _ (λ (text : Vec ℕ Global). text.items) numbers_text refl numbers-append (λ part text is. is) c.args.numbers.now parts.items made)
+    joined-given _ _ (λ (text : Vec ℕ Global). text.items) numbers_text refl numbers-append (λ part text is.
+    is) c.args.numbers.now parts.items made)

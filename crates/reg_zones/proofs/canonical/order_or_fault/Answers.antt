@@ -16,14 +16,18 @@ pub returns-in-Err : goal.returns-in-Err
 returns-in-Err c =
     let register = c.new-register.result in
     let ops = operations_of register in
-    let fault = subst (λ w. MatchResult w (λ both. IsFound ops both.0 × IsListing ops both.1.items) (λ f. IsFault ops f)) c.in-Err.is c.in_ok-fault.ensures in
-    subst (λ (o : List Operation). (IsAtomic o → ⊥) × IsFault o c.in-Err.fault) (operations-at register c.new-register.ensures.arena c.new-register.ensures.id)
+    let fault =
+    subst (λ w. MatchResult w (λ both. IsFound ops both.0 × IsListing ops both.1.items)
+    (λ f. IsFault ops f)) c.in-Err.is c.in_ok-fault.ensures in
+    subst (λ (o : List Operation). (IsAtomic o → ⊥) × IsFault o c.in-Err.fault)
+    (operations-at register c.new-register.ensures.arena c.new-register.ensures.id)
     (faulty ops _ (facts register).history fault)
 
 pub returns-in-Err-verdict : goal.returns-in-Err-verdict
 returns-in-Err-verdict c =
     let register = c.new-register.result in
-    subst (λ (o : List Operation). (IsAtomic o → ⊥) × IsFault o c.in-Err-verdict.fault) (operations-at register c.new-register.ensures.arena c.new-register.ensures.id)
+    subst (λ (o : List Operation). (IsAtomic o → ⊥) × IsFault o c.in-Err-verdict.fault)
+    (operations-at register c.new-register.ensures.arena c.new-register.ensures.id)
     (faulty (operations_of register) _ (facts register).history c.in-Err-verdict.ensures.err)
 
 pub returns-in_ok-ranked-in-Ok-verdict : goal.returns-in_ok-ranked-in-Ok-verdict
@@ -31,10 +35,14 @@ returns-in_ok-ranked-in-Ok-verdict c =
     let register = c.new-register.result in
     let ops = operations_of register in
     let answer = c.in_ok-ranked-in-Ok-verdict.field-0.items in
-    let both = subst (λ w. MatchResult w (λ b. IsFound ops b.0 × IsListing ops b.1.items) (λ f. IsFault ops f)) c.in-Ok.is c.in_ok-fault.ensures in
+    let both =
+    subst (λ w. MatchResult w (λ b. IsFound ops b.0 × IsListing ops b.1.items) (λ f. IsFault ops f))
+    c.in-Ok.is c.in_ok-fault.ensures in
     let ranking = c.in_ok-ranked-in-Ok-verdict.ensures in
     let faultless = c.in-Ok-verdict.ensures.ok in
-    subst (λ (o : List Operation). IsAtomic o × IsOrder o answer) (operations-at register c.new-register.ensures.arena c.new-register.ensures.id) (
+    subst (λ (o : List Operation). IsAtomic o
+    × IsOrder o answer) (operations-at register c.new-register.ensures.arena c.new-register.ensures.id) (
       (decides ops (facts register).history).1 faultless,
-      ordered register.arena.now register.id.0 (facts register) c.in-Ok.entries.items ranking.0 both.1 ranking.1 ranking.2 faultless answer ranking.3,
+      ordered register.arena.now register.id.0 (facts register) c.in-Ok.entries.items ranking.0 both.1
+          ranking.1 ranking.2 faultless answer ranking.3,
     )

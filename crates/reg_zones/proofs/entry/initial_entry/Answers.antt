@@ -8,6 +8,9 @@ use Rattle.reg_zones.proofs.entry.initial_entry.Goals as goal
 
 pub returns : goal.returns
 returns c =
-    let low = c.low.ensures ∙ sym (zone-low (operations_of c.args.register) (initial_write c.args.register.id.0) _ c.args.initial.zone refl c.requires.zone) in
+    let low =
+    c.low.ensures ∙ sym
+    (zone-low (operations_of c.args.register) (initial_write c.args.register.id.0) _
+    c.args.initial.zone refl c.requires.zone) in
     let make : ℕ → Entry = λ n. record { low = n; turn = 0; call = 0; oper = Initial c.args.register.id } in
     ap make low

@@ -7,4 +7,6 @@ pub returns-clause-canonical : goal.returns-clause-canonical
 returns-clause-canonical c ops xs ys k l = one_canonical ops xs ys k l
 
 pub returns-clause-answer : goal.returns-clause-answer
-returns-clause-answer c ops xs ys a b = a.is ∙ (ap (λ o. map shown (placed o)) (one_canonical ops a.order b.order a.canonical b.canonical) ∙ sym b.is)
+returns-clause-answer c ops xs ys a b =
+    a.is ∙ (ap (λ o. map shown (placed o)) (one_canonical ops a.order b.order a.canonical b.canonical)
+    ∙ sym b.is)

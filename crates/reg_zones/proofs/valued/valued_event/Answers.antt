@@ -25,8 +25,12 @@ returns-in-Reply c =
     let o = subst (IsMetAt h r c.args.id.0) c.in-Reply.is c.requires in
     let b = belonging h r c.args.id.0 o.0 o.1 (inr (o.2, o.3)) in
     let k = reply-key h r (facts c.args.register) c.args.id.0 o.0 (op_shown o.0) b o.2 in
-    let at : o.0.reply - 2 ≡ c.args.id.0 = omega (arith, o.3) in
-    (o.0, o.1, inr (o.2, o.3), (k.0, k.1, subst (λ i. key_at by_value h.events i ≡ Some (r, k.0)) at k.2, inr o.2))
+    let at : o.0.reply - 2 ≡ c.args.id.0 = omega (arith, o.3) in (
+      o.0,
+      o.1,
+      inr (o.2, o.3),
+      (k.0, k.1, subst (λ i. key_at by_value h.events i ≡ Some (r, k.0)) at k.2, inr o.2),
+    )
 
 pub returns-in-Some-default : goal.returns-in-Some-default
 returns-in-Some-default c =
@@ -34,8 +38,18 @@ returns-in-Some-default c =
     let r = c.args.register.id.0 in
     let o = subst (IsMetAt h r c.args.id.0) c.in-Call.is c.requires in
     let t = replied h r (facts c.args.register) c.args.id.0 o.0 c.in-Call.op o.1 _ c.in-Some-default.is-0 in
-    let k = reply-key h r (facts c.args.register) c.args.id.0 o.0 c.in-Call.op o.1 t.0 in
-    (o.0, o.1.one, o.1.event, (k.0, k.1, subst (λ i. key_at by_value h.events i ≡ Some (r, k.0)) (ap (λ n. n - 2) t.1 ∙ sym c.at.ensures) k.2, inr t.0))
+    let k = reply-key h r (facts c.args.register) c.args.id.0 o.0 c.in-Call.op o.1 t.0 in (
+      o.0,
+      o.1.one,
+      o.1.event,
+      (
+        k.0,
+        k.1,
+        subst (λ i. key_at by_value h.events i ≡ Some (r, k.0)) (ap (λ n. n - 2) t.1
+            ∙ sym c.at.ensures) k.2,
+        inr t.0,
+      ),
+    )
 
 pub returns-in-None-WriteOp : goal.returns-in-None-WriteOp
 returns-in-None-WriteOp c =
@@ -61,4 +75,7 @@ returns-in-None-ReadOp c a k t q =
     ]
 
 pub returns-in-Nothing : goal.returns-in-Nothing
-returns-in-Nothing c o k t q = let none = subst (IsMetAt c.args.register.arena.now c.args.register.id.0 c.args.id.0) c.in-Nothing.is c.requires in none o k t
+returns-in-Nothing c o k t q =
+    let none =
+    subst (IsMetAt c.args.register.arena.now c.args.register.id.0 c.args.id.0) c.in-Nothing.is
+    c.requires in none o k t

@@ -13,10 +13,12 @@ use Rattle.reg_zones.proofs.walk.found_and_listed.Given as goal
 abbrev pub invariant-loop-ahead : goal.invariant-loop-ahead
 invariant-loop-ahead l = record {
   ahead : IsAhead l.register.arena.now l.register.id.0 l.ahead;
-  walk : IsWalk l.register.arena.now.events l.register.id.0 (λ i. IsUnwrittenAt (operations_of l.register) (i + 2) None) l.ahead.next;
+  walk : IsWalk l.register.arena.now.events l.register.id.0
+      (λ i. IsUnwrittenAt (operations_of l.register) (i + 2) None) l.ahead.next;
   early : IsEarlySoFar l.register.arena.now l.register.id.0 l.early l.ahead.next;
   comparing : IsComparing (operations_of l.register) l.clusters l.ahead.next;
-  listing : IsListingSoFar l.register.arena.now.events l.register.id.0 (operations_of l.register) l.entries.items l.ahead.next;
+  listing : IsListingSoFar l.register.arena.now.events l.register.id.0
+      (operations_of l.register) l.entries.items l.ahead.next;
 }
 
 abbrev pub decreases-loop-ahead : goal.decreases-loop-ahead

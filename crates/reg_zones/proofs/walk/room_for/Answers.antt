@@ -27,7 +27,8 @@ loop-next-smaller c =
     let es = c.args.register.arena.now.events in
     let r = c.args.register.id.0 in
     let on = subst (IsOnWalk es r) c.in-Some.is c.loop-next.invariant.on in
-    subst (λ o. walk_left es c.next_in_register-next.result < walk_left es o) (sym c.in-Some.is) (walk-ends r es c.in-Some.id c.next_in_register-next.result on c.next_in_register-next.ensures.next)
+    subst (λ o. walk_left es c.next_in_register-next.result < walk_left es o) (sym c.in-Some.is)
+    (walk-ends r es c.in-Some.id c.next_in_register-next.result on c.next_in_register-next.ensures.next)
 
 pub loop-next-preserved : goal.loop-next-preserved
 loop-next-preserved c =

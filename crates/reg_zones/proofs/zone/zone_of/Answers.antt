@@ -21,12 +21,19 @@ returns c w n =
     let o = e.0 in
     let op = c.with_operation.result.1 in
     let p = with-register register h c.args.write o op c.with_operation.ensures.arena e.1 e.2 e.3 in
-    let here : (v : Val) (found : Option Zone) → IsZoneFound register.arena.now register.id.0 v found → IsZoneFound h o.register v found =
-    λ v found f. subst (λ r. IsZoneFound h r v found) e.3 (subst (λ (g : History). IsZoneFound g register.id.0 v found) c.with_operation.ensures.arena f) in
+    let here : (v : Val) (found : Option Zone) → IsZoneFound register.arena.now register.id.0 v found
+    → IsZoneFound h o.register v found =
+    λ v found f. subst (λ r. IsZoneFound h r v found) e.3
+    (subst (λ (g : History). IsZoneFound g register.id.0 v found) c.with_operation.ensures.arena f) in
     let k : IsKept (of_register o.register (operations h)) o =
-    subst (λ (x : Operation). IsKept (of_register x.register (operations h)) x) (sym (the_one h c.args.write o op p c.requires.0 c.requires.1)) c.requires.2 in
-    let z : IsZone (of_register o.register (operations h)) o.value c.unwrap_or.result = elim c.match-op.branch [
-      | in-Some q ↦ kept-zone h c.args.write o op p k q.in-Some.value _ _ q.in-Some.is (here _ _ q.zone_with-found.ensures) (c.unwrap_or.ensures ∙ ap (λ f. unwrap_or f (record { f = 0; s = 0 })) q.found-is)
+    subst (λ (x : Operation). IsKept (of_register x.register (operations h)) x)
+    (sym (the_one h c.args.write o op p c.requires.0 c.requires.1)) c.requires.2 in
+    let z : IsZone (of_register o.register (operations h)) o.value c.unwrap_or.result =
+    elim c.match-op.branch [
+      | in-Some q ↦ kept-zone h c.args.write o op p k q.in-Some.value _ _ q.in-Some.is
+          (here _ _ q.zone_with-found.ensures) (c.unwrap_or.ensures
+          ∙ ap (λ f. unwrap_or f (record { f = 0; s = 0 })) q.found-is)
       | in-None q ↦ let v = kept-value h c.args.write o op p k in absurd (cc (v.1, q.in-None.is))
     ] in
-    subst (λ (x : Operation). IsZone (of_register x.register (operations h)) x.value c.unwrap_or.result) (the_one h c.args.write o op p w n) z
+    subst (λ (x : Operation). IsZone (of_register x.register (operations h)) x.value c.unwrap_or.result)
+    (the_one h c.args.write o op p w n) z

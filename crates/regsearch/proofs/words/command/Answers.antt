@@ -13,9 +13,12 @@ returns c =
     let configurations_is : rule_of c.help-3.result ≡ configurations_rule = search rules in
     let named = program (codes "regsearch") in
     let begun : app_of c.after_help.result ≡ named = search rules in
-    let with_file : app_of c.in_ok-arg.field-0 ≡ with_rule named file_rule = c.in_ok-arg.ensures.shape c.file.ensures.local ∙ ap₂ with_rule begun c.file.ensures.rule in
+    let with_file : app_of c.in_ok-arg.field-0 ≡ with_rule named file_rule =
+    c.in_ok-arg.ensures.shape c.file.ensures.local ∙ ap₂ with_rule begun c.file.ensures.rule in
     let with_workers : app_of c.in_ok-arg-2.field-0 ≡ with_rule (with_rule named file_rule) workers_rule =
     c.in_ok-arg-2.ensures.shape (search rules) ∙ ap₂ with_rule with_file workers_is in
-    let with_steps : app_of c.in_ok-arg-3.field-0 ≡ with_rule (with_rule (with_rule named file_rule) workers_rule) steps_rule =
+    let with_steps : app_of c.in_ok-arg-3.field-0
+    ≡ with_rule (with_rule (with_rule named file_rule) workers_rule) steps_rule =
     c.in_ok-arg-3.ensures.shape (search rules) ∙ ap₂ with_rule with_workers steps_is in
-    IfOk-weaker c.arg-4.result _ _ (λ command added. added.shape (search rules) ∙ ap₂ with_rule with_steps configurations_is) c.arg-4.ensures
+    IfOk-weaker c.arg-4.result _ _ (λ command added. added.shape (search rules)
+    ∙ ap₂ with_rule with_steps configurations_is) c.arg-4.ensures

@@ -6,7 +6,8 @@ use Rattle.search_intake.proofs.bytes.all_bytes.Given as goal
 
 abbrev pub invariant-loop-source : goal.invariant-loop-source
 invariant-loop-source g l = record {
-  given : Gives (g.S.Source.left l.fn.source) (g.S.Source.left l.source) (g.S.Source.failed l.fn.source) (g.S.Source.failed l.source) 0 (take l.total l.bytes.items);
+  given : Gives (g.S.Source.left l.fn.source) (g.S.Source.left l.source) (g.S.Source.failed l.fn.source)
+      (g.S.Source.failed l.source) 0 (take l.total l.bytes.items);
   within : l.total ≤ MAX_INPUT;
   held : l.total ≤ length l.bytes.items;
 }

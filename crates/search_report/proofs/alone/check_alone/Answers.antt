@@ -10,11 +10,13 @@ pub returns-in_err-history-clause-err : goal.returns-in_err-history-clause-err
 returns-in_err-history-clause-err c =
     let e = c.in_err-history.field-0.0 in
     passed-on (IsRefused c.args.input.now) (of_build e) c.from_residual.result c.from_residual.ensures.1
-    (refused-within c.args.input.now (omega (arith, c.if-input-gt-MAX_INPUT.false)) e c.in_err-history.ensures.err)
+    (refused-within c.args.input.now (omega (arith, c.if-input-gt-MAX_INPUT.false)) e
+    c.in_err-history.ensures.err)
 
 pub returns-in_err-report_alone-clause-err : goal.returns-in_err-report_alone-clause-err
 returns-in_err-report_alone-clause-err c =
-    passed-on (IsRefused c.args.input.now) NoRoom c.from_residual-in_err-report_alone.result c.from_residual-in_err-report_alone.ensures.1 (inl refl)
+    passed-on (IsRefused c.args.input.now) NoRoom c.from_residual-in_err-report_alone.result
+    c.from_residual-in_err-report_alone.ensures.1 (inl refl)
 
 pub returns-clause-ok : goal.returns-clause-ok
 returns-clause-ok c =

@@ -14,5 +14,11 @@ pub returns-clause-err : goal.returns-clause-err
 returns-clause-err g c =
     let bytes = c.args.bytes.now in
     let taken = g.S.Sink.taken in
-    let kept = Appends-kept (taken c.args.sink.now) (taken c.push_all.new.sink) (taken c.flush.new.self) bytes c.in_ok-push_all.ensures.ok c.flush.ensures.bytes in
-    on_err _ c.flush.result (length bytes, omega arith, subst (Appends (taken c.args.sink.now) (taken c.flush.new.self)) (sym (take-length bytes)) kept)
+    let kept =
+    Appends-kept (taken c.args.sink.now) (taken c.push_all.new.sink)
+    (taken c.flush.new.self) bytes c.in_ok-push_all.ensures.ok c.flush.ensures.bytes in
+    on_err _ c.flush.result (
+      length bytes,
+      omega arith,
+      subst (Appends (taken c.args.sink.now) (taken c.flush.new.self)) (sym (take-length bytes)) kept,
+    )

@@ -9,6 +9,7 @@ loop-at-preserved g c =
     let bound = c.in_ok-at.ensures.bound in
     let within = length-drop c.loop-at.at c.args.bytes.now in (
       omega (arith, length-take {A = ℕ}),
-      Appends-next _ _ _ c.args.bytes.now c.loop-at.at c.in_ok-at.field-0 before.0 before.1 c.in_ok-at.ensures.bytes,
+      Appends-next _ _ _ c.args.bytes.now c.loop-at.at c.in_ok-at.field-0 before.0 before.1
+          c.in_ok-at.ensures.bytes,
       ◌∙◌ {b = g.S.Sink.failed c.loop-at.sink} c.in_ok-at.ensures.failures before.2,
     )

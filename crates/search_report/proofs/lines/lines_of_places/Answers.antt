@@ -2,7 +2,11 @@ use Rattle.search_report.proofs.Placing.{line-more, line-end}
 use Rattle.search_report.proofs.lines.lines_of_places.Goals as goal
 
 pub loop-place-preserved : goal.loop-place-preserved
-loop-place-preserved c = line-more c.args.ops.now c.args.places.now c.loop-place.lines.items c.add_line.new.lines.items c.loop-place.place-index c.loop-place-test.true c.in_ok-add_line.ensures c.loop-place.invariant
+loop-place-preserved c =
+    line-more c.args.ops.now c.args.places.now c.loop-place.lines.items c.add_line.new.lines.items
+    c.loop-place.place-index c.loop-place-test.true c.in_ok-add_line.ensures c.loop-place.invariant
 
 pub returns : goal.returns
-returns c = line-end c.args.ops.now c.args.places.now c.loop-place.lines.items c.loop-place.place-index c.loop-place-test.false c.loop-place.invariant
+returns c =
+    line-end c.args.ops.now c.args.places.now c.loop-place.lines.items c.loop-place.place-index
+    c.loop-place-test.false c.loop-place.invariant

@@ -5,4 +5,6 @@ use Rattle.search_report.specs.Meaning.{lines_of}
 use Rattle.search_report.proofs.lines.lines_of_places.Given as goal
 
 abbrev pub invariant-loop-place : goal.invariant-loop-place
-invariant-loop-place l = lines_of (operations_at l.ops l.places) ≡ l.lines.items ++ lines_of (operations_at l.ops (drop l.place-index l.places))
+invariant-loop-place l =
+    lines_of (operations_at l.ops l.places) ≡ l.lines.items
+    ++ lines_of (operations_at l.ops (drop l.place-index l.places))

@@ -12,9 +12,11 @@ returns-in-Some c = λ r timed.
     let ops = c.args.ops.now in
     unwritten-told c.args.lines.now r ops c.in-Some.place _ timed
     (subst (IsFirstUnwritten ops) c.in-Some.is c.in_ok-place.ensures.first)
-    (subst (λ o. IfSome o (λ (_ : ℕ). (s : ℕ) → AreCalls s ops → IsAtomic (initial_write s ∷ ops) → ⊥)) c.in-Some.is c.in_ok-place.ensures.no)
+    (subst (λ o. IfSome o (λ (_ : ℕ). (s : ℕ) → AreCalls s ops → IsAtomic (initial_write s ∷ ops)
+    → ⊥)) c.in-Some.is c.in_ok-place.ensures.no)
 
 pub returns-in-None : goal.returns-in-None
 returns-in-None c =
     let ops = c.args.ops.now in
-    searched-of c.args.lines.now ops c.searched.result (subst (IsFirstUnwritten ops) c.in-None.is c.in_ok-place.ensures.first) c.searched.ensures
+    searched-of c.args.lines.now ops c.searched.result
+    (subst (IsFirstUnwritten ops) c.in-None.is c.in_ok-place.ensures.first) c.searched.ensures

@@ -7,4 +7,6 @@ pub returns : goal.returns
 returns c =
     let ops = c.args.ops.now in
     told-of c.args.lines.now ops c.in_ok-verdict.verdict c.told.result c.told.ensures
-    (λ r timed. c.in_ok-verdict.ensures r (subst (IsTimeline r ops) (sym c.deref.ensures.value) (c.in_ok-moments.ensures r (are-calls r ops timed) (are-times r ops timed))))
+    (λ r timed. c.in_ok-verdict.ensures r
+    (subst (IsTimeline r ops) (sym c.deref.ensures.value)
+    (c.in_ok-moments.ensures r (are-calls r ops timed) (are-times r ops timed))))

@@ -10,8 +10,10 @@ returns-in_ok-lines_of_times-in-Yes c = λ r timed first verdict.
     let lines = c.args.lines.now in
     let ops = c.args.ops.now in
     let checked = subst (IsVerdict r ops) c.in-Yes.is verdict in
-    order-told lines r ops c.in-Yes.order.items c.in-Yes.points.items c.in_ok-lines_of_places-in-Yes.field-0 c.in_ok-lines_of_times-in-Yes.field-0
-    (c.in_ok-lines_of_places-in-Yes.ensures ∙ ap (λ xs. lines_of (operations_at ops xs)) c.deref.ensures.value)
+    order-told lines r ops c.in-Yes.order.items c.in-Yes.points.items c.in_ok-lines_of_places-in-Yes.field-0
+    c.in_ok-lines_of_times-in-Yes.field-0
+    (c.in_ok-lines_of_places-in-Yes.ensures
+    ∙ ap (λ xs. lines_of (operations_at ops xs)) c.deref.ensures.value)
     (c.in_ok-lines_of_times-in-Yes.ensures ∙ ap (map (line_at lines)) c.deref-in-Yes.ensures.value)
     checked
 
@@ -20,5 +22,6 @@ returns-in_ok-lines_before-in-No c = λ r timed first verdict.
     let lines = c.args.lines.now in
     let ops = c.args.ops.now in
     let refuted = subst (IsVerdict r ops) c.in-No.is verdict in
-    no-told lines r ops timed first c.in-No.reply c.reply_line.result c.in_ok-open_lines-in-No.field-0 c.in-No.before c.in_ok-lines_before-in-No.field-0 c.reply_line.ensures
+    no-told lines r ops timed first c.in-No.reply c.reply_line.result c.in_ok-open_lines-in-No.field-0
+    c.in-No.before c.in_ok-lines_before-in-No.field-0 c.reply_line.ensures
     c.in_ok-open_lines-in-No.ensures c.in_ok-lines_before-in-No.ensures refuted.0 refuted.1

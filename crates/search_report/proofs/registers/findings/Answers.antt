@@ -13,7 +13,9 @@ returns g c =
     let registers = c.as_slice-registers in
     IfOk-weaker c.map_each.result _ _
     (λ v made.
-    let given = all-given _ _ (λ (ops : Vec Operation Global) finding. IsFinding lines.result.now ops.items finding) (λ ops finding is. is)
+    let given =
+    all-given _ _ (λ (ops : Vec Operation Global) finding. IsFinding lines.result.now ops.items finding)
+    (λ ops finding is. is)
     registers.result.now v.items made in
     subst (λ xs. AreFindingsOf xs history.registers.items v.items) lines.ensures.value
     (subst (λ rs. AreFindingsOf lines.result.now rs v.items) registers.ensures.value given))

@@ -9,13 +9,20 @@ loop-finding-preserved c =
     let inv = c.loop-finding.invariant in
     let reports = c.loop-finding.reports.items in
     let name = c.index-name.result.now in
-    let within = has-name h c.requires.names (length reports) _ _ c.in-Some.finding inv.3 c.in-Some.ensures.steps.0 in
-    let named : slice_get h.names.items (length reports) ≡ Some name = slice_get_read h.names.items (length h.names.items) (length reports) name refl within (search rules) in
-    let grown = next-line h c.requires.names reports c.push.new.self.items _ _ c.in-Some.finding c.in_ok-named.field-0 name inv.2 inv.3 c.in-Some.ensures.steps.0 named c.in_ok-named.ensures c.in_ok-push.ensures.items in
+    let within =
+    has-name h c.requires.names (length reports) _ _ c.in-Some.finding inv.3 c.in-Some.ensures.steps.0 in
+    let named : slice_get h.names.items (length reports) ≡ Some name =
+    slice_get_read h.names.items (length h.names.items) (length reports) name refl within
+    (search rules) in
+    let grown =
+    next-line h c.requires.names reports c.push.new.self.items _ _ c.in-Some.finding c.in_ok-named.field-0
+    name inv.2 inv.3 c.in-Some.ensures.steps.0 named c.in_ok-named.ensures
+    c.in_ok-push.ensures.items in
     (tt, tt, grown.0, grown.1)
 
 pub returns : goal.returns
 returns c =
     let inv = c.loop-finding.invariant in
     let rest = c.loop-finding.finding-iterator.rest in
-    all-lines c.args.history.now c.requires.names c.loop-finding.reports.items rest.items inv.2 inv.3 (no-items rest.items (sym rest.ok.0 ∙ c.in-None.ensures.steps.0))
+    all-lines c.args.history.now c.requires.names c.loop-finding.reports.items rest.items inv.2 inv.3
+    (no-items rest.items (sym rest.ok.0 ∙ c.in-None.ensures.steps.0))

@@ -11,4 +11,5 @@ invariant-loop-finding l =
     goal.iterator-loop-finding.can_next l.finding-iterator
     × goal.iterator-loop-finding.is_finite l.finding-iterator
     × AreFirstLines l.history (length l.reports.items) l.reports.items
-    × AllZip (λ (ops : Vec Operation Global) finding. IsFinding l.history.lines.items ops.items finding) (drop (length l.reports.items) l.history.registers.items) (into_iter_items l.finding-iterator)
+    × AllZip (λ (ops : Vec Operation Global) finding. IsFinding l.history.lines.items ops.items finding)
+    (drop (length l.reports.items) l.history.registers.items) (into_iter_items l.finding-iterator)

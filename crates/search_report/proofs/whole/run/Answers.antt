@@ -6,10 +6,23 @@ use Rattle.search_report.proofs.whole.run.Goals as goal
 
 pub returns-in-Ok-clause-report : goal.returns-in-Ok-clause-report
 returns-in-Ok-clause-report g c =
-    let made = c.in_ok-bytes.ensures.ok in
-    (made.0, made.1, c.in_ok-bytes.bytes.items, made.2, subst (Appends (g.W.Sink.taken c.args.sink.now) (g.W.Sink.taken c.deliver.new.sink)) c.deref.ensures.value c.in-Ok.ensures.ok)
+    let made = c.in_ok-bytes.ensures.ok in (
+      made.0,
+      made.1,
+      c.in_ok-bytes.bytes.items,
+      made.2,
+      subst (Appends (g.W.Sink.taken c.args.sink.now) (g.W.Sink.taken c.deliver.new.sink))
+          c.deref.ensures.value c.in-Ok.ensures.ok,
+    )
 
 pub returns-clause-beginning : goal.returns-clause-beginning
 returns-clause-beginning g c = λ _.
-    let made = c.in_ok-bytes.ensures.ok in
-    (made.0, made.1, c.in_ok-bytes.bytes.items, c.in_ok-bytes.answer, made.2, subst (AppendsBeginning (g.W.Sink.taken c.args.sink.now) (g.W.Sink.taken c.deliver.new.sink)) c.deref.ensures.value c.in-Err.ensures.err)
+    let made = c.in_ok-bytes.ensures.ok in (
+      made.0,
+      made.1,
+      c.in_ok-bytes.bytes.items,
+      c.in_ok-bytes.answer,
+      made.2,
+      subst (AppendsBeginning (g.W.Sink.taken c.args.sink.now) (g.W.Sink.taken c.deliver.new.sink))
+          c.deref.ensures.value c.in-Err.ensures.err,
+    )

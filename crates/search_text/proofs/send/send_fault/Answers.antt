@@ -7,4 +7,6 @@ pub returns : goal.returns
 returns g c =
     let at = g.S.Serializer.written in
     on_ok_weaker c.end_map.result (λ e.
-    sends_object (fault_parts c.args.fault.now) c.fault_len.result (at c.args.out.now) (at c.begin_map.new.self) (at c.send_fault_parts.new.out) (at c.end_map.new.self) c.fault_len.ensures c.in_ok-begin_map.ensures c.in_ok-send_fault_parts.ensures e) c.end_map.ensures
+    sends_object (fault_parts c.args.fault.now) c.fault_len.result (at c.args.out.now)
+    (at c.begin_map.new.self) (at c.send_fault_parts.new.out) (at c.end_map.new.self) c.fault_len.ensures
+    c.in_ok-begin_map.ensures c.in_ok-send_fault_parts.ensures e) c.end_map.ensures

@@ -9,7 +9,8 @@ returns g c =
     let at = g.S.Serializer.written in
     on_ok_weaker c.send_number.result (λ e. (
       at c.send_numbers.new.out,
-      subst (λ lines. SendsFields (always (codes "asks") (numbers_json lines)) (at c.args.out.now) (at c.send_numbers.new.out)) c.as_slice.ensures.value c.in_ok-send_numbers.ensures,
+      subst (λ lines. SendsFields (always (codes "asks") (numbers_json lines)) (at c.args.out.now)
+          (at c.send_numbers.new.out)) c.as_slice.ensures.value c.in_ok-send_numbers.ensures,
       (
         at c.show_numbers.new.out,
         c.in_ok-show_numbers.ensures,
@@ -18,7 +19,8 @@ returns g c =
           c.in_ok-send_text.ensures,
           (
             at c.send_number.new.out,
-            subst (λ n. SendsFields (always (codes "reply") (number_json n)) (at c.send_text.new.out) (at c.send_number.new.out)) c.from.ensures e,
+            subst (λ n. SendsFields (always (codes "reply") (number_json n)) (at c.send_text.new.out)
+                (at c.send_number.new.out)) c.from.ensures e,
             refl,
           ),
         ),

@@ -15,7 +15,8 @@ returns g c =
         c.in_ok-send_number.ensures,
         (
           at c.send_number-2.new.out,
-          subst (λ n. SendsFields (always (codes "registers") (number_json n)) (at c.send_number.new.out) (at c.send_number-2.new.out)) (c.len.ensures ∙ c.args.report.now.registers.ok.0) e,
+          subst (λ n. SendsFields (always (codes "registers") (number_json n)) (at c.send_number.new.out)
+              (at c.send_number-2.new.out)) (c.len.ensures ∙ c.args.report.now.registers.ok.0) e,
           refl,
         ),
       ),

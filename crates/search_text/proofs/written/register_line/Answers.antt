@@ -6,4 +6,5 @@ use Rattle.search_text.proofs.written.register_line.Goals as goal
 pub returns-in-Ok : goal.returns-in-Ok
 returns-in-Ok c =
     let sent = c.in-Ok.ensures.events in
-    text_of_value (register_json c.args.reg.now) sent.0 c.in-Ok.line.items sent.1 sent.2 (register_has_no_float c.args.reg.now)
+    text_of_value (register_json c.args.reg.now) sent.0 c.in-Ok.line.items sent.1 sent.2
+    (register_has_no_float c.args.reg.now)

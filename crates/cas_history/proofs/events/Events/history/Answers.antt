@@ -8,6 +8,10 @@ returns c = record {
   names = search rules;
   count = search rules;
   registers = search rules;
-  operations = c.len-operations.ensures ∙ (c.in_ok-backward.backward.ok.0 ∙ (sym (length-reverse c.in_ok-backward.backward.items) ∙ (ap length c.in_ok-backward.ensures ∙ search rules)));
+  operations =
+      c.len-operations.ensures
+      ∙ (c.in_ok-backward.backward.ok.0
+      ∙ (sym (length-reverse c.in_ok-backward.backward.items)
+      ∙ (ap length c.in_ok-backward.ensures ∙ search rules)));
   lines = search rules;
 }

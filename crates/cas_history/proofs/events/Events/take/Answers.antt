@@ -12,8 +12,15 @@ invariant_of-self-in-Ok c =
     let event = c.args.event in
     let old = λ (p : ℕ). get nat_cmp c.self.inside.last p in
     let new = λ (p : ℕ). get nat_cmp c.insert.new.self p in
-    let place : c.len-place.result ≡ length events = omega (arith, c.len-place.ensures, c.self.inside.events.ok) in
+    let place : c.len-place.result ≡ length events =
+    omega (arith, c.len-place.ensures, c.self.inside.events.ok) in
     let below = room c.len-place.result _ event (sym c.event_reason.ensures ∙ c.in_default.is) in
-    let pushed = c.push.ensures.items ∙ ap (λ b. cond b (events ++ event ∷ []) events) (c.is_err.ensures.negation ∙ ap not c.if-is_err.false) in
-    let is = λ (p : ℕ). c.in-Ok.ensures.updates.0 p ∙ ap (λ n. cond (is_eq (nat_cmp event.process p)) (Some n) (old p)) place in
-    subst (λ events. IsKept events new) (sym pushed) (kept-push events event old new c.self.invariant (omega (arith, below, place)) is)
+    let pushed =
+    c.push.ensures.items
+    ∙ ap (λ b. cond b (events ++ event ∷ []) events) (c.is_err.ensures.negation
+    ∙ ap not c.if-is_err.false) in
+    let is =
+    λ (p : ℕ). c.in-Ok.ensures.updates.0 p
+    ∙ ap (λ n. cond (is_eq (nat_cmp event.process p)) (Some n) (old p)) place in
+    subst (λ events. IsKept events new) (sym pushed)
+    (kept-push events event old new c.self.invariant (omega (arith, below, place)) is)

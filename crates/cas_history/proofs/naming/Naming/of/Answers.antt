@@ -16,14 +16,21 @@ loop-event-preserved c =
     let event = c.event-item.result in
     let at = slice_get_read events _ n event refl c.loop-event-test.true c.event-item.is in
     let next : suc n ≡ n + 1 = omega arith in
-    let more : take n events ++ event ∷ [] ≡ take (n + 1) events = sym (take-push events n event at) ∙ ap (λ m. take m events) next in
+    let more : take n events ++ event ∷ [] ≡ take (n + 1) events =
+    sym (take-push events n event at) ∙ ap (λ m. take m events) next in
     let so_far = c.loop-event.invariant in
     elim c.match-event.branch [
       | in-Call+in_ok-add w ↦
           let added = w.naming-is ∙ w.in_ok-add.ensures in
-          let call = names-call (take n events) event (record { register = w.in-Call.name; asked = w.in-Call.field-1 }) (ap called_by w.in-Call.is) in
+          let call =
+          names-call (take n events) event (record {
+            register = w.in-Call.name;
+            asked = w.in-Call.field-1;
+          }) (ap called_by w.in-Call.is) in
           record {
-            names = added ∙ (ap (λ names. with_name names w.in-Call.name) so_far.names ∙ (sym call ∙ ap register_names more));
+            names =
+                added ∙ (ap (λ names. with_name names w.in-Call.name) so_far.names
+                ∙ (sym call ∙ ap register_names more));
             few = omega (arith, ap length added, length-with c.loop-event.naming w.in-Call.name, so_far.few);
           }
       | in_default w ↦

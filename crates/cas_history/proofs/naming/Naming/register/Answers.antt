@@ -10,7 +10,8 @@ returns-in-Some c =
     let names = c.self.inside.names.items in
     let name = c.args.name.now in
     let number = λ (name : List ℕ). get_by_text c.self.inside.numbers name in
-    let found : number name ≡ Some c.in-Some.number.now = ap number (sym c.as_str.ensures.text) ∙ sym c.in-Some.ensures.value in
+    let found : number name ≡ Some c.in-Some.number.now =
+    ap number (sym c.as_str.ensures.text) ∙ sym c.in-Some.ensures.value in
     let known = place-known names number c.self.invariant name c.in-Some.number.now found in
     sym (subst (λ names. position_or_len (bytes_eq name) names ≡ c.in-Some.number.now) c.self.view_is known.0)
 

@@ -9,5 +9,8 @@ returns-clause-ok g c =
     let view = c.seat.inside.token.me.0 in
     let all : view.weight ≡ FULL_WEIGHT = sym c.seat.invariant.1 ∙ c.if-not-is_whole.false in
     let n = c.word-least.result in
-    subst (λ h. (h.view.weight ≡ FULL_WEIGHT) × ClosesWith c.args.self.jobs h.view n) c.seat.view_is
-    (all, subst (λ b. ClosesWith b.jobs view n) c.self.view_is (closes _ _ view _ _ n all c.close_with-closed.ensures.values.2 c.word-least.ensures))
+    subst (λ h. (h.view.weight ≡ FULL_WEIGHT) × ClosesWith c.args.self.jobs h.view n) c.seat.view_is (
+      all,
+      subst (λ b. ClosesWith b.jobs view n) c.self.view_is
+          (closes _ _ view _ _ n all c.close_with-closed.ensures.values.2 c.word-least.ensures),
+    )

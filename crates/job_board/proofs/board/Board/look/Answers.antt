@@ -3,4 +3,5 @@ use Rattle.job_board.proofs.Allowed.{look_allowed}
 use Rattle.job_board.proofs.board.Board.look.Goals as goal
 
 pub load-requires : goal.load-requires
-load-requires g c = let seat = c.seat.invariant in (search rules, search rules, look_allowed _ _ _ _ (rw (sym seat.1) seat.3))
+load-requires g c =
+    let seat = c.seat.invariant in (search rules, search rules, look_allowed _ _ _ _ (rw (sym seat.1) seat.3))

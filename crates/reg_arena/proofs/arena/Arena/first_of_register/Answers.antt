@@ -7,12 +7,16 @@ use Rattle.reg_arena.proofs.arena.Arena.first_of_register.Goals as goal
 pub returns-then-number-len : goal.returns-then-number-len
 returns-then-number-len c =
     let n : c.len.result ≡ length c.self.inside.lists.registers.items = omega (arith, c.len.ensures) in
-    let at = slice_get_read c.self.inside.lists.registers.items _ c.args.register.0 c.index.result.now n c.if-number-len.true c.index.ensures in
-    subst (λ (h : History). IsFirstOf by_register h.events c.args.register.0 (Some c.index.result.now.first)) c.self.view_is
+    let at =
+    slice_get_read c.self.inside.lists.registers.items _ c.args.register.0 c.index.result.now n
+    c.if-number-len.true c.index.ensures in
+    subst (λ (h : History). IsFirstOf by_register h.events c.args.register.0 (Some c.index.result.now.first))
+    c.self.view_is
     (c.self.invariant.0.registers.first c.args.register.0 c.index.result.now at)
 
 pub returns-else-number-len : goal.returns-else-number-len
 returns-else-number-len c =
     let n : length c.self.inside.lists.registers.items ≤ c.args.register.0 = omega (arith, c.len.ensures) in
     subst (λ (h : History). IsFirstOf by_register h.events c.args.register.0 None) c.self.view_is
-    (λ i _ q. c.self.invariant.0.registers.none c.args.register.0 (slice_get_past c.self.inside.lists.registers.items c.args.register.0 n) i q)
+    (λ i _ q. c.self.invariant.0.registers.none c.args.register.0
+    (slice_get_past c.self.inside.lists.registers.items c.args.register.0 n) i q)

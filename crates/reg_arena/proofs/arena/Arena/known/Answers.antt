@@ -4,4 +4,12 @@ use Rattle.reg_arena.proofs.Keys.{place-within}
 use Rattle.reg_arena.proofs.arena.Arena.known.Goals as goal
 
 pub returns-else-number-len : goal.returns-else-number-len
-returns-else-number-len c = λ name place. omega (arith, place, place-within (bytes_eq name) c.args.self.now.names, c.if-number-len.false, c.len.ensures, ap (λ h. length h.names) c.self.view_is)
+returns-else-number-len c =
+    λ name place. omega (
+      arith,
+      place,
+      place-within (bytes_eq name) c.args.self.now.names,
+      c.if-number-len.false,
+      c.len.ensures,
+      ap (λ h. length h.names) c.self.view_is,
+    )

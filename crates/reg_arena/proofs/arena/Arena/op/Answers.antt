@@ -8,7 +8,9 @@ use Rattle.reg_arena.proofs.arena.Arena.op.Goals as goal
 pub returns-in-Initial : goal.returns-in-Initial
 returns-in-Initial c = (
   initial_write c.in-Initial.register.0,
-  subst (λ (name : Oper). IsNamed c.args.self.now name (initial_write c.in-Initial.register.0)) (sym c.in-Initial.is)
-      (initial-named c.args.self.now c.in-Initial.register (subst (IsOper c.args.self.now) c.in-Initial.is c.requires)),
+  subst (λ (name : Oper). IsNamed c.args.self.now name (initial_write c.in-Initial.register.0))
+      (sym c.in-Initial.is)
+      (initial-named c.args.self.now c.in-Initial.register
+      (subst (IsOper c.args.self.now) c.in-Initial.is c.requires)),
   refl,
 )

@@ -12,9 +12,11 @@ returns-in-Some c =
     let i = c.self.invariant in
     let e = slice_get_inside c.args.self.now.events c.args.id.0 c.requires in
     let there = ap (λ (h : History). slice_get h.events c.args.id.0) c.self.view_is ∙ e.1 in
-    event-operation c.args.self.now (subst IsRecorded c.self.view_is i.2) c.args.id.0 e.0 (Some c.in-Some.call) e.1
+    event-operation c.args.self.now (subst IsRecorded c.self.view_is i.2) c.args.id.0 e.0
+    (Some c.in-Some.call) e.1
     (subst (λ (h : History). IsCallOf h.events c.args.id.0 e.0 (Some c.in-Some.call)) c.self.view_is
-    (call-beside c.self.inside.lists i.0 c.args.id.0 e.0 (Some c.in-Some.call) there (c.call.ensures ∙ ap Some c.in-Some.is)))
+    (call-beside c.self.inside.lists i.0 c.args.id.0 e.0 (Some c.in-Some.call) there (c.call.ensures
+    ∙ ap Some c.in-Some.is)))
 
 pub returns-in-None : goal.returns-in-None
 returns-in-None c =

@@ -6,13 +6,20 @@ pub ended_call-requires : goal.ended_call-requires
 ended_call-requires c = (c.args.parts.now, reply-ends c.args.event.now.kind c.args.parts.now c.requires)
 
 pub returns-in_err-opened : goal.returns-in_err-opened
-returns-in_err-opened c = λ es acc q. error-step es c.args.event.now _ c.from_residual.result c.in_err-opened.field-0.0 c.from_residual.ensures.1 (c.in_err-opened.ensures.err es acc q)
+returns-in_err-opened c =
+    λ es acc q. error-step es c.args.event.now _ c.from_residual.result c.in_err-opened.field-0.0
+    c.from_residual.ensures.1 (c.in_err-opened.ensures.err es acc q)
 
 pub returns-in_err-accept : goal.returns-in_err-accept
-returns-in_err-accept c = λ es acc q. error-step es c.args.event.now _ c.from_residual-in_err-accept.result c.in_err-accept.field-0.0 c.from_residual-in_err-accept.ensures.1 (c.in_err-accept.ensures.refused es acc q)
+returns-in_err-accept c =
+    λ es acc q. error-step es c.args.event.now _ c.from_residual-in_err-accept.result
+    c.in_err-accept.field-0.0 c.from_residual-in_err-accept.ensures.1
+    (c.in_err-accept.ensures.refused es acc q)
 
 pub returns-in_err-add_reply : goal.returns-in_err-add_reply
-returns-in_err-add_reply c = λ es acc q. memory-step es c.args.event.now _ c.from_residual-in_err-add_reply.result c.from_residual-in_err-add_reply.ensures.1
+returns-in_err-add_reply c =
+    λ es acc q. memory-step es c.args.event.now _ c.from_residual-in_err-add_reply.result
+    c.from_residual-in_err-add_reply.ensures.1
 
 pub returns : goal.returns
 returns c = λ es acc q. (c.in_ok-accept.ensures.taken.free es acc q, c.in_ok-add_reply.ensures es acc q)

@@ -9,21 +9,32 @@ use Rattle.reg_arena.proofs.arena.Arena.reply_to.Goals as goal
 use Rattle.history_model.proofs.Lists.{slice_get_inside}
 
 pub returns-in_err-next-clause-reply : goal.returns-in_err-next-clause-reply
-returns-in_err-next-clause-reply c = subst (IsReplyOf c.args.self.now.events c.args.id.0) (sym c.from_residual.ensures) (reply-none c.args.self.now.events c.args.id.0 (subst (IsNextOf by_process c.args.self.now.events c.args.id.0) c.in_err-next.was c.next_in_process.ensures))
+returns-in_err-next-clause-reply c =
+    subst (IsReplyOf c.args.self.now.events c.args.id.0) (sym c.from_residual.ensures)
+    (reply-none c.args.self.now.events c.args.id.0
+    (subst (IsNextOf by_process c.args.self.now.events c.args.id.0) c.in_err-next.was
+    c.next_in_process.ensures))
 
 pub event-requires : goal.event-requires
 event-requires c =
     let e = slice_get_inside c.args.self.now.events c.args.id.0 c.requires in
-    let n = subst (IsNextOf by_process c.args.self.now.events c.args.id.0) c.in_ok-next.was c.next_in_process.ensures in
-    key-within by_process c.args.self.now.events c.in_ok-next.next.0 e.0.process (n e.0.process (ap (option_and_then by_process) e.1)).1
+    let n =
+    subst (IsNextOf by_process c.args.self.now.events c.args.id.0) c.in_ok-next.was
+    c.next_in_process.ensures in
+    key-within by_process c.args.self.now.events c.in_ok-next.next.0 e.0.process
+    (n e.0.process (ap (option_and_then by_process) e.1)).1
 
 pub returns-then-is_reply-clause-reply : goal.returns-then-is_reply-clause-reply
 returns-then-is_reply-clause-reply c =
-    reply-some c.args.self.now.events c.args.id.0 c.in_ok-next.next c.event.result (subst (IsNextOf by_process c.args.self.now.events c.args.id.0) c.in_ok-next.was c.next_in_process.ensures) c.event.ensures.at (sym c.if-is_reply.ensures)
+    reply-some c.args.self.now.events c.args.id.0 c.in_ok-next.next c.event.result
+    (subst (IsNextOf by_process c.args.self.now.events c.args.id.0) c.in_ok-next.was
+    c.next_in_process.ensures) c.event.ensures.at (sym c.if-is_reply.ensures)
 
 pub returns-else-is_reply-clause-reply : goal.returns-else-is_reply-clause-reply
 returns-else-is_reply-clause-reply c =
-    reply-other c.args.self.now.events c.args.id.0 c.in_ok-next.next c.event.result (subst (IsNextOf by_process c.args.self.now.events c.args.id.0) c.in_ok-next.was c.next_in_process.ensures) c.event.ensures.at (sym c.if-is_reply.ensures)
+    reply-other c.args.self.now.events c.args.id.0 c.in_ok-next.next c.event.result
+    (subst (IsNextOf by_process c.args.self.now.events c.args.id.0) c.in_ok-next.was
+    c.next_in_process.ensures) c.event.ensures.at (sym c.if-is_reply.ensures)
 
 pub returns-then-is_reply-clause-within : goal.returns-then-is_reply-clause-within
 returns-then-is_reply-clause-within c = λ j q.

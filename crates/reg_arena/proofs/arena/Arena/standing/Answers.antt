@@ -8,5 +8,7 @@ use Rattle.reg_arena.proofs.arena.Arena.standing.Goals as goal
 -- a call has a register
 pub returns-in-None : goal.returns-in-None
 returns-in-None c =
-    let k = calls-have-registers c.args.self.now (subst IsRecorded c.self.view_is c.self.invariant.2) c.in-Some.last.0 c.event-event.result c.event-event.ensures.at (ap is_a_call c.in-Call.is) in
+    let k =
+    calls-have-registers c.args.self.now (subst IsRecorded c.self.view_is c.self.invariant.2)
+    c.in-Some.last.0 c.event-event.result c.event-event.ensures.at (ap is_a_call c.in-Call.is) in
     absurd (let a = ap (option_map {U = ℕ} (λ (r : RegId). r.0)) c.in-None.is in let b = k.1 in cc (a, b))

@@ -9,7 +9,10 @@ use Rattle.reg_arena.proofs.Reading.{parts-more, parts-refused}
 use Rattle.reg_arena.proofs.arena.Arena.with_lines.Goals as goal
 
 pub loop-part-init : goal.loop-part-init
-loop-part-init c = record { built = λ before built. subst (λ xs. IsBuilt xs c.args.self) (sym (append-nil before)) built; numbered = c.requires }
+loop-part-init c = record {
+  built = λ before built. subst (λ xs. IsBuilt xs c.args.self) (sym (append-nil before)) built;
+  numbered = c.requires;
+}
 
 pub add_lines-requires : goal.add_lines-requires
 add_lines-requires c =
@@ -24,7 +27,8 @@ returns-in_err-add_lines c = λ before built.
     let n = c.loop-part.part-index in
     let so_far = before ++ flat_map lines_of (take n parts) in
     let at = slice_get_read parts _ n c.part-item.result refl c.loop-part-test.true c.part-item.is in
-    parts-refused lines_of before parts n c.part-item.result at c.from_residual.result c.in_err-add_lines.field-0.0 c.from_residual.ensures.1
+    parts-refused lines_of before parts n c.part-item.result at c.from_residual.result
+    c.in_err-add_lines.field-0.0 c.from_residual.ensures.1
     (c.in_err-add_lines.ensures.built so_far (c.loop-part.invariant.built before built))
 
 pub loop-part-preserved : goal.loop-part-preserved
@@ -38,9 +42,16 @@ loop-part-preserved c =
     record {
       built = λ before built.
           let so_far = before ++ flat_map lines_of (take n parts) in
-          subst (λ lines. IsBuilt lines c.add_lines.new.self) (parts-more lines_of before parts n part at) (c.in_ok-add_lines.ensures.built so_far (c.loop-part.invariant.built before built));
-      numbered = subst (λ m. ArePartsNumbered c.add_lines.new.self.names (drop m parts)) next (subst (λ names. ArePartsNumbered names (drop (suc n) parts)) (sym c.in_ok-add_lines.ensures.names) left);
+          subst (λ lines. IsBuilt lines c.add_lines.new.self) (parts-more lines_of before parts n part at)
+          (c.in_ok-add_lines.ensures.built so_far (c.loop-part.invariant.built before built));
+      numbered =
+          subst (λ m. ArePartsNumbered c.add_lines.new.self.names (drop m parts)) next
+          (subst (λ names. ArePartsNumbered names (drop (suc n) parts))
+          (sym c.in_ok-add_lines.ensures.names) left);
     }
 
 pub returns : goal.returns
-returns c = λ before built. subst (λ parts. IsBuilt (before ++ flat_map lines_of parts) c.loop-part.self) (take_all c.loop-part.part-index c.args.parts.now c.loop-part-test.false) (c.loop-part.invariant.built before built)
+returns c =
+    λ before built. subst (λ parts. IsBuilt (before ++ flat_map lines_of parts) c.loop-part.self)
+    (take_all c.loop-part.part-index c.args.parts.now c.loop-part-test.false)
+    (c.loop-part.invariant.built before built)

@@ -13,33 +13,49 @@ use Rattle.reg_arena.proofs.arena.Arena.write_of_event.Goals as goal
 pub returns-in_ok-event-in-Null-clause-write : goal.returns-in_ok-event-in-Null-clause-write
 returns-in_ok-event-in-Null-clause-write c = λ k h.
     let rec = subst IsRecorded c.self.view_is c.self.invariant.2 in
-    let same = key-of c.args.self.now.events c.args.id.0 c.event-event.result Null k c.event-event.ensures.at (c.in_ok-value.was ∙ ap Some c.in-Null.is) h in
-    let register : Some c.in_ok-event-in-Null.field-0.0 ≡ Some k.0 = sym (ap (option_map {U = ℕ} (λ (r : RegId). r.0)) c.in_ok-event-in-Null.was) ∙ same.0 in
+    let same =
+    key-of c.args.self.now.events c.args.id.0 c.event-event.result Null k c.event-event.ensures.at
+    (c.in_ok-value.was ∙ ap Some c.in-Null.is) h in
+    let register : Some c.in_ok-event-in-Null.field-0.0 ≡ Some k.0 =
+    sym (ap (option_map {U = ℕ} (λ (r : RegId). r.0)) c.in_ok-event-in-Null.was) ∙ same.0 in
     let number : c.in_ok-event-in-Null.field-0.0 ≡ k.0 = cc (register) in
     let l = key-known c.args.self.now rec c.args.id.0 k h in
     subst (λ v. IsWriteOf c.args.self.now k.0 v (Some (Initial c.in_ok-event-in-Null.field-0))) same.1
-    (subst (λ n. IsWriteOf c.args.self.now n Null (Some (Initial c.in_ok-event-in-Null.field-0))) number (write-initial c.args.self.now rec c.in_ok-event-in-Null.field-0 (subst (λ n. n < length c.args.self.now.names) (sym number) l)))
+    (subst (λ n. IsWriteOf c.args.self.now n Null (Some (Initial c.in_ok-event-in-Null.field-0))) number
+    (write-initial c.args.self.now rec c.in_ok-event-in-Null.field-0
+    (subst (λ n. n < length c.args.self.now.names) (sym number) l)))
 
 pub returns-in_err-event-in-Null-clause-write : goal.returns-in_err-event-in-Null-clause-write
 returns-in_err-event-in-Null-clause-write c = λ k h.
-    let same = key-of c.args.self.now.events c.args.id.0 c.event-event.result Null k c.event-event.ensures.at (c.in_ok-value.was ∙ ap Some c.in-Null.is) h in
-    absurd (let a = ap (option_map {U = ℕ} (λ (r : RegId). r.0)) c.in_err-event-in-Null.was in let b = same.0 in cc (a, b))
+    let same =
+    key-of c.args.self.now.events c.args.id.0 c.event-event.result Null k c.event-event.ensures.at
+    (c.in_ok-value.was ∙ ap Some c.in-Null.is) h in
+    absurd (let a = ap (option_map {U = ℕ} (λ (r : RegId). r.0)) c.in_err-event-in-Null.was in
+    let b = same.0 in cc (a, b))
 
 pub returns-in_ok-event-in-Null-clause-none : goal.returns-in_ok-event-in-Null-clause-none
-returns-in_ok-event-in-Null-clause-none c = λ q. absurd (key-there c.args.self.now (subst IsRecorded c.self.view_is c.self.invariant.2) c.args.id.0 c.event-event.result c.in_ok-value.value c.event-event.ensures.at c.in_ok-value.was q)
+returns-in_ok-event-in-Null-clause-none c =
+    λ q. absurd (key-there c.args.self.now (subst IsRecorded c.self.view_is c.self.invariant.2) c.args.id.0
+    c.event-event.result c.in_ok-value.value c.event-event.ensures.at c.in_ok-value.was q)
 
 pub returns-in-Some-clause-none : goal.returns-in-Some-clause-none
-returns-in-Some-clause-none c = λ q. absurd (key-there c.args.self.now (subst IsRecorded c.self.view_is c.self.invariant.2) c.args.id.0 c.event-event.result c.in_ok-value.value c.event-event.ensures.at c.in_ok-value.was q)
+returns-in-Some-clause-none c =
+    λ q. absurd (key-there c.args.self.now (subst IsRecorded c.self.view_is c.self.invariant.2) c.args.id.0
+    c.event-event.result c.in_ok-value.value c.event-event.ensures.at c.in_ok-value.was q)
 
 pub returns-in-Some-clause-write : goal.returns-in-Some-clause-write
 returns-in-Some-clause-write c = λ k h.
     let key = subst (λ (h : History). key_at by_value h.events c.args.id.0 ≡ Some k) (sym c.self.view_is) h in
     write-is c.args.self.now (subst IsRecorded c.self.view_is c.self.invariant.2) k.0 k.1 c.in-Some.write
-    (subst (λ (h : History). IsKeptWrite h.events (k.0, k.1) (Some c.in-Some.write)) c.self.view_is (c.in-Some.ensures k key))
+    (subst (λ (h : History). IsKeptWrite h.events (k.0, k.1) (Some c.in-Some.write)) c.self.view_is
+    (c.in-Some.ensures k key))
 
 pub returns-in-None-clause-write : goal.returns-in-None-clause-write
 returns-in-None-clause-write c = λ k h.
     let key = subst (λ (h : History). key_at by_value h.events c.args.id.0 ≡ Some k) (sym c.self.view_is) h in
-    let same = key-of c.args.self.now.events c.args.id.0 c.event-event.result c.in_ok-value.value k c.event-event.ensures.at c.in_ok-value.was h in
-    write-none c.args.self.now (subst IsRecorded c.self.view_is c.self.invariant.2) k.0 k.1 (λ z. null-int _ (sym c.in-Int.is ∙ (same.1 ∙ z)))
+    let same =
+    key-of c.args.self.now.events c.args.id.0 c.event-event.result c.in_ok-value.value k
+    c.event-event.ensures.at c.in_ok-value.was h in
+    write-none c.args.self.now (subst IsRecorded c.self.view_is c.self.invariant.2) k.0 k.1
+    (λ z. null-int _ (sym c.in-Int.is ∙ (same.1 ∙ z)))
     (subst (λ (h : History). IsKeptWrite h.events (k.0, k.1) None) c.self.view_is (c.in-None.ensures k key))

@@ -6,18 +6,32 @@ use Rattle.reg_arena.proofs.event_lists.EventLists.entry.Goals as goal
 
 pub index-requires : goal.index-requires
 index-requires c =
-    let is = number-is c.args.self.now.pairs c.args.register.0 c.args.value _ _ c.whole.ensures c.number.ensures in
-    let l = number-within c.args.self.now.pairs (c.args.register.0, c.args.value) c.in-Some.number (is ∙ c.in-Some.is) in
+    let is =
+    number-is c.args.self.now.pairs c.args.register.0 c.args.value _ _ c.whole.ensures c.number.ensures in
+    let l =
+    number-within c.args.self.now.pairs (
+      c.args.register.0,
+      c.args.value,
+    ) c.in-Some.number (is ∙ c.in-Some.is) in
     omega (arith, l, c.requires.numbered)
 
 pub returns-in-Some : goal.returns-in-Some
 returns-in-Some c =
-    let is = number-is c.args.self.now.pairs c.args.register.0 c.args.value _ _ c.whole.ensures c.number.ensures ∙ c.in-Some.is in
+    let is =
+    number-is c.args.self.now.pairs c.args.register.0 c.args.value _ _ c.whole.ensures c.number.ensures
+    ∙ c.in-Some.is in
     let l = number-within c.args.self.now.pairs (c.args.register.0, c.args.value) c.in-Some.number is in
-    let at = slice_get_read c.args.self.now.entries.items _ c.in-Some.number c.index.result.now refl (omega (arith, l, c.requires.numbered)) c.index.ensures in
-    sym (entry-is c.args.self.now.pairs c.args.self.now.entries.items (c.args.register.0, c.args.value) c.in-Some.number c.index.result.now is at)
+    let at =
+    slice_get_read c.args.self.now.entries.items _ c.in-Some.number c.index.result.now refl
+    (omega (arith, l, c.requires.numbered)) c.index.ensures in
+    sym (entry-is c.args.self.now.pairs c.args.self.now.entries.items (
+      c.args.register.0,
+      c.args.value,
+    ) c.in-Some.number c.index.result.now is at)
 
 pub returns-in-None : goal.returns-in-None
 returns-in-None c =
-    let is = number-is c.args.self.now.pairs c.args.register.0 c.args.value _ _ c.whole.ensures c.number.ensures ∙ c.in-None.is in
+    let is =
+    number-is c.args.self.now.pairs c.args.register.0 c.args.value _ _ c.whole.ensures c.number.ensures
+    ∙ c.in-None.is in
     sym (ap (option_and_then (slice_get c.args.self.now.entries.items)) is)

@@ -9,8 +9,12 @@ pub returns-in-Some-entry-clause-last : goal.returns-in-Some-entry-clause-last
 returns-in-Some-entry-clause-last c = λ v q.
     let is = c.in-Some.is in
     let same : c.in-Some.value ≡ v = cc (is, q) in
-    subst (λ v. IsLastOf by_value c.args.self.now.rows.events (c.args.register.0, v) (Some c.in-Some-entry.entry.ends.last)) same
-    (c.requires.values.last _ c.in-Some-entry.entry.ends (ap (option_map (λ (y : Entry). y.ends)) (sym c.in-Some-entry.ensures)))
+    subst (λ v. IsLastOf by_value c.args.self.now.rows.events (
+      c.args.register.0,
+      v,
+    ) (Some c.in-Some-entry.entry.ends.last)) same
+    (c.requires.values.last _ c.in-Some-entry.entry.ends
+    (ap (option_map (λ (y : Entry). y.ends)) (sym c.in-Some-entry.ensures)))
 
 pub returns-in-None-entry-clause-last : goal.returns-in-None-entry-clause-last
 returns-in-None-entry-clause-last c = λ v q.

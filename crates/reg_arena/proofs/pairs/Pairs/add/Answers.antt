@@ -7,4 +7,5 @@ use Rattle.reg_arena.proofs.pairs.Pairs.add.Goals as goal
 pub enter-requires-clause-new : goal.enter-requires-clause-new
 enter-requires-clause-new c = λ n p at is.
     none-number c.self.inside.pairs.items (c.args.register, c.args.value)
-    (subst (λ keys. position (key_eq (c.args.register, c.args.value)) keys ≡ None) (sym c.self.view_is) c.requires.new) n p at (is ∙ c.fitting-pair.ensures.key)
+    (subst (λ keys. position (key_eq (c.args.register, c.args.value)) keys ≡ None)
+    (sym c.self.view_is) c.requires.new) n p at (is ∙ c.fitting-pair.ensures.key)

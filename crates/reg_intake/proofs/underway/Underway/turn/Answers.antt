@@ -1,12 +1,14 @@
 -- What was pulled, what was read of it, and what taking in gave meanwhile.
-use Rattle.std.proofs.Common.{◌≡◌, ◌++◌, Option, Some, List, length, drop, ℕ, [], true, refl, sym, ap, ap₂, arith, subst, ◌∙◌}
+use Rattle.std.proofs.Common.{◌≡◌, ◌++◌, Option, Some, List, length, drop, ℕ, []}
+use Rattle.std.proofs.Common.{true, refl, sym, ap, ap₂, arith, subst, ◌∙◌}
 use Rattle.reg_arena.specs.declared.numbering.NumberedLines.{NumberedLines}
 use Rattle.std.specs.Prelude.{IfOk}
 use Rattle.reg_intake.proofs.Passing.{passed-on}
 use Rattle.reg_intake.proofs.Turning.{next-of, no-room, stopped-by-next, turn-refused, turned}
 use Rattle.reg_intake.specs.Pulls.{IsFurther}
 use Rattle.reg_intake.specs.Refusals.{of_build}
-use Rattle.reg_intake.specs.Underway.{AreNumberedBehind, IsGrown, IsGrownWith, IsReadOn, IsStopped, IsUnderway, lines_in}
+use Rattle.reg_intake.specs.Underway.{AreNumberedBehind, IsGrown, IsGrownWith}
+use Rattle.reg_intake.specs.Underway.{IsReadOn, IsStopped, IsUnderway, lines_in}
 use Rattle.reg_intake.specs.declared.pulls.Pulls.{Pulls}
 use Rattle.reg_intake.specs.declared.refusal.Refusal.TheVariants.{NoRoom}
 use Rattle.reg_intake.proofs.underway.Underway.turn.Goals as goal

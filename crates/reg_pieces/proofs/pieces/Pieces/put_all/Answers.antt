@@ -12,7 +12,18 @@ loop-number-preserved c =
     let put = c.put.ensures in
     let popped = c.in-Some.ensures.items in
     record {
-      judgements = subst (λ k. AreWithin k rest) (sym (ap (λ (x : PiecesShown). length x.judgements) put ∙ judgements-count l.self n p)) (rest-within (length l.self.judgements) l.done.items rest (n, p) popped l.invariant.judgements);
-      reads = subst (λ k. AreWithin k rest) (sym (ap (λ (x : PiecesShown). length x.reads) put ∙ reads-count l.self n p)) (rest-within (length l.self.reads) l.done.items rest (n, p) popped l.invariant.reads);
-      put = ap (λ (x : PiecesShown). with_pieces x rest) put ∙ (sym (put-one-more l.self rest n p) ∙ (sym (ap (with_pieces l.self) popped) ∙ l.invariant.put));
+      judgements =
+          subst (λ k. AreWithin k rest) (sym (ap (λ (x : PiecesShown). length x.judgements) put
+          ∙ judgements-count l.self n p)) (rest-within (length l.self.judgements) l.done.items rest (
+            n,
+            p,
+          ) popped l.invariant.judgements);
+      reads =
+          subst (λ k. AreWithin k rest)
+          (sym (ap (λ (x : PiecesShown). length x.reads) put ∙ reads-count l.self n p))
+          (rest-within (length l.self.reads) l.done.items rest (n, p) popped l.invariant.reads);
+      put =
+          ap (λ (x : PiecesShown). with_pieces x rest) put
+          ∙ (sym (put-one-more l.self rest n p)
+          ∙ (sym (ap (with_pieces l.self) popped) ∙ l.invariant.put));
     }

@@ -21,5 +21,7 @@ loop-word-preserved g c =
 
 pub returns : goal.returns
 returns g c =
-    let first = first_left c.self.inside.words c.args.from c.loop-word.at c.loop-word.word c.loop-word.invariant.1 c.loop-word-test.false in
+    let first =
+    first_left c.self.inside.words c.args.from c.loop-word.at c.loop-word.word c.loop-word.invariant.1
+    c.loop-word-test.false in
     rw (← c.self.view_is) (first.0, omega (arith, first.1), omega (arith, first.1), first.2, first.3)

@@ -6,5 +6,6 @@ use Rattle.slot_sets.proofs.slots.Slots.is_within.Given as goal
 
 abbrev pub invariant-loop-at : goal.invariant-loop-at
 invariant-loop-at g l =
-    ((j : ℕ) → j < l.at → bit_and (get_or l.self-inside.words j 0) (bit_not w64 (get_or l.other-inside.words j 0)) ≡ 0)
+    ((j : ℕ) → j < l.at
+    → bit_and (get_or l.self-inside.words j 0) (bit_not w64 (get_or l.other-inside.words j 0)) ≡ 0)
     × ((j : ℕ) → j < l.at → get_or l.other-inside.words j 0 < 2 ^ 64)

@@ -10,4 +10,5 @@ returns-then-self-at-ne0-clause-yes g c _ =
 pub returns-clause-no : goal.returns-clause-no
 returns-clause-no g c _ =
     rw (← c.self.view_is, ← c.other.view_is)
-    (nothing_common g.row.W c.self.inside.words c.other.inside.words c.self.told (λ j h. c.loop-at.invariant j (omega arith)))
+    (nothing_common g.row.W c.self.inside.words c.other.inside.words c.self.told
+    (λ j h. c.loop-at.invariant j (omega arith)))

@@ -6,4 +6,5 @@ pub returns : goal.returns
 returns g c =
     let words = c.loop-at.invariant in
     rw (← c.self.view_is, ← c.other.view_is)
-    (has-and_not g.row.W c.self.inside.words c.other.inside.words c.loop-at.words c.self.told c.other.told words.0 (λ j h. words.3 j (omega arith)) (λ j h. words.1 j (omega arith)))
+    (has-and_not g.row.W c.self.inside.words c.other.inside.words c.loop-at.words c.self.told c.other.told
+    words.0 (λ j h. words.3 j (omega arith)) (λ j h. words.1 j (omega arith)))
