@@ -36,6 +36,13 @@ pub fn read_lines(
     Ok(lines)
 }
 
+/// How many of `count` lines one thread reads into one list. Each thread has as many lists, of nearly one
+/// length, so that none waits for another.
+fn list_size(rt: &impl Threads, count: usize) -> usize {
+    let share = share_size(rt, count, FEWEST_LINES);
+    share / (share / LINES + 1) + 1
+}
+
 /// What the lines at some spans of the bytes say, in order and in parts, so that none is copied.
 ///
 /// Several threads read many lines, as many threads as leave one processor free.
@@ -53,12 +60,11 @@ pub fn read_spans(
         (λ v. flat_map (λ part. part.items) v.items ≡ map (reading_of bytes.now) spans.now) }
 {
     let refused = AtomicBool::new(false);
-    let size = share_size(rt, spans.len(), FEWEST_LINES).min(LINES);
     map_parts(
         rt,
         alloc,
         spans,
-        size,
+        list_size(rt, spans.len()),
         |part: &[Span]| -> Result<Vec<Line>, AllocError>
             requires { All (IsWithin bytes.now) part.now }
             ensures { IfOk result (λ v. v.items ≡ map (reading_of bytes.entry.now) part.now) }
