@@ -13,8 +13,9 @@ const STANDARD_INPUT: &str = "-";
 
 /// Reads the words after the program's name by a command.
 ///
-/// # Errors `Bad` if the words are others than the command takes, or ask for help or the
-/// version; `Memory` if memory was refused.
+/// # Errors
+/// `Bad` if the words are others than the command takes, or ask for help or the version; `Memory` if memory
+/// was refused.
 pub fn read<'a>(
     alloc: Global,
     command: Command<'a>,

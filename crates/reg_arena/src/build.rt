@@ -28,8 +28,9 @@ impl Arena {
     /// the lowest number that applies there. The key of its hashes is a digest of all
     /// events, for callers that have no random bytes.
     ///
-    /// # Errors `Refused` if the history isn't well formed, and `Memory` if memory was refused; what
-    /// was built and the lines are then dropped.
+    /// # Errors
+    /// `Refused` if the history isn't well formed, and `Memory` if memory was refused; what was built and the
+    /// lines are then dropped.
     pub fn build(
         alloc: Global,
         events: Vec<Result<LineEvent, LineFault>>,
@@ -63,8 +64,9 @@ impl Arena {
     /// these, with the lowest number that applies there. The lines come in parts, in order, and have the
     /// numbers of their registers by the names so far, as [`Numbering`] gives them.
     ///
-    /// # Errors `Refused` if the history isn't well formed, whatever stands behind these lines, and `Memory`
-    /// if memory was refused; what was built is then dropped.
+    /// # Errors
+    /// `Refused` if the history isn't well formed, whatever stands behind these lines, and `Memory` if memory
+    /// was refused; what was built is then dropped.
     pub fn with_lines(mut self, alloc: Global, parts: &[NumberedLines]) -> Result<Self, BuildError>
         requires { ArePartsNumbered self.names parts.now }
         ensures { (before : List Line) → IsBuilt before self

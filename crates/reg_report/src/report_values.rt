@@ -39,9 +39,10 @@ fn report_by<R: Threads + Sync, G: Gate + Sync>(
 /// atomic, as the settings ask. Workers do its pieces, past the gate. Neither their number, nor
 /// the cut, nor the gate changes the report.
 ///
-/// # Errors `TooLong` if the input has more than [`MAX_INPUT`](history_text::MAX_INPUT) bytes,
-/// whatever memory there is; `At` for the first faulty line if the history isn't well formed; `NoRoom`
-/// if memory ran out. What was made is dropped then.
+/// # Errors
+/// `TooLong` if the input has more than [`MAX_INPUT`](history_text::MAX_INPUT) bytes, whatever memory there
+/// is; `At` for the first faulty line if the history isn't well formed; `NoRoom` if memory ran out. What was
+/// made is dropped then.
 pub fn check<R: Threads + RandomSource + Sync, G: Gate + Sync>(
     rt: &R,
     alloc: Global,

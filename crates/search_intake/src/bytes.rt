@@ -20,8 +20,9 @@ const PIECE: usize = 16_384;
 
 /// All the bytes that the source has left.
 ///
-/// # Errors `InputFailed` if a pull failed, `TooLong` if there are more bytes than the limit of an input, and
-/// `NoRoom` if memory was refused and what was left was pulled without either.
+/// # Errors
+/// `InputFailed` if a pull failed, `TooLong` if there are more bytes than the limit of an input, and `NoRoom`
+/// if memory was refused and what was left was pulled without either.
 pub(crate) fn all_bytes<S: Source>(alloc: Global, source: &mut S) -> Result<Vec<u8>, Refusal>
     requires { S.failed source.old < 2 ^ 64 - 1 }
     ensures all { IfOk result (λ bytes. IsAll (S.left source.old) bytes.items) }

@@ -17,9 +17,9 @@ use std::alloc::Global;
 /// [`run`](crate::run) pushes within the same bounds. It takes no right to start threads,
 /// and asks the system for nothing but memory.
 ///
-/// # Errors `TooLong` if the input has more than [`MAX_INPUT`](history_text::MAX_INPUT)
-/// bytes, whatever memory there is; `At` for the first faulty line if the history isn't
-/// well formed; `NoRoom` if memory ran out.
+/// # Errors
+/// `TooLong` if the input has more than [`MAX_INPUT`](history_text::MAX_INPUT) bytes, whatever memory there
+/// is; `At` for the first faulty line if the history isn't well formed; `NoRoom` if memory ran out.
 pub fn check_alone(alloc: Global, input: &[u8], bounds: Bounds) -> Result<Report, Refusal>
     // The report is one of the input: of each register it says yes, with a legal
     // order; no, if there is none; or unknown.
