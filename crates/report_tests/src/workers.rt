@@ -7,13 +7,14 @@ use std::process::Abort;
 use std::random::RandomSource;
 use std::sync::atomic::{AtomicBool, AtomicU64, Ordering};
 use std::test::Fail;
-use std::thread::Threads;
+use std::thread::{Threads, yield_now};
 
-// How often a gate looks whether it may let a piece go, before it gives up.
+// How often a gate looks whether it may let a piece go, before it gives up: for minutes, since it lets
+// other threads run after each look. No answer depends on how soon they do.
 const MOST_TURNS: u32 = 200_000_000;
 
 // How often a gate looks while it holds the first piece.
-const HELD_TURNS: u32 = 1_000_000;
+const HELD_TURNS: u32 = 10_000;
 
 // Whether the word came to hold as much, within the turns that a gate looks.
 fn comes_to(word: &AtomicU64, least: u64) -> bool {
@@ -21,6 +22,7 @@ fn comes_to(word: &AtomicU64, least: u64) -> bool {
         if word.load(Ordering::SeqCst) >= least {
             return true;
         }
+        yield_now();
     }
     false
 }
@@ -125,6 +127,7 @@ impl Gate for HoldsAll {
         }
         for _ in 0..HELD_TURNS {
             arrived = self.arrived.load(Ordering::SeqCst);
+            yield_now();
         }
         self.let_go.store(arrived, Ordering::SeqCst);
     }
