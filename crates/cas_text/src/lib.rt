@@ -10,7 +10,7 @@
 //! `history_text`. Nothing here knows how events follow one another; that is the floor above. So a reply
 //! carries what its line says of `ok`, whatever its call is.
 //!
-//! Read it in this order: `event` and `fault`, which say what a line can mean; `members`,
+//! Read it in this order: `event` and `fault`, which say what a line can mean; `without_cas`, `members`,
 //! `refused` and `line`, which read one line.
 #![tactic(auto)]
 
@@ -19,6 +19,7 @@ mod fault;
 mod line;
 mod members;
 mod refused;
+mod without_cas;
 
 pub use event::{Asked, CasEvent, EndParts, Happening, OkMember, OpWord};
 pub use fault::{EventFault, FaultKind};

@@ -1,11 +1,13 @@
 //! One line: its event, or the lowest-numbered fault that applies to it.
 //!
-//! A line is read as a JSON value, if it isn't too long. Faults are looked for by ascending number, so the
+//! A line of the common form is read by `history_text`, with no tree: it has no cas and no `ok`. Each other
+//! line is read as a JSON value, if it isn't too long. Faults are looked for by ascending number, so the
 //! first that is found is the lowest-numbered.
 ghost use Rattle.serde_json.specs.View.{view};
 ghost use Rattle.history_text.specs.Reading.{line_reading};
 ghost use Rattle.cas_text.specs.Reading.{cas_asked, call_asked, call_of, parts_of};
-ghost use Rattle.cas_text.specs.Reading.{happening_of, event_of, line_event, event_reading};
+ghost use Rattle.cas_text.specs.Reading.{happening_of, line_event, event_reading};
+ghost use Rattle.cas_text.specs.Reading.{event_of as event_meant};
 ghost use Rattle.cas_text.specs.Memory.{Gives, GivesEvent};
 ghost use Rattle.cas_text.specs.WithoutCas.{MeansTheSame};
 
@@ -13,7 +15,8 @@ use crate::event::{Asked, CasEvent, EndParts, EventWord, Happening, OpWord};
 use crate::fault::{EventFault, FaultKind};
 use crate::members;
 use crate::refused::Refused;
-use history_text::{MAX_LINE, Name, OptionalName};
+use crate::without_cas::event_of;
+use history_text::{MAX_LINE, Name, OptionalName, flat_event};
 use serde_json::Value;
 use std::alloc::Global;
 use thiserror::Error;
@@ -52,6 +55,9 @@ fn event_in(alloc: Global, bytes: &[u8], line: u32) -> Result<CasEvent, Refused>
     if bytes.len() > MAX_LINE {
         return Err(Refused::Fault(FaultKind::TooLong));
     }
+    if let Some(plain) = flat_event(alloc, bytes, line)? {
+        return Ok(event_of(plain));
+    }
     match Value::from_slice(alloc, bytes) {
         Ok(value) => event(alloc, &value, line),
         Err(error) => {
@@ -65,7 +71,7 @@ fn event_in(alloc: Global, bytes: &[u8], line: u32) -> Result<CasEvent, Refused>
 }
 
 fn event(alloc: Global, value: &Value, line: u32) -> Result<CasEvent, Refused>
-    ensures { Gives (event_of line (view value.now)) result }
+    ensures { Gives (event_meant line (view value.now)) result }
 {
     if !value.is_object() {
         return Err(Refused::Fault(FaultKind::NotObject));

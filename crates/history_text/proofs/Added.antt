@@ -1,5 +1,5 @@
 -- One member more: what an object with it holds, and how its name and its value are lexed.
-use Rattle.std.proofs.Common.{◌≡◌, ℕ, ◌≤◌, true, List, ◌∷◌, ◌++◌, get_or, Some}
+use Rattle.std.proofs.Common.{◌≡◌, ℕ, ◌≤◌, true, List, ◌∷◌, ◌++◌, drop, get_or, Some}
 use Rattle.std.proofs.Common.{codes, refl, sym, ap, ◌∙◌, subst, arith}
 use Rattle.std.specs.Str.{IsUtf8}
 use Rattle.json.specs.Token.{Token}
@@ -20,6 +20,9 @@ use denote.Ref.{Bor}
 
 differ : (x y : ℕ) (xs ys : List ℕ) → (x ≡ y → ⊥) → x ∷ xs ≡ y ∷ ys → ⊥
 differ x y xs ys h e = h (ap (λ l. get_or l 0 0) e)
+
+ok_or_op : codes "ok" ≡ codes "op" → ⊥
+ok_or_op e = differ _ _ _ _ (λ e. omega arith) (ap (λ l. drop 1 l) e)
 
 module _ (f : Found) (ms : Members) (h : Holds ms f) where
   put_process : (p : ℕ) → p ≤ MAX_PROCESS → Holds (put (codes "process") (whole_data p) ms) (record {
@@ -42,6 +45,9 @@ module _ (f : Found) (ms : Members) (h : Holds ms f) where
     value =
         get_member-put_other (codes "value") (codes "process") _ ms (differ _ _ _ _ (λ e. omega arith))
         ∙ h.value;
+    no_ok =
+        get_member-put_other (codes "ok") (codes "process") _ ms (differ _ _ _ _ (λ e. omega arith))
+        ∙ h.no_ok;
   }
 
   put_event : (w : EventWord) → Holds (put (codes "event") (event_data w) ms) (record {
@@ -64,6 +70,8 @@ module _ (f : Found) (ms : Members) (h : Holds ms f) where
     value =
         get_member-put_other (codes "value") (codes "event") _ ms (differ _ _ _ _ (λ e. omega arith))
         ∙ h.value;
+    no_ok =
+        get_member-put_other (codes "ok") (codes "event") _ ms (differ _ _ _ _ (λ e. omega arith)) ∙ h.no_ok;
   }
 
   put_op : (k : OpKind) → Holds (put (codes "op") (op_data k) ms) (record {
@@ -86,6 +94,7 @@ module _ (f : Found) (ms : Members) (h : Holds ms f) where
         ∙ h.register;
     value =
         get_member-put_other (codes "value") (codes "op") _ ms (differ _ _ _ _ (λ e. omega arith)) ∙ h.value;
+    no_ok = get_member-put_other (codes "ok") (codes "op") _ ms ok_or_op ∙ h.no_ok;
   }
 
   put_register : (s : Bor (List ℕ)) → Holds (put (codes "register") (string s.now) ms) (record {
@@ -108,6 +117,9 @@ module _ (f : Found) (ms : Members) (h : Holds ms f) where
     value =
         get_member-put_other (codes "value") (codes "register") _ ms (differ _ _ _ _ (λ e. omega arith))
         ∙ h.value;
+    no_ok =
+        get_member-put_other (codes "ok") (codes "register") _ ms (differ _ _ _ _ (λ e. omega arith))
+        ∙ h.no_ok;
   }
 
   put_value : (v : Val) → Holds (put (codes "value") (value_data v) ms) (record {
@@ -130,18 +142,21 @@ module _ (f : Found) (ms : Members) (h : Holds ms f) where
         get_member-put_other (codes "register") (codes "value") _ ms (differ _ _ _ _ (λ e. omega arith))
         ∙ h.register;
     value = get_member-put (codes "value") (value_data v) ms;
+    no_ok =
+        get_member-put_other (codes "ok") (codes "value") _ ms (differ _ _ _ _ (λ e. omega arith)) ∙ h.no_ok;
   }
 
   put_other : (k : List ℕ) (d : Data) → (codes "process" ≡ k → ⊥) → (codes "event" ≡ k → ⊥)
       → (codes "op" ≡ k → ⊥) → (codes "register" ≡ k → ⊥)
-      → (codes "value" ≡ k → ⊥) → Holds (put k d ms) f
-  put_other k d process event op register value = record {
+      → (codes "value" ≡ k → ⊥) → (codes "ok" ≡ k → ⊥) → Holds (put k d ms) f
+  put_other k d process event op register value ok = record {
     process = get_member-put_other (codes "process") k d ms process ∙ h.process;
     limit = h.limit;
     event = get_member-put_other (codes "event") k d ms event ∙ h.event;
     op = get_member-put_other (codes "op") k d ms op ∙ h.op;
     register = get_member-put_other (codes "register") k d ms register ∙ h.register;
     value = get_member-put_other (codes "value") k d ms value ∙ h.value;
+    no_ok = get_member-put_other (codes "ok") k d ms ok ∙ h.no_ok;
   }
 
 -- a member's name with its colon
@@ -251,7 +266,8 @@ module _ (text mid rest : List ℕ) where
       (keyed (codes "client") _ text mid (λ behind. refl) refl named) scalar
       (λ ms h. put_other f ms h (codes "client") _ (differ _ _ _ _ (λ e. omega arith))
       (differ _ _ _ _ (λ e. omega arith)) (differ _ _ _ _ (λ e. omega arith))
-      (differ _ _ _ _ (λ e. omega arith)) (differ _ _ _ _ (λ e. omega arith)))
+      (differ _ _ _ _ (λ e. omega arith)) (differ _ _ _ _ (λ e. omega arith))
+      (differ _ _ _ _ (λ e. omega arith)))
 
   pub passes_node : (s : Bor (List ℕ)) → Named (codes "\"node\":") text mid → Scalar mid (string s.now) rest
       → Passes text rest
@@ -261,7 +277,8 @@ module _ (text mid rest : List ℕ) where
       (keyed (codes "node") _ text mid (λ behind. refl) refl named) scalar
       (λ ms h. put_other f ms h (codes "node") _ (differ _ _ _ _ (λ e. omega arith))
       (differ _ _ _ _ (λ e. omega arith)) (differ _ _ _ _ (λ e. omega arith))
-      (differ _ _ _ _ (λ e. omega arith)) (differ _ _ _ _ (λ e. omega arith)))
+      (differ _ _ _ _ (λ e. omega arith)) (differ _ _ _ _ (λ e. omega arith))
+      (differ _ _ _ _ (λ e. omega arith)))
 
   pub passes_time : (n : ℕ) → Named (codes "\"time\":") text mid → Scalar mid (whole_data n) rest
       → Passes text rest
@@ -271,4 +288,5 @@ module _ (text mid rest : List ℕ) where
       (keyed (codes "time") _ text mid (λ behind. refl) refl named) scalar
       (λ ms h. put_other f ms h (codes "time") _ (differ _ _ _ _ (λ e. omega arith))
       (differ _ _ _ _ (λ e. omega arith)) (differ _ _ _ _ (λ e. omega arith))
-      (differ _ _ _ _ (λ e. omega arith)) (differ _ _ _ _ (λ e. omega arith)))
+      (differ _ _ _ _ (λ e. omega arith)) (differ _ _ _ _ (λ e. omega arith))
+      (differ _ _ _ _ (λ e. omega arith)))

@@ -76,6 +76,10 @@ event_of n d = if is_some (as_object d)
 unfoldable pub json_of : List ℕ → Option Data
 json_of bytes = if is_utf8 bytes then read bytes else None
 
+-- the bytes are the JSON value of an object without a member of this name
+abbrev pub Lacks : List ℕ → List ℕ → Type 0
+Lacks name bytes = (d : Data) × (json_of bytes ≡ Some d) × (get name d ≡ None)
+
 -- the event of the bytes at line `n`, or the least fault that applies
 abbrev pub line_form : ℕ → List ℕ → Result LineEvent LineKind
 line_form n bytes =

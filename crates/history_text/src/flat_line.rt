@@ -1,14 +1,14 @@
 //! The event of a flat line, read with no tree. Flat is the common form of a line: one object of up to
-//! five members, each of a known name and with a plain value, as `flat_members` reads them.
+//! eight members, each of a known name and with a plain value, as `flat_members` reads them.
 //!
 //! The contract of `read_line` says what it would say without this module: [`flat_event`] gives an event
 //! only if `line_form` gives it, which is defined over the JSON that `serde_json` reads. A line that is
 //! not flat, or has a fault, gives `None`, and `line` reads it as JSON. So faults are judged there alone.
-ghost use Rattle.std.specs.Prelude.{◌≡◌, ◌≤◌, length, IfSome, IfOk, Ok, ⊤};
+ghost use Rattle.std.specs.Prelude.{◌≡◌, ◌≤◌, length, codes, IfSome, IfOk, Ok, ⊤};
 ghost use Rattle.std.specs.Bool.{MatchBool};
 ghost use Rattle.serde_json.specs.Data.{Members, object};
 ghost use Rattle.history_text.specs.Limits.{IsName, MAX_LINE};
-ghost use Rattle.history_text.specs.Reading.{call_kind, parts_form, kind_of, line_form};
+ghost use Rattle.history_text.specs.Reading.{call_kind, parts_form, kind_of, line_form, Lacks};
 ghost use Rattle.history_text.specs.Flat.{Holds};
 
 use crate::event::{EventWord, Kind, LineEvent, OpKind, ReplyParts, Val};
@@ -18,16 +18,14 @@ use crate::name::Name;
 use crate::optional_name::OptionalName;
 use std::alloc::{AllocError, Global};
 
-/// The event of a flat line. `None` tells nothing of the line.
+/// The event of a line of the common form, which has no member `ok`. `None` tells nothing of the line.
 ///
-/// The error says that memory ran out; nothing is kept then.
-pub(crate) fn flat_event(
-    alloc: Global,
-    bytes: &[u8],
-    line: u32,
-) -> Result<Option<LineEvent>, AllocError>
+/// # Errors
+/// Out of memory; nothing is kept.
+pub fn flat_event(alloc: Global, bytes: &[u8], line: u32) -> Result<Option<LineEvent>, AllocError>
     requires { length bytes.now ≤ MAX_LINE }
-    ensures { IfOk result (λ o. IfSome o (λ event. line_form line bytes.now ≡ Ok event)) }
+    ensures event { IfOk result (λ o. IfSome o (λ event. line_form line bytes.now ≡ Ok event)) }
+    ensures no_ok { IfOk result (λ o. IfSome o (λ event. Lacks (codes "ok") bytes.now)) }
 {
     let Some(found) = flat_object(bytes) else {
         return Ok(None);

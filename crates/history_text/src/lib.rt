@@ -5,8 +5,9 @@
 //! order and with their numbers, and [`whole_lines`] says the same of bytes behind which more may come.
 //! [`read_spans`] reads any of these lines: for each it gives its one event, or the lowest-numbered fault
 //! that applies to it. Several threads read them, each a part of the lines at a time. [`read_lines`] reads
-//! all lines and joins the parts, and [`read_lines_alone`] reads the same by one thread. Nothing here knows
-//! how events follow one another; that is the floor above.
+//! all lines and joins the parts, and [`read_lines_alone`] reads the same by one thread. [`flat_event`] reads
+//! a line of the common form alone, for a reader of more forms. Nothing here knows how events follow one
+//! another; that is the floor above.
 //!
 //! Read it in this order: `limits`; `name`, `optional_name`, `event` and `fault`, which say what a line can
 //! mean; `members`, `refused` and `line`, which read one line; `scan`, `flat_members` and `flat_line`, which
@@ -29,6 +30,7 @@ mod scan;
 
 pub use event::{Kind, Line, LineEvent, OpKind, ReplyParts, Val};
 pub use fault::{LineFault, LineKind};
+pub use flat_line::flat_event;
 pub use limits::{MAX_EVENTS, MAX_INPUT, MAX_LINE, MAX_NAME};
 pub use line::{LineError, read_line};
 pub use lines::{Span, WholeLines, lines_of, whole_lines};

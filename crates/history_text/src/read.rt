@@ -36,14 +36,15 @@ pub fn read_lines(
     Ok(lines)
 }
 
-/// How many of `count` lines one thread reads into one list. Each thread has as many lists, of nearly one
-/// length, so that none waits for another.
+/// How many of `count` lines go into one list. The threads get equally many lists, all of about the same
+/// length, and so end at about the same time.
 fn list_size(rt: &impl Threads, count: usize) -> usize {
     let share = share_size(rt, count, FEWEST_LINES);
     share / (share / LINES + 1) + 1
 }
 
-/// What the lines at some spans of the bytes say, in order and in parts, so that none is copied.
+/// What the lines at these spans of the bytes say, in order. They come in parts, as the threads read them,
+/// since joining them would copy each line.
 ///
 /// Several threads read many lines, as many threads as leave one processor free.
 ///

@@ -38,8 +38,13 @@ event_made n p w kind bytes f short flat process event kinds =
     line_form-read n bytes (object ms) short (json_of-read bytes (object ms) flat.0 flat.1.1)
     ∙ rw (numbered, worded, le-leb p MAX_PROCESS fits, event_word w, kinds ms h)
 
-pub returns : goal.returns
-returns c =
+pub returns-clause-event : goal.returns-clause-event
+returns-clause-event c =
     event_made c.args.line c.in-Some-process.process c.in-Some-event.event c.in-Some-2.kind c.args.bytes.now
     c.in-Some.found c.requires c.in-Some.ensures
     c.in-Some-process.is c.in-Some-event.is (rw c.in-Some-2.is at c.in_ok-kind.ensures)
+
+pub returns-clause-no_ok : goal.returns-clause-no_ok
+returns-clause-no_ok c =
+    let flat = c.in-Some.ensures in
+    (object flat.1.0, json_of-read c.args.bytes.now (object flat.1.0) flat.0 flat.1.1, flat.1.2.no_ok)
