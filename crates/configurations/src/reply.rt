@@ -68,8 +68,12 @@ fn is_of_use<const W: usize>(table: &Table<W>, config: &Config<W>, slot: u32, re
     is_asked(table, config, table.left(slot, config.value))
 }
 
+/// How many calls that change alike are looked at for one that goes first. It is mostly among the first, and
+/// thousands of crashed calls may change alike.
+const MOST_RIVALS: usize = 1_024;
+
 /// Whether the call of another slot goes first: it changes alike and replies sooner, and
-/// must take effect or needn't as this one.
+/// must take effect or needn't as this one. Some are looked at.
 #[inline(always)]
 fn is_led<const W: usize>(table: &Table<W>, config: &Config<W>, slot: u32) -> bool
     requires table { IsTable table.now }
@@ -84,7 +88,10 @@ fn is_led<const W: usize>(table: &Table<W>, config: &Config<W>, slot: u32) -> bo
     };
     let rivals = table.alike(slot).common(&open);
     let mut at = 0;
-    while let Some(rival) = rivals.first_from(at) {
+    for _ in 0..MOST_RIVALS {
+        let Some(rival) = rivals.first_from(at) else {
+            return false;
+        };
         if table.goes_before(rival, slot) {
             return true;
         }

@@ -128,6 +128,7 @@ fn over<const W: usize>(
     requires held { AreHeld (has table.old.used) now.old }
     ensures { IfOk result (λ whole. IsOver whole table.old now.old event table.new now.new) }
 {
+    lists.spent.spend_on(now.list.len(), W)?;
     match event {
         Moment::Call(number) => {
             over_call(table, now, number)?;

@@ -136,6 +136,13 @@ impl Work {
         Ok(())
     }
 
+    /// Spends the steps of an event that is gone over in so many configurations, with sets of so many
+    /// words. A single one costs none: there are no more events than an input may have.
+    pub(crate) fn spend_on(&mut self, configurations: usize, words: usize) -> Result<(), Stop> {
+        let others = configurations.saturating_sub(1) as u64;
+        self.spend(others.saturating_mul(words as u64))
+    }
+
     /// A call takes effect after others, the last of which has the place
     /// `before` among the moves; gives its own place.
     pub(crate) fn moved(&mut self, number: u32, before: u32) -> Result<u32, Stop> {
