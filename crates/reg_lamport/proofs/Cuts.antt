@@ -161,13 +161,17 @@ module _ (h : History) (register : ℕ) where
             ]
           ]
 
+pub list-length : (h : History) (list : ListedReads) → IsReadList h list
+    → length list.entries ≡ length (completed_reads (of_register list.register (operations h)))
+list-length h list is =
+    zip-length (IsEntryOf h list.register) list.entries
+    (completed_reads (of_register list.register (operations h))) is.entries
+
 pub list-keeps : (h : History) (list : ListedReads) (level : Level) → IsReadList h list
     → IsFirstBadNamed h list.register level 0 (length list.entries) None
     → IsAtLevel level (of_register list.register (operations h))
 list-keeps h list level is none =
-    whole-keeps h list.register level (length list.entries)
-    (zip-length (IsEntryOf h list.register) list.entries
-    (completed_reads (of_register list.register (operations h))) is.entries) none
+    whole-keeps h list.register level (length list.entries) (list-length h list is) none
 
 pub list-breaks : (h : History) (list : ListedReads) (level : Level) (id : EvId) → IsReadList h list
     → IsFirstBadNamed h list.register level 0 (length list.entries) (Some id)

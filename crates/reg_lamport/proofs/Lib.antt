@@ -1,4 +1,8 @@
 pub mod Calls
+pub mod InOrder
+pub mod OneWriter
+pub mod Answered
+pub mod CountedEvents
 pub mod Writers
 pub mod Zipped
 pub mod Moments

@@ -24,6 +24,13 @@ impl Model for ReadList {
 }
 
 impl ReadList {
+    /// The register whose reads are listed.
+    pub fn register(&self) -> RegId
+        ensures { result.0 ≡ self.now.register }
+    {
+        self.register
+    }
+
     /// How many reads there are.
     pub fn len(&self) -> usize
         ensures { result ≡ length self.now.entries }

@@ -9,7 +9,7 @@ use history_text::OpKind;
 use reg_arena::Arena;
 
 /// Whether the event begins a write: it is the call of one that didn't fail.
-fn begins_write(arena: &Arena, id: EvId, event: &Event) -> bool
+pub(crate) fn begins_write(arena: &Arena, id: EvId, event: &Event) -> bool
     requires { slice_get arena.now.events id.0 ≡ Some event.now }
     ensures { result ≡ begins arena.now.events id.0 event.now }
 {

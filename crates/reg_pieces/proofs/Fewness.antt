@@ -4,12 +4,11 @@ use Rattle.std.proofs.Common.{length, slice_get, Option, Some, None, refl, ap, s
 use Rattle.std.proofs.lemmas.Bool.{eqb-true}
 use Rattle.std.proofs.lemmas.List.Sums.{length-filter, count_by-le-length}
 use Rattle.history_model.specs.History.{History}
-use Rattle.history_model.specs.Lamport.{completed_reads, is_completed_read}
+use Rattle.history_model.specs.Lamport.{is_completed_read}
 use Rattle.history_model.specs.Operations.{Operation, operations, of_register}
 use Rattle.history_model.specs.Operations.{initial_writes, calls, register_of}
-use Rattle.reg_lamport.specs.Reads.{ListedReads, IsEntryOf}
-use Rattle.reg_lamport.proofs.Zipped.{zip-length}
-use Rattle.reg_pieces.specs.Plan.{AreCutsOf, AreTasks, IsListOf, PlanShown}
+use Rattle.reg_lamport.specs.Counts.{AreReadCounts, IsReadCount}
+use Rattle.reg_pieces.specs.Plan.{AreCutsOf, AreTasks}
 use Rattle.reg_pieces.specs.declared.tasks.Task.{Task}
 use Rattle.reg_pieces.proofs.Numbering.{cuts-few}
 use Rattle.history_model.proofs.Walking.{calls-few}
@@ -89,40 +88,35 @@ operations-few h =
 
 -- ---- the tasks
 
-cuts-of-few : (h : History) (cut r : ℕ) (list : Option ListedReads) (cuts : List Task) → 0 < cut
-    → IsListOf h r list → AreCutsOf cut r list cuts → length cuts ≤ length (register_of h r)
-cuts-of-few h cut r None cuts p l c = omega (arith, ap length c)
-cuts-of-few h cut r (Some list) cuts p l c =
-    let few = cuts-few cut r 0 (length list.entries) cuts p c in
-    let zip =
-    zip-length (IsEntryOf h list.register) list.entries (completed_reads (register_of h list.register))
-    l.2.entries in
-    let own = ap (λ n. length (completed_reads (register_of h n))) l.1 in
+cuts-of-few : (h : History) (cut r : ℕ) (count : Option ℕ) (cuts : List Task) → 0 < cut
+    → IsReadCount h r count → AreCutsOf cut r count cuts → length cuts ≤ length (register_of h r)
+cuts-of-few h cut r None cuts p i c = omega (arith, ap length c)
+cuts-of-few h cut r (Some count) cuts p i c =
+    let few = cuts-few cut r 0 count cuts p c in
     let part = length-filter is_completed_read (register_of h r) in
     let less = count_by-le-length is_completed_read (register_of h r) in
-    omega (arith, few, zip, own, part, less)
+    omega (arith, few, i.1, part, less)
 
-tasks-few : (h : History) (cut r : ℕ) (lists : List (Option ListedReads)) (tasks : List Task) → 0 < cut
-    → ((i : ℕ) (list : Option ListedReads) → slice_get lists i ≡ Some list → IsListOf h (r + i) list)
-    → AreTasks cut r lists tasks
-    → length tasks ≤ length lists + of_registers r (length lists) (operations h)
+tasks-few : (h : History) (cut r : ℕ) (counts : List (Option ℕ)) (tasks : List Task) → 0 < cut
+    → ((i : ℕ) (count : Option ℕ) → slice_get counts i ≡ Some count → IsReadCount h (r + i) count)
+    → AreTasks cut r counts tasks
+    → length tasks ≤ length counts + of_registers r (length counts) (operations h)
 unfolding of_registers
 tasks-few h cut r [] tasks p l a = omega (arith, ap length a)
-tasks-few h cut r (list ∷ lists) tasks p l a =
-    let first : IsListOf h r list =
-    let z : r + 0 ≡ r = omega arith in subst (λ n. IsListOf h n list) z (l 0 list refl) in
+tasks-few h cut r (count ∷ counts) tasks p l a =
+    let first : IsReadCount h r count =
+    let z : r + 0 ≡ r = omega arith in subst (λ n. IsReadCount h n count) z (l 0 count refl) in
     let rest =
-    tasks-few h cut (suc r) lists a.1 p (λ i o e. let z : r + suc i ≡ suc r + i = omega arith in
-    subst (λ n. IsListOf h n o) z (l (suc i) o e)) a.3 in
-    let cuts = cuts-of-few h cut r list a.0 p first a.2 in
+    tasks-few h cut (suc r) counts a.1 p (λ i o e. let z : r + suc i ≡ suc r + i = omega arith in
+    subst (λ n. IsReadCount h n o) z (l (suc i) o e)) a.3 in
+    let cuts = cuts-of-few h cut r count a.0 p first a.2 in
     omega (arith, ap length a.4, length-append a.0 a.1, rest, cuts)
 
-pub plan-few : (h : History) (cut : ℕ) (plan : PlanShown) → 0 < cut → length plan.lists ≡ length h.names
-    → ((r : ℕ) (list : Option ListedReads) → slice_get plan.lists r ≡ Some list → IsListOf h r list)
-    → AreTasks cut 0 plan.lists plan.tasks
-    → length plan.tasks ≤ length h.names + length h.names + length h.events
-plan-few h cut plan p count lists numbered =
+pub plan-few : (h : History) (cut : ℕ) (counts : List (Option ℕ)) (tasks : List Task) → 0 < cut
+    → AreReadCounts h counts → AreTasks cut 0 counts tasks
+    → length tasks ≤ length h.names + length h.names + length h.events
+plan-few h cut counts tasks p c numbered =
     let few =
-    tasks-few h cut 0 plan.lists plan.tasks p (λ i o e. let z : i ≡ 0 + i = omega arith in
-    subst (λ n. IsListOf h n o) z (lists i o e)) numbered in
-    omega (arith, few, count, all-few 0 (length plan.lists) (operations h), operations-few h)
+    tasks-few h cut 0 counts tasks p (λ i o e. let z : i ≡ 0 + i = omega arith in
+    subst (λ n. IsReadCount h n o) z (c.each i o e)) numbered in
+    omega (arith, few, c.registers, all-few 0 (length counts) (operations h), operations-few h)

@@ -1,5 +1,4 @@
 pub mod Pushed
-mod Listing
 mod Numbering
 mod Fitness
 mod Fewness

@@ -3,7 +3,6 @@ use Rattle.std.proofs.Common.{◌≡◌, ℕ, zero, suc, ◌+◌, ◌-◌, ◌<�
 use Rattle.std.proofs.Common.{List, [], ◌∷◌, ◌++◌, length, slice_get, Option, Some, None}
 use Rattle.std.proofs.Common.{refl, sym, ap, subst, ◌∙◌, arith, append_assoc, append-nil}
 use Rattle.std.proofs.lemmas.Option.{none-some}
-use Rattle.reg_lamport.specs.Reads.{ListedReads}
 use Rattle.reg_pieces.specs.Plan.{AreCuts, AreCutsOf, AreTasks}
 use Rattle.reg_pieces.specs.declared.tasks.Task.{Task}
 use Rattle.reg_pieces.specs.declared.tasks.Task.TheVariants.{Judge, Reads, First}
@@ -21,21 +20,22 @@ cutting-ends cut r len old new c =
     (c.so_far, subst (AreCuts cut r 0 len) (append-nil c.so_far) (c.goes_on [] refl), c.added)
 
 -- one register more
-pub one-register-more : (cut r n : ℕ) (lists : List (Option ListedReads)) (list : Option ListedReads)
-    (tasks cuts : List Task) → n ≡ r + length lists → AreTasks cut r lists tasks → AreCutsOf cut n list cuts
-    → AreTasks cut r (lists ++ list ∷ []) (tasks ++ Judge (record { 0 = n }) ∷ cuts)
-one-register-more cut r n [] list tasks cuts e a k =
+pub one-register-more : (cut r n : ℕ) (counts : List (Option ℕ)) (count : Option ℕ)
+    (tasks cuts : List Task) → n ≡ r + length counts → AreTasks cut r counts tasks
+    → AreCutsOf cut n count cuts
+    → AreTasks cut r (counts ++ count ∷ []) (tasks ++ Judge (record { 0 = n }) ∷ cuts)
+one-register-more cut r n [] count tasks cuts e a k =
     let z : n ≡ r = omega (arith, e) in
-    subst (λ m. AreTasks cut r (list ∷ []) (tasks ++ Judge (record { 0 = m }) ∷ cuts)) (sym z) (
+    subst (λ m. AreTasks cut r (count ∷ []) (tasks ++ Judge (record { 0 = m }) ∷ cuts)) (sym z) (
       cuts,
       [],
-      subst (λ m. AreCutsOf cut m list cuts) z k,
+      subst (λ m. AreCutsOf cut m count cuts) z k,
       refl,
       ap (λ ts. ts ++ Judge (record { 0 = r }) ∷ cuts) a
           ∙ ap (λ cs. Judge (record { 0 = r }) ∷ cs) (sym (append-nil cuts)),
     )
-one-register-more cut r n (l ∷ lists) list tasks cuts e a k =
-    let rest = one-register-more cut (suc r) n lists list a.1 cuts (omega (arith, e)) a.3 k in
+one-register-more cut r n (l ∷ counts) count tasks cuts e a k =
+    let rest = one-register-more cut (suc r) n counts count a.1 cuts (omega (arith, e)) a.3 k in
     let new = Judge (record { 0 = n }) ∷ cuts in (
       a.0,
       a.1 ++ new,
@@ -47,12 +47,12 @@ one-register-more cut r n (l ∷ lists) list tasks cuts e a k =
 -- ---- each task is fit
 
 -- a task of a whole plan: the reads that it names are there
-abbrev pub IsFit : ℕ → List (Option ListedReads) → Task → Type 0
-IsFit r lists (Judge k) = (r ≤ k.0) × (k.0 < r + length lists)
-IsFit r lists (Reads k from to) =
-    (i : ℕ) × (list : ListedReads) × (k.0 ≡ r + i) × (slice_get lists i ≡ Some (Some list)) × (from ≤ to)
-    × (to ≤ length list.entries)
-IsFit r lists (First k) = ⊥
+abbrev pub IsFit : ℕ → List (Option ℕ) → Task → Type 0
+IsFit r counts (Judge k) = (r ≤ k.0) × (k.0 < r + length counts)
+IsFit r counts (Reads k from to) =
+    (i : ℕ) × (count : ℕ) × (k.0 ≡ r + i) × (slice_get counts i ≡ Some (Some count)) × (from ≤ to)
+    × (to ≤ count)
+IsFit r counts (First k) = ⊥
 
 append-cases : {X : Type 0} (xs ys : List X) (i : ℕ) (z : X) → slice_get (xs ++ ys) i ≡ Some z
     → (slice_get xs i ≡ Some z) ⊎ ((j : ℕ) × (slice_get ys j ≡ Some z))
@@ -69,33 +69,33 @@ cut-fit cut r from len (c ∷ cuts) (suc i) t a e =
     cut-fit cut r (from + min (len - from) cut) len cuts i t a.2 e
 
 -- from the next register's to this one's
-later-fit : (r : ℕ) (l : Option ListedReads) (lists : List (Option ListedReads)) (t : Task)
-    → IsFit (suc r) lists t → IsFit r (l ∷ lists) t
-later-fit r l lists (Judge k) f = (omega (arith, f.0), omega (arith, f.1))
-later-fit r l lists (Reads k from to) f = (suc f.0, f.1, omega (arith, f.2), f.3, f.4, f.5)
-later-fit r l lists (First k) f = f
+later-fit : (r : ℕ) (c : Option ℕ) (counts : List (Option ℕ)) (t : Task)
+    → IsFit (suc r) counts t → IsFit r (c ∷ counts) t
+later-fit r c counts (Judge k) f = (omega (arith, f.0), omega (arith, f.1))
+later-fit r c counts (Reads k from to) f = (suc f.0, f.1, omega (arith, f.2), f.3, f.4, f.5)
+later-fit r c counts (First k) f = f
 
-first-fit : (cut r : ℕ) (o : Option ListedReads) (lists : List (Option ListedReads)) (cuts : List Task)
-    (j : ℕ) (t : Task) → AreCutsOf cut r o cuts → slice_get cuts j ≡ Some t → IsFit r (o ∷ lists) t
-first-fit cut r None lists cuts j t c s = absurd (none-some _ (sym (ap (λ ts. slice_get ts j) c) ∙ s))
-first-fit cut r (Some list) lists cuts j t c s =
-    let f = cut-fit cut r 0 (length list.entries) cuts j t c s in
-    subst (IsFit r (Some list ∷ lists)) (sym f.2) (0, list, omega arith, refl, f.3, f.4)
+first-fit : (cut r : ℕ) (o : Option ℕ) (counts : List (Option ℕ)) (cuts : List Task)
+    (j : ℕ) (t : Task) → AreCutsOf cut r o cuts → slice_get cuts j ≡ Some t → IsFit r (o ∷ counts) t
+first-fit cut r None counts cuts j t c s = absurd (none-some _ (sym (ap (λ ts. slice_get ts j) c) ∙ s))
+first-fit cut r (Some count) counts cuts j t c s =
+    let f = cut-fit cut r 0 count cuts j t c s in
+    subst (IsFit r (Some count ∷ counts)) (sym f.2) (0, count, omega arith, refl, f.3, f.4)
 
-pub tasks-fit : (cut r : ℕ) (lists : List (Option ListedReads)) (tasks : List Task) (i : ℕ) (t : Task)
-    → AreTasks cut r lists tasks → slice_get tasks i ≡ Some t → IsFit r lists t
+pub tasks-fit : (cut r : ℕ) (counts : List (Option ℕ)) (tasks : List Task) (i : ℕ) (t : Task)
+    → AreTasks cut r counts tasks → slice_get tasks i ≡ Some t → IsFit r counts t
 tasks-fit cut r [] tasks i t a e = absurd (none-some _ (sym (ap (λ ts. slice_get ts i) a) ∙ e))
-tasks-fit cut r (l ∷ lists) tasks i t a e =
-    go i (sym (ap (λ ts. slice_get ts i) a.4) ∙ e) (λ j s. tasks-fit cut (suc r) lists a.1 j t a.3 s)
+tasks-fit cut r (c ∷ counts) tasks i t a e =
+    go i (sym (ap (λ ts. slice_get ts i) a.4) ∙ e) (λ j s. tasks-fit cut (suc r) counts a.1 j t a.3 s)
   where
     go : (j : ℕ) → slice_get (Judge (record { 0 = r }) ∷ a.0 ++ a.1) j ≡ Some t
-        → ((k : ℕ) → slice_get a.1 k ≡ Some t → IsFit (suc r) lists t) → IsFit r (l ∷ lists) t
+        → ((k : ℕ) → slice_get a.1 k ≡ Some t → IsFit (suc r) counts t) → IsFit r (c ∷ counts) t
     go zero s f =
         let q : Judge (record { 0 = r }) ≡ t =
-        cc s in subst (IsFit r (l ∷ lists)) q (omega arith, omega arith)
+        cc s in subst (IsFit r (c ∷ counts)) q (omega arith, omega arith)
     go (suc j) s f = elim (append-cases a.0 a.1 j t s) [
-      | inl k ↦ first-fit cut r l lists a.0 j t a.2 k
-      | inr k ↦ later-fit r l lists t (f k.0 k.1)
+      | inl k ↦ first-fit cut r c counts a.0 j t a.2 k
+      | inr k ↦ later-fit r c counts t (f k.0 k.1)
     ]
 
 -- ---- how many there are

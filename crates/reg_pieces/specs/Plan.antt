@@ -3,9 +3,7 @@ use Rattle.std.specs.Prelude.{◌≡◌, ℕ, suc, ◌<◌, ◌≤◌, ◌+◌, 
 use Rattle.std.specs.Prelude.{slice_get, Option, Some, None, Bool, true, false, ◌⊎◌, MatchBool}
 use Rattle.job_board.specs.declared.limits.TheConstants.{MAX_JOBS}
 use Rattle.history_model.specs.History.{History}
-use Rattle.history_model.specs.Lamport.{HasSingleWriter}
-use Rattle.history_model.specs.declared.ids.RegId.{RegId}
-use Rattle.reg_lamport.specs.Reads.{IsReadList, ListedReads}
+use Rattle.reg_lamport.specs.Counts.{AreReadCounts}
 use Rattle.reg_pieces.specs.BadReads.{AreFirstBad}
 use Rattle.reg_pieces.specs.Judged.{IsJudged, IsLookedAt}
 use Rattle.history_model.specs.Operations.{register_of}
@@ -16,27 +14,12 @@ use Rattle.reg_pieces.specs.declared.piece.Piece.TheVariants as piece
 use Rattle.reg_pieces.specs.declared.tasks.Task.{Task}
 use Rattle.reg_pieces.specs.declared.tasks.Task.TheVariants.{Judge, Reads, First}
 
--- what contracts see of a plan: its tasks by number, the completed reads of each register with a single
--- writer, and whether the first register that isn't atomic is all that is asked for
+-- what contracts see of a plan: its tasks by number, how many completed reads each register with a single
+-- writer has, and whether the first register that isn't atomic is all that is asked for
 pub record PlanShown : Type 0 where
   pub tasks : List Task
-  pub lists : List (Option ListedReads)
+  pub counts : List (Option ℕ)
   pub first : Bool
-
--- the completed reads of register r, where it has a single writer
-abbrev pub IsListOf : History → ℕ → Option ListedReads → Type 0
-IsListOf h r None = HasSingleWriter (register_of h r) → ⊥
-IsListOf h r (Some list) = HasSingleWriter (register_of h r) × (list.register ≡ r) × IsReadList h list
-
--- the completed reads of each register, by its number
-pub record AreLists (h : History) (lists : List (Option ListedReads)) : Type 0 where
-  pub registers : length lists ≡ length h.names
-  pub each : (r : ℕ) (list : Option ListedReads) → slice_get lists r ≡ Some list → IsListOf h r list
-
--- all registers, in order
-pub record AreRegisters (h : History) (registers : List RegId) : Type 0 where
-  pub count : length registers ≡ length h.names
-  pub each : (i : ℕ) (r : RegId) → slice_get registers i ≡ Some r → i ≡ r.0
 
 -- the reads of register r numbered from `from` up to and without `len`, in
 -- cuts of that many, the last perhaps shorter
@@ -47,26 +30,25 @@ AreCuts cut r from len (t ∷ ts) =
     × AreCuts cut r (from + min (len - from) cut) len ts
 
 -- all reads of a register with a single writer; none of another
-abbrev pub AreCutsOf : ℕ → ℕ → Option ListedReads → List Task → Type 0
+abbrev pub AreCutsOf : ℕ → ℕ → Option ℕ → List Task → Type 0
 AreCutsOf cut r None ts = ts ≡ []
-AreCutsOf cut r (Some list) ts = AreCuts cut r 0 (length list.entries) ts
+AreCutsOf cut r (Some count) ts = AreCuts cut r 0 count ts
 
 -- the tasks have these cuts more
-abbrev pub AddsCuts : ℕ → ℕ → Option ListedReads → List Task → List Task → Type 0
-AddsCuts cut r list old new = (cuts : List Task) × AreCutsOf cut r list cuts × (new ≡ old ++ cuts)
+abbrev pub AddsCuts : ℕ → ℕ → Option ℕ → List Task → List Task → Type 0
+AddsCuts cut r count old new = (cuts : List Task) × AreCutsOf cut r count cuts × (new ≡ old ++ cuts)
 
 -- register by register from r on: its verdict, then the cuts of its reads
-abbrev pub AreTasks : ℕ → ℕ → List (Option ListedReads) → List Task → Type 0
+abbrev pub AreTasks : ℕ → ℕ → List (Option ℕ) → List Task → Type 0
 AreTasks cut r [] ts = ts ≡ []
-AreTasks cut r (l ∷ ls) ts =
-    (cuts : List Task) × (rest : List Task) × AreCutsOf cut r l cuts × AreTasks cut (suc r) ls rest
+AreTasks cut r (c ∷ cs) ts =
+    (cuts : List Task) × (rest : List Task) × AreCutsOf cut r c cuts × AreTasks cut (suc r) cs rest
     × (ts ≡ Judge (record { 0 = r }) ∷ cuts ++ rest)
 
 -- the plan of a history, in cuts of so many reads; it has no more tasks than a board may have jobs
 pub record IsPlan (h : History) (cut : ℕ) (plan : PlanShown) : Type 0 where
-  pub registers : length plan.lists ≡ length h.names
-  pub lists : (r : ℕ) (list : Option ListedReads) → slice_get plan.lists r ≡ Some list → IsListOf h r list
-  pub numbered : AreTasks cut 0 plan.lists plan.tasks
+  pub counts : AreReadCounts h plan.counts
+  pub numbered : AreTasks cut 0 plan.counts plan.tasks
   pub few : length plan.tasks ≤ MAX_JOBS
   pub whole : plan.first ≡ false
 

@@ -1,11 +1,14 @@
 //! The first reads of a register that aren't safe or regular.
-ghost use Rattle.std.specs.Prelude.{◌≡◌, ◌≤◌, length, IfSome, Some};
+ghost use Rattle.std.specs.Prelude.{◌≡◌, ◌≤◌, length, IfOk, IfSome};
+ghost use Rattle.history_model.specs.Lamport.{HasSingleWriter, completed_reads};
+ghost use Rattle.history_model.specs.Operations.{register_of};
+ghost use Rattle.reg_lamport.specs.Reads.{IsReadList};
 ghost use Rattle.reg_pieces.specs.BadReads.{AreFirstBad, joint_reads, no_reads};
-ghost use Rattle.reg_pieces.specs.Plan.{IsListOf};
 
-use history_model::EvId;
+use history_model::{EvId, RegId};
 use reg_arena::Arena;
-use reg_lamport::{Level, ReadList, first_bad};
+use reg_lamport::{Level, ReadList, first_bad, reads};
+use std::alloc::{AllocError, Global};
 
 /// Of some reads of a register, the first that isn't safe, and the first that isn't regular.
 #[derive(Clone, Copy, Debug, PartialEq, Eq)]
@@ -37,7 +40,8 @@ impl BadReads {
 
     /// Of a register's reads numbered `from` up to and without `to`.
     pub fn among(arena: &Arena, list: &ReadList, from: usize, to: usize) -> BadReads
-        requires list { IsListOf arena.now list.now.register (Some list.now) }
+        requires list { IsReadList arena.now list.now }
+        requires writer { HasSingleWriter (register_of arena.now list.now.register) }
         requires part { (from ≤ to) × (to ≤ length list.now.entries) }
         ensures { AreFirstBad arena.now list.now.register from to result }
     {
@@ -47,15 +51,44 @@ impl BadReads {
         }
     }
 
-    /// Of a cut of a register's reads; none if they aren't listed.
-    pub(crate) fn of_cut(arena: &Arena, list: &Option<ReadList>, from: usize, to: usize) -> BadReads
-        requires list { IfSome list.now (λ l. IsListOf arena.now l.register (Some l)) }
-        requires part { IfSome list.now (λ l. (from ≤ to) × (to ≤ length l.entries)) }
-        ensures { IfSome list.now (λ l. AreFirstBad arena.now l.register from to result) }
+    /// Of a register's reads numbered `from` up to and without `to`, which are listed unless the list
+    /// that is kept is theirs. Their list is kept then.
+    pub(crate) fn of_cut(
+        alloc: Global,
+        arena: &Arena,
+        register: RegId,
+        from: usize,
+        to: usize,
+        kept: &mut Option<ReadList>,
+    ) -> Result<BadReads, AllocError>
+        requires writer { HasSingleWriter (register_of arena.now register.0) }
+        requires part { (from ≤ to) × (to ≤ length (completed_reads (register_of arena.now register.0))) }
+        requires kept { IfSome kept.old (IsReadList arena.now) }
+        ensures bad { IfOk result (AreFirstBad arena.now register.0 from to) }
+        ensures kept { IfSome kept.new (IsReadList arena.now) }
     {
-        match list {
-            Some(list) => BadReads::among(arena, list, from, to),
-            None => BadReads::none(),
+        let list = list_of(alloc, arena, register, kept.take())?;
+        let bad = BadReads::among(arena, &list, from, to);
+        *kept = Some(list);
+        Ok(bad)
+    }
+}
+
+/// The completed reads of this register: the list that was kept if it is theirs. Another list is dropped
+/// before they are listed.
+fn list_of(
+    alloc: Global,
+    arena: &Arena,
+    register: RegId,
+    kept: Option<ReadList>,
+) -> Result<ReadList, AllocError>
+    requires { IfSome kept (IsReadList arena.now) }
+    ensures { IfOk result (λ list. (list.register ≡ register.0) × IsReadList arena.now list) }
+{
+    if let Some(list) = kept {
+        if list.register() == register {
+            return Ok(list);
         }
     }
+    reads(alloc, arena, register)
 }

@@ -1,5 +1,6 @@
 //! What is done for one piece of work.
-ghost use Rattle.std.specs.Prelude.{◌<◌, length, IfOk};
+ghost use Rattle.std.specs.Prelude.{◌<◌, length, IfOk, IfSome};
+ghost use Rattle.reg_lamport.specs.Reads.{IsReadList};
 ghost use Rattle.reg_pieces.specs.Plan.{IsPieceAt, IsSomePlan};
 
 use crate::bad_reads::BadReads;
@@ -7,6 +8,7 @@ use crate::judgement::{Judgement, judge};
 use crate::look::look_at;
 use crate::tasks::{Plan, Task};
 use reg_arena::Arena;
+use reg_lamport::ReadList;
 use std::alloc::{AllocError, Global};
 
 /// What is done for one piece of work.
@@ -22,22 +24,26 @@ pub enum Piece {
     Skipped,
 }
 
-/// Does the piece of this number, as if no lower register were known that isn't atomic.
+/// Does the piece of this number, as if no lower register were known that isn't atomic. The list of reads
+/// that a cut needs is kept.
 pub(crate) fn piece_at(
     alloc: Global,
     arena: &Arena,
     plan: &Plan,
     number: u64,
+    kept: &mut Option<ReadList>,
 ) -> Result<Piece, AllocError>
     requires plan { IsSomePlan arena.now plan.now }
     requires number { number < length plan.now.tasks }
-    ensures { IfOk result (IsPieceAt arena.now plan.now.tasks number) }
+    requires kept { IfSome kept.old (IsReadList arena.now) }
+    ensures piece { IfOk result (IsPieceAt arena.now plan.now.tasks number) }
+    ensures kept { IfSome kept.new (IsReadList arena.now) }
 {
     match plan.task(number) {
         Task::Judge(register) => Ok(Piece::Judged(judge(alloc, arena, register)?)),
         Task::Reads { register, from, to } => {
-            let list = plan.list(register);
-            Ok(Piece::Reads(BadReads::of_cut(arena, list, from, to)))
+            let bad = BadReads::of_cut(alloc, arena, register, from, to, kept)?;
+            Ok(Piece::Reads(bad))
         }
         Task::First(register) => {
             Ok(look_at(arena, register, u64::from(register.0)).into_piece())

@@ -2,94 +2,30 @@
 ghost use Rattle.std.specs.Prelude.{◌<◌, ◌≤◌, length, IfOk, OnOk};
 ghost use Rattle.history_text.specs.declared.limits.TheConstants.{MAX_EVENTS};
 ghost use Rattle.job_board.specs.declared.limits.TheConstants.{MAX_JOBS};
-ghost use Rattle.reg_pieces.specs.Plan.{AddsCuts, AreLists, AreRegisters, IsFirstPlan};
-ghost use Rattle.reg_pieces.specs.Plan.{IsListOf, IsPlan, IsPlanBy, IsSomePlan};
+ghost use Rattle.reg_lamport.specs.Counts.{AreReadCounts};
+ghost use Rattle.reg_pieces.specs.Plan.{AddsCuts, AreTasks, IsFirstPlan, IsPlan, IsPlanBy, IsSomePlan};
 
 use crate::settings::Settings;
 use crate::tasks::{Plan, Task};
 use history_model::RegId;
-use parallel::map_each;
 use reg_arena::Arena;
-use reg_lamport::{ReadList, reads, single_writer};
+use reg_lamport::{ReadCounts, read_counts};
 use std::alloc::{AllocError, Global};
-use std::thread::Threads;
 
-/// The completed reads of a register, if it has a single writer.
-///
-/// # Errors
-/// Out of memory; the arena is as before.
-pub fn list_of(
-    alloc: Global,
-    arena: &Arena,
-    register: RegId,
-) -> Result<Option<ReadList>, AllocError>
-    ensures { IfOk result (IsListOf arena.now register.0) }
-{
-    if single_writer(arena, register) {
-        Ok(Some(reads(alloc, arena, register)?))
-    } else {
-        Ok(None)
-    }
-}
-
-/// The completed reads of each register, by its number.
-fn lists(alloc: Global, arena: &Arena) -> Result<Vec<Option<ReadList>>, AllocError>
-    ensures { IfOk result (λ lists. AreLists arena.now lists.items) }
-{
-    let count = arena.register_count();
-    let mut lists = Vec::with_capacity(alloc, count as usize)?;
-    for number in 0..count {
-        lists.push(list_of(alloc, arena, RegId(number))?)?;
-    }
-    Ok(lists)
-}
-
-/// All registers, in order.
-fn registers(alloc: Global, arena: &Arena) -> Result<Vec<RegId>, AllocError>
-    ensures { IfOk result (λ registers. AreRegisters arena.now registers.items) }
-{
-    let count = arena.register_count();
-    let mut registers = Vec::with_capacity(alloc, count as usize)?;
-    for number in 0..count {
-        registers.push(RegId(number))?;
-    }
-    Ok(registers)
-}
-
-/// The same lists, made by several threads.
-fn lists_in_parts(
-    rt: &(impl Threads + Sync),
-    alloc: Global,
-    arena: &Arena,
-) -> Result<Vec<Option<ReadList>>, AllocError>
-    ensures { IfOk result (λ lists. AreLists arena.now lists.items) }
-{
-    let registers = registers(alloc, arena)?;
-    // A register may have many reads, so even one is worth a thread.
-    map_each(
-        rt,
-        alloc,
-        &registers,
-        1,
-        |register: &RegId| -> Result<Option<ReadList>, AllocError>
-            ensures { IfOk result (IsListOf arena.entry.now register.now.0) }
-        { list_of(alloc, arena, *register) },
-    )
-}
-
-/// Adds a task for each cut of a register's reads. A cut has `cut` reads, the last one perhaps fewer.
+/// Adds a task for each cut of a register's reads, by their count; none if several processes write the
+/// register. A cut has `cut` reads, the last one perhaps fewer.
 fn add_cuts(
     tasks: &mut Vec<Task>,
     register: RegId,
-    list: &Option<ReadList>,
+    count: Option<u32>,
     cut: u32,
 ) -> Result<(), AllocError>
     requires { 0 < cut }
-    ensures { OnOk result (AddsCuts cut register.0 list.now tasks.old.items tasks.new.items) }
+    ensures { OnOk result (AddsCuts cut register.0 count tasks.old.items tasks.new.items) }
 {
     let mut from = 0;
-    let len = match list {
-        Some(list) => list.len(),
+    let len = match count {
+        Some(count) => count as usize,
         None => 0,
     };
     while from < len {
@@ -100,35 +36,47 @@ fn add_cuts(
     Ok(())
 }
 
-/// A history has no more events than an arena takes. It does nothing.
-fn few_events(arena: &Arena)
-    ensures { length arena.now.events ≤ MAX_EVENTS }
-{
-    let _count = arena.event_count();
-}
-
-/// The pieces of work of a whole report, from the lists of reads.
-fn whole_plan(
+/// The tasks of a whole report: for each register its verdict, then the cuts of its reads.
+fn whole_tasks(
     alloc: Global,
     arena: &Arena,
-    lists: Vec<Option<ReadList>>,
+    counts: &ReadCounts,
     cut: u32,
-) -> Result<Plan, AllocError>
+) -> Result<Vec<Task>, AllocError>
     requires cut { 0 < cut }
-    requires lists { AreLists arena.now lists.items }
-    ensures { IfOk result (IsPlan arena.now cut) }
+    requires counts { AreReadCounts arena.now counts.now }
+    ensures { IfOk result (λ tasks. AreTasks cut 0 counts.now tasks.items) }
 {
-    few_events(arena);
     let count = arena.register_count();
     let mut tasks = Vec::with_capacity(alloc, count as usize)?;
     for number in 0..count {
         let register = RegId(number);
         tasks.push(Task::Judge(register))?;
-        add_cuts(&mut tasks, register, &lists[number as usize], cut)?;
+        add_cuts(&mut tasks, register, counts.of(register), cut)?;
     }
+    Ok(tasks)
+}
+
+/// A history has no more events, and no more registers, than an arena takes. It does nothing.
+fn few_events(arena: &Arena)
+    ensures events { length arena.now.events ≤ MAX_EVENTS }
+    ensures registers { length arena.now.names ≤ MAX_EVENTS }
+{
+    let _events = arena.event_count();
+    let _registers = arena.register_count();
+}
+
+/// The pieces of work of a whole report.
+fn whole_plan(alloc: Global, arena: &Arena, cut: u32) -> Result<Plan, AllocError>
+    requires { 0 < cut }
+    ensures { IfOk result (IsPlan arena.now cut) }
+{
+    few_events(arena);
+    let counts = read_counts(alloc, arena)?;
+    let tasks = whole_tasks(alloc, arena, &counts, cut)?;
     Ok(Plan {
         tasks,
-        lists,
+        counts,
         first: false,
     })
 }
@@ -144,12 +92,12 @@ fn first_plan(alloc: Global, arena: &Arena) -> Result<Plan, AllocError>
     }
     Ok(Plan {
         tasks,
-        lists: Vec::new(alloc),
+        counts: ReadCounts::none(alloc),
         first: true,
     })
 }
 
-/// The pieces of work of a history. It starts no thread.
+/// The pieces of work of a history.
 ///
 /// # Errors
 /// Out of memory; the arena is as before.
@@ -161,32 +109,6 @@ pub fn plan(alloc: Global, arena: &Arena, settings: Settings) -> Result<Plan, Al
     if settings.first() {
         first_plan(alloc, arena)
     } else {
-        whole_plan(alloc, arena, lists(alloc, arena)?, settings.cut())
-    }
-}
-
-/// The same pieces of work, with the reads of the registers listed by several threads.
-///
-/// # Errors
-/// Out of memory; the arena is as before.
-pub fn plan_in_parts<R: Threads + Sync>(
-    rt: &R,
-    alloc: Global,
-    arena: &Arena,
-    settings: Settings,
-) -> Result<Plan, AllocError>
-    ensures by { IfOk result (IsPlanBy arena.now settings.cut settings.first) }
-    ensures some { IfOk result (IsSomePlan arena.now) }
-    ensures few { IfOk result (λ plan. length plan.tasks ≤ MAX_JOBS) }
-{
-    if settings.first() {
-        first_plan(alloc, arena)
-    } else {
-        whole_plan(
-            alloc,
-            arena,
-            lists_in_parts(rt, alloc, arena)?,
-            settings.cut(),
-        )
+        whole_plan(alloc, arena, settings.cut())
     }
 }

@@ -3,7 +3,7 @@
 ghost use Rattle.std.specs.Prelude.{◌≡◌, ◌<◌, length, slice_get, Some};
 
 use history_model::RegId;
-use reg_lamport::ReadList;
+use reg_lamport::ReadCounts;
 use std::marker::Model;
 
 /// One piece of work.
@@ -21,12 +21,12 @@ pub enum Task {
     First(RegId),
 }
 
-/// The pieces of work of a history, with the completed reads of each register that has a single writer. If
-/// the first register that isn't atomic is all that is asked for, they have no reads.
+/// The pieces of work of a history, with the number of completed reads of each register that has a single
+/// writer. If the first register that isn't atomic is all that is asked for, no reads are counted.
 #[derive(Drop)]
 pub struct Plan {
     pub(crate) tasks: Vec<Task>,
-    pub(crate) lists: Vec<Option<ReadList>>,
+    pub(crate) counts: ReadCounts,
     pub(crate) first: bool,
 }
 
@@ -35,7 +35,7 @@ impl Model for Plan {
 
     ghost Value = { PlanShown };
 
-    ghost view = { λ p. record { tasks = p.tasks.items; lists = p.lists.items; first = p.first } };
+    ghost view = { λ p. record { tasks = p.tasks.items; counts = p.counts; first = p.first } };
 }
 
 impl Plan {
@@ -71,11 +71,11 @@ impl Plan {
         matches!(self.tasks.get(number), Some(Task::Reads { .. }))
     }
 
-    /// The completed reads of this register, if it has a single writer.
-    pub fn list(&self, register: RegId) -> &Option<ReadList>
-        requires { register.0 < length self.now.lists }
-        ensures { slice_get self.now.lists register.0 ≡ Some result.now }
+    /// How many completed reads this register has, if it has a single writer.
+    pub fn count(&self, register: RegId) -> Option<u32>
+        requires { register.0 < length self.now.counts }
+        ensures { slice_get self.now.counts register.0 ≡ Some result }
     {
-        &self.lists[register.0 as usize]
+        self.counts.of(register)
     }
 }

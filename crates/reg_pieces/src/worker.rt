@@ -1,7 +1,8 @@
 //! One worker: it draws pieces from a board and does them.
-ghost use Rattle.std.specs.Prelude.{◌≡◌, ◌<◌, ◌≤◌, length, IsErr, OnOk};
+ghost use Rattle.std.specs.Prelude.{◌≡◌, ◌<◌, ◌≤◌, length, IfSome, IsErr, OnOk};
 ghost use Rattle.job_board.specs.Numbers.{times};
 ghost use Rattle.job_board.specs.declared.limits.TheConstants.{MAX_JOBS};
+ghost use Rattle.reg_lamport.specs.Reads.{IsReadList};
 ghost use Rattle.reg_pieces.specs.Plan.{IsSomePlan};
 ghost use Rattle.reg_pieces.specs.Work.{AddsPiece, AddsRegister, HasWorked, IsSeatFor, KeepsSeat};
 
@@ -12,6 +13,7 @@ use crate::tasks::Plan;
 use history_model::RegId;
 use job_board::{Board, Seat};
 use reg_arena::Arena;
+use reg_lamport::ReadList;
 use std::alloc::{AllocError, Global};
 
 /// What a worker hands back.
@@ -25,20 +27,24 @@ pub struct Worked {
     pub refused: bool,
 }
 
-/// Does the piece of this number, and adds it to those that are done.
+/// Does the piece of this number, and adds it to those that are done. The list of reads that it needs is
+/// kept.
 fn do_piece(
     alloc: Global,
     arena: &Arena,
     plan: &Plan,
     number: u64,
+    kept: &mut Option<ReadList>,
     done: &mut Vec<(u64, Piece)>,
 ) -> Result<(), AllocError>
     requires plan { IsSomePlan arena.now plan.now }
     requires number { number < length plan.now.tasks }
+    requires kept { IfSome kept.old (IsReadList arena.now) }
     ensures ok { OnOk result (AddsPiece arena.now plan.now.tasks number done.old.items done.new.items) }
     ensures err { IsErr result → done.new.items ≡ done.old.items }
+    ensures kept { IfSome kept.new (IsReadList arena.now) }
 {
-    let piece = piece_at(alloc, arena, plan, number)?;
+    let piece = piece_at(alloc, arena, plan, number, kept)?;
     done.push((number, piece))?;
     Ok(())
 }
@@ -71,7 +77,8 @@ fn do_register(
 }
 
 /// One worker: it draws a piece, passes the gate with its number and does it, until no piece is left or
-/// memory runs out. It takes no right to start threads or to wait.
+/// memory runs out. It keeps the last list of reads that it made: numbers are drawn in rising order, so it
+/// lists the reads of a register once at most. It takes no right to start threads or to wait.
 pub fn work<G: Gate>(
     alloc: Global,
     arena: &Arena,
@@ -86,12 +93,13 @@ pub fn work<G: Gate>(
 {
     let mut done = Vec::new(alloc);
     let _room = done.reserve(plan.len() as usize);
+    let mut kept = None;
     while let Some(number) = board.draw(&mut seat) {
         gate.arrive(number);
         let added = if plan.is_first() {
             do_register(arena, board, &mut seat, number, &mut done)
         } else {
-            do_piece(alloc, arena, plan, number, &mut done)
+            do_piece(alloc, arena, plan, number, &mut kept, &mut done)
         };
         if added.is_err() {
             return Worked {

@@ -50,23 +50,32 @@ loop-number-preserved g c =
           let first = first-plan h plan c.requires.plan (sym c.is_first.ensures ∙ w.if-is_first.true) in
           let working =
           working-looked h plan given l.seat c.draw.new.seat n l.done.items call.new.done.items
-          l.invariant c.in-Some.ensures.board some.3 call.new.seat first (omega (
+          l.invariant.working c.in-Some.ensures.board some.3 call.new.seat first (omega (
             arith,
             some.1,
-            l.invariant.jobs,
+            l.invariant.working.jobs,
             c.requires.seat.jobs,
           )) call.ensures.seat added in
-          subst (λ (s : SeatValue). IsWorking h plan given s c.if-is_first.done.items) (sym w.seat-is)
-          (subst (λ (v : Vec (ℕ × Piece) Global). IsWorking h plan given call.new.seat v.items)
-          (sym w.done-is) working)
+          record {
+            working =
+                subst (λ (s : SeatValue). IsWorking h plan given s c.if-is_first.done.items) (sym w.seat-is)
+                (subst (λ (v : Vec (ℕ × Piece) Global). IsWorking h plan given call.new.seat v.items)
+                (sym w.done-is) working);
+            kept = rw w.kept-is l.invariant.kept;
+          }
       | else-is_first w ↦
           let call = w.do_piece-added in
           let added = on_success call.result call.ensures.ok (ap is_err (sym w.added-is) ∙ succeeded) in
           let whole = sym c.is_first.ensures ∙ w.if-is_first.false in
           let working =
-          working-done h plan given l.seat c.draw.new.seat n l.done.items call.new.done.items l.invariant
+          working-done h plan given l.seat c.draw.new.seat n l.done.items call.new.done.items
+          l.invariant.working
           c.in-Some.ensures.board some.3 (whole-plan h plan c.requires.plan whole) whole added in
-          subst (λ (s : SeatValue). IsWorking h plan given s c.if-is_first.done.items) (sym w.seat-is)
-          (subst (λ (v : Vec (ℕ × Piece) Global). IsWorking h plan given c.draw.new.seat v.items)
-          (sym w.done-is) working)
+          record {
+            working =
+                subst (λ (s : SeatValue). IsWorking h plan given s c.if-is_first.done.items) (sym w.seat-is)
+                (subst (λ (v : Vec (ℕ × Piece) Global). IsWorking h plan given c.draw.new.seat v.items)
+                (sym w.done-is) working);
+            kept = rw w.kept-is call.ensures.kept;
+          }
     ]
