@@ -5,10 +5,13 @@
 //! reader, by [`FromReader`], with every writer, by [`FromWriter`], and with memory, by [`MemSource`] and
 //! [`MemSink`], which give and take little at a time and fail if they are told to.
 //!
-//! Read it in this order: `ends`, the two traits; `adapters`; `mem_source` and `mem_sink`.
+//! [`deliver`] pushes all of some bytes, however few a sink takes at a time.
+//!
+//! Read it in this order: `ends`, the two traits; `delivery`; `adapters`; `mem_source` and `mem_sink`.
 #![tactic(auto)]
 
 mod adapters;
+mod delivery;
 mod ends;
 mod mem_sink;
 mod mem_source;
@@ -16,6 +19,7 @@ mod mem_source;
 mod tests;
 
 pub use adapters::{FromReader, FromWriter};
+pub use delivery::deliver;
 pub use ends::{IoFail, Sink, Source};
 pub use mem_sink::MemSink;
 pub use mem_source::MemSource;

@@ -10,9 +10,7 @@ ghost use Rattle.reg_pieces.specs.Work.{IsSeatFor};
 use crate::short::arena_of;
 use job_board::{Board, Seat};
 use reg_arena::Arena;
-use reg_pieces::{
-    Gate, Judgement, OpenGate, Piece, Plan, Settings, Worked, do_pieces, plan, plan_in_parts, work,
-};
+use reg_pieces::{Gate, Judgement, OpenGate, Piece, Plan, Settings, Worked, do_pieces, plan, work};
 use std::alloc::{AllocError, Global};
 use std::process::Abort;
 use std::sync::atomic::{AtomicU64, Ordering};
@@ -38,22 +36,14 @@ fn first_settings(workers: u32, cut: u32) -> Result<Settings, Fail> {
     Ok(Settings::new(workers, cut, true).ok_or("a number beyond its limit")?)
 }
 
-// How many pieces one thread finds by these settings.
+// How many pieces there are by these settings.
 fn count(alloc: Global, arena: &Arena, by: Settings) -> Result<u64, AllocError> {
     Ok(plan(alloc, arena, by)?.len())
 }
 
-// How many pieces there are in cuts of one read, if several threads list the reads.
-fn count_in_parts(rt: &(impl Threads + AllocGlobal + Sync), arena: &Arena) -> Result<u64, Fail> {
-    Ok(plan_in_parts(rt, rt.alloc(), arena, settings(1, 1)?)?.len())
-}
-
-// Each register has a piece, and with a single writer one for each cut of its reads, whoever lists them;
-// and one piece alone if only the first register that isn't atomic is asked for.
-fn expect_counts(
-    rt: &(impl Threads + AllocGlobal + Abort + Sync),
-    arena: &Arena,
-) -> Result<(), Fail> {
+// Each register has a piece, and with a single writer one for each cut of its reads; and one piece
+// alone if only the first register that isn't atomic is asked for.
+fn expect_counts(rt: &(impl AllocGlobal + Abort), arena: &Arena) -> Result<(), Fail> {
     for (cut, want) in [(1, 4), (2, 3), (4096, 3)] {
         assert_eq!(rt; count(rt.alloc(), arena, settings(1, cut)?)?, want, "{cut}");
         assert_eq!(rt;
@@ -62,7 +52,6 @@ fn expect_counts(
             "{cut}"
         );
     }
-    assert_eq!(rt; count_in_parts(rt, arena)?, 4);
     Ok(())
 }
 

@@ -141,9 +141,21 @@ slice_get_inside [] i l = absurd (omega arith)
 slice_get_inside (x ∷ xs) zero l = (x, refl)
 slice_get_inside (x ∷ xs) (suc i) l = slice_get_inside xs i (omega arith)
 
+-- what stands behind a list doesn't change what stands at a place of it
+pub slice_get-append : {X : Type 0} (xs ys : List X) (i : ℕ) → i < length xs
+    → slice_get (xs ++ ys) i ≡ slice_get xs i
+slice_get-append [] ys i l = absurd (omega arith)
+slice_get-append (x ∷ xs) ys zero l = refl
+slice_get-append (x ∷ xs) ys (suc i) l = slice_get-append xs ys i (omega arith)
+
+-- the element behind a list
+pub slice_get-behind : {X : Type 0} (xs : List X) (y : X) (ys : List X)
+    → slice_get (xs ++ y ∷ ys) (length xs) ≡ Some y
+slice_get-behind [] y ys = refl
+slice_get-behind (x ∷ xs) y ys = slice_get-behind xs y ys
+
 pub slice_get-push : {A : Type 0} (xs : List A) (y : A) → slice_get (xs ++ y ∷ []) (length xs) ≡ Some y
-slice_get-push [] y = refl
-slice_get-push (x ∷ xs) y = slice_get-push xs y
+slice_get-push xs y = slice_get-behind xs y []
 
 pub slice_get-push_other : {A : Type 0} (xs : List A) (y : A) (i : ℕ) → (i ≡ length xs → ⊥)
     → slice_get (xs ++ y ∷ []) i ≡ slice_get xs i

@@ -1,11 +1,12 @@
 -- The lines built so far, and one line more or all that are left.
 use Rattle.std.proofs.Common.{◌≡◌, ℕ, zero, suc, ◌+◌, ◌<◌, ◌≤◌, List, [], ◌∷◌, ◌++◌, length, take, slice_get}
-use Rattle.std.proofs.Common.{drop, Some, None, inl, inr, refl, sym, ap, subst, ◌∙◌, arith, option_and_then}
+use Rattle.std.proofs.Common.{drop, Some, None, inl, inr, sym, ap, subst, ◌∙◌, arith, option_and_then}
 use Rattle.std.specs.Prelude.{Result, Ok, Err, flat_map}
 use Rattle.std.specs.Result.{result_ok, IsErrAnd, IfErr}
 use Rattle.std.proofs.lemmas.Bool.{cases_order}
 use Rattle.std.proofs.lemmas.Grind.{flat_map-append}
-use Rattle.std.proofs.lemmas.List.{append_assoc, append-nil, flat_map_more, length-append, take_all}
+use Rattle.std.proofs.Math.Seq.{take-append_seam}
+use Rattle.std.proofs.lemmas.List.{append_assoc, append-nil, flat_map_more, length-append, take-append-le}
 use Rattle.std.proofs.lemmas.List.Elements.{filter_map-append}
 use Rattle.std.proofs.lemmas.Option.{slice_get_past}
 use Rattle.history_text.specs.declared.event.LineEvent.{LineEvent}
@@ -19,42 +20,25 @@ use Rattle.history_model.specs.declared.refusal.BuildError.{BuildError}
 use Rattle.history_model.specs.declared.refusal.BuildError.TheVariants.{Refused, Memory}
 use Rattle.history_model.specs.declared.refusal.LineRefusal.{LineRefusal}
 use Rattle.history_model.proofs.Accepted.{take-push}
+use Rattle.history_model.proofs.Lists.{slice_get-append, slice_get-behind}
 use Rattle.reg_arena.proofs.Step.{accepted-push}
 use Rattle.history_model.specs.declared.refusal.Reason.TheVariants.{Faulty}
-
--- what stands behind a list doesn't change what is taken of it
-take-front : {X : Type 0} (xs ys : List X) (n : ℕ) → n ≤ length xs → take n (xs ++ ys) ≡ take n xs
-take-front xs ys zero l = refl
-take-front [] ys (suc n) l = absurd (omega arith)
-take-front (x ∷ xs) ys (suc n) l = ap (λ zs. x ∷ zs) (take-front xs ys n (omega arith))
-
--- nor what stands at a place of it
-get-front : {X : Type 0} (xs ys : List X) (n : ℕ) → n < length xs → slice_get (xs ++ ys) n ≡ slice_get xs n
-get-front [] ys n l = absurd (omega arith)
-get-front (x ∷ xs) ys zero l = refl
-get-front (x ∷ xs) ys (suc n) l = get-front xs ys n (omega arith)
-
--- the element behind a list
-get-behind : {X : Type 0} (xs : List X) (y : X) (ys : List X) → slice_get (xs ++ y ∷ ys) (length xs) ≡ Some y
-get-behind [] y ys = refl
-get-behind (x ∷ xs) y ys = get-behind xs y ys
 
 -- the refusal at a place depends on nothing behind it
 refusal-front : (lines more : List Line) (i : ℕ) → i < length lines
     → refusal_at (lines ++ more) i ≡ refusal_at lines i
 refusal-front lines more i l =
     ap (λ front. option_and_then (line_refusal front) (slice_get (lines ++ more) i))
-    (take-front lines more i (omega (arith, l)))
-    ∙ ap (option_and_then (line_refusal (take i lines))) (get-front lines more i l)
+    (take-append-le i lines more (omega (arith, l)))
+    ∙ ap (option_and_then (line_refusal (take i lines))) (slice_get-append lines more i l)
 
 -- the refusal of the line behind some lines
 refusal-behind : (lines : List Line) (line : Line) (more : List Line)
     → refusal_at (lines ++ line ∷ more) (length lines) ≡ line_refusal lines line
 refusal-behind lines line more =
     ap (option_and_then (line_refusal (take (length lines) (lines ++ line ∷ more))))
-    (get-behind lines line more)
-    ∙ ap (λ front. line_refusal front line) (take-front lines (line ∷ more) (length lines) (omega arith)
-    ∙ take_all (length lines) lines (omega arith))
+    (slice_get-behind lines line more)
+    ∙ ap (λ front. line_refusal front line) (take-append_seam lines (line ∷ more))
 
 -- past the end there is none
 refusal-past : (lines : List Line) (i : ℕ) → length lines ≤ i → refusal_at lines i ≡ None

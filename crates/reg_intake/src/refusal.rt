@@ -70,13 +70,7 @@ impl Refusal {
     pub fn is_of_input(&self) -> bool
         ensures { result ≡ is_of_input (number_of self.now) }
     {
-        Refusal::is_number_of_input(self.number())
-    }
-
-    /// Whether the refusal of this number is of the input: 1 to 15 or 19.
-    pub fn is_number_of_input(number: u8) -> bool
-        ensures { result ≡ is_of_input number }
-    {
+        let number = self.number();
         number <= 15 || number == 19
     }
 

@@ -4,7 +4,6 @@ use Rattle.std.proofs.Common.{drop-drop, slice_get, Option, Some, None, refl, sy
 use Rattle.std.proofs.Math.Seq.{drop-append_seam}
 use Rattle.std.proofs.lemmas.Option.{same_Some, slice_get_within}
 use Rattle.history_model.specs.History.{History}
-use Rattle.reg_lamport.specs.Reads.{ListedReads}
 use Rattle.reg_pieces.specs.Judged.{IsJudged}
 use Rattle.reg_report.specs.Cuts.{HasCutsOf, HasTasks, cuts_ahead}
 use Rattle.history_model.specs.Operations.{register_of}
@@ -23,10 +22,10 @@ there (x ∷ xs) zero l = (x, refl, refl)
 there (x ∷ xs) (suc i) l = there xs i (omega arith)
 
 -- a register's tasks begin with no cut
-no-cut-first : (cut r : ℕ) (lists : List (Option ListedReads)) (tasks : List Task)
-    → AreTasks cut r lists tasks → cuts_ahead tasks ≡ 0
+no-cut-first : (cut r : ℕ) (counts : List (Option ℕ)) (tasks : List Task)
+    → AreTasks cut r counts tasks → cuts_ahead tasks ≡ 0
 no-cut-first cut r [] tasks a = ap cuts_ahead a
-no-cut-first cut r (l ∷ lists) tasks a = ap cuts_ahead a.4
+no-cut-first cut r (c ∷ counts) tasks a = ap cuts_ahead a.4
 
 all-ahead : (cut r from len : ℕ) (cuts rest : List Task) → AreCuts cut r from len cuts → cuts_ahead rest ≡ 0
     → cuts_ahead (cuts ++ rest) ≡ length cuts
@@ -35,22 +34,22 @@ all-ahead cut r from len (u ∷ cuts) rest c z =
     ap (λ x. cuts_ahead (x ∷ cuts ++ rest)) c.1
     ∙ ap suc (all-ahead cut r (from + min (len - from) cut) len cuts rest c.2 z)
 
-cuts-counted : (cut r : ℕ) (list : Option ListedReads) (cuts rest : List Task) → AreCutsOf cut r list cuts
+cuts-counted : (cut r : ℕ) (count : Option ℕ) (cuts rest : List Task) → AreCutsOf cut r count cuts
     → cuts_ahead rest ≡ 0 → cuts_ahead (cuts ++ rest) ≡ length cuts
 cuts-counted cut r None cuts rest c z = ap (λ cs. cuts_ahead (cs ++ rest)) c ∙ (z ∙ sym (ap length c))
-cuts-counted cut r (Some list) cuts rest c z = all-ahead cut r 0 (length list.entries) cuts rest c z
+cuts-counted cut r (Some count) cuts rest c z = all-ahead cut r 0 count cuts rest c z
 
-module _ (h : History) (cut r start : ℕ) (plan : PlanShown) (inside : r < length plan.lists)
-    (a : AreTasks cut r (drop r plan.lists) (drop start plan.tasks)) where
-  list : (o : Option ListedReads) × (slice_get plan.lists r ≡ Some o)
-      × (drop r plan.lists ≡ o ∷ drop (r + 1) plan.lists)
-  list =
+module _ (h : History) (cut r start : ℕ) (plan : PlanShown) (inside : r < length plan.counts)
+    (a : AreTasks cut r (drop r plan.counts) (drop start plan.tasks)) where
+  counted : (o : Option ℕ) × (slice_get plan.counts r ≡ Some o)
+      × (drop r plan.counts ≡ o ∷ drop (r + 1) plan.counts)
+  counted =
       let k =
-      there plan.lists r inside in let z : suc r ≡ r + 1 =
-      omega arith in (k.0, k.1, k.2 ∙ ap (λ n. k.0 ∷ drop n plan.lists) z)
+      there plan.counts r inside in let z : suc r ≡ r + 1 =
+      omega arith in (k.0, k.1, k.2 ∙ ap (λ n. k.0 ∷ drop n plan.counts) z)
 
-  at : AreTasks cut r (list.0 ∷ drop (r + 1) plan.lists) (drop start plan.tasks)
-  at = subst (λ ls. AreTasks cut r ls (drop start plan.tasks)) list.2 a
+  at : AreTasks cut r (counted.0 ∷ drop (r + 1) plan.counts) (drop start plan.tasks)
+  at = subst (λ cs. AreTasks cut r cs (drop start plan.tasks)) counted.2 a
 
   head : (slice_get plan.tasks start ≡ Some (Judge (record { 0 = r })))
       × (drop (start + 1) plan.tasks ≡ at.0 ++ at.1)
@@ -75,23 +74,23 @@ module _ (h : History) (cut r start : ℕ) (plan : PlanShown) (inside : r < leng
 
   -- then come the cuts of its reads
   none-behind : cuts_ahead at.1 ≡ 0
-  none-behind = no-cut-first cut (suc r) (drop (r + 1) plan.lists) at.1 at.3
+  none-behind = no-cut-first cut (suc r) (drop (r + 1) plan.counts) at.1 at.3
 
   pub cuts-there : HasCutsOf r plan (drop (start + 1) plan.tasks)
-  cuts-there = (cut, list.0, at.0, at.1, list.1, at.2, head.1, none-behind)
+  cuts-there = (cut, counted.0, at.0, at.1, counted.1, at.2, head.1, none-behind)
 
   -- and then the next register's pieces
   pub next-there : (next : ℕ) → next ≡ start + 1 + cuts_ahead (drop (start + 1) plan.tasks)
       → HasTasks (r + 1) next plan
   next-there next l =
       let e : suc r ≡ r + 1 = omega arith in
-      let count = ap cuts_ahead head.1 ∙ cuts-counted cut r list.0 at.0 at.1 at.2 none-behind in
+      let count = ap cuts_ahead head.1 ∙ cuts-counted cut r counted.0 at.0 at.1 at.2 none-behind in
       let far : start + 1 + length at.0 ≡ next = omega (arith, l, count) in
       let behind : drop next plan.tasks ≡ at.1 =
       ap (λ n. drop n plan.tasks) (sym far)
       ∙ (sym (drop-drop (length at.0) (start + 1) plan.tasks)
       ∙ (ap (drop (length at.0)) head.1 ∙ drop-append_seam at.0 at.1)) in (
         cut,
-        subst (λ n. AreTasks cut n (drop (r + 1) plan.lists) (drop next plan.tasks)) e
-            (subst (AreTasks cut (suc r) (drop (r + 1) plan.lists)) (sym behind) at.3),
+        subst (λ n. AreTasks cut n (drop (r + 1) plan.counts) (drop next plan.tasks)) e
+            (subst (AreTasks cut (suc r) (drop (r + 1) plan.counts)) (sym behind) at.3),
       )

@@ -15,7 +15,7 @@ use Rattle.reg_report.specs.declared.report.RegReport.{RegReport}
 use Rattle.reg_report.specs.declared.report.Report.{Report}
 use Rattle.reg_report.proofs.Found.{lines-of}
 use Rattle.reg_report.proofs.Joined.{lines-append}
-use Rattle.reg_report.proofs.Pushing.{bytes-of}
+use Rattle.byte_ends.proofs.Pushing.{bytes-of}
 
 module _ (h : History) where
   abbrev Fits : Finding → RegReport → Type 0

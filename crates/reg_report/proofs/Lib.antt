@@ -22,7 +22,6 @@ mod SummaryText
 mod OneReport
 mod Cutting
 mod Assembly
-mod ListedLevels
+mod CountedReads
 mod FoundLines
-mod Pushing
 mod Answering

@@ -9,7 +9,7 @@ use Rattle.serde_json.specs.Written.{compact_text, items_text}
 use Rattle.reg_report.specs.SummaryText.{yes_or_no_text, beginning_text, end_text, numbers_text}
 use Rattle.reg_report.specs.Text.{items_of, line_text, number_json, summary_json, yes_or_no}
 use Rattle.reg_report.specs.declared.report.Report.{Report}
-use Rattle.reg_report.proofs.Pushing.{bytes-of}
+use Rattle.byte_ends.proofs.Pushing.{bytes-of}
 
 -- ---- the text in three parts
 

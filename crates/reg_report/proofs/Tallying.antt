@@ -1,29 +1,27 @@
 -- Counts of each register's calls, in a pass over the events: what was counted, and
 -- what is left, are all calls of the register.
-use Rattle.std.proofs.Common.{◌≡◌, ℕ, zero, ◌+◌, ◌<◌, ◌≤◌, cond, Bool, true, false, not, List}
-use Rattle.std.proofs.Common.{◌∷◌, length, drop, set, replicate, is_none, slice_get, Some, None}
-use Rattle.std.proofs.Common.{◌⊎◌, inl, inr, refl, sym, ap, subst, ◌∙◌, arith, suc, ◌==◌}
+use Rattle.std.proofs.Common.{◌≡◌, ℕ, ◌+◌, ◌<◌, ◌≤◌, cond, Bool, true, false, not, List}
+use Rattle.std.proofs.Common.{◌∷◌, length, set, replicate, is_none, slice_get, Some, None}
+use Rattle.std.proofs.Common.{◌⊎◌, inl, inr, refl, sym, ap, subst, ◌∙◌, arith, ◌==◌}
 use Rattle.std.specs.List.{count_by}
 use Rattle.std.proofs.lemmas.Bool.{eq-eqb, ne_eqb, cases_eq}
-use Rattle.std.proofs.lemmas.List.{length-set, length-replicate, drop_all}
+use Rattle.std.proofs.lemmas.List.{length-set, length-replicate}
 use Rattle.std.proofs.lemmas.List.Sums.{sum_by-cons, length-filter, count_by-le-length}
 use Rattle.history_text.specs.declared.limits.TheConstants.{MAX_EVENTS}
 use Rattle.history_model.specs.History.{History}
-use Rattle.history_model.specs.Operations.{Operation, calls_from, calls, of_register, is_write, writes}
+use Rattle.history_model.specs.Operations.{Operation, calls, is_write, writes}
 use Rattle.history_model.specs.Naming.{IsNamed, begins_at, op_shown}
 use Rattle.history_model.specs.Walking.{called_at}
-use Rattle.history_model.proofs.Walking.{drop-at, named-is-called, calls-few}
+use Rattle.history_model.proofs.Walking.{named-is-called, calls-few}
 use Rattle.history_model.specs.declared.ids.Oper.TheVariants.{Called}
 use Rattle.history_model.specs.declared.event.Event.{Event}
 use Rattle.history_model.specs.declared.op.Op.{Op}
+use Rattle.reg_lamport.proofs.CountedEvents.{all-alike}
+use Rattle.reg_lamport.proofs.InOrder.{calls_left, left-call, left-none, left-other}
 use Rattle.reg_report.specs.Meaning.{calls_of, is_pending}
 use Rattle.reg_report.specs.Tally.{AreTallies, HasRoom, IsTally, counted, no_calls}
 use Rattle.reg_report.specs.declared.tally.Tally.{Tally}
 use Rattle.history_model.proofs.Lists.{slice_get-set, slice_get-set_other, slice_get_inside}
-
--- the calls of register r from place n on
-abbrev pub calls_left : History → ℕ → ℕ → List Operation
-calls_left h r n = of_register r (calls_from (length h.events + 2) (n + 2) (drop n h.events))
 
 -- what was counted of a register's calls before place n
 pub record IsCounting (h : History) (r n : ℕ) (t : Tally) : Type 0 where
@@ -42,11 +40,6 @@ pub record AreCounting (h : History) (n : ℕ) (ts : List Tally) : Type 0 where
 none-yet : (h : History) (r : ℕ) → IsCounting h r 0 no_calls
 none-yet h r = record { write = omega arith; read = omega arith; open_calls = omega arith }
 
-pub all-alike : {X : Type 0} (n : ℕ) (x : X) (i : ℕ) (y : X) → slice_get (replicate n x) i ≡ Some y → y ≡ x
-all-alike zero x i y q = absurd (cc (q))
-all-alike (suc n) x zero y q = cc (q)
-all-alike (suc n) x (suc i) y q = all-alike n x i y q
-
 pub counting-begins : (h : History) (ts : List Tally) (n : ℕ) → ts ≡ replicate n no_calls → n ≡ length h.names
     → AreCounting h 0 ts
 counting-begins h ts n q few = record {
@@ -57,38 +50,6 @@ counting-begins h ts n q few = record {
 }
 
 -- ---- it goes on
-
-left-at : (h : History) (r n : ℕ) (e : Event) → slice_get h.events n ≡ Some e
-    → calls_left h r n
-    ≡ of_register r
-    (cond (begins_at h.events n e)
-    (called_at h.events n e ∷ calls_from (length h.events + 2) (n + 1 + 2) (drop (n + 1) h.events))
-    (calls_from (length h.events + 2) (n + 1 + 2) (drop (n + 1) h.events)))
-left-at h r n e at =
-    let es = h.events in
-    let t : suc (n + 2) ≡ n + 1 + 2 = omega arith in
-    let u : suc n ≡ n + 1 = omega arith in
-    ap (λ xs. of_register r (calls_from (length es + 2) (n + 2) xs)) (drop-at es n e at)
-    ∙ (ap (λ m. of_register r
-    (cond (begins_at es n e) (called_at es n e ∷ calls_from (length es + 2) m (drop (suc n) es))
-    (calls_from (length es + 2) m (drop (suc n) es)))) t
-    ∙ ap (λ m. of_register r
-    (cond (begins_at es n e) (called_at es n e ∷ calls_from (length es + 2) (n + 1 + 2) (drop m es))
-    (calls_from (length es + 2) (n + 1 + 2) (drop m es)))) u)
-
-left-other : (h : History) (r n : ℕ) (e : Event) → slice_get h.events n ≡ Some e
-    → begins_at h.events n e ≡ false → calls_left h r n ≡ calls_left h r (n + 1)
-left-other h r n e at other =
-    let xs = calls_from (length h.events + 2) (n + 1 + 2) (drop (n + 1) h.events) in
-    left-at h r n e at ∙ ap (λ b. of_register r (cond b (called_at h.events n e ∷ xs) xs)) other
-
-left-call : (h : History) (r n : ℕ) (e : Event) → slice_get h.events n ≡ Some e
-    → begins_at h.events n e ≡ true
-    → calls_left h r n ≡ cond ((called_at h.events n e).register == r)
-    (called_at h.events n e ∷ calls_left h r (n + 1)) (calls_left h r (n + 1))
-left-call h r n e at call =
-    let xs = calls_from (length h.events + 2) (n + 1 + 2) (drop (n + 1) h.events) in
-    left-at h r n e at ∙ ap (λ b. of_register r (cond b (called_at h.events n e ∷ xs) xs)) call
 
 -- an event that adds nothing to a register
 skip : (h : History) (r n : ℕ) (t : Tally) → calls_left h r n ≡ calls_left h r (n + 1) → IsCounting h r n t
@@ -199,9 +160,7 @@ pub counting-ends : (h : History) (n : ℕ) (ts : List Tally) → length h.event
 counting-ends h n ts l c = record { count = c.count; each = λ r t q. ends r t (c.each r t q) }
   where
     nothing : (p : Operation → Bool) (r : ℕ) → count_by p (calls_left h r n) ≡ 0
-    nothing p r =
-        ap (λ xs. count_by p (of_register r (calls_from (length h.events + 2) (n + 2) xs)))
-        (drop_all n h.events l)
+    nothing p r = ap (count_by p) (left-none h r n l)
 
     ends : (r : ℕ) (t : Tally) → IsCounting h r n t → IsTally (calls_of h r) t
     ends r t c = record {

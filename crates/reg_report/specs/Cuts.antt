@@ -1,6 +1,5 @@
 -- Where the cuts of a register's reads stand among the tasks.
 use Rattle.std.specs.Prelude.{◌≡◌, ℕ, suc, List, [], ◌∷◌, ◌++◌, drop, slice_get, Option, Some}
-use Rattle.reg_lamport.specs.Reads.{ListedReads}
 use Rattle.reg_pieces.specs.Plan.{AreCuts, AreCutsOf, AreTasks, PlanShown}
 use Rattle.reg_pieces.specs.declared.tasks.Task.{Task}
 use Rattle.reg_pieces.specs.declared.tasks.Task.TheVariants.{Judge, Reads, First}
@@ -18,13 +17,13 @@ HasCuts r len tasks =
     (cut : ℕ) × (cuts : List Task) × (rest : List Task) × AreCuts cut r 0 len cuts × (tasks ≡ cuts ++ rest)
     × (cuts_ahead rest ≡ 0)
 
--- the same of the list that the plan has of register r
+-- the same by the count that the plan has of register r
 abbrev pub HasCutsOf : ℕ → PlanShown → List Task → Type 0
 HasCutsOf r plan tasks =
-    (cut : ℕ) × (list : Option ListedReads) × (cuts : List Task) × (rest : List Task)
-    × (slice_get plan.lists r ≡ Some list) × AreCutsOf cut r list cuts × (tasks ≡ cuts ++ rest)
+    (cut : ℕ) × (count : Option ℕ) × (cuts : List Task) × (rest : List Task)
+    × (slice_get plan.counts r ≡ Some count) × AreCutsOf cut r count cuts × (tasks ≡ cuts ++ rest)
     × (cuts_ahead rest ≡ 0)
 
 -- from number `start` on the plan has the tasks of the registers from r on
 abbrev pub HasTasks : ℕ → ℕ → PlanShown → Type 0
-HasTasks r start plan = (cut : ℕ) × AreTasks cut r (drop r plan.lists) (drop start plan.tasks)
+HasTasks r start plan = (cut : ℕ) × AreTasks cut r (drop r plan.counts) (drop start plan.tasks)

@@ -14,6 +14,5 @@ pub mod Registers
 pub mod Answer
 pub mod ReportText
 pub mod SummaryText
-pub mod Ends
 pub mod Run
 pub mod Cuts

@@ -7,7 +7,7 @@ use Rattle.history_model.specs.Legal.{IsAtomic}
 use Rattle.history_model.specs.Operations.{operations}
 use Rattle.history_model.specs.Refusals.{events_of}
 use Rattle.reg_intake.specs.Ends.{IsAll}
-use Rattle.reg_report.specs.Ends.{AppendsBeginning}
+use Rattle.byte_ends.specs.Ends.{AppendsBeginning}
 use Rattle.reg_report.specs.Answer.{IsAnswer, IsAnswerText}
 use Rattle.reg_report.specs.declared.outcome.Outcome.{Outcome}
 use Rattle.reg_report.specs.declared.outcome.Outcome.TheVariants.{Atomic, NotAtomic}

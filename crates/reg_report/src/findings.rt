@@ -15,7 +15,7 @@ use crate::tally::{CallCounts, Tally, count_calls};
 use history_model::RegId;
 use parallel::both;
 use reg_arena::Arena;
-use reg_pieces::{Gate, Judgement, Pieces, Plan, Settings, do_pieces, plan_in_parts};
+use reg_pieces::{Gate, Judgement, Pieces, Plan, Settings, do_pieces, plan};
 use std::alloc::{AllocError, Global};
 use std::thread::Threads;
 
@@ -95,7 +95,7 @@ pub(crate) fn find<R: Threads + Sync, G: Gate + Sync>(
     ensures { IfOk result (λ found. AreFindings arena.now found.0.items
         × (found.1 ≡ length (calls arena.now.events))) }
 {
-    let plan = plan_in_parts(rt, alloc, arena, settings)?;
+    let plan = plan(alloc, arena, settings)?;
     let (counts, pieces) = both(
         rt,
         || -> Result<CallCounts, AllocError>

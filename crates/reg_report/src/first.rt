@@ -13,7 +13,7 @@ use crate::report::{RegReport, Report};
 use crate::tally::{Tally, count_calls};
 use history_model::RegId;
 use reg_arena::Arena;
-use reg_pieces::{Gate, Settings, first_faulty, plan_in_parts};
+use reg_pieces::{Gate, Settings, first_faulty, plan};
 use std::alloc::{AllocError, Global};
 use std::thread::Threads;
 
@@ -81,7 +81,7 @@ pub(crate) fn report_of_first<R: Threads + Sync, G: Gate + Sync>(
     requires { settings.first ≡ true }
     ensures { IfOk result (IsFirstReport arena.now) }
 {
-    let plan = plan_in_parts(rt, alloc, arena, settings)?;
+    let plan = plan(alloc, arena, settings)?;
     let found = first_faulty(rt, alloc, arena, &plan, settings, gate)?;
     report_of_found(alloc, arena, found)
 }

@@ -18,7 +18,7 @@
 //! is all that is asked for, `first` has `reg_pieces` look for it. `register` makes the line of one
 //! register, with `fault_lines` and `order_lines`, and `merged_order` the order of all, with `by_point`;
 //! `merged_lines` finds that order's lines by several threads. Then come `report` with `lists`, `send` and
-//! `bytes`, and `output`, `outcome` and `whole` at last. `wording` says why there is no report, and
+//! `bytes`, and `outcome` and `whole` at last. `wording` says why there is no report, and
 //! `arena_laws` which laws the arena's history obeys.
 #![tactic(auto)]
 
@@ -39,7 +39,6 @@ mod merged_lines;
 mod merged_order;
 mod order_lines;
 mod outcome;
-mod output;
 mod register;
 mod report;
 mod report_text;

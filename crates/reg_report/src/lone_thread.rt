@@ -1,28 +1,29 @@
 //! What is found of all registers by one thread, which takes one register after another.
-ghost use Rattle.std.specs.Prelude.{◌≡◌, ◌<◌, length, Some, IfOk};
+ghost use Rattle.std.specs.Prelude.{◌≡◌, ◌<◌, length, IfOk};
 ghost use Rattle.history_model.specs.Operations.{calls, register_of};
 ghost use Rattle.reg_report.specs.Levels.{AreLevels};
 ghost use Rattle.reg_report.specs.Registers.{AreFindings, IsFinding};
 ghost use Rattle.reg_report.specs.Tally.{AreTallies};
 
 use crate::findings::Finding;
-use crate::levels::{Levels, listed_levels, several_writers};
+use crate::levels::{Levels, levels_by, several_writers};
 use crate::tally::{CallCounts, Tally, count_calls};
 use history_model::RegId;
 use reg_arena::Arena;
-use reg_pieces::{BadReads, judge, list_of};
+use reg_lamport::{reads, single_writer};
+use reg_pieces::{BadReads, judge};
 use std::alloc::{AllocError, Global};
 
 /// Both levels of a register, from all its reads.
 fn whole_levels(alloc: Global, arena: &Arena, register: RegId) -> Result<Levels, AllocError>
     ensures { IfOk result (AreLevels (register_of arena.now register.0)) }
 {
-    match list_of(alloc, arena, register)? {
-        Some(list) => {
-            let first = BadReads::among(arena, &list, 0, list.len());
-            Ok(listed_levels(arena, &list, first))
-        }
-        None => Ok(several_writers()),
+    if single_writer(arena, register) {
+        let list = reads(alloc, arena, register)?;
+        let first = BadReads::among(arena, &list, 0, list.len());
+        Ok(levels_by(arena, register, first))
+    } else {
+        Ok(several_writers())
     }
 }
 

@@ -1,5 +1,5 @@
-//! A refusal as one line for a person. The words stand beside each reason: in history_text's `fault.rt`, in
-//! history_model's `refusal.rt`, and in `refusal.rt` here.
+//! A refusal as one line for a person. The words stand beside each reason: in `fault.rt` of
+//! `history_text`, in `refusal.rt` of `history_model`, and in `refusal.rt` of `reg_intake`.
 use reg_intake::Refusal;
 use std::alloc::{AllocError, Global};
 

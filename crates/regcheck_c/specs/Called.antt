@@ -1,9 +1,9 @@
 -- What a call answers, and what it leaves in the place for the report (this
 -- project's own interface; docs/embedding.md).
 use Rattle.std.specs.Prelude.{◌≡◌, ◌⊎◌, ◌++◌, ℕ, List, false, length, drop, nat_le}
-use Rattle.std.specs.Prelude.{◌==◌, ◌||◌, if◌then◌else◌, Option, Some, None, Ok, Err}
+use Rattle.std.specs.Prelude.{if◌then◌else◌, Option, Some, None, Ok, Err}
 use Rattle.reg_report.specs.Answer.{IsAnswer, IsRefused}
-use Rattle.reg_intake.specs.Refusals.{number_of, line_of, other_of}
+use Rattle.reg_intake.specs.Refusals.{is_of_input, number_of, line_of, other_of}
 use Rattle.reg_report.specs.Run.{IsOutcome}
 use Rattle.reg_report.specs.Text.{report_text}
 use Rattle.reg_report.specs.declared.outcome.Outcome.TheVariants.{Atomic, NotAtomic}
@@ -37,7 +37,7 @@ line_or_0 None = 0
 
 -- the status of a refusal, as the program has it
 abbrev pub status_of_refusal : Refusal → ℕ
-status_of_refusal refusal = if nat_le (number_of refusal) 15 || number_of refusal == 19 then 2 else 4
+status_of_refusal refusal = if is_of_input (number_of refusal) then 2 else 4
 
 -- what is said of a refusal
 abbrev pub answer_of_refusal : Refusal → Answer

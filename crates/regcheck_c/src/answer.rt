@@ -27,14 +27,13 @@ pub struct Answer {
 pub(crate) fn refused(refusal: &Refusal) -> Answer
     ensures { result ≡ answer_of_refusal refusal.now }
 {
-    let number = refusal.number();
     Answer {
-        status: if number <= 15 || number == 19 {
+        status: if refusal.is_of_input() {
             REFUSED
         } else {
             NO_MEMORY
         },
-        number: u32::from(number),
+        number: u32::from(refusal.number()),
         line: refusal.line().unwrap_or(0),
         other: refusal.other().unwrap_or(0),
         length: 0,

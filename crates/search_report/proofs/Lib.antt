@@ -1,4 +1,3 @@
-pub mod Pushing
 pub mod Placing
 pub mod Told
 pub mod Findings

@@ -1,5 +1,4 @@
 pub mod Meaning
 pub mod Answer
 pub mod Registers
-pub mod Ends
 pub mod Run

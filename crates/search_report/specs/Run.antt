@@ -8,7 +8,7 @@ use Rattle.search_intake.specs.declared.refusal.Refusal.{Refusal}
 use Rattle.search_intake.specs.declared.refusal.Refusal.TheVariants.{At, TooLong, InputFailed}
 use Rattle.search_intake.specs.declared.refusal.Refusal.TheVariants.{NoRoom, OutputFailed}
 use Rattle.search_report.specs.Answer.{IsAnswer, IsAnswerText}
-use Rattle.search_report.specs.Ends.{AppendsBeginning}
+use Rattle.byte_ends.specs.Ends.{AppendsBeginning}
 use Rattle.search_report.specs.Meaning.{IsWholeAnswer}
 use Rattle.search_text.specs.declared.report.Answer.{Answer}
 

@@ -13,13 +13,12 @@
 //! calling thread alone, and [`text`] their bytes.
 //!
 //! Read it in this order: `settings`; `lines`, `counts` and `register`, the line of one register;
-//! `registers`, those of all, shared among workers or by one thread; `history`, the report; `delivery` and
-//! `whole`, from source to sink; `alone`, from bytes to the report; `wording`, why there is no report.
+//! `registers`, those of all, shared among workers or by one thread; `history`, the report; `whole`,
+//! from source to sink; `alone`, from bytes to the report; `wording`, why there is no report.
 #![tactic(auto)]
 
 mod alone;
 mod counts;
-mod delivery;
 mod history;
 mod lines;
 mod register;

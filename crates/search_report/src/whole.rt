@@ -7,10 +7,9 @@ ghost use Rattle.search_intake.specs.Input.{IsRefusedOf};
 ghost use Rattle.search_report.specs.Answer.{IsAnswerText};
 ghost use Rattle.search_report.specs.Run.{IsOfInput, IsRefusedWhole, Reports, ReportsBeginning, TellsAtomic};
 
-use crate::delivery::deliver;
 use crate::history::report;
 use crate::settings::Settings;
-use byte_ends::{Sink, Source};
+use byte_ends::{Sink, Source, deliver};
 use search_intake::{Refusal, history_of};
 use search_text::{Answer, text};
 use std::alloc::Global;
@@ -84,7 +83,7 @@ pub fn run<T: Threads + Sync, R: Source, W: Sink>(
     ensures nothing { IfErr result (λ refusal. refusal ≢ Refusal.OutputFailed → sink.new ≡ sink.old) }
 {
     let (bytes, answer) = answered(rt, alloc, source, settings)?;
-    match deliver(sink, &bytes) {
+    match deliver(sink, &[bytes]) {
         Ok(()) => Ok(answer),
         Err(_) => Err(Refusal::OutputFailed),
     }

@@ -6,14 +6,14 @@ use Rattle.reg_report.proofs.findings.register_pieces.Goals as goal
 pub take_judged-judged-requires : goal.take_judged-judged-requires
 take_judged-judged-requires c =
     judged-stands c.args.arena.now c.requires.tasks.0 c.args.register.0 c.args.start c.args.plan.now
-    (subst (λ n. c.args.register.0 < n) (sym c.requires.plan.1.registers) c.requires.register)
+    (subst (λ n. c.args.register.0 < n) (sym c.requires.plan.1.counts.registers) c.requires.register)
     c.requires.tasks.1 c.args.pieces.now c.requires.done
 
 pub overflow_add-start : goal.overflow_add-start
 overflow_add-start c =
     let inside =
     inside-tasks c.args.arena.now c.requires.tasks.0 c.args.register.0 c.args.start c.args.plan.now
-    (subst (λ n. c.args.register.0 < n) (sym c.requires.plan.1.registers) c.requires.register)
+    (subst (λ n. c.args.register.0 < n) (sym c.requires.plan.1.counts.registers) c.requires.register)
     c.requires.tasks.1 in
     omega (arith, inside, c.requires.plan.1.few)
 
@@ -25,20 +25,20 @@ levels_of-next-requires-clause-done c =
 pub levels_of-next-requires-clause-cuts : goal.levels_of-next-requires-clause-cuts
 levels_of-next-requires-clause-cuts c =
     cuts-there c.args.arena.now c.requires.tasks.0 c.args.register.0 c.args.start c.args.plan.now
-    (subst (λ n. c.args.register.0 < n) (sym c.requires.plan.1.registers) c.requires.register)
+    (subst (λ n. c.args.register.0 < n) (sym c.requires.plan.1.counts.registers) c.requires.register)
     c.requires.tasks.1
 
 pub returns-clause-judged : goal.returns-clause-judged
 returns-clause-judged c =
     judged-there c.args.arena.now c.requires.tasks.0 c.args.register.0 c.args.start c.args.plan.now
-    (subst (λ n. c.args.register.0 < n) (sym c.requires.plan.1.registers) c.requires.register)
+    (subst (λ n. c.args.register.0 < n) (sym c.requires.plan.1.counts.registers) c.requires.register)
     c.requires.tasks.1 c.args.pieces.now c.take_judged-judged.result c.requires.done
     c.take_judged-judged.ensures.judgement
 
 pub returns-clause-tasks : goal.returns-clause-tasks
 returns-clause-tasks c =
     next-there c.args.arena.now c.requires.tasks.0 c.args.register.0 c.args.start c.args.plan.now
-    (subst (λ n. c.args.register.0 < n) (sym c.requires.plan.1.registers) c.requires.register)
+    (subst (λ n. c.args.register.0 < n) (sym c.requires.plan.1.counts.registers) c.requires.register)
     c.requires.tasks.1 c.levels_of-next.result.1 c.levels_of-next.ensures.next
 
 pub returns-clause-done : goal.returns-clause-done

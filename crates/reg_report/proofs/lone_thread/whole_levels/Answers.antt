@@ -1,16 +1,15 @@
-use Rattle.std.proofs.Common.{subst}
-use Rattle.reg_pieces.specs.Plan.{IsListOf}
-use Rattle.reg_report.proofs.ListedLevels.{own-list}
+use Rattle.std.proofs.Common.{◌∙◌, length, subst}
+use Rattle.history_model.specs.Lamport.{completed_reads}
+use Rattle.history_model.specs.Operations.{register_of}
+use Rattle.reg_lamport.proofs.Cuts.{list-length}
+use Rattle.reg_pieces.specs.BadReads.{AreFirstBad}
 use Rattle.reg_report.proofs.lone_thread.whole_levels.Goals as goal
 
-pub among-first-requires-clause-list : goal.among-first-requires-clause-list
-among-first-requires-clause-list c =
+pub levels_by-requires-clause-first : goal.levels_by-requires-clause-first
+levels_by-requires-clause-first c =
     let h = c.args.arena.now in
-    own-list h c.args.register.0 c.in-Some.list
-    (subst (IsListOf h c.args.register.0) c.in-Some.is c.in_ok-list.ensures)
-
-pub listed_levels-requires-clause-list : goal.listed_levels-requires-clause-list
-listed_levels-requires-clause-list c =
-    let h = c.args.arena.now in
-    own-list h c.args.register.0 c.in-Some.list
-    (subst (IsListOf h c.args.register.0) c.in-Some.is c.in_ok-list.ensures)
+    let list = c.in_ok-list.list in
+    let first = c.among-first.result in
+    let all = list-length h list c.in_ok-list.ensures.1 in
+    subst (λ r. AreFirstBad h r 0 (length (completed_reads (register_of h r))) first) c.in_ok-list.ensures.0
+    (subst (λ n. AreFirstBad h list.register 0 n first) (c.len.ensures ∙ all) c.among-first.ensures)

@@ -5,7 +5,7 @@ use Rattle.reg_report.specs.Answer.{IsAnswerText}
 use Rattle.reg_report.specs.Run.{IsOutcome}
 use Rattle.reg_report.proofs.Answering.{answer-of-arena}
 use Rattle.reg_report.proofs.FoundLines.{told-outcome}
-use Rattle.reg_report.proofs.Pushing.{bytes-of}
+use Rattle.byte_ends.proofs.Pushing.{bytes-of}
 use Rattle.reg_report.proofs.whole.run.Goals as goal
 
 pub returns-in-Ok-clause-report : goal.returns-in-Ok-clause-report

@@ -1,7 +1,7 @@
 -- The bytes that were made are those that are out, or of which a beginning is.
-use Rattle.std.proofs.Common.{subst}
+use Rattle.std.proofs.Common.{subst, append-nil}
 use Rattle.std.specs.Io.KnownBytes.{Appends}
-use Rattle.search_report.specs.Ends.{AppendsBeginning}
+use Rattle.byte_ends.specs.Ends.{AppendsBeginning}
 use Rattle.search_report.proofs.whole.run.Goals as goal
 
 pub returns-in-Ok-clause-report : goal.returns-in-Ok-clause-report
@@ -12,7 +12,7 @@ returns-in-Ok-clause-report g c =
       c.in_ok-bytes.bytes.items,
       made.2,
       subst (Appends (g.W.Sink.taken c.args.sink.now) (g.W.Sink.taken c.deliver.new.sink))
-          c.deref.ensures.value c.in-Ok.ensures.ok,
+          (append-nil c.in_ok-bytes.bytes.items) c.in-Ok.ensures.ok,
     )
 
 pub returns-clause-beginning : goal.returns-clause-beginning
@@ -24,5 +24,5 @@ returns-clause-beginning g c = λ _.
       c.in_ok-bytes.answer,
       made.2,
       subst (AppendsBeginning (g.W.Sink.taken c.args.sink.now) (g.W.Sink.taken c.deliver.new.sink))
-          c.deref.ensures.value c.in-Err.ensures.err,
+          (append-nil c.in_ok-bytes.bytes.items) c.in-Err.ensures.err,
     )

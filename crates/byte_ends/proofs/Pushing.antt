@@ -8,7 +8,7 @@ use Rattle.std.proofs.lemmas.List.Concat.{flat_map-append}
 use Rattle.std.proofs.lemmas.List.Folds.{length-flat_map-take}
 use Rattle.std.specs.Io.KnownBytes.{Appends}
 use Rattle.std.proofs.KnownBytes.{Appends-trans}
-use Rattle.reg_report.specs.Ends.{AppendsBeginning}
+use Rattle.byte_ends.specs.Ends.{AppendsBeginning}
 
 -- a beginning of some bytes was taken, and then a beginning of the rest
 pub Appends-next : (a b c : Option (List ℕ)) (whole : List ℕ) (i n : ℕ) → i ≤ length whole

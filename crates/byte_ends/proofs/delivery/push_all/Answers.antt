@@ -1,7 +1,7 @@
 -- Each push takes the next of the bytes.
 use Rattle.std.proofs.Common.{ℕ, arith, length-drop, length-take, ◌∙◌}
-use Rattle.search_report.proofs.Pushing.{Appends-next}
-use Rattle.search_report.proofs.delivery.push_all.Goals as goal
+use Rattle.byte_ends.proofs.Pushing.{Appends-next}
+use Rattle.byte_ends.proofs.delivery.push_all.Goals as goal
 
 pub loop-at-preserved : goal.loop-at-preserved
 loop-at-preserved g c =

@@ -6,9 +6,9 @@ use Rattle.std.proofs.lemmas.List.{take_all}
 use Rattle.std.specs.Prelude.{OnErr}
 use Rattle.std.specs.Io.KnownBytes.{Appends}
 use Rattle.std.proofs.KnownBytes.{Appends-kept, Appends-nil}
-use Rattle.reg_report.specs.Ends.{AppendsBeginning}
-use Rattle.reg_report.proofs.Pushing.{Appends-part, Appends-beginning, bytes-of}
-use Rattle.reg_report.proofs.output.deliver.Goals as goal
+use Rattle.byte_ends.specs.Ends.{AppendsBeginning}
+use Rattle.byte_ends.proofs.Pushing.{Appends-part, Appends-beginning, bytes-of}
+use Rattle.byte_ends.proofs.delivery.deliver.Goals as goal
 
 on_err : {T E : Type 0} (P : Type 0) (r : Result T E) → P → OnErr r P
 on_err P (Ok x) p = tt

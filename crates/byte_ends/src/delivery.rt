@@ -1,10 +1,9 @@
-//! All the bytes of a report into a sink.
+//! All of some bytes into a sink.
 ghost use Rattle.std.specs.Prelude.{◌-◌, ◌^◌, ◌<◌, flat_map, OnOk, OnErr};
 ghost use Rattle.std.specs.Io.KnownBytes.{Appends};
-ghost use Rattle.byte_ends.specs.Ends.{Counts};
-ghost use Rattle.reg_report.specs.Ends.{AppendsBeginning};
+ghost use Rattle.byte_ends.specs.Ends.{AppendsBeginning, Counts};
 
-use byte_ends::{IoFail, Sink};
+use crate::ends::{IoFail, Sink};
 
 fn push_all<S: Sink>(sink: &mut S, bytes: &[u8]) -> Result<(), IoFail>
     requires { S.failed sink.old < 2 ^ 64 - 1 }

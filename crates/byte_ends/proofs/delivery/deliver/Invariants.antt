@@ -1,8 +1,8 @@
 -- The parts so far are out, and no push has failed.
 use Rattle.std.proofs.Common.{◌≡◌, take}
 use Rattle.std.specs.Io.KnownBytes.{Appends}
-use Rattle.reg_report.proofs.Pushing.{bytes-of}
-use Rattle.reg_report.proofs.output.deliver.Given as goal
+use Rattle.byte_ends.proofs.Pushing.{bytes-of}
+use Rattle.byte_ends.proofs.delivery.deliver.Given as goal
 
 abbrev pub invariant-loop-part : goal.invariant-loop-part
 invariant-loop-part g l = record {

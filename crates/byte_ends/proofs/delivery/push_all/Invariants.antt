@@ -1,7 +1,7 @@
 -- A beginning of the bytes is out, and no push has failed.
 use Rattle.std.proofs.Common.{◌≡◌, ◌-◌, ◌≤◌, length, take}
 use Rattle.std.specs.Io.KnownBytes.{Appends}
-use Rattle.reg_report.proofs.output.push_all.Given as goal
+use Rattle.byte_ends.proofs.delivery.push_all.Given as goal
 
 abbrev pub invariant-loop-at : goal.invariant-loop-at
 invariant-loop-at g l =
