@@ -1,5 +1,5 @@
 //! Whether a register is atomic, where the bounds allow an answer.
-ghost use Rattle.std.specs.Prelude.{IfOk, IfSome, ℕ};
+ghost use Rattle.std.specs.Prelude.{IfOk, IfSome, MatchOption, ℕ};
 ghost use Rattle.cas_search.specs.Timeline.{AreCalls, IsTimeline};
 ghost use Rattle.cas_search.specs.Verdicts.{IsBefore, IsRefuted, IsVerdict, RepliesAt};
 
@@ -93,9 +93,9 @@ pub fn legal_before(
     }
 }
 
-/// The time of the reply of the operation at a place.
+/// The time of the reply of the operation at a place; none if there is no operation or no reply.
 pub fn reply_time(ops: &[Operation], place: u32) -> Option<u32>
-    ensures { IfSome result (λ t. RepliesAt ops.now place t) }
+    ensures { MatchOption result ((t : ℕ) → RepliesAt ops.now place t → ⊥) (λ t. RepliesAt ops.now place t) }
 {
     match ops.get(place as usize) {
         Some(op) => op.reply,

@@ -1,15 +1,15 @@
 -- What is found of each register makes the lines of all registers.
-use Rattle.std.proofs.Common.{◌≡◌, ℕ, zero, suc, ◌+◌, ◌<◌, ◌≤◌, drop, List, [], ◌∷◌, ◌++◌, length}
+use Rattle.std.proofs.Common.{◌≡◌, ℕ, suc, ◌+◌, ◌<◌, drop, List, [], ◌∷◌, ◌++◌, length}
 use Rattle.std.proofs.Common.{slice_get, Some, Vec, Global, inl, inr, refl, sym, ap, subst, ◌∙◌, arith}
-use Rattle.std.specs.List.{AllZip}
 use Rattle.std.proofs.lemmas.Bool.{cases_eq, cases_lt}
 use Rattle.std.proofs.lemmas.List.{length_push}
 use Rattle.std.proofs.lemmas.Option.{same_Some, slice_get_within}
 use Rattle.history_model.proofs.Lists.{slice_get-push, slice_get-push_other, slice_get_inside}
 use Rattle.cas_model.specs.declared.operation.Operation.{Operation}
 use Rattle.cas_history.specs.declared.history.History.{History}
-use Rattle.search_report.specs.Registers.{AreFirstLines, IsFinding, IsLine}
+use Rattle.search_report.specs.Registers.{AreFindingsOf, AreFirstLines, IsFinding, IsLine}
 use Rattle.search_report.specs.declared.register.Finding.{Finding}
+use Rattle.search_report.proofs.OneMore.{first-left, none-left}
 use Rattle.search_text.specs.declared.report.RegisterReport.{RegisterReport}
 
 pub no-line : (h : History) → AreFirstLines h 0 []
@@ -42,26 +42,9 @@ one-line-more h n reports report name ops first named there line = record {
 
 -- ---- one register after another
 
-abbrev Go : History → List (Vec Operation Global) → List Finding → Type 0
-Go h registers findings =
-    AllZip (λ (ops : Vec Operation Global) finding. IsFinding h.lines.items ops.items finding) registers
-    findings
-
-first_of : (h : History) (n : ℕ) (registers : List (Vec Operation Global)) (finding : Finding)
-    (rest : List Finding) → Go h (drop n registers) (finding ∷ rest)
-    → (ops : Vec Operation Global) × (slice_get registers n ≡ Some ops)
-    × IsFinding h.lines.items ops.items finding × Go h (drop (suc n) registers) rest
-first_of h zero [] finding rest go = absurd go
-first_of h zero (ops ∷ registers) finding rest go = (ops, refl, go.0, go.1)
-first_of h (suc n) [] finding rest go = absurd go
-first_of h (suc n) (ops ∷ registers) finding rest go = first_of h n registers finding rest go
-
-none_of : (h : History) (n : ℕ) (registers : List (Vec Operation Global)) → Go h (drop n registers) []
-    → length registers ≤ n
-none_of h zero [] go = omega arith
-none_of h zero (ops ∷ registers) go = absurd go
-none_of h (suc n) [] go = omega arith
-none_of h (suc n) (ops ∷ registers) go = let l = none_of h n registers go in omega (arith, l)
+-- what is found of the registers from this one on
+abbrev AreLeft : History → ℕ → List Finding → Type 0
+AreLeft h n findings = AreFindingsOf h.lines.items (drop n h.registers.items) findings
 
 pub no-items : (xs : List Finding) → length xs ≡ 0 → xs ≡ []
 no-items [] e = refl
@@ -72,38 +55,38 @@ one_more n = omega arith
 
 module _ (h : History) (as_many : length h.registers.items ≡ length h.names.items) where
   pub has-name : (n : ℕ) (findings rest : List Finding) (finding : Finding)
-      → Go h (drop n h.registers.items) findings → findings ≡ finding ∷ rest → n < length h.names.items
+      → AreLeft h n findings → findings ≡ finding ∷ rest → n < length h.names.items
   has-name n findings rest finding go is =
-      let one = first_of h n h.registers.items finding rest (subst (Go h (drop n h.registers.items)) is go) in
+      let one = first-left h.lines.items n h.registers.items finding rest (subst (AreLeft h n) is go) in
       let l = slice_get_within h.registers.items n one.0 one.1 in
       omega (arith, l, as_many)
 
   pub next-line : (reports after : List RegisterReport) (findings rest : List Finding) (finding : Finding)
       (report : RegisterReport) (name : List ℕ)
-      → AreFirstLines h (length reports) reports → Go h (drop (length reports) h.registers.items) findings
+      → AreFirstLines h (length reports) reports → AreLeft h (length reports) findings
       → findings ≡ finding ∷ rest
       → slice_get h.names.items (length reports) ≡ Some name
       → ((lines : List ℕ) (ops : List Operation) → IsFinding lines ops finding → IsLine lines name ops report)
       → after ≡ reports ++ report ∷ [] → AreFirstLines h (length after) after
-      × Go h (drop (length after) h.registers.items) rest
+      × AreLeft h (length after) rest
   next-line reports after findings rest finding report name first go is named line grown =
       let n = length reports in
-      let one = first_of h n h.registers.items finding rest (subst (Go h (drop n h.registers.items)) is go) in
+      let one = first-left h.lines.items n h.registers.items finding rest (subst (AreLeft h n) is go) in
       let more =
       one-line-more h n reports report name one.0 first named one.1
       (line h.lines.items one.0.items one.2) in
       let size : length after ≡ n + 1 = ap length grown ∙ length_push reports report in (
         subst (λ k. AreFirstLines h k after) (sym size) (subst (AreFirstLines h (n + 1)) (sym grown) more),
-        subst (λ k. Go h (drop k h.registers.items) rest) (sym (size ∙ one_more n)) one.3,
+        subst (λ k. AreLeft h k rest) (sym (size ∙ one_more n)) one.3,
       )
 
   pub all-lines : (reports : List RegisterReport) (findings : List Finding)
-      → AreFirstLines h (length reports) reports → Go h (drop (length reports) h.registers.items) findings
+      → AreFirstLines h (length reports) reports → AreLeft h (length reports) findings
       → findings ≡ []
       → AreFirstLines h (length h.names.items) reports
   all-lines reports findings first go is =
       let n = length reports in
-      let most = none_of h n h.registers.items (subst (Go h (drop n h.registers.items)) is go) in
+      let most = none-left h.lines.items n h.registers.items (subst (AreLeft h n) is go) in
       elim (cases_lt (length h.names.items) n) [
         | inl more ↦
             let one = slice_get_inside reports (length h.names.items) more in

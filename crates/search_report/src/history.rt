@@ -7,8 +7,9 @@ ghost use Rattle.search_report.specs.Meaning.{IsReport, answer_of, is_no as is_n
 ghost use Rattle.search_report.specs.Meaning.{is_unknown as is_unknown_of};
 ghost use Rattle.search_report.specs.Registers.{AreFindings};
 
-use crate::register::Finding;
-use crate::registers::{findings, findings_alone, lines_of_registers};
+use crate::register::{Finding, is_unknown};
+use crate::registers::lines_of_registers;
+use crate::rounds::{findings, findings_alone};
 use crate::settings::Settings;
 use cas_history::History;
 use cas_search::Bounds;
@@ -20,12 +21,6 @@ fn is_no(atomicity: &Atomicity) -> bool
     ensures { result ≡ is_no_of atomicity.now }
 {
     matches!(atomicity, Atomicity::No(_))
-}
-
-fn is_unknown(atomicity: &Atomicity) -> bool
-    ensures { result ≡ is_unknown_of atomicity.now }
-{
-    matches!(atomicity, Atomicity::Unknown(_))
 }
 
 /// Whether some register isn't atomic.

@@ -13,8 +13,9 @@
 //! calling thread alone, and [`text`] their bytes.
 //!
 //! Read it in this order: `settings`; `lines`, `counts` and `register`, the line of one register;
-//! `registers`, those of all, shared among workers or by one thread; `history`, the report; `whole`,
-//! from source to sink; `alone`, from bytes to the report; `wording`, why there is no report.
+//! `rounds`, what is found of all, by workers that share them or by one thread; `registers`, the lines of all;
+//! `history`, the report; `whole`, from source to sink; `alone`, from bytes to the report; `wording`, why
+//! there is no report.
 #![tactic(auto)]
 
 mod alone;
@@ -23,6 +24,7 @@ mod history;
 mod lines;
 mod register;
 mod registers;
+mod rounds;
 mod settings;
 mod whole;
 mod wording;

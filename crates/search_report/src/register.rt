@@ -1,7 +1,7 @@
 //! What is found of one register.
 ghost use Rattle.std.specs.Prelude.{◌≡◌, ℕ, None, IfOk};
 ghost use Rattle.cas_history.specs.Timed.{AreTimedCalls};
-ghost use Rattle.search_report.specs.Meaning.{IsAtomicity, IsFaultShown};
+ghost use Rattle.search_report.specs.Meaning.{IsAtomicity, IsFaultShown, is_unknown as is_unknown_of};
 ghost use Rattle.search_report.specs.Registers.{AreLinesBefore, AreOpenLines, IsFinding, IsReplyLine};
 ghost use Rattle.cas_search.specs.Unwritten.{IsFirstUnwritten};
 ghost use Rattle.cas_search.specs.Verdicts.{IsVerdict};
@@ -22,6 +22,13 @@ pub(crate) struct Finding {
     pub(crate) pending: usize,
     pub(crate) reads: usize,
     pub(crate) writes: usize,
+}
+
+/// Whether the search gave up.
+pub(crate) fn is_unknown(atomicity: &Atomicity) -> bool
+    ensures { result ≡ is_unknown_of atomicity.now }
+{
+    matches!(atomicity, Atomicity::Unknown(_))
 }
 
 /// The line of the reply to the operation at this place.

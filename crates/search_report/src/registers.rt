@@ -1,69 +1,13 @@
-//! What is found of all registers, by workers that share them or by one thread, and their lines.
+//! The lines of all registers, of what is found of them.
 ghost use Rattle.std.specs.Prelude.{◌≡◌, ℕ, List, length, IfOk};
 ghost use Rattle.cas_model.specs.declared.operation.Operation.{Operation as AnOperation};
-ghost use Rattle.search_report.specs.Registers.{AreFindings, AreFindingsOf, AreFirstLines, IsFinding, IsLine};
+ghost use Rattle.search_report.specs.Registers.{AreFindings, AreFirstLines, IsFinding, IsLine};
 
-use crate::register::{Finding, found};
-use crate::settings::Settings;
+use crate::register::Finding;
 use cas_history::History;
-use cas_model::Operation;
-use cas_search::Bounds;
 use history_text::Name;
-use parallel::map_each;
 use search_text::RegisterReport;
 use std::alloc::{AllocError, Global};
-use std::thread::Threads;
-
-/// What is found of each register, in order, by workers that share the registers.
-pub(crate) fn findings(
-    rt: &(impl Threads + Sync),
-    alloc: Global,
-    history: &History,
-    settings: Settings,
-) -> Result<Vec<Finding>, AllocError>
-    ensures { IfOk result (λ found. AreFindings history.now found.items) }
-{
-    let lines = history.lines.as_slice();
-    let bounds = settings.bounds();
-    let registers = history.registers.as_slice();
-    let share = registers.len() / (settings.workers() as usize).max(1);
-    map_each(
-        rt,
-        alloc,
-        registers,
-        share,
-        |ops: &Vec<Operation>| -> Result<Finding, AllocError>
-            ensures { IfOk result (IsFinding lines.entry.now ops.now.items) }
-        { found(alloc, lines, ops, bounds) },
-    )
-}
-
-/// What is found of each register with these operations, in order, by this thread.
-fn found_of_each(
-    alloc: Global,
-    lines: &[u32],
-    registers: &[Vec<Operation>],
-    bounds: Bounds,
-) -> Result<Vec<Finding>, AllocError>
-    ensures { IfOk result (λ found. AreFindingsOf lines.now registers.now found.items) }
-{
-    let mut findings = Vec::new(alloc);
-    for ops in registers {
-        findings.push(found(alloc, lines, ops, bounds)?)?;
-    }
-    Ok(findings)
-}
-
-/// What is found of each register, in order, by this thread.
-pub(crate) fn findings_alone(
-    alloc: Global,
-    history: &History,
-    bounds: Bounds,
-) -> Result<Vec<Finding>, AllocError>
-    ensures { IfOk result (λ found. AreFindings history.now found.items) }
-{
-    found_of_each(alloc, &history.lines, &history.registers, bounds)
-}
 
 /// A register's line, of its name and what is found of it.
 fn named(alloc: Global, name: &Name, finding: Finding) -> Result<RegisterReport, AllocError>

@@ -1,4 +1,4 @@
-use Rattle.std.proofs.Common.{◌≡◌, ◌-◌, IfSome, subst, rules, ◌∙◌, ap}
+use Rattle.std.proofs.Common.{◌≡◌, ◌-◌, ℕ, MatchOption, subst, rules, ◌∙◌, ap}
 use Rattle.cas_model.specs.Cut.{cut_at}
 use Rattle.cas_search.specs.Verdicts.{RepliesAt}
 use Rattle.cas_search.proofs.Beginnings.{checked-before}
@@ -7,8 +7,8 @@ use Rattle.cas_search.proofs.verdict.legal_before.Goals as goal
 pub returns-in-Some-2 : goal.returns-in-Some-2
 returns-in-Some-2 c =
     let replies : RepliesAt c.args.ops.now c.args.reply c.in-Some.time =
-    subst (λ o. IfSome o (λ t. RepliesAt c.args.ops.now c.args.reply t)) c.in-Some.is
-    c.reply_time.ensures in
+    subst (λ o. MatchOption o ((t : ℕ) → RepliesAt c.args.ops.now c.args.reply t → ⊥)
+    (λ t. RepliesAt c.args.ops.now c.args.reply t)) c.in-Some.is c.reply_time.ensures in
     let known : c.deref.result.now ≡ cut_at (c.in-Some.time - 1) c.args.ops.now =
     c.deref.ensures.value ∙ (c.in_ok-known.ensures ∙ ap (λ t. cut_at t c.args.ops.now) (search rules)) in
     checked-before c.args.ops.now c.deref.result.now c.args.reply c.in-Some.time c.args.order.items

@@ -2,7 +2,7 @@ use Rattle.std.proofs.Common.{refl, subst, length}
 use Rattle.std.proofs.lemmas.Option.{slice_get_read}
 use Rattle.search_report.specs.Registers.{IsFinding}
 use Rattle.search_report.proofs.OneMore.{one-finding-more}
-use Rattle.search_report.proofs.registers.found_of_each.Goals as goal
+use Rattle.search_report.proofs.rounds.found_of_each.Goals as goal
 
 pub loop-ops-preserved : goal.loop-ops-preserved
 loop-ops-preserved c =

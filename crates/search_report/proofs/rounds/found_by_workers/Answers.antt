@@ -4,7 +4,7 @@ use Rattle.std.proofs.lemmas.Result.{IfOk-weaker}
 use Rattle.parallel.proofs.Callers.{all-given}
 use Rattle.cas_model.specs.declared.operation.Operation.{Operation}
 use Rattle.search_report.specs.Registers.{AreFindingsOf, IsFinding}
-use Rattle.search_report.proofs.registers.findings.Goals as goal
+use Rattle.search_report.proofs.rounds.found_by_workers.Goals as goal
 
 pub returns : goal.returns
 returns g c =
