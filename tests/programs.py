@@ -1,7 +1,8 @@
 """What differs between the two programs that tests run: regcheck, and regsearch, which knows cas
 and repeated values.
 
-A script is told the file of a program, and knows by its name which of the two it is."""
+A script is told the file of a program, and knows by its name which of the two it is. And how a program is
+kept on one processor."""
 import json
 import os
 import pathlib
@@ -24,6 +25,11 @@ class Program(NamedTuple):
         if not self.searches:
             return answer
         return status, "".join(map(of_regsearch, report.splitlines(keepends=True))), error
+
+
+def to_one_processor() -> None:
+    """Keeps this process, and those that it starts, on one processor."""
+    os.sched_setaffinity(0, {min(os.sched_getaffinity(0))})
 
 
 def program(path: str) -> Program:

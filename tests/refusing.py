@@ -7,6 +7,8 @@ import sys
 from concurrent.futures import ThreadPoolExecutor
 from typing import Callable, Iterator, Optional, Sequence, Set, Tuple, TypeVar, Union
 
+from programs import to_one_processor
+
 FOLDER = pathlib.Path(__file__).resolve().parent
 SECONDS = 60
 AT_ONCE = 4
@@ -23,10 +25,6 @@ def build(folder: str) -> str:
     subprocess.run([compiler, "-O2", "-shared", "-fPIC", "-o", library, FOLDER / "refuse_memory.c", "-ldl"],
                    check=True)
     return library
-
-
-def to_one_processor() -> None:
-    os.sched_setaffinity(0, {min(os.sched_getaffinity(0))})
 
 
 def run(library: str, command: Sequence[Union[str, "os.PathLike[str]"]], first: int = 0, last: int = 0,

@@ -42,7 +42,7 @@ impl MemSink {
     /// and fails at each flush if `flush_fails`.
     ///
     /// # Errors
-    /// `AllocError` if memory was refused.
+    /// `AllocError` if memory ran out.
     pub fn new(
         alloc: Global,
         room: usize,

@@ -3,7 +3,7 @@ use super::*;
 use std::io::{self, ErrorKind, Read, Write};
 use std::test::Fail;
 
-// Memory gives so many bytes at a pull, fails at the one that it was told, and loses none.
+// Memory gives as many bytes at a pull as it was told, fails at the pull that it was told, and loses none.
 #[test]
 fn memory_as_a_source(rt: HostRuntime) -> Result<(), Fail> {
     let mut source = MemSource::new("abcde".as_bytes(), 2, Some(2));
@@ -20,7 +20,7 @@ fn memory_as_a_source(rt: HostRuntime) -> Result<(), Fail> {
     Ok(())
 }
 
-// Memory takes so many bytes at a push, and fails once it is full.
+// Memory takes as many bytes at a push as it was told, and fails once it is full.
 #[test]
 fn memory_as_a_sink(rt: HostRuntime) -> Result<(), Fail> {
     let mut sink = MemSink::new(rt.alloc(), 3, 2, false)?;
@@ -178,7 +178,7 @@ fn failed_write(rt: HostRuntime) -> Result<(), Fail> {
     Ok(())
 }
 
-// Takes up to so many bytes at a write, and says whether a flush succeeds.
+// Takes at most a given number of bytes at a write, and says whether a flush succeeds.
 #[derive(Drop)]
 struct Limited {
     takes: usize,

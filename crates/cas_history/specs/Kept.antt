@@ -34,7 +34,7 @@ abbrev pub AreParted : List Operation → List (Vec Operation Global) → Type 0
 AreParted ops registers =
     (r : ℕ) (own : Vec Operation Global) → slice_get registers r ≡ Some own → own.items ≡ of_register r ops
 
--- each register has the operation behind those that it had, if it is its own
+-- each register has the operation after those that it had, if it is its own
 abbrev pub Adds : List (Vec Operation Global) → List (Vec Operation Global) → Operation → Type 0
 Adds old new a =
     (r : ℕ) (own : Vec Operation Global) → slice_get new r ≡ Some own

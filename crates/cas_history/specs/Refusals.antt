@@ -99,7 +99,7 @@ reply_without_ok last e = reply_failing (λ call reply. is_without_ok call.asked
 
 -- ---- the refusal of a line, and of a history
 
--- the reason of least number that applies to an event after so many
+-- the lowest-numbered reason that applies to an event after this many
 -- others, of which this is its process's last
 abbrev pub event_reason : ℕ → Option CasEvent → CasEvent → Option Reason
 event_reason count last e =
@@ -133,7 +133,7 @@ IsWellFormed lines = (i : ℕ) → refusal_at lines i ≡ None
 
 -- ---- what the calls of this crate answer
 
--- why an event isn't taken in behind others
+-- why an event isn't taken in after others
 abbrev pub IsTakeError : List CasEvent → CasEvent → BuildError → Type 0
 IsTakeError before e (Refused r) = event_refusal before e ≡ Some r
 IsTakeError before e Memory = Unit {0}

@@ -3,7 +3,7 @@ use Rattle.std.specs.Prelude.{◌≡◌, ℕ, ◌<◌, ◌≤◌, List, slice_ge
 use Rattle.history_model.specs.Lists.{In}
 use Rattle.cas_model.specs.declared.operation.Operation.{Operation}
 
--- They are of the register, stand by call behind the initial write, each ends after
+-- They are of the register, stand by call after the initial write, each ends after
 -- its call, and no two events share a time.
 pub record AreTimedCalls (r : ℕ) (ops : List Operation) : Type 0 where
   pub register : (a : Operation) → In a ops → a.register.0 ≡ r

@@ -13,9 +13,8 @@ use history_text::MAX_EVENTS;
 use std::alloc::{AllocError, Global};
 use std::collections::BTreeMap;
 
-/// The calls that didn't fail, the last first: the events are gone through from the last one back, so that
-/// the next
-/// event of each process is known.
+/// The calls that didn't fail, the last first. The events are gone through from the last one back, so the
+/// next event of each process is known.
 pub(crate) fn calls_backward(
     alloc: Global,
     events: &[CasEvent],

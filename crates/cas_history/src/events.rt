@@ -52,7 +52,7 @@ impl Events {
     /// Takes in one more event.
     ///
     /// # Errors
-    /// `Refused` if the event is refused behind the others, and `Memory`. The events are as they were then.
+    /// `Refused` if the event is refused after the others, and `Memory`. The events are as they were then.
     pub fn take(&mut self, event: CasEvent) -> Result<(), BuildError>
         ensures ok { OnOk result (self.new ≡ self.old ++ event ∷ []) }
         ensures accepted { OnOk result (event_refusal self.old event ≡ None) }

@@ -1,7 +1,7 @@
 //! From the events of lines to the operations of each register, or the refusal of the first faulty line: of
 //! histories with compare-and-swap (cas).
 //!
-//! What the floor above may rely on: [`Events::take`] takes an event in behind others, or gives its refusal,
+//! What the floor above may rely on: [`Events::take`] takes an event in after others, or gives its refusal,
 //! by exactly the rules of the format; [`Events::history`] gives the names of the registers, and of each the
 //! operations, with what each did by what its reply says. [`laws`] says what holds of the operations of each
 //! register: that they stand in time as a history's.

@@ -1,4 +1,4 @@
-//! Why an event is refused: a function for each reason, and the reason of least number. Of what went before,
+//! Why an event is refused: a function for each reason, and the lowest-numbered reason. Of what went before,
 //! only the last event of the event's process counts, and how many events there were.
 ghost use Rattle.std.specs.Prelude.{◌≡◌, option_map};
 ghost use Rattle.cas_history.specs.Events as defined;
@@ -11,8 +11,8 @@ use crate::refusal::Reason;
 use cas_text::{CasEvent, Happening};
 use history_text::MAX_EVENTS;
 
-/// The reason of least number that applies to an event behind `count` others, of which `last` is its
-/// process's last.
+/// The lowest-numbered reason that applies to an event after `count` others, of which `last` is the last of
+/// its process.
 pub(crate) fn event_reason(
     count: usize,
     last: Option<&CasEvent>,

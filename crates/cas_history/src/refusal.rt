@@ -9,8 +9,8 @@ use std::alloc::AllocError;
 use thiserror::Error;
 
 /// Why a line is refused. Each reason has a number, and of several that apply to a line the one with the
-/// lowest number stands.
-/// All but `NoOk`, and the faults that are about cas, have the texts of histories without cas.
+/// lowest number stands. All but `NoOk`, and the faults that are about cas, have the texts of histories
+/// without cas.
 #[derive(Clone, Copy, Debug, PartialEq, Eq, Error)]
 pub enum Reason {
     /// 1 to 8, or 20: the fault of the line by itself.
@@ -88,7 +88,7 @@ pub enum BuildError {
     /// The history isn't well formed.
     #[error(transparent)]
     Refused(LineRefusal),
-    /// Memory was refused.
+    /// Memory ran out.
     #[error("out of memory")]
     Memory,
 }

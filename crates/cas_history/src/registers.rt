@@ -5,7 +5,7 @@ ghost use Rattle.cas_history.specs.Kept.{Adds, AreParted};
 use cas_model::Operation;
 use std::alloc::{AllocError, Global};
 
-/// The operations of each of so many registers, where all operations are there with the last first.
+/// The operations of each of `count` registers. Those given are all operations, the last first.
 pub(crate) fn by_register(
     alloc: Global,
     count: usize,

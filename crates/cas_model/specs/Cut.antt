@@ -1,5 +1,5 @@
--- What is known of operations at a time: those that were called up to then, later replies taken away. What
--- each did is known, also if its reply tells it later (this project's profile).
+-- What is known of operations at a time: those that were called up to then, without later replies. What each
+-- did is known, also if its reply tells it later (this project's profile).
 use Rattle.std.specs.Prelude.{ℕ, Bool, cond, nat_le, List, map, Option, Some, None}
 use Rattle.std.specs.List.{filter}
 use Rattle.cas_model.specs.declared.operation.Operation.{Operation}

@@ -27,7 +27,7 @@ pub enum EventError {
     /// The line has this fault, and no lower-numbered one.
     #[error(transparent)]
     Fault(EventFault),
-    /// Memory was refused; nothing is known of the line.
+    /// Memory ran out; nothing is known of the line.
     #[error("out of memory")]
     Memory,
 }

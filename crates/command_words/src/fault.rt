@@ -12,7 +12,7 @@ pub enum WordsFault {
     /// They are refused, or ask for help or the version: the text of the parser, with its line ends.
     #[error("{0}")]
     Bad(String),
-    /// Memory was refused.
+    /// Memory ran out.
     #[error("out of memory")]
     Memory,
 }

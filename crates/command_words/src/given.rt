@@ -16,7 +16,7 @@ For more information, try '--help'.
     )
 }
 
-/// Why the words couldn't be had: memory was refused, or they aren't UTF-8.
+/// Why the words couldn't be had: memory ran out, or they aren't UTF-8.
 fn no_words(alloc: Global, program: &str, error: &io::Error) -> WordsFault {
     if error.kind() == io::ErrorKind::OutOfMemory {
         return WordsFault::Memory;
@@ -30,7 +30,7 @@ fn no_words(alloc: Global, program: &str, error: &io::Error) -> WordsFault {
 /// The words after the name of the program, which the usage of it names.
 ///
 /// # Errors
-/// `Bad` if a word isn't UTF-8; `Memory` if memory was refused.
+/// `Bad` if a word isn't UTF-8; `Memory` if memory ran out.
 pub fn words_given(
     rt: &(impl Env + AllocGlobal),
     program: &str,

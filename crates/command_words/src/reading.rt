@@ -15,7 +15,7 @@ const STANDARD_INPUT: &str = "-";
 ///
 /// # Errors
 /// `Bad` if the words are others than the command takes, or ask for help or the version; `Memory` if memory
-/// was refused.
+/// ran out.
 pub fn read<'a>(
     alloc: Global,
     command: Command<'a>,

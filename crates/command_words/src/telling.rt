@@ -8,7 +8,7 @@ use std::io;
 /// The refusal if memory ran out.
 const NO_ROOM: u8 = 17;
 
-/// Says that memory was refused.
+/// Says that memory ran out.
 fn tell_no_room(rt: &impl Eprint) -> Ended {
     let _ = eprintln!(rt; "no memory or no thread");
     Ended::Refused(NO_ROOM)

@@ -183,7 +183,7 @@ fn a_digest_reads_every_part(rt: HostRuntime) -> Result<(), Fail> {
 const KEYED: &str =
     "p1 R x; p2 R y; p70000 W x 1; p70001 W y 2; p1 = 1; p2 = 2; p70000 ok; p70001 ok; p3 W y 1; p70000 R y";
 
-/// The walks of `KEYED`, and the lines of process 70,000 behind them.
+/// The walks of `KEYED`, and the lines of process 70,000 after them.
 const WALKS: &str =
     "register 0: 1 3 5 7 | | 3 5 7 | | |; register 1: 2 4 6 8 9 10 | | 9 | 4 6 8 | |; p1: 1 5; p2: 2 6; p3: 9; p4:;  3 7 10";
 

@@ -24,7 +24,7 @@ const TWO_REGISTERS: &str = "p1 W x 1; p1 ok; p1 W x 2; p2 R x; p2 = 2; p2 R x; 
 // Two registers that are atomic: memory is wanted for the order of each.
 const TWO_ORDERS: &str = "p1 W x 1; p2 W y 1";
 
-// So many workers, and so many reads to a piece, for a whole report.
+// This many workers, and this many reads to a piece, for a whole report.
 fn settings(workers: u32, cut: u32) -> Result<Settings, Fail>
     ensures { IfOk result (λ s. s.first ≡ false) }
 {
@@ -118,7 +118,7 @@ impl Counter {
     }
 }
 
-// How often the piece of this number passes the gate of so many workers.
+// How often the piece of this number passes the gate, with this many workers.
 fn passes(
     rt: &(impl Threads + AllocGlobal + Sync),
     arena: &Arena,
@@ -132,7 +132,7 @@ fn passes(
     Ok(gate.arrived.load(Ordering::SeqCst))
 }
 
-// By so many workers, each of the four pieces passes the gate once.
+// With this many workers, each of the four pieces passes the gate once.
 fn expect_once(
     rt: &(impl Threads + AllocGlobal + Abort + Sync),
     arena: &Arena,
@@ -184,7 +184,7 @@ fn worked_by_two<R: Threads + AllocGlobal + Sync>(
     )
 }
 
-// The numbers of all that is done, sorted, or nothing if a worker was refused memory.
+// The numbers of all that is done, sorted, or nothing if a worker ran out of memory.
 fn numbers(alloc: Global, back: &(Worked, Worked)) -> Result<Option<Vec<u64>>, AllocError> {
     let mut numbers = Vec::new(alloc);
     for worked in [&back.0, &back.1] {

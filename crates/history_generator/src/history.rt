@@ -13,7 +13,7 @@ pub(crate) struct History {
 }
 
 impl History {
-    /// No lines, and so many events wanted.
+    /// No lines, with this many events wanted.
     pub(crate) fn new(alloc: Global, events: u32) -> Self
         ensures text { string_bytes result.text ≡ [] }
         ensures left { result.left ≡ events }

@@ -16,10 +16,10 @@ use rand::rngs::SmallRng;
 use rand::{RngExt, SeedableRng};
 use std::alloc::{AllocError, Global};
 
-/// Of so many chances to break a rule, to die or to crash, one is taken.
+/// Of this many chances to break a rule, to die or to crash, one is taken.
 const SELDOM: u32 = 16;
 
-/// Of so many calls, one fails.
+/// Of this many calls, one fails.
 const FAILING: u32 = 10;
 
 /// The clients, the memory that serves them, and what they did.

@@ -128,7 +128,7 @@ first_some (o ∷ os) = option_or o (first_some os)
 abbrev pub late_refusal : List LineEvent → LineEvent → Option LineRefusal
 late_refusal before e = option_or (too_many before e) (after_crash before e)
 
--- the refusal of an event after others: of the reasons that apply, the one of least number
+-- the refusal of an event after others: of the reasons that apply, the lowest-numbered
 abbrev pub event_refusal : List LineEvent → LineEvent → Option LineRefusal
 event_refusal before e =
     first_some (call_while_open before e ∷ end_without_call before e ∷ reply_disagrees before e

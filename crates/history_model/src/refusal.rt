@@ -87,7 +87,7 @@ pub enum BuildError {
     /// The history isn't well formed.
     #[error(transparent)]
     Refused(LineRefusal),
-    /// Memory was refused.
+    /// Memory ran out.
     #[error("out of memory")]
     Memory,
 }

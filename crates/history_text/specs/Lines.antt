@@ -13,7 +13,7 @@ is_line_feed byte = byte == 10
 abbrev pub is_space : ℕ → Bool
 is_space byte = byte == 32 || byte == 9 || byte == 13
 
--- the input cut at its line feeds; behind a last line feed stands an empty line, which is blank
+-- the input cut at its line feeds; after a last line feed stands an empty line, which is blank
 abbrev pub lines : List ℕ → List (List ℕ)
 lines input = slice_split is_line_feed input
 
@@ -33,7 +33,7 @@ numbered_lines input = numbered_from 1 input
 abbrev pub width : List ℕ → ℕ
 width line = length line + 1
 
--- where line `n` begins: behind all the lines before it
+-- where line `n` begins: after all the lines before it
 abbrev pub line_start : List ℕ → ℕ → ℕ
 line_start input n = sum_by width (take (n - 1) (lines input))
 
@@ -57,7 +57,7 @@ spans_at n from (l ∷ ls) =
     (if is_blank l then [] else record { line = n; from = from; to = from + length l } ∷ [])
     ++ spans_at (n + 1) (from + length l + 1) ls
 
--- what may still come behind some bytes: nothing, if the input ends with them
+-- what may still come after some bytes: nothing, if the input ends with them
 abbrev pub MayCome : Bool → List ℕ → Type 0
 MayCome is_ended more = is_ended ≡ true → more ≡ []
 

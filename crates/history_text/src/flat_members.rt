@@ -6,7 +6,7 @@
 //! JSON allows them, except before a colon: hardly any writer puts them there, and looking for them would
 //! cost time on every line. As in `members`, the last of equal names counts.
 //!
-//! Each function gives what it read and the text behind that. `None` tells nothing of the text.
+//! Each function gives what it read and the text after it. `None` tells nothing of the text.
 ghost use Rattle.std.specs.Prelude.{◌≤◌, IfSome};
 ghost use Rattle.serde_json.specs.Data.{string};
 ghost use Rattle.history_text.specs.Limits.{MAX_PROCESS};
@@ -117,7 +117,7 @@ fn time(text: &[u8]) -> Option<(u64, &[u8])>
     unsigned(text)
 }
 
-/// The text behind a member that says who called or when, and nothing of what happened.
+/// The text after a member that says who called or when, and nothing of what happened.
 fn passed(text: &[u8]) -> Option<&[u8]>
     ensures { IfSome result (λ rest. Passes text.now rest.now) }
 {

@@ -2,7 +2,7 @@
 //! lowest-numbered fault, comes out.
 //!
 //! What the floor above may rely on: [`lines_of`] says where exactly the lines that are not blank stand, in
-//! order and with their numbers, and [`whole_lines`] says the same of bytes behind which more may come.
+//! order and with their numbers, and [`whole_lines`] says the same of bytes after which more may come.
 //! [`read_spans`] reads any of these lines: for each it gives its one event, or the lowest-numbered fault
 //! that applies to it. Several threads read them, each a part of the lines at a time. [`read_lines`] reads
 //! all lines and joins the parts, and [`read_lines_alone`] reads the same by one thread. [`flat_event`] reads

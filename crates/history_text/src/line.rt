@@ -26,7 +26,7 @@ pub enum LineError {
     /// The line has this fault, and no lower-numbered one.
     #[error(transparent)]
     Fault(LineFault),
-    /// Memory was refused; nothing is known of the line.
+    /// Memory ran out; nothing is known of the line.
     #[error("out of memory")]
     Memory,
 }

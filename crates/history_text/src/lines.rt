@@ -16,7 +16,7 @@ pub struct Span {
     pub line: u32,
     /// The place of its first byte, from 0.
     pub from: usize,
-    /// The place behind its last byte.
+    /// The place after its last byte.
     pub to: usize,
 }
 
@@ -25,7 +25,7 @@ pub struct Span {
 pub struct WholeLines {
     /// Where those that are not blank stand, in order.
     pub spans: Vec<Span>,
-    /// The number of the line that begins behind the last line feed.
+    /// The number of the line that begins after the last line feed.
     pub next_line: u32,
     /// How many bytes they take up, line feeds included.
     pub byte_count: usize,

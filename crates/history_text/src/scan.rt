@@ -1,6 +1,6 @@
 //! The pieces of a line of JSON, each read from the front of a text: spaces, numbers, strings.
 //!
-//! Each function gives what it read and the text behind that, both as slices of the line, so nothing
+//! Each function gives what it read and the text after it, both as slices of the line, so nothing
 //! is copied. `None` says only that the piece doesn't stand there in the form that is read here.
 ghost use Rattle.std.specs.Prelude.{◌≡◌, ◌<◌, ◌^◌, ◌++◌, ◌∷◌, [], MatchOption};
 ghost use Rattle.std.specs.Prelude.{IfSome, decimal, ⊤, FitsSigned};
@@ -15,7 +15,7 @@ ghost use Rattle.history_text.specs.Flat.{Spaced, IsPlain, IsPlainByte};
 // A number from here on takes no further digit: it might pass the greatest `i64`.
 const FULL: u64 = 922_337_203_685_477_580;
 
-/// The first byte, and the text behind it.
+/// The first byte, and the text after it.
 #[inline(always)]
 pub(crate) fn next_byte(text: &[u8]) -> Option<(u8, &[u8])>
     ensures { MatchOption result (text.now ≡ []) (λ r. text.now ≡ r.0 ∷ r.1.now) }
@@ -24,7 +24,7 @@ pub(crate) fn next_byte(text: &[u8]) -> Option<(u8, &[u8])>
     Some((*byte, rest))
 }
 
-/// The text behind `front`, if it begins with that.
+/// The text after `front`, if it begins with that.
 #[inline(always)]
 pub(crate) fn after<'a>(text: &'a [u8], front: &[u8]) -> Option<&'a [u8]>
     ensures { IfSome result (λ rest. text.now ≡ front.now ++ rest.now) }
@@ -48,7 +48,7 @@ pub(crate) fn is_space(byte: u8) -> bool
     byte == b' ' || byte == b'\t' || byte == b'\r'
 }
 
-/// The text behind the spaces at its front.
+/// The text after the spaces at its front.
 #[inline(always)]
 pub(crate) fn skip_spaces(text: &[u8]) -> &[u8]
     ensures { Spaced text.now result.now }

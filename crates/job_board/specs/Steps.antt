@@ -36,7 +36,7 @@ CountTells me after = (after ≡ me) × IsDistinct me.0.drawn × (me.0.weight �
 
 -- What the seat with all the weight has where the board is closed with the answer n: it
 -- drew each number below some bound once, which is jobs if it is exhausted, and n is
--- the least number that it flagged, or jobs.
+-- the lowest number that it flagged, or jobs.
 pub record ClosesWith (jobs : ℕ) (v : View) (n : ℕ) : Type 0 where
   pub jobs_known : v.jobs ≡ jobs
   pub drawn : (bound : ℕ) × (bound ≤ jobs) × IsEachBelow bound v.drawn × (v.exhausted ≡ true → bound ≡ jobs)

@@ -4,8 +4,8 @@ ghost use Rattle.std.specs.Prelude.{◌<◌};
 use rayon::current_num_threads;
 use std::thread::Threads;
 
-/// At most how many lines one thread reads into one list: so many that a block has few lists, and
-/// so few that several threads share a block.
+/// At most how many lines one thread reads into one list: enough that a block has few lists, and
+/// few enough that several threads share a block.
 pub const LINES: usize = 8_192;
 
 /// The fewest lines to read that are worth a thread of their own.
@@ -22,8 +22,8 @@ pub const POINTS: usize = 32_768;
 /// How many line numbers one thread writes at a time: they take much longer than a thread takes to start.
 pub const NUMBERS: usize = 16_384;
 
-/// About how many parts the lines of many registers are made in: enough for each thread to have some, and so
-/// few that they cost little beside the lines.
+/// About how many parts the lines of many registers are made in: enough for each thread to have some, and few
+/// enough to cost little beside the lines.
 pub const REGISTER_PARTS: usize = 64;
 
 /// Whether this is the only thread: there is one processor, or it isn't known how many there are.

@@ -148,7 +148,7 @@ entry_alone e n call = record {
   last_read = read_with None e.what call;
 }
 
--- the entry of a list with one more event behind it
+-- the entry of a list with one more event after it
 abbrev pub entry_with : Entry → Event → EvId → EvId → Entry
 entry_with y e n call = record {
   ends = record { first = y.ends.first; last = n };

@@ -120,7 +120,7 @@ fn end_of_two_jumps(pairs: &[Pair], number: u32) -> Option<u32> {
     }
 }
 
-/// Where the pair behind `top` jumps to. So chosen, the jumps let a search take a logarithm of steps (Myers,
+/// Where the pair after `top` jumps to. So chosen, the jumps let a search take a logarithm of steps (Myers,
 /// An applicative random-access stack, 1983).
 fn jump_from(pairs: &[Pair], top: u32) -> u32 {
     end_of_two_jumps(pairs, top).unwrap_or(top)

@@ -29,7 +29,7 @@ impl Arena {
     /// events, for callers that have no random bytes.
     ///
     /// # Errors
-    /// `Refused` if the history isn't well formed, and `Memory` if memory was refused; what was built and the
+    /// `Refused` if the history isn't well formed, and `Memory` if memory ran out; what was built and the
     /// lines are then dropped.
     pub fn build(
         alloc: Global,
@@ -60,13 +60,13 @@ impl Arena {
         Ok(arena)
     }
 
-    /// The arena with the events of more lines behind the others, or the refusal of the first faulty one of
+    /// The arena with the events of more lines after the others, or the refusal of the first faulty one of
     /// these, with the lowest number that applies there. The lines come in parts, in order, and have the
     /// numbers of their registers by the names so far, as [`Numbering`] gives them.
     ///
     /// # Errors
-    /// `Refused` if the history isn't well formed, whatever stands behind these lines, and `Memory` if memory
-    /// was refused; what was built is then dropped.
+    /// `Refused` if the history isn't well formed, whatever stands after these lines, and `Memory` if memory
+    /// ran out; what was built is then dropped.
     pub fn with_lines(mut self, alloc: Global, parts: &[NumberedLines]) -> Result<Self, BuildError>
         requires { ArePartsNumbered self.names parts.now }
         ensures { (before : List Line) → IsBuilt before self
@@ -78,7 +78,7 @@ impl Arena {
         Ok(self)
     }
 
-    /// Takes in the events of more lines behind the others, or gives the
+    /// Takes in the events of more lines after the others, or gives the
     /// refusal of the first faulty one of these.
     fn add_lines(&mut self, alloc: Global, part: &NumberedLines) -> Result<(), BuildError>
         requires { AreNumbered self.old.names (lines_of part.now) part.now.numbers.items }
@@ -109,7 +109,7 @@ impl Arena {
         })
     }
 
-    /// Takes in the event of a line behind the others, or gives its refusal. The
+    /// Takes in the event of a line after the others, or gives its refusal. The
     /// number is that of the register that it calls.
     fn step(&mut self, alloc: Global, event: &LineEvent, number: usize) -> Result<(), BuildError>
         requires { IsNumbered self.old.names (name_called (Ok event.now)) number }

@@ -74,7 +74,7 @@ pub(crate) fn join_register(
     }
 }
 
-/// Links event `id` behind the last event of its register, which is known or the next.
+/// Links event `id` after the last event of its register, which is known or the next.
 fn link_register(
     rows: &mut Rows,
     registers: &mut Vec<Ends>,

@@ -103,7 +103,7 @@ impl Entry {
         }
     }
 
-    /// The list with the event `id` behind it, whose call is the event `call`.
+    /// The list with the event `id` after it, whose call is the event `call`.
     pub(crate) fn with(self, event: &Event, id: EvId, call: EvId) -> Self
         ensures { result ≡ entry_with self event.now id call }
     {

@@ -46,7 +46,7 @@ impl Names {
         self.names[number as usize].as_str()
     }
 
-    /// Adds a name behind the others, if there is one. If memory is refused, they stay as they are.
+    /// Adds a name after the others, if there is one. If memory runs out, they stay as they are.
     pub(crate) fn add(&mut self, name: Option<Name>) -> Result<(), AllocError>
         ensures ok { OnOk result (self.new ≡ names_and self.old name) }
         ensures err { OnErr result (self.new ≡ self.old) }

@@ -75,7 +75,7 @@ impl Pairs {
         number_in(&self.table, register, value)
     }
 
-    /// Adds a new pair behind the others. If memory is refused, all are forgotten.
+    /// Adds a new pair after the others. If memory runs out, all are forgotten.
     pub(crate) fn add(&mut self, register: u32, value: Option<i64>) -> Result<(), AllocError>
         requires new { position (key_eq (register, value)) self.old ≡ None }
         requires room { length self.old < 2 ^ 32 }
@@ -145,7 +145,7 @@ fn fitting(pairs: &[Pair], tops: &[Option<u32>], register: u32, value: Option<i6
     }
 }
 
-/// Adds a pair behind the others, as the last of its register's ascending pairs or to the table.
+/// Adds a pair after the others, as the last of its register's ascending pairs or to the table.
 fn enter(
     pairs: &mut Vec<Pair>,
     tops: &mut Vec<Option<u32>>,

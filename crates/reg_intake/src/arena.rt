@@ -92,7 +92,7 @@ fn refusal_of_all<S: Source>(source: &mut S, intake: &mut Intake, first: Refusal
 /// - `InputFailed`: a pull failed. It is answered for no other reason.
 /// - `TooLong`: there were more bytes than an input may have, whatever memory there is.
 /// - `At`: the history isn't well formed.
-/// - `NoRoom`: memory was refused.
+/// - `NoRoom`: memory ran out.
 pub fn arena_of<T: Threads + RandomSource + Sync, S: Source>(
     rt: &T,
     alloc: Global,

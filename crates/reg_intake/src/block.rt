@@ -5,17 +5,17 @@ ghost use Rattle.reg_intake.specs.declared.block.TheConstants.{LONG_BLOCK};
 use history_text::MAX_INPUT;
 use std::random::RandomSource;
 
-/// How many bytes a block has if several processors share the work: so many that its lines are read by the
-/// time those before them are taken in, even if the thread that reads them starts late, and so few that they
-/// take little memory.
+/// How many bytes a block has if several processors share the work: enough that its lines are read by the
+/// time those before them are taken in, even if the thread that reads them starts late, and few enough that
+/// they take little memory.
 const BLOCK: usize = 1_572_864;
 
 /// How many bytes a block has after a block's worth without a line feed: more, since all of it is looked
-/// through each time, and so few that as many short lines after a long one take little memory.
+/// through each time, but few enough that as many short lines after a long one take little memory.
 const LONG_BLOCK: usize = 2_621_440;
 
-/// How many bytes a block has on one processor: so few that its lines are still in the processor's cache when
-/// they are taken in.
+/// How many bytes a block has on one processor: few enough that its lines are still in the processor's cache
+/// when they are taken in.
 const SMALL_BLOCK: usize = 262_144;
 
 /// How many bytes a block has, by whether there is one processor alone and how many bytes are held. If a line

@@ -52,7 +52,7 @@ impl Buffer {
     /// Pulls once, and holds what came after the bytes.
     ///
     /// # Errors
-    /// `NoRoom` if memory for a pull was refused, and those of [`Pulls::pull`].
+    /// `NoRoom` if memory ran out before the pull, and those of [`Pulls::pull`].
     pub(crate) fn pull<S: Source>(
         &mut self,
         pulled: &mut Pulls,

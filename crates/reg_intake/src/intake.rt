@@ -56,7 +56,7 @@ impl Intake {
     ///
     /// # Errors
     /// `InputFailed` if a pull failed, `TooLong` if there are more bytes than the limit of an input, and
-    /// `NoRoom` if memory for a pull was refused.
+    /// `NoRoom` if memory ran out before a pull.
     pub(crate) fn fill<S: Source>(&mut self, source: &mut S, enough: usize) -> Result<(), Refusal>
         requires within { self.old.pulled.total ≤ MAX_INPUT }
         requires failures { S.failed source.old < 2 ^ 64 - 1 }

@@ -20,7 +20,7 @@ pub enum Refusal {
     /// 16: the source failed.
     #[error("input could not be read")]
     InputFailed,
-    /// 17: memory was refused.
+    /// 17: memory ran out.
     #[error("no memory or no thread")]
     NoRoom,
     /// 18: the sink failed, and a beginning of the report may be out.

@@ -22,9 +22,9 @@ use std::slice::from_ref;
 use std::sync::atomic::{AtomicBool, Ordering};
 use std::thread::Threads;
 
-/// How many parts of lines may wait for the arena once the next ones are read: so many that the thread which
-/// builds it has work while the threads that read start late, and so few that they take little memory. A
-/// block of short lines has some six.
+/// How many parts of lines may wait for the arena once the next ones are read: enough to give the thread that
+/// builds it work while the threads that read start late, and few enough to take little memory. A block of
+/// short lines has some six.
 const MOST_WAITING: usize = 4;
 
 /// An arena, and how many parts of the lines after it were taken into it.
@@ -130,7 +130,7 @@ impl Underway {
     /// taken in.
     ///
     /// # Errors
-    /// `InputFailed` or `TooLong` if pulling stopped, else `NoRoom` if memory was refused, else `At` for a
+    /// `InputFailed` or `TooLong` if pulling stopped, else `NoRoom` if memory ran out, else `At` for a
     /// refused line.
     pub(crate) fn turn<T: Threads + Sync, S: Source>(
         self,

@@ -28,14 +28,14 @@ pub record IsFirstBadRead (level : Level) (ops : List Operation) (r : Operation)
 
 -- ---- the reads by number
 
--- the completed reads numbered from `from` up to and without `to` keep the level
+-- the completed reads numbered from `from` up to but not including `to` keep the level
 abbrev pub AllKeep : Level → List Operation → ℕ → ℕ → Type 0
 AllKeep level ops from to =
     (i : ℕ) (r : Operation) → from ≤ i → i < to → slice_get (completed_reads ops) i ≡ Some r
     → Keeps level ops r
 
--- of the completed reads numbered from `from` up to and without `to`, r breaks the
--- level, and those of lesser number keep it
+-- of the completed reads numbered from `from` up to but not including `to`, r breaks the
+-- level, and those with lower numbers keep it
 pub record IsFirstBadWithin (level : Level) (ops : List Operation) (from to : ℕ)
     (r : Operation) : Type 0 where
   pub place : ℕ

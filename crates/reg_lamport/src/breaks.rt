@@ -13,7 +13,7 @@ use history_model::{EvId, Op, Oper, RegId};
 use history_text::Val;
 use reg_arena::Arena;
 
-/// Of the reads numbered from `from` up to and without `to`, the first that breaks the level.
+/// Of the reads numbered from `from` up to but not including `to`, the first that breaks the level.
 ///
 /// The list is one that [`reads`](crate::reads) gave of this arena, of a register with a single writer.
 pub fn first_bad(

@@ -111,7 +111,7 @@ impl ReadCounts {
     }
 }
 
-/// The counts of so many registers before the first event.
+/// The counts of this many registers before the first event.
 fn none_counted(alloc: Global, registers: u32) -> Result<Vec<ReadCount>, AllocError>
     ensures { IfOk result (λ counts. counts.items ≡ replicate registers nothing_counted) }
 {
@@ -172,7 +172,7 @@ fn counted_events(alloc: Global, arena: &Arena) -> Result<Vec<ReadCount>, AllocE
 /// Counts the completed reads of each register with a single writer, in one pass over all events.
 ///
 /// # Errors
-/// If memory was refused; the arena is as before.
+/// If memory ran out; the arena is as before.
 pub fn read_counts(alloc: Global, arena: &Arena) -> Result<ReadCounts, AllocError>
     ensures { IfOk result (AreReadCounts arena.now) }
 {

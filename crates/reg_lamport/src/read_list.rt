@@ -49,7 +49,7 @@ impl ReadList {
 /// Lists the completed reads of a register, in one pass over its events.
 ///
 /// # Errors
-/// If memory was refused; the arena is as before.
+/// If memory ran out; the arena is as before.
 pub fn reads(alloc: Global, arena: &Arena, register: RegId) -> Result<ReadList, AllocError>
     ensures { IfOk result (λ list. (list.register ≡ register.0) × IsReadList arena.now list) }
 {

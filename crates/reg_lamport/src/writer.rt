@@ -31,7 +31,8 @@ fn is_another(writer: Option<u32>, process: u32) -> bool
 pub fn single_writer(arena: &Arena, register: RegId) -> bool
     ensures { IsTrue result ↔ HasSingleWriter (of_register register.0 (operations arena.now)) }
 {
-    // It is an accepted history, so each of its calls has a register.
+    // The contract of `event_count` says that the history is an accepted one, so each of its calls has a
+    // register.
     let _count = arena.event_count();
     let mut writer = None;
     let mut next = arena.first_of_register(register);

@@ -6,7 +6,7 @@ use Rattle.reg_lamport.specs.Levels.{IsFirstBadNamed}
 use Rattle.reg_lamport.specs.declared.level.Level.TheVariants.{Safe, Regular}
 use Rattle.reg_pieces.specs.declared.bad_reads.BadReads.{BadReads}
 
--- of the completed reads of register r numbered from `from` up to and without `to`, the first that
+-- of the completed reads of register r numbered from `from` up to but not including `to`, the first that
 -- isn't safe, and the first that isn't regular
 abbrev pub AreFirstBad : History → ℕ → ℕ → ℕ → BadReads → Type 0
 AreFirstBad h r from to reads =

@@ -21,7 +21,7 @@ pub record PlanShown : Type 0 where
   pub counts : List (Option ℕ)
   pub first : Bool
 
--- the reads of register r numbered from `from` up to and without `len`, in
+-- the reads of register r numbered from `from` up to but not including `len`, in
 -- cuts of that many, the last perhaps shorter
 abbrev pub AreCuts : ℕ → ℕ → ℕ → ℕ → List Task → Type 0
 AreCuts cut r from len [] = from ≡ len
@@ -45,7 +45,7 @@ AreTasks cut r (c ∷ cs) ts =
     (cuts : List Task) × (rest : List Task) × AreCutsOf cut r c cuts × AreTasks cut (suc r) cs rest
     × (ts ≡ Judge (record { 0 = r }) ∷ cuts ++ rest)
 
--- the plan of a history, in cuts of so many reads; it has no more tasks than a board may have jobs
+-- the plan of a history, in cuts of `cut` reads; it has no more tasks than a board may have jobs
 pub record IsPlan (h : History) (cut : ℕ) (plan : PlanShown) : Type 0 where
   pub counts : AreReadCounts h plan.counts
   pub numbered : AreTasks cut 0 plan.counts plan.tasks

@@ -58,7 +58,7 @@ pub record KeepsSeat (old new : SeatValue) : Type 0 where
   pub drawn : new.view.drawn ≡ old.view.drawn
   pub seen : new.view.seen ≤ old.view.seen
 
--- a register is looked at besides, and flagged where it isn't atomic
+-- one more register is looked at, and flagged if it isn't atomic
 pub record AddsRegister (h : History) (number : ℕ) (seat with_it : SeatValue)
     (old new : List (ℕ × Piece)) : Type 0 where
   pub piece : Piece

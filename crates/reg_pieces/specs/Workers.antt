@@ -79,7 +79,7 @@ pub record IsJoinedSearch (h : History) (board : BoardValue) (refused : Bool)
   pub exhausted : refused ≡ false → seat.view.exhausted ≡ true
   pub searched : refused ≡ false → IsSearched h seat.view
 
--- what the closing of a board of so many jobs says: there is the one seat,
+-- what the closing of a board of this many jobs says: there is the one seat,
 -- and if it is exhausted, it drew each number
 abbrev pub ClosesWhole : ℕ → Option SeatValue → ℕ → Type 0
 ClosesWhole jobs None least = ⊥

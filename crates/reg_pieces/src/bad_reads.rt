@@ -38,7 +38,7 @@ impl BadReads {
         }
     }
 
-    /// Of a register's reads numbered `from` up to and without `to`.
+    /// Of a register's reads numbered `from` up to but not including `to`.
     pub fn among(arena: &Arena, list: &ReadList, from: usize, to: usize) -> BadReads
         requires list { IsReadList arena.now list.now }
         requires writer { HasSingleWriter (register_of arena.now list.now.register) }
@@ -51,7 +51,7 @@ impl BadReads {
         }
     }
 
-    /// Of a register's reads numbered `from` up to and without `to`, which are listed unless the list
+    /// Of a register's reads numbered `from` up to but not including `to`, which are listed unless the list
     /// that is kept is theirs. Their list is kept then.
     pub(crate) fn of_cut(
         alloc: Global,

@@ -11,7 +11,7 @@ use std::marker::Model;
 pub enum Task {
     /// Whether a register is atomic: its order or its fault.
     Judge(RegId),
-    /// The first bad reads among a register's completed reads numbered `from` up to and without `to`.
+    /// The first bad reads among a register's completed reads numbered `from` up to but not including `to`.
     Reads {
         register: RegId,
         from: usize,

@@ -12,7 +12,7 @@ beginning_text atomic operations first =
     ++ (yes_or_no_text atomic
     ++ (codes "\",\"operations\":" ++ (decimal operations ++ (codes ",\"order\":[" ++ decimal first))))
 
--- each of the other numbers behind a comma
+-- each of the other numbers after a comma
 abbrev pub numbers_text : List ℕ → List ℕ
 numbers_text ns = flat_map (λ n. 44 ∷ decimal n) ns
 

@@ -23,7 +23,7 @@ use std::alloc::{AllocError, Global};
 /// and before its reply, and no point falls.
 ///
 /// # Errors
-/// If memory was refused; the arena is as before.
+/// If memory ran out; the arena is as before.
 pub fn order_or_fault(
     alloc: Global,
     arena: &Arena,
@@ -49,7 +49,7 @@ pub fn order_or_fault(
 /// The order of [`order_or_fault`] alone, for a register that has no fault.
 ///
 /// # Errors
-/// If memory was refused; the arena is as before.
+/// If memory ran out; the arena is as before.
 pub fn order(alloc: Global, arena: &Arena, register: RegId) -> Result<Vec<Placed>, AllocError>
     requires register { register.0 < length arena.now.names }
     requires faultless { HasNoFault (of_register register.0 (operations arena.now)) }

@@ -46,7 +46,7 @@ fn room_for(register: Register<'_>, from: Option<EvId>) -> usize
 }
 
 /// Asks for the room of the next stretch's operations if no event is left of this one. Gives back how many
-/// events are left behind the event at hand.
+/// events are left after the event at hand.
 fn next_left(
     register: Register<'_>,
     next: Option<EvId>,

@@ -75,7 +75,7 @@ fn command<'a>(alloc: Global) -> Result<Command<'a>, AllocError>
 /// they don't say, there are 4 workers, and the cut is 4096. The word `-` is standard input, as no word is.
 ///
 /// # Errors
-/// `Bad` if the words are others, or ask for help or the version; `Memory` if memory was refused.
+/// `Bad` if the words are others, or ask for help or the version; `Memory` if memory ran out.
 pub fn read_words(alloc: Global, words: &[String]) -> Result<Words, WordsFault>
     ensures file { IfOk result (λ read.
         option_map string_bytes read.file ≡ file_named command_line (map string_bytes words.now)) }

@@ -15,7 +15,7 @@ use Rattle.regcheck_c.specs.declared.answer.Answer.{Answer}
 abbrev pub with_text : List ℕ → List ℕ → List ℕ
 with_text text old = if nat_le (length text) (length old) then text ++ drop (length text) old else old
 
--- the status of a report, if there is room for so many bytes
+-- the status of a report, if there is room for this many bytes
 abbrev pub status_of_report : ℕ → Report → ℕ
 status_of_report room report =
     if nat_le (length (report_text report)) room then (if report.atomic then 0 else 1) else 5

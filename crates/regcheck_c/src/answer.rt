@@ -40,7 +40,7 @@ pub(crate) fn refused(refusal: &Refusal) -> Answer
     }
 }
 
-/// What is said of a report with a text of so many bytes, if there is room for so many.
+/// What is said of a report whose text has `length` bytes, with room for `room`.
 pub(crate) fn reported(report: &Report, length: usize, room: usize) -> Answer
     requires { length ≡ length_of (report_text report.now) }
     ensures { result ≡ answer_of_report room report.now }

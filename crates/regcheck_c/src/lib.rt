@@ -29,7 +29,7 @@ use std::alloc::Global;
 #[unsafe(no_mangle)]
 pub extern "C" fn regcheck_report(alloc: Global, input: &[u8], out: &mut [u8], answer: &mut Answer)
     // What is said, and the bytes at `out`, are those of the report or the
-    // refusal of the input, or memory was refused.
+    // refusal of the input, or memory ran out.
     ensures answered { IsAnswered input.now out.old out.new answer.new }
 
     // A status of 0 or 1 says whether that history is atomic.

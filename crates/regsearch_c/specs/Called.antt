@@ -34,7 +34,7 @@ status_of_verdict Yes = 0
 status_of_verdict No = 1
 status_of_verdict Unknown = 6
 
--- the status of a report, if there is room for so many bytes
+-- the status of a report, if there is room for this many bytes
 abbrev pub status_of_report : ℕ → Report → ℕ
 status_of_report room report =
     if nat_le (length (report_text report)) room then status_of_verdict report.atomic else 5

@@ -8,7 +8,7 @@ use std::thread::Threads;
 // The bytes of an answer: the report with its outcome, or what the refusal says with its number.
 pub(crate) type Answer = (Vec<u8>, Result<Outcome, u8>);
 
-// So many workers, and so many reads to a piece.
+// This many workers, and this many reads to a piece.
 pub(crate) fn settings(workers: u32, cut: u32) -> Result<Settings, Fail> {
     Ok(Settings::new(workers, cut, false).ok_or("a number beyond its limit")?)
 }

@@ -128,7 +128,7 @@ fn failing_source(rt: HostRuntime) -> Result<(), Fail> {
     expect_answered(&rt, last + 1)
 }
 
-// A sink with room for so many bytes of the report has exactly those.
+// A sink with room for this many bytes of the report has exactly those.
 fn expect_full(
     rt: &(impl Threads + RandomSource + AllocGlobal + Abort + Sync),
     taken: &[u8],

@@ -46,7 +46,7 @@ impl Gate for HoldsOne {
     }
 }
 
-// What is answered while this one of so many pieces is held, and whether its gate gave up.
+// What is answered while this piece is held, and whether its gate gave up.
 fn answered_past(
     rt: &(impl Threads + RandomSource + AllocGlobal + Sync),
     input: &str,
@@ -186,7 +186,7 @@ impl Gate for HoldsEach {
     }
 }
 
-// A write and so many reads of it, one after another: in cuts of one
+// A write and this many reads of it, one after another: in cuts of one
 // read, a piece for each read and one more.
 fn reads_of_a_write(alloc: Global, count: u32) -> Result<String, AllocError> {
     let mut input = String::from_str(
@@ -205,7 +205,7 @@ fn reads_of_a_write(alloc: Global, count: u32) -> Result<String, AllocError> {
     Ok(input)
 }
 
-// So many workers are at work at once over a history of so many reads.
+// This many workers are at work at once over a history of this many reads.
 fn expect_at_once(
     rt: &(impl Threads + RandomSource + AllocGlobal + Abort + Sync),
     workers: u32,

@@ -6,20 +6,20 @@ use Rattle.search_intake.specs.declared.refusal.Refusal.{Refusal}
 use Rattle.search_intake.specs.declared.refusal.Refusal.TheVariants.{At, TooLong, InputFailed}
 use Rattle.search_intake.specs.declared.refusal.Refusal.TheVariants.{NoRoom, OutputFailed}
 
--- the source gave these bytes behind so many others, they are within the limit with those, and no pull failed
+-- the source gave these bytes after this many others, all together are within the limit, and no pull failed
 pub record Gives (left now : Option (List ℕ)) (failed failed_now before : ℕ) (bytes : List ℕ) : Type 0 where
   pub gave : Consumes left now bytes
   pub within : before + length bytes ≤ MAX_INPUT
   pub no_failure : failed_now ≡ failed
 
--- the source gave more bytes behind so many others than an input may have, and no pull failed
+-- the source gave more bytes, after this many others, than an input may have, and no pull failed
 pub record Exceeds (left now : Option (List ℕ)) (failed failed_now before : ℕ) : Type 0 where
   pub bytes : List ℕ
   pub gave : Consumes left now bytes
   pub over : MAX_INPUT < before + length bytes
   pub no_failure : failed_now ≡ failed
 
--- why no more is pulled behind so many bytes: there is too much, or a pull failed
+-- why no more is pulled after this many bytes: there is too much, or a pull failed
 abbrev pub StopsAt : Option (List ℕ) → Option (List ℕ) → ℕ → ℕ → ℕ → Refusal → Type 0
 StopsAt left now failed failed_now before (At r) = ⊥
 StopsAt left now failed failed_now before TooLong = Exceeds left now failed failed_now before

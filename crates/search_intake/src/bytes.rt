@@ -22,7 +22,7 @@ const PIECE: usize = 16_384;
 ///
 /// # Errors
 /// `InputFailed` if a pull failed, `TooLong` if there are more bytes than the limit of an input, and `NoRoom`
-/// if memory was refused and what was left was pulled without either.
+/// if memory ran out and what was left was pulled without either.
 pub(crate) fn all_bytes<S: Source>(alloc: Global, source: &mut S) -> Result<Vec<u8>, Refusal>
     requires { S.failed source.old < 2 ^ 64 - 1 }
     ensures all { IfOk result (λ bytes. IsAll (S.left source.old) bytes.items) }
@@ -45,8 +45,8 @@ pub(crate) fn all_bytes<S: Source>(alloc: Global, source: &mut S) -> Result<Vec<
     Err(Refusal::NoRoom)
 }
 
-/// Pulls the next bytes to the front of a piece, behind so many others, and
-/// says how many they are. None is the end.
+/// Pulls the next bytes to the front of a piece, and says how many they are. `before` bytes came before them.
+/// None is the end.
 ///
 /// # Errors
 /// `InputFailed` if the pull failed, and `TooLong` if there are more bytes than the limit of an input.
@@ -69,7 +69,7 @@ fn pull<S: Source>(source: &mut S, piece: &mut [u8], before: usize) -> Result<us
     }
 }
 
-/// Pulls all that the source has left, behind so many bytes, and drops it.
+/// Pulls all that the source has left, after `before` bytes, and drops it.
 ///
 /// # Errors
 /// As of `pull`.

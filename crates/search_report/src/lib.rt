@@ -4,9 +4,9 @@
 //! What the floor above may rely on: [`run`] pulls all the bytes of a source, and the bytes that it pushes
 //! into a sink are a report of their history; or it answers a refusal, and has pushed nothing, or a
 //! beginning if it is the sink that failed. A yes of a report names a legal order of the register's
-//! operations. After a no there is none, not even of what was called before the reply that it names, with
-//! what the whole history tells of each call and later replies taken away; and it lists the calls that are
-//! open at that reply. The whole is called atomic only if each register is, and not atomic only if one
+//! operations. After a no there is none. If it names a reply, what was called before that has none either,
+//! given the outcomes that the whole history records, and without later replies; and it lists the calls that
+//! are open at that reply. The whole is called atomic only if each register is, and not atomic only if one
 //! isn't. A value that nobody wrote is found whatever the bounds are.
 //!
 //! [`check_alone`] gives the report's values for bytes at hand, by the

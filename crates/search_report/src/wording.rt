@@ -2,7 +2,10 @@
 use search_intake::Refusal;
 use std::alloc::{AllocError, Global};
 
-/// The one line, without its line end, that says why there is no report, or out of memory.
+/// The one line, without its line end, that says why there is no report.
+///
+/// # Errors
+/// If memory runs out.
 pub fn message(alloc: Global, refusal: &Refusal) -> Result<String, AllocError> {
     format!(in alloc; "{refusal}")
 }

@@ -10,11 +10,11 @@ pub enum Fault {
     Unwritten {
         call: u32,
     },
-    /// What was called before the reply of this line has no legal order, with what each call is known
-    /// to have done and later replies taken away. `asks` has the calls that are open at that reply,
-    /// each by its line and in the order of the lines: they came before it, and no earlier reply is
-    /// theirs, so the call that it answers is one of them. `before` is a legal order of what was known
-    /// just before that reply, where one was found.
+    /// What was called before the reply of this line has no legal order, given what each call is known to
+    /// have done, and without later replies. `asks` has the calls that are open at that reply, each by its
+    /// line and in the order of the lines: they came before it, and no earlier reply is theirs, so the call
+    /// that it answers is one of them. `before` is a legal order of what was known just before that reply,
+    /// where one was found.
     Search {
         asks: Vec<u32>,
         before: Option<Vec<u32>>,

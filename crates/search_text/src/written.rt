@@ -27,7 +27,7 @@ fn summary_line(alloc: Global, report: &Report) -> Result<Vec<u8>, AllocError>
     }
 }
 
-/// Puts a line and a line feed behind the lines in `out`.
+/// Puts a line and a line feed after the lines in `out`.
 fn put_line(out: &mut Vec<u8>, line: &[u8]) -> Result<(), AllocError>
     ensures { OnOk result (out.new.items ≡ out.old.items ++ (line.now ++ 10 ∷ [])) }
 {
@@ -47,7 +47,10 @@ fn register_lines(alloc: Global, regs: &[RegisterReport]) -> Result<Vec<u8>, All
     Ok(out)
 }
 
-/// The bytes of a report: a line of compact JSON for each register, then the summary, or out of memory.
+/// The bytes of a report: a line of compact JSON for each register, then the summary.
+///
+/// # Errors
+/// If memory runs out.
 pub fn text(alloc: Global, report: &Report) -> Result<Vec<u8>, AllocError>
     ensures { IfOk result (λ bytes. bytes.items ≡ report_text report.now) }
 {

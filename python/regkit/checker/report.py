@@ -62,7 +62,7 @@ def read_verdict(data: bytes) -> Report:
 
 
 def number_behind(line: bytes, key: bytes) -> int:
-    """The number behind the last such key. No register's name can hold it: there its quotes are escaped."""
+    """The number after the last such key. No register's name can hold it: there its quotes are escaped."""
     place = line.rfind(key)
     found = re.match(rb"\d+", line[place + len(key):place + len(key) + 20]) if place >= 0 else None
     return int(found[0]) if found else 0

@@ -42,7 +42,7 @@ def _event(who: str, kind: str, function: str, values: list[Any]) -> Event:
 
 
 def _values(text: str, kind: str, line: int) -> list[Any]:
-    """The value and the error behind an operation. A failure or a crash may say anything there."""
+    """The value and the error after an operation. A failure or a crash may say anything there."""
     surely = kind in ("invoke", "ok")
     try:
         values = [value for _, value in edn.values([text])]

@@ -52,7 +52,7 @@ def _without(value: Any, operation: Operation, line: int) -> Any:
 
 
 def refuse_versions(operations: Iterable[Operation], choices: Choices) -> None:
-    """Raises Refused if each cas may have its two values behind a version: [nil [from to]]."""
+    """Raises Refused if each cas may have its two values after a version: [nil [from to]]."""
     swaps = [each for each in operations if each.kind == CAS]
     values = [pair_of(each.value) for each in swaps]
     if choices.cas == "keep" and choices.values == "auto" and swaps and all(

@@ -9,7 +9,7 @@ INITIAL_CALL = -1  # where the initial write's bar begins; it ends at line 0
 LETTER = 6.9  # the width of a letter of a label, with a little to spare: fonts differ
 SMALL_LETTER = 6.2  # of the process and of the place in the order, beside the label
 PADDING = 7.0  # between a bar's ends and its label
-SIGN = 19.0  # the width of a sign behind the label
+SIGN = 19.0  # the width of a sign after the label
 LONGEST_VALUE = 13  # characters of a value that are shown
 
 

@@ -100,7 +100,7 @@ def lines_that_matter(marks: Marks, register: Register) -> list[list[int]]:
 
 
 def room_of(marks: Marks, register: Register, windows: list[Window]) -> dict[int, float]:
-    """The least way behind some lines: for the number of a line that matters, an arrow, and the points."""
+    """The least room after some lines: for the number of a line that matters, an arrow, and the points."""
     room = {line: DIGIT * len(str(line)) + 8 for line in lines_of(marks.named.values())}
     for arrow in marks.arrows:
         room[arrow.before.end_line or 0] = ARROW_ROOM
@@ -166,7 +166,7 @@ def scene_of(register: Register, marks: Marks, windows: list[Window], candidates
 
 def with_initial(lines: list[list[int]], left_out: list[int],
                  before: int) -> tuple[list[list[int]], list[int]]:
-    """The same with the initial write in front, behind a gap if events before the first window are left
+    """The same with the initial write in front, before a gap if events before the first window are left
     out."""
     if before == 0:
         return [[INITIAL_CALL, 0, *lines[0]], *lines[1:]], left_out

@@ -18,7 +18,7 @@ from regkit.history.operations import History, Operation
 from regkit.words.phrases import capital, counted
 
 WHOLE = 600  # events; a register of no more is drawn whole, below its fault
-FIRST_EVENTS = 400  # of a register that is atomic, so many are drawn
+FIRST_EVENTS = 400  # of a register that is atomic: this many are drawn
 MOST_NAMED = 3  # writes beside the unexplained read, or lost, that are named in words
 
 
@@ -188,7 +188,7 @@ def facts(row: Row) -> str:
 
 
 def reasons(told: list[str], numbered: bool) -> str:
-    """Sentences, each behind the number of its arrow or the sign of a read that can't be explained."""
+    """Sentences, each after the number of its arrow or the sign of a read that can't be explained."""
     items = []
     for number, sentence in enumerate(told, 1):
         sign = shapes.badge(10, 10, str(number), FIRST if number == 1 else SECOND)

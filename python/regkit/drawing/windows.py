@@ -2,12 +2,12 @@
 from bisect import bisect_left
 from typing import Iterable
 
-SHORT_GAP = 3  # events; so few are drawn, since a gap would take as much room
-Window = tuple[int, int]  # places of events: the first, and one behind the last
+SHORT_GAP = 3  # events; a gap of no more isn't left, since it would take as much room
+Window = tuple[int, int]  # places of events: the first, and one after the last
 
 
 def windows_around(events: list[int], lines: Iterable[int], context: int) -> list[Window]:
-    """The events at the given lines, each with so many before and after it."""
+    """The events at the given lines, each with `context` others before and after it."""
     found: list[Window] = []
     for line in sorted(set(lines)):
         place = bisect_left(events, line)

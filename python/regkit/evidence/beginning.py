@@ -1,6 +1,6 @@
 """Counts the completed reads in the beginning of a long history, which are most often evidence enough.
 
-What comes behind the beginning takes none of them back. But a write without a reply there may still fail, and
+What comes after the beginning takes none of them back. But a write without a reply there may still fail, and
 is no operation then. So here it isn't one, and the whole history has at least the reads that are counted."""
 import io
 from itertools import islice

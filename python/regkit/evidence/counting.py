@@ -1,7 +1,7 @@
 """Counts the completed reads of a history in one pass over its lines, without building operations.
 
 Most lines of a recording differ from others in their value and their time alone. So each line is cut before
-its value, and what stands before it is understood once. What stands behind it mustn't say anything that
+its value, and what stands before it is understood once. What stands after it mustn't say anything that
 counts. A line that is made otherwise is `Unusual`, and the history is then read in whole."""
 import io
 import json
@@ -20,7 +20,7 @@ QUOTE, BACKSLASH, BLANK = b'"', b"\\", b" \t\r\n"
 AROUND = b" \t\r\n:,}"  # what stands around a name
 TO_ONES = bytes.maketrans(b"0123456789", b"1111111111")
 MEMBERS = {"process", "event", "op", "register"}  # those that count here
-SHORTEST = len(':1,"op":"read"}')  # the shortest rest behind a value that says something that counts
+SHORTEST = len(':1,"op":"read"}')  # the shortest rest after a value that says something that counts
 LONG = 8_388_608  # bytes of a history that is worth two processes
 MOST_KEPT = 65_536  # beginnings that are remembered
 BUSY = float("nan")  # it isn't equal to anything, itself included
@@ -73,10 +73,10 @@ class Tokens:
 
     def __init__(self) -> None:
         self.events: dict[bytes, tuple[int, int]] = {}  # what stands before a register
-        self.names: dict[bytes, int] = {}  # what stands behind the word `register`
+        self.names: dict[bytes, int] = {}  # what stands after the word `register`
         self.processes: dict[int, int] = {}
         self.registers: dict[bytes, int] = {}  # by their names in quotes, without escapes
-        self.idle: set[bytes] = set()  # what stands behind a value, with a 1 for each digit
+        self.idle: set[bytes] = set()  # what stands after a value, with a 1 for each digit
         self.failed = False  # whether a call failed
 
     def learn(self, beginning: bytes, known: dict[bytes, Token]) -> Token:
@@ -117,7 +117,7 @@ class Tokens:
         return self.names[text]
 
     def pass_by(self, rest: bytes) -> None:
-        """Raises Unusual if a member that counts stands behind a value or a time."""
+        """Raises Unusual if a member that counts stands after a value or a time."""
         alike = rest.translate(TO_ONES)
         if QUOTE not in rest or alike in self.idle:
             return
@@ -127,7 +127,7 @@ class Tokens:
 
 
 def spelled_out(text: bytes) -> bytes:
-    """A register's name in quotes, without escapes. Behind it there may be members that don't count."""
+    """A register's name in quotes, without escapes. After it there may be members that don't count."""
     said = object_of(b"{" + REGISTER + text)
     name = said.pop("register")
     if type(name) is not str or MEMBERS & said.keys():

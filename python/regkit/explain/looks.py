@@ -16,7 +16,7 @@ LOG = re.compile(rb"(?m)^.*\s:(?:invoke|ok|info|fail)\s+:\w+")
 TABLE = re.compile(rb"\s*\"?[A-Za-z_][\w .-]*\"?([,;\t])\"?[A-Za-z_][\w .\-\",;\t]*\r?\n")
 LEAST_COLUMNS = 5  # of a table that can be converted
 MEMBERS = {"porcupine": {b"clientid"}, "jepsen": {b"process", b"type", b"f"}, "operations": {b"start"},
-           "jsonl": {b"process", b"event"}}  # by form, what tells it from the forms behind it
+           "jsonl": {b"process", b"event"}}  # by form, what tells it from the forms after it
 ENOUGH = 65_536  # bytes that are looked at
 
 

@@ -28,7 +28,7 @@ class Moment(NamedTuple):
 
     line: int
     call: Operation
-    values: list[Optional[int]]  # none behind the reply that no order gives
+    values: list[Optional[int]]  # none after the reply that no order gives
 
     @property
     def is_call(self) -> bool:

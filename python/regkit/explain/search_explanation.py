@@ -1,6 +1,6 @@
 """Why `regsearch` says that a register isn't linearizable: the few operations that have no order, what the
 value can be before the reply, and why nothing gives what the reply says."""
-from typing import List, NamedTuple, Optional
+from typing import NamedTuple, Optional
 
 from regkit.checker.programs import NoChecker
 from regkit.checker.report import Row
@@ -25,11 +25,11 @@ SIGNS = {READ_SIGN: "no order gives its reply", ACTOR_SIGN: "its reply counts",
 class Left(NamedTuple):
     """The operations that are left, and the write that hides what was answered before it."""
 
-    kept: List[Kept]
+    kept: list[Kept]
     fence: Optional[Operation] = None
 
 
-def made_small(page: Page, told: Contradicted, calls: List[Operation], searcher: Searcher) -> Left:
+def made_small(page: Page, told: Contradicted, calls: list[Operation], searcher: Searcher) -> Left:
     """What is left, and what the page says of it."""
     small: Optional[Small] = None
     try:
@@ -48,7 +48,7 @@ def made_small(page: Page, told: Contradicted, calls: List[Operation], searcher:
     return Left(small.kept, small.fence)
 
 
-def enough(small: Small, told: Contradicted, where: str) -> List[str]:
+def enough(small: Small, told: Contradicted, where: str) -> list[str]:
     """What a no was made to, in sentences. Of many operations they say where these are."""
     rest = "" if small.ended else f"; after {MOST_RUNS} runs of regsearch no more was tried"
     said = [f"these {len(small.kept):,} of the {small.whole:,} operations called before line {told.line} "
@@ -63,19 +63,19 @@ def enough(small: Small, told: Contradicted, where: str) -> List[str]:
     return said
 
 
-def answered(kept: List[Kept], told: Contradicted) -> List[Kept]:
+def answered(kept: list[Kept], told: Contradicted) -> list[Kept]:
     """The same with all their replies, which leave fewer values."""
     return [Kept(each.call, each.call.completed and (each.call.end_line or 0) <= told.line) for each in kept]
 
 
-def list_of(kept: List[Kept], where: str) -> str:
+def list_of(kept: list[Kept], where: str) -> str:
     """The operations in a sentence, if they are few."""
     if len(kept) > MOST_OPEN:
         return f"they are {where}"
     return "; ".join(named(each.call) for each in kept)
 
 
-def by_what(calls: List[Operation], lines: List[int]) -> str:
+def by_what(calls: list[Operation], lines: list[int]) -> str:
     """`1, by the write of 1 ..; or null, the initial value`."""
     by_line = {call.line: call for call in calls}
     said = [f"{value_of(by_line[line])}, by {named(by_line[line])}" if line else "null, the initial value"
@@ -84,7 +84,7 @@ def by_what(calls: List[Operation], lines: List[int]) -> str:
     return "; or ".join(said) + (f"; or one by {counted(rest, 'other call')}" if rest > 0 else "")
 
 
-def why_not(told: Contradicted, calls: List[Operation], left: Left, found: Optional[Reached]) -> List[str]:
+def why_not(told: Contradicted, calls: list[Operation], left: Left, found: Optional[Reached]) -> list[str]:
     """Why nothing gives what the reply says."""
     call = told.call
     if found is None:
@@ -99,7 +99,7 @@ def why_not(told: Contradicted, calls: List[Operation], left: Left, found: Optio
     return lines + nothing_gives(told, calls, left)
 
 
-def nothing_gives(told: Contradicted, calls: List[Operation], left: Left) -> List[str]:
+def nothing_gives(told: Contradicted, calls: list[Operation], left: Left) -> list[str]:
     """What becomes of the writes of the value that the reply needs."""
     call = told.call
     if call.missed:
@@ -124,7 +124,7 @@ def nothing_gives(told: Contradicted, calls: List[Operation], left: Left) -> Lis
     return lines
 
 
-def add_timeline(page: Page, entries: List[timeline.Entry]) -> None:
+def add_timeline(page: Page, entries: list[timeline.Entry]) -> None:
     page.heading("Time line: a column for each line where one of these begins or ends")
     shown = sorted(entries, key=lambda entry: entry.call.line)[-MOST_SHOWN:]
     if len(shown) < len(entries):

@@ -1,5 +1,5 @@
 """What `regsearch` reports of a register, in sentences."""
-from typing import Dict, List, NamedTuple, Optional, Sequence
+from typing import NamedTuple, Optional, Sequence
 
 from regkit.checker.report import Row
 from regkit.explain.sentences import named, value_of, wanted_of
@@ -15,8 +15,8 @@ class Contradicted(NamedTuple):
 
     call: Operation  # whose reply it is
     line: int
-    before: Optional[List[Operation]]  # an order of what was known until then, if the search found one
-    opened: List[Operation]  # the other calls that were open
+    before: Optional[list[Operation]]  # an order of what was known until then, if the search found one
+    opened: list[Operation]  # the other calls that were open
 
 
 def is_unwritten(row: Row) -> bool:
@@ -26,7 +26,7 @@ def is_unwritten(row: Row) -> bool:
 def contradicted(history: History, row: Row) -> Contradicted:
     """The fault of a search. Raises KeyError if it isn't of this history."""
     fault, calls = row["fault"], history.registers[row["register"]]
-    by_line: Dict[int, Operation] = {call.line: call for call in calls}
+    by_line: dict[int, Operation] = {call.line: call for call in calls}
     line = fault["reply"]
     found = next((call for call in calls if call.completed and call.end_line == line), None)
     if found is None:
@@ -54,7 +54,7 @@ def wants(call: Operation) -> str:
     return f"it needs a value {'other than' if call.missed else 'of'} {wanted_of(call)}"
 
 
-def search_sentences(history: History, row: Row) -> List[str]:
+def search_sentences(history: History, row: Row) -> list[str]:
     """Why a search found no order."""
     told = contradicted(history, row)
     lines = [f"the reply of line {told.line}, of {named(told.call)}: whatever order the operations before it "
@@ -80,7 +80,7 @@ def without_effect(history: History, call: Operation) -> Optional[Operation]:
     return None
 
 
-def unwritten_sentences(history: History, row: Row) -> List[str]:
+def unwritten_sentences(history: History, row: Row) -> list[str]:
     """A value that a read or a cas found, and nobody wrote."""
     register, line = row["register"], row["fault"]["call"]
     call = history.operation(register, line)
@@ -95,12 +95,12 @@ def unwritten_sentences(history: History, row: Row) -> List[str]:
     return [f"{named(call)} {found} {wanted_of(call)}, which nobody wrote to this register"]
 
 
-def sentences_of(history: History, row: Row) -> List[str]:
+def sentences_of(history: History, row: Row) -> list[str]:
     """The fault of a register's line of a report of regsearch, in sentences without their full stops."""
     return (unwritten_sentences if is_unwritten(row) else search_sentences)(history, row)
 
 
-def bounds_of(rows: Sequence[Row]) -> List[str]:
+def bounds_of(rows: Sequence[Row]) -> list[str]:
     """The bounds at which the searches of some registers gave up. Raises KeyError."""
     met = {row["gave_up"]["bound"] for row in rows}
     return [bound for bound in BOUNDS if bound in met]

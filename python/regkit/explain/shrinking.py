@@ -1,7 +1,7 @@
 """Makes a no of `regsearch` small: fewer operations, and fewer replies, that still have no order.
 
 Each step claims less. An order of more, without a read, or without a cas that missed, is an order of
-less; and a write or a cas whose reply is taken away may still stand where it stood. What was answered
+less; and a write or a cas whose reply is left out may still stand where it stood. What was answered
 before a write that overlaps nothing else that was answered comes before that write, which hides it: an
 order of all is, from that write on, one of the rest. So if there is no order of less, there is none of
 more either, and the answer to each step is asked of regsearch itself."""
@@ -172,7 +172,7 @@ class Shrinker:
             back *= 2
 
     def drop(self, writes: bool, reply: int) -> None:
-        """Leaves out reads and misses, or takes away replies of writes and other cas: all, half of them, and
+        """Leaves out reads and misses, or the replies of writes and other cas: all, half of them, and
         so on to each by itself."""
         left = [each.call for each in self.kept if each.replied and each.call.writes == writes
                 and each.call.end_line != reply and each.call is not self.fence]
@@ -189,7 +189,7 @@ class Shrinker:
 
 def shrink(calls: Sequence[Operation], reply: int, ask: Callable[[list[Kept]], int],
            reach: Callable[[int], None] = lambda runs: None) -> Optional[Small]:
-    """The no of a reply, made small. None if regsearch doesn't decide it in so few steps. Raises NoFault."""
+    """The no of a reply, made small. None if regsearch doesn't decide it in few steps. Raises NoFault."""
     whole = sum(call.line < reply and not call.failed for call in calls)
     shrinker = Shrinker(without_idle(until(calls, reply)), ask, reach)
     first = ask(shrinker.kept)

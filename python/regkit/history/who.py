@@ -18,7 +18,7 @@ _WORD = re.compile(r"[\w.:@/+#-]+", re.ASCII)
 
 
 def members(client: str = "", node: str = "", time: Optional[int] = None) -> str:
-    """What a line says of them behind its other members, in the order that is read fastest."""
+    """What a line says of them after its other members, in the order that is read fastest."""
     named = f',"client":{json.dumps(client)}' if client else ""
     asked = f',"node":{json.dumps(node)}' if node else ""
     return named + asked + ("" if time is None else f',"time":{time}')

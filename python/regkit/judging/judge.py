@@ -247,8 +247,7 @@ class Judge:
         outcome = Outcome(name, ExitStatus.ATOMIC, words, hint, evidence, program=SEARCH, unknown=unknown)
         if report.faulty:
             most = 1 if self.wishes.first else self.wishes.most
-            known = 1 if self.wishes.first else len(report.faulty)
-            number = "the first faulty register" if self.wishes.first else counted(known, "faulty register")
+            known, number = self.known_faulty(report)
             return outcome._replace(status=ExitStatus.NOT_ATOMIC, words=f"{number}; {words}", faulty=known,
                                     faults=told_faults(data, report, most, by_search=True))
         if unknown:
@@ -259,12 +258,17 @@ class Judge:
             return outcome._replace(status=ExitStatus.TOO_LITTLE, words=f"{words}; {lack}", advice=hint)
         return outcome
 
+    def known_faulty(self, report: Report) -> tuple[int, str]:
+        """How many registers are known to be faulty, and the same in words."""
+        if self.wishes.first:
+            return 1, "the first faulty register"
+        return len(report.faulty), counted(len(report.faulty), "faulty register")
+
     def verdict(self, name: str, data: bytes, report: Report, reads: Reads) -> Outcome:
         evidence = Evidence(report.summary["operations"], report.summary["registers"], *reads[:2])
         words = evidence_in_words(evidence, reads.at_least)
         if report.faulty:
-            known = 1 if self.wishes.first else len(report.faulty)
-            number = "the first faulty register" if self.wishes.first else counted(known, "faulty register")
+            known, number = self.known_faulty(report)
             faults = told_faults(data, report, 1 if self.wishes.first else self.wishes.most)
             return Outcome(name, ExitStatus.NOT_ATOMIC, f"{number}; {words}", "", evidence, known, faults)
         lack, hint = lacks(evidence, self.wishes.least_reads, self.wishes.least_overlaps)

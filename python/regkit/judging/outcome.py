@@ -56,7 +56,7 @@ def gravest(statuses: list[int]) -> int:
 
 
 def evidence_in_words(evidence: Evidence, at_least: bool, with_cas: bool = False) -> str:
-    """The counts. Those of the reads are exact, or there are at least so many of them."""
+    """The counts. Those of the reads are exact, or there are at least this many of them."""
     reads, overlapping = evidence.completed_reads, evidence.overlapping_reads
     verb, least = "overlaps" if overlapping == 1 else "overlap", "at least " if at_least else ""
     found = f"{least}{overlapping:,} {verb} a write" if overlapping or not at_least else (

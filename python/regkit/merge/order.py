@@ -79,7 +79,7 @@ class Track:
 
 
 def following(events: list[Event], place: int, is_call: bool) -> int:
-    """The next place that has a call, or that has none; behind the last one if there is no such place."""
+    """The next place that has a call, or that has none; after the last one if there is no such place."""
     while place < len(events) and (events[place].what == "call") != is_call:
         place += 1
     return place

@@ -23,7 +23,7 @@ class Event(NamedTuple):
     time: int
     process: int
     what: str  # call, reply, fail or crash
-    rest: str  # its line behind the process
+    rest: str  # its line after the process
 
 
 class Write(NamedTuple):

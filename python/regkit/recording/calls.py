@@ -15,7 +15,7 @@ class Call:
 
     op = ""
     rest = ""  # of its arguments, for a person
-    behind: Optional[str] = ""  # what its line says behind the register; None for a value that is chosen
+    behind: Optional[str] = ""  # what its line says after the register; None for a value that is chosen
 
     def __init__(self, client: Caller, register: str, alone: bool = False) -> None:
         self.register = client.journal.key(register)  # its name in the store, too

@@ -119,7 +119,7 @@ class Journal:
              who: str) -> tuple[int, Optional[int]]:
         """Writes a call, under a free number if none is given. Gives the number.
 
-        `behind` is what the line says behind its register. If it is None, that is a value which the register
+        `behind` is what the line says after its register. If it is None, that is a value which the register
         never had from here, and the value is given too."""
         with self._lock:
             if self._closed:

@@ -55,8 +55,8 @@ def first_breaks(register: Register) -> tuple[Optional[int], Optional[int]]:
     calls, replies = [w.line for w in writes], [w.end for w in writes]
     safe = regular = None
     for read in register.completed_reads:
-        ended = bisect_left(replies, read.line)  # so many writes precede the read: the last is the old one
-        begun = bisect_left(calls, read.end)  # so many begin before it ends: all but the `ended` overlap it
+        ended = bisect_left(replies, read.line)  # this many writes precede the read: the last is the old one
+        begun = bisect_left(calls, read.end)  # this many begin before it ends: all but the `ended` overlap it
         if read.value == writes[ended - 1].value:
             continue
         if safe is None and begun == ended:

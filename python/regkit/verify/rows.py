@@ -26,7 +26,7 @@ def read_rows(report: bytes) -> list[Row]:
     except (ValueError, RecursionError) as error:
         raise Unreadable(f"this is no report of regcheck: {error}") from error
     lines = [row for row in rows if row is not None]
-    if end is not None or len(lines) < len(rows) or not lines:  # behind the last line feed there is nothing
+    if end is not None or len(lines) < len(rows) or not lines:  # after the last line feed there is nothing
         raise Unreadable("this is no report of regcheck: it is empty, or was cut short, or has an empty line")
     if "registers" not in lines[-1]:
         raise Unreadable("this is no report of regcheck: its last line isn't a summary")

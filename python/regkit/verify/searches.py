@@ -4,7 +4,7 @@ A yes is replayed along its order. Of a no, the order of what was known before t
 calls that were open at the reply are looked up, and that there is no order with the reply is searched again,
 in a plain way and up to a bound.
 """
-from typing import Any, Dict, FrozenSet, Iterator, List, NamedTuple, Optional, Sequence, Set, Tuple
+from typing import Any, Iterator, NamedTuple, Optional, Sequence
 
 from regkit.verify.operations import FOREVER, History, Operation, is_read
 from regkit.verify.rows import Lines, Row, is_number, lines_of, need, with_name
@@ -14,7 +14,7 @@ BOUNDS = ("steps", "configurations")
 KEYS = {"yes": {"order", "points"}, "no": {"fault"}, "unknown": {"gave_up"}}
 
 Value = Optional[int]
-Configuration = Tuple[Value, FrozenSet[int]]  # the register's value, and the open calls that took effect
+Configuration = tuple[Value, frozenset[int]]  # the register's value, and the open calls that took effect
 
 
 class Nos(NamedTuple):
@@ -32,7 +32,7 @@ def check_search_report(history: History, rows: Sequence[Row]) -> Nos:
     named = [line.get("register") for line in lines]
     need(named == list(history.registers),
          "the lines aren't those of the registers, in the order of their first calls")
-    kinds: List[str] = []
+    kinds: list[str] = []
     for line in lines:
         name = line["register"]
         with_name(name, check_line, history.registers[name], line, kinds)
@@ -50,7 +50,7 @@ def check_summary(history: History, lines: Sequence[Row], summary: Row) -> None:
     need(set(summary) == {"atomic", "operations", "registers"}, "the summary has other keys")
 
 
-def check_line(operations: List[Operation], line: Row, kinds: List[str]) -> None:
+def check_line(operations: list[Operation], line: Row, kinds: list[str]) -> None:
     """Adds to `kinds` how a no was checked."""
     atomic = line.get("atomic")
     need(type(atomic) is str and atomic in KEYS, "`atomic` is neither yes, no nor unknown")
@@ -77,7 +77,7 @@ def check_line(operations: List[Operation], line: Row, kinds: List[str]) -> None
 # ---- An order
 
 
-def check_order(operations: List[Operation], order: Lines, end: float = FOREVER) -> None:
+def check_order(operations: list[Operation], order: Lines, end: float = FOREVER) -> None:
     """Whether these lines are a legal order of what was called before some line, of which all that replied
     before it has to be there."""
     called = {a.line: a for a in operations if a.line < end}
@@ -122,7 +122,7 @@ def left_by(a: Operation, value: Value) -> Value:
 # ---- A fault
 
 
-def check_fault(operations: List[Operation], fault: Any) -> str:
+def check_fault(operations: list[Operation], fault: Any) -> str:
     """Says how it was checked: the name of a count of Nos."""
     need(type(fault) is dict, "`fault` is not an object")
     if fault.get("kind") == "unwritten":
@@ -144,7 +144,7 @@ def check_fault(operations: List[Operation], fault: Any) -> str:
     return "unsearched" if found is None else "searched"
 
 
-def check_open(operations: List[Operation], asks: Lines, reply: int) -> None:
+def check_open(operations: list[Operation], asks: Lines, reply: int) -> None:
     """The calls that are open at a reply came before it, and have no earlier one."""
     due = [a.line for a in operations if a.line < reply <= a.end]
     lacking, others = set(due) - set(asks), set(asks) - set(due)
@@ -154,7 +154,7 @@ def check_open(operations: List[Operation], asks: Lines, reply: int) -> None:
     need(asks == due, "`asks` isn't in the order of the calls, or has one twice")
 
 
-def unwritten_calls(operations: List[Operation]) -> Iterator[Operation]:
+def unwritten_calls(operations: list[Operation]) -> Iterator[Operation]:
     """The completed reads, and the cas that took place, which found a number that nobody wrote."""
     written = {None, *(a.value for a in operations if changes(a))}
     for a in operations:
@@ -162,15 +162,15 @@ def unwritten_calls(operations: List[Operation]) -> Iterator[Operation]:
             yield a
 
 
-def has_order(operations: List[Operation], end: int) -> Optional[bool]:
+def has_order(operations: list[Operation], end: int) -> Optional[bool]:
     """Whether what was called before line `end` has a legal order in which all that replied up to that line
     stands. None if the search would take too long.
 
     It goes through the lines, and keeps each value that the register may have, with the open calls that took
     effect. What replied later and changes nothing is left out: it may be dropped from each order."""
     left = MOST_STEPS
-    opened: Dict[int, Operation] = {}
-    found: Set[Configuration] = {(None, frozenset())}
+    opened: dict[int, Operation] = {}
+    found: set[Configuration] = {(None, frozenset())}
     for line, a in events_of(operations, end):
         if line == a.line:
             opened[line] = a
@@ -183,8 +183,8 @@ def has_order(operations: List[Operation], end: int) -> Optional[bool]:
     return bool(found)
 
 
-def reached(found: Set[Configuration], a: Operation, opened: List[Operation],
-            left: int) -> Tuple[Set[Configuration], int]:
+def reached(found: set[Configuration], a: Operation, opened: list[Operation],
+            left: int) -> tuple[set[Configuration], int]:
     """What can be reached by letting open calls take effect until `a` did, and how many steps are left.
 
     A call that fits the value and doesn't change it takes effect at once: in any order where it comes later
@@ -192,7 +192,7 @@ def reached(found: Set[Configuration], a: Operation, opened: List[Operation],
     changing = [b for b in opened if changes(b)]
     others = [b for b in opened if not changes(b)]
 
-    def settled(value: Value, done: FrozenSet[int]) -> Configuration:
+    def settled(value: Value, done: frozenset[int]) -> Configuration:
         return value, done | {b.line for b in others if suits(b, value)}
 
     known = {settled(*each) for each in found}
@@ -211,7 +211,7 @@ def reached(found: Set[Configuration], a: Operation, opened: List[Operation],
     return known, left
 
 
-def events_of(operations: List[Operation], end: int) -> List[Tuple[int, Operation]]:
+def events_of(operations: list[Operation], end: int) -> list[tuple[int, Operation]]:
     """The lines of the calls before a line, and of the replies up to it, in order."""
     called = [a for a in operations if a.line < end and (a.end <= end or changes(a))]
     replies = [(int(a.end), a) for a in called if a.end <= end]

@@ -39,7 +39,7 @@ class Set(tuple[Value, ...]):
 
 
 class Tagged:
-    """A value behind a tag, such as a record: #jepsen.history.Op{..}."""
+    """A value after a tag, such as a record: #jepsen.history.Op{..}."""
 
     __slots__ = ("tag", "value")
 

@@ -25,7 +25,7 @@ def _unfinished(token: str) -> bool:
 
 
 def tokens_of(line: str, more: Iterator[tuple[int, str]], number: int) -> Iterator[list[str]]:
-    """The tokens of a line, some thousands at once, and of those behind it if a text goes on there."""
+    """The tokens of a line, some thousands at once, and of those after it if a text goes on there."""
     found = _TOKEN.finditer(line.rstrip("\n"))
     tokens = _some(found)
     while tokens:
@@ -36,12 +36,12 @@ def tokens_of(line: str, more: Iterator[tuple[int, str]], number: int) -> Iterat
 
 
 def _some(found: Iterator["re.Match[str]"]) -> list[str]:
-    """The next tokens. What matches at the end, behind blanks, is no token."""
+    """The next tokens. What matches at the end, after blanks, is no token."""
     return [match[1] for match in itertools.islice(found, _AT_ONCE) if match[1]]
 
 
 def _joined(line: str, more: Iterator[tuple[int, str]], number: int) -> str:
-    """A line and those behind it, up to the next with a quote, where its open text may end."""
+    """A line and those after it, up to the next with a quote, where its open text may end."""
     held = [line]
     for _, behind in more:
         held.append(behind.rstrip("\n"))
