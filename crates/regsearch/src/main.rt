@@ -7,7 +7,7 @@ mod words;
 ghost use Rattle.std.specs.Prelude.{◌-◌, ◌^◌, ◌<◌};
 
 use command_words::{Ended, WordsFault, status, tell, tell_no_words, tell_unopened, words_given};
-use search_report::{Answer, FromReader, FromWriter, Refusal, Settings, Source, run};
+use search_report::{FromReader, FromWriter, Outcome, Refusal, Settings, Source, run};
 use std::io;
 use std::process::ExitCode;
 use std::rt::{Env, Files};
@@ -24,9 +24,9 @@ fn report<S: Source>(
 {
     let mut sink = FromWriter::new(io::writer(rt));
     match run(rt, rt.alloc(), source, &mut sink, settings) {
-        Ok(Answer::Yes) => Ended::Atomic,
-        Ok(Answer::No) => Ended::NotAtomic,
-        Ok(Answer::Unknown) => Ended::Unknown,
+        Ok(Outcome::Yes) => Ended::Atomic,
+        Ok(Outcome::No) => Ended::NotAtomic,
+        Ok(Outcome::Unknown) => Ended::Unknown,
         Err(refusal) => tell(rt, &refusal, refusal.number()),
     }
 }

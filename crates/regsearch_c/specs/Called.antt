@@ -7,11 +7,11 @@ use Rattle.search_intake.specs.Input.{history_lines}
 use Rattle.search_intake.specs.Refusals.{number_of, line_of, other_of}
 use Rattle.search_intake.specs.declared.refusal.Refusal.{Refusal}
 use Rattle.search_text.specs.Text.{report_text}
-use Rattle.search_text.specs.declared.report.Answer.{Answer as Verdict}
-use Rattle.search_text.specs.declared.report.Answer.TheVariants.{Yes, No, Unknown}
+use Rattle.search_text.specs.declared.report.Outcome.{Outcome}
+use Rattle.search_text.specs.declared.report.Outcome.TheVariants.{Yes, No, Unknown}
 use Rattle.search_text.specs.declared.report.Report.{Report}
 use Rattle.search_report.specs.Answer.{IsAnswer, IsRefused}
-use Rattle.search_report.specs.Meaning.{IsWholeAnswer}
+use Rattle.search_report.specs.Meaning.{IsWholeOutcome}
 use Rattle.regsearch_c.specs.declared.answer.Answer.{Answer}
 
 -- a bound by a caller's number: 0 is the default, and past the most it is the most
@@ -29,15 +29,15 @@ abbrev pub with_text : List ℕ → List ℕ → List ℕ
 with_text text old = if nat_le (length text) (length old) then text ++ drop (length text) old else old
 
 -- the status of a report that there is room for
-abbrev pub status_of_verdict : Verdict → ℕ
-status_of_verdict Yes = 0
-status_of_verdict No = 1
-status_of_verdict Unknown = 6
+abbrev pub status_of_outcome : Outcome → ℕ
+status_of_outcome Yes = 0
+status_of_outcome No = 1
+status_of_outcome Unknown = 6
 
 -- the status of a report, if there is room for this many bytes
 abbrev pub status_of_report : ℕ → Report → ℕ
 status_of_report room report =
-    if nat_le (length (report_text report)) room then status_of_verdict report.atomic else 5
+    if nat_le (length (report_text report)) room then status_of_outcome report.atomic else 5
 
 -- what is said of a report
 abbrev pub answer_of_report : ℕ → Report → Answer
@@ -94,5 +94,5 @@ IsSaidOf input size = (size ≡ 0) ⊎ ((refusal : Refusal) × IsAnswer input (E
 
 -- the status of an input's answer says whether its history is atomic, if it says either
 pub record TellsAtomic (input : List ℕ) (status : ℕ) : Type 0 where
-  pub atomic : status ≡ 0 → IsWholeAnswer (events_of (history_lines input)) Yes
-  pub not_atomic : status ≡ 1 → IsWholeAnswer (events_of (history_lines input)) No
+  pub atomic : status ≡ 0 → IsWholeOutcome (events_of (history_lines input)) Yes
+  pub not_atomic : status ≡ 1 → IsWholeOutcome (events_of (history_lines input)) No

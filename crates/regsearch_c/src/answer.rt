@@ -1,10 +1,10 @@
 //! What a call says of its input.
 ghost use Rattle.std.specs.Prelude.{◌≡◌, length as length_of};
-ghost use Rattle.regsearch_c.specs.Called.{answer_of_refusal, answer_of_report, status_of_verdict};
+ghost use Rattle.regsearch_c.specs.Called.{answer_of_refusal, answer_of_report, status_of_outcome};
 ghost use Rattle.search_text.specs.Text.{report_text};
 
 use crate::status::{ATOMIC, NO_MEMORY, NOT_ATOMIC, REFUSED, TOO_SMALL, UNKNOWN};
-use search_report::{Answer as Verdict, Refusal, Report};
+use search_report::{Outcome, Refusal, Report};
 
 /// What a call says of its input; in C it is `regcheck_answer`.
 #[repr(C)]
@@ -42,13 +42,13 @@ pub(crate) fn refused(refusal: &Refusal) -> Answer
 }
 
 /// The status of a report that there is room for.
-fn status(verdict: Verdict) -> u32
-    ensures { result ≡ status_of_verdict verdict }
+fn status(outcome: Outcome) -> u32
+    ensures { result ≡ status_of_outcome outcome }
 {
-    match verdict {
-        Verdict::Yes => ATOMIC,
-        Verdict::No => NOT_ATOMIC,
-        Verdict::Unknown => UNKNOWN,
+    match outcome {
+        Outcome::Yes => ATOMIC,
+        Outcome::No => NOT_ATOMIC,
+        Outcome::Unknown => UNKNOWN,
     }
 }
 

@@ -16,13 +16,13 @@ use Rattle.cas_history.specs.Timed.{AreTimedCalls}
 use Rattle.cas_history.specs.declared.history.History.{History}
 use Rattle.cas_history.proofs.Timed.{timed as calls-timed}
 use Rattle.cas_history.proofs.Initials.{named as of-named, none as of-none}
-use Rattle.search_text.specs.declared.report.Answer.{Answer}
-use Rattle.search_text.specs.declared.report.Answer.TheVariants as answer
+use Rattle.search_text.specs.declared.report.Outcome.{Outcome}
+use Rattle.search_text.specs.declared.report.Outcome.TheVariants as outcome
 use Rattle.search_text.specs.declared.report.Atomicity.{Atomicity}
 use Rattle.search_text.specs.declared.report.Atomicity.TheVariants.{Yes, No, Unknown}
 use Rattle.search_text.specs.declared.report.RegisterReport.{RegisterReport}
-use Rattle.search_report.specs.Meaning.{IsAtomicity, IsRegisterReport, IsWholeAnswer}
-use Rattle.search_report.specs.Meaning.{answer_of, event_lines, is_no, is_unknown}
+use Rattle.search_report.specs.Meaning.{IsAtomicity, IsRegisterReport, IsWholeOutcome}
+use Rattle.search_report.specs.Meaning.{event_lines, is_no, is_unknown, outcome_of}
 use Rattle.search_report.specs.Registers.{AreFirstLines, IsLine}
 
 -- ---- what the answer says if each register's line says so of P
@@ -63,31 +63,31 @@ each_fails test (first ∷ reports) e (suc r) report at =
     each_fails test reports (or_parts (test first) (list_any test reports) e).1 r report at
 
 -- what is known of P at the numbers below a count, as the answer says
-abbrev Known : (ℕ → Type 0) → ℕ → Answer → Type 0
-Known P count answer.Yes = (r : ℕ) → r < count → P r
-Known P count answer.No = (r : ℕ) × (r < count) × (P r → ⊥)
-Known P count answer.Unknown = Unit {0}
+abbrev Known : (ℕ → Type 0) → ℕ → Outcome → Type 0
+Known P count outcome.Yes = (r : ℕ) → r < count → P r
+Known P count outcome.No = (r : ℕ) × (r < count) × (P r → ⊥)
+Known P count outcome.Unknown = Unit {0}
 
 all_known : (P : ℕ → Type 0) (reports : List RegisterReport)
     → ((r : ℕ) (report : RegisterReport) → slice_get reports r ≡ Some report → Tells (P r) report.atomicity)
-    → Known P (length reports) (answer_of reports)
+    → Known P (length reports) (outcome_of reports)
 all_known P reports each = elim (cases_Bool (list_any (λ reg. is_no reg.atomicity) reports)) [
   | inl y ↦
       let some = some_passes (λ reg. is_no reg.atomicity) reports y in
       subst (λ b. Known P (length reports)
-      (cond b answer.No
-      (cond (list_any (λ reg. is_unknown reg.atomicity) reports) answer.Unknown answer.Yes))) (sym y) (
+      (cond b outcome.No
+      (cond (list_any (λ reg. is_unknown reg.atomicity) reports) outcome.Unknown outcome.Yes))) (sym y) (
         some.0,
         slice_get_within reports some.0 some.1 some.2,
         told_no (P some.0) some.1.atomicity some.3 (each some.0 some.1 some.2),
       )
   | inr n ↦
       subst (λ b. Known P (length reports)
-      (cond b answer.No
-      (cond (list_any (λ reg. is_unknown reg.atomicity) reports) answer.Unknown answer.Yes))) (sym n)
+      (cond b outcome.No
+      (cond (list_any (λ reg. is_unknown reg.atomicity) reports) outcome.Unknown outcome.Yes))) (sym n)
       (elim (cases_Bool (list_any (λ reg. is_unknown reg.atomicity) reports)) [
-        | inl y ↦ subst (λ b. Known P (length reports) (cond b answer.Unknown answer.Yes)) (sym y) tt
-        | inr m ↦ subst (λ b. Known P (length reports) (cond b answer.Unknown answer.Yes)) (sym m) (λ r l.
+        | inl y ↦ subst (λ b. Known P (length reports) (cond b outcome.Unknown outcome.Yes)) (sym y) tt
+        | inr m ↦ subst (λ b. Known P (length reports) (cond b outcome.Unknown outcome.Yes)) (sym m) (λ r l.
             let one = slice_get_inside reports r l in
             told_yes (P r) one.0.atomicity
             (each_fails (λ reg. is_no reg.atomicity) reports n r one.0 one.1)
@@ -163,15 +163,15 @@ module _ (events : List CasEvent) where
   decides : IsAtomic (operations events) ↔ ((r : ℕ) → IsAtomic (of_register r (operations events)))
   decides = each_decides (operations events) each_timed
 
-  whole_answer : (told : Answer) → Known IsRegisterAtomic (length (register_names events)) told
-      → IsWholeAnswer events told
-  whole_answer answer.Yes known = decides.1 (λ r. elim (is_named r) [
+  whole_outcome : (told : Outcome) → Known IsRegisterAtomic (length (register_names events)) told
+      → IsWholeOutcome events told
+  whole_outcome outcome.Yes known = decides.1 (λ r. elim (is_named r) [
     | inl l ↦ subst IsAtomic (sym (of-named events r l)) (known r l)
     | inr n ↦ subst IsAtomic (sym (of-none events r n)) nothing_is_atomic
   ])
-  whole_answer answer.No known =
+  whole_outcome outcome.No known =
       λ atomic. known.2 (subst IsAtomic (of-named events known.0 known.1) (decides.0 atomic known.0))
-  whole_answer answer.Unknown known = tt
+  whole_outcome outcome.Unknown known = tt
 
   module _ (h : History) (is : IsHistoryOf events h) (reports : List RegisterReport)
       (lines : AreFirstLines h (length h.names.items) reports) where
@@ -203,8 +203,8 @@ module _ (events : List CasEvent) where
     pub count-is : length reports ≡ length (register_names events)
     count-is = lines.count_is ∙ ap length is.names
 
-    pub answer-is : IsWholeAnswer events (answer_of reports)
-    answer-is = whole_answer (answer_of reports)
-        (subst (λ n. Known IsRegisterAtomic n (answer_of reports)) count-is
+    pub outcome-is : IsWholeOutcome events (outcome_of reports)
+    outcome-is = whole_outcome (outcome_of reports)
+        (subst (λ n. Known IsRegisterAtomic n (outcome_of reports)) count-is
         (all_known IsRegisterAtomic reports (λ r report at.
         tells r report.atomicity (line-is r report at).atomicity)))

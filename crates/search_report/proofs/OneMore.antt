@@ -83,6 +83,6 @@ next-finding lines registers findings after items rest finding better ops first 
     let size : length after ≡ n + 1 = ap length grown ∙ length_push findings better in
     let next : n + 1 ≡ suc n = omega arith in (
       subst (λ k. AreFindingsOf lines (take k registers) after) (sym size)
-      (one-finding-more lines registers findings after n ops better there first found grown),
+          (one-finding-more lines registers findings after n ops better there first found grown),
       subst (λ k. AreFindingsOf lines (drop k registers) rest) (sym (size ∙ next)) one.3,
     )

@@ -7,7 +7,7 @@ use Rattle.search_intake.specs.declared.refusal.Refusal.{Refusal}
 use Rattle.search_intake.specs.declared.refusal.Refusal.TheVariants.{At, TooLong, InputFailed}
 use Rattle.search_intake.specs.declared.refusal.Refusal.TheVariants.{NoRoom, OutputFailed}
 use Rattle.search_text.specs.Text.{report_text}
-use Rattle.search_text.specs.declared.report.Answer.{Answer}
+use Rattle.search_text.specs.declared.report.Outcome.{Outcome}
 use Rattle.search_text.specs.declared.report.Report.{Report}
 use Rattle.search_report.specs.Meaning.{IsReport}
 
@@ -28,7 +28,7 @@ IsAnswer input result =
     (IsAnswerToLines (history_lines input) result)
 
 -- an answer as bytes, those of a report, and what it says of the whole history
-abbrev pub IsAnswerText : List ℕ → List ℕ → Answer → Type 0
+abbrev pub IsAnswerText : List ℕ → List ℕ → Outcome → Type 0
 IsAnswerText input bytes told =
     (report : Report) × IsAnswer input (Ok report) × (bytes ≡ report_text report) × (told ≡ report.atomic)
 

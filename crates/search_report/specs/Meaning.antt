@@ -15,8 +15,8 @@ use Rattle.cas_model.specs.Operations.{initial_write}
 use Rattle.cas_model.specs.Placed.{PlacedOperation, placed}
 use Rattle.cas_history.specs.History.{register_names, calls, calls_of, operations}
 use Rattle.cas_search.specs.Unwritten.{IsFirstUnwritten}
-use Rattle.search_text.specs.declared.report.Answer.{Answer}
-use Rattle.search_text.specs.declared.report.Answer.TheVariants as answer
+use Rattle.search_text.specs.declared.report.Outcome.{Outcome}
+use Rattle.search_text.specs.declared.report.Outcome.TheVariants as outcome
 use Rattle.search_text.specs.declared.report.Atomicity.{Atomicity}
 use Rattle.search_text.specs.declared.report.Atomicity.TheVariants.{Yes, No, Unknown}
 use Rattle.search_text.specs.declared.report.Fault.{Fault}
@@ -163,16 +163,16 @@ is_unknown (No fault) = false
 is_unknown (Unknown bound) = true
 
 -- "no" if some register isn't atomic, else "unknown" if the search gave up on some, else "yes"
-abbrev pub answer_of : List RegisterReport → Answer
-answer_of reports =
-    if list_any (λ reg. is_no reg.atomicity) reports then answer.No
-    else (if list_any (λ reg. is_unknown reg.atomicity) reports then answer.Unknown else answer.Yes)
+abbrev pub outcome_of : List RegisterReport → Outcome
+outcome_of reports =
+    if list_any (λ reg. is_no reg.atomicity) reports then outcome.No
+    else (if list_any (λ reg. is_unknown reg.atomicity) reports then outcome.Unknown else outcome.Yes)
 
 -- a yes says that the whole history is atomic, and a no that it isn't (Herlihy and Wing, 1990)
-abbrev pub IsWholeAnswer : List CasEvent → Answer → Type 0
-IsWholeAnswer events answer.Yes = IsAtomic (operations events)
-IsWholeAnswer events answer.No = IsAtomic (operations events) → ⊥
-IsWholeAnswer events answer.Unknown = Unit {0}
+abbrev pub IsWholeOutcome : List CasEvent → Outcome → Type 0
+IsWholeOutcome events outcome.Yes = IsAtomic (operations events)
+IsWholeOutcome events outcome.No = IsAtomic (operations events) → ⊥
+IsWholeOutcome events outcome.Unknown = Unit {0}
 
 -- the report of a history: the line of each register in the order of the first calls, and the summary
 pub record IsReport (events : List CasEvent) (report : Report) : Type 0 where
@@ -180,5 +180,5 @@ pub record IsReport (events : List CasEvent) (report : Report) : Type 0 where
   pub each : (r : ℕ) (reg : RegisterReport) → slice_get report.registers.items r ≡ Some reg
       → IsRegisterReport events r reg
   pub called : report.operations ≡ length (calls events)
-  pub summary : report.atomic ≡ answer_of report.registers.items
-  pub whole : IsWholeAnswer events report.atomic
+  pub summary : report.atomic ≡ outcome_of report.registers.items
+  pub whole : IsWholeOutcome events report.atomic

@@ -9,8 +9,8 @@ use Rattle.search_intake.specs.declared.refusal.Refusal.TheVariants.{At, TooLong
 use Rattle.search_intake.specs.declared.refusal.Refusal.TheVariants.{NoRoom, OutputFailed}
 use Rattle.search_report.specs.Answer.{IsAnswer, IsAnswerText}
 use Rattle.byte_ends.specs.Ends.{AppendsBeginning}
-use Rattle.search_report.specs.Meaning.{IsWholeAnswer}
-use Rattle.search_text.specs.declared.report.Answer.{Answer}
+use Rattle.search_report.specs.Meaning.{IsWholeOutcome}
+use Rattle.search_text.specs.declared.report.Outcome.{Outcome}
 
 -- a refusal of the input itself, and not of a failure or of memory
 abbrev pub IsOfInput : Refusal → Type 0
@@ -22,22 +22,22 @@ IsOfInput OutputFailed = ⊥
 
 -- the answer to all the bytes that were left is a report: its bytes were
 -- taken, and it says this of the whole history
-abbrev pub Reports : Option (List ℕ) → Option (List ℕ) → Option (List ℕ) → Answer → Type 0
-Reports left old new answer =
-    (input : List ℕ) × IsAll left input × (bytes : List ℕ) × IsAnswerText input bytes answer
+abbrev pub Reports : Option (List ℕ) → Option (List ℕ) → Option (List ℕ) → Outcome → Type 0
+Reports left old new outcome =
+    (input : List ℕ) × IsAll left input × (bytes : List ℕ) × IsAnswerText input bytes outcome
     × Appends old new bytes
 
--- the history in all the bytes that were left is atomic if the answer is yes, and isn't if it is no (Herlihy
+-- the history in all the bytes that were left is atomic if the outcome is yes, and isn't if it is no (Herlihy
 -- and Wing, Linearizability: A Correctness Condition for Concurrent Objects, 1990)
-abbrev pub TellsAtomic : Option (List ℕ) → Answer → Type 0
-TellsAtomic left answer =
-    (input : List ℕ) × IsAll left input × IsWholeAnswer (events_of (history_lines input)) answer
+abbrev pub TellsAtomic : Option (List ℕ) → Outcome → Type 0
+TellsAtomic left outcome =
+    (input : List ℕ) × IsAll left input × IsWholeOutcome (events_of (history_lines input)) outcome
 
 -- the answer to all the bytes that were left is a report, of which a beginning was taken
 abbrev pub ReportsBeginning : Option (List ℕ) → Option (List ℕ) → Option (List ℕ) → Type 0
 ReportsBeginning left old new =
-    (input : List ℕ) × IsAll left input × (bytes : List ℕ) × (answer : Answer)
-    × IsAnswerText input bytes answer × AppendsBeginning old new bytes
+    (input : List ℕ) × IsAll left input × (bytes : List ℕ) × (outcome : Outcome)
+    × IsAnswerText input bytes outcome × AppendsBeginning old new bytes
 
 -- the answer to all the bytes that were left is this refusal
 abbrev pub IsRefusedWhole : Option (List ℕ) → Refusal → Type 0

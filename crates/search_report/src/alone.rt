@@ -4,7 +4,7 @@ ghost use Rattle.history_text.specs.declared.limits.TheConstants.{MAX_INPUT};
 ghost use Rattle.cas_history.specs.Refusals.{events_of};
 ghost use Rattle.search_intake.specs.Input.{history_lines};
 ghost use Rattle.search_report.specs.Answer.{IsAnswer, IsRefused};
-ghost use Rattle.search_report.specs.Meaning.{IsWholeAnswer};
+ghost use Rattle.search_report.specs.Meaning.{IsWholeOutcome};
 
 use crate::history::report_alone;
 use cas_search::Bounds;
@@ -27,7 +27,7 @@ pub fn check_alone(alloc: Global, input: &[u8], bounds: Bounds) -> Result<Report
 
     // A yes says that the whole history is atomic, and a no that it isn't.
     ensures atomic { IfOk result (λ report.
-        IsWholeAnswer (events_of (history_lines input.now)) report.atomic) }
+        IsWholeOutcome (events_of (history_lines input.now)) report.atomic) }
     ensures err { IfErr result (IsRefused input.now) }
     ensures long { MAX_INPUT < length input.now → result ≡ Err Refusal.TooLong }
 {

@@ -3,7 +3,7 @@ ghost use Rattle.std.specs.Prelude.{◌≡◌, length, List, IfOk};
 ghost use Rattle.std.specs.List.{list_any};
 ghost use Rattle.cas_text.specs.declared.event.CasEvent.{CasEvent as AnEvent};
 ghost use Rattle.cas_history.specs.History.{IsHistoryOf};
-ghost use Rattle.search_report.specs.Meaning.{IsReport, answer_of, is_no as is_no_of};
+ghost use Rattle.search_report.specs.Meaning.{IsReport, is_no as is_no_of, outcome_of};
 ghost use Rattle.search_report.specs.Meaning.{is_unknown as is_unknown_of};
 ghost use Rattle.search_report.specs.Registers.{AreFindings};
 
@@ -13,7 +13,7 @@ use crate::rounds::{findings, findings_alone};
 use crate::settings::Settings;
 use cas_history::History;
 use cas_search::Bounds;
-use search_text::{Answer, Atomicity, RegisterReport, Report};
+use search_text::{Atomicity, Outcome, RegisterReport, Report};
 use std::alloc::{AllocError, Global};
 use std::thread::Threads;
 
@@ -38,15 +38,15 @@ fn has_unknown(reports: &[RegisterReport]) -> bool
 }
 
 /// What is known of all registers.
-fn answer(reports: &[RegisterReport]) -> Answer
-    ensures { result ≡ answer_of reports.now }
+fn outcome(reports: &[RegisterReport]) -> Outcome
+    ensures { result ≡ outcome_of reports.now }
 {
     if has_no(reports) {
-        Answer::No
+        Outcome::No
     } else if has_unknown(reports) {
-        Answer::Unknown
+        Outcome::Unknown
     } else {
-        Answer::Yes
+        Outcome::Yes
     }
 }
 
@@ -58,7 +58,7 @@ fn report_of(alloc: Global, history: &History, findings: Vec<Finding>) -> Result
         → IsReport events report) }
 {
     let registers = lines_of_registers(alloc, history, findings)?;
-    let atomic = answer(&registers);
+    let atomic = outcome(&registers);
     Ok(Report {
         registers,
         operations: history.operations,

@@ -32,7 +32,7 @@ mod wording;
 pub use alone::check_alone;
 pub use byte_ends::{FromReader, FromWriter, IoFail, MemSink, MemSource, Sink, Source};
 pub use search_intake::Refusal;
-pub use search_text::{Answer, Atomicity, Fault, RegisterReport, Report, text};
+pub use search_text::{Atomicity, Fault, Outcome, RegisterReport, Report, text};
 pub use settings::{MAX_WORKERS, Settings};
 pub use whole::run;
 pub use wording::message;

@@ -11,7 +11,7 @@ use crate::history::report;
 use crate::settings::Settings;
 use byte_ends::{Sink, Source, deliver};
 use search_intake::{Refusal, history_of};
-use search_text::{Answer, text};
+use search_text::{Outcome, text};
 use std::alloc::Global;
 use std::thread::Threads;
 
@@ -22,7 +22,7 @@ fn answered<T: Threads + Sync, R: Source>(
     alloc: Global,
     source: &mut R,
     settings: Settings,
-) -> Result<(Vec<u8>, Answer), Refusal>
+) -> Result<(Vec<u8>, Outcome), Refusal>
     requires { R.failed source.old < 2 ^ 64 - 1 }
     ensures ok { IfOk result (λ made. (input : List ℕ) × IsAll (R.left source.old) input
         × IsAnswerText input made.0.items made.1) }
@@ -53,14 +53,14 @@ pub fn run<T: Threads + Sync, R: Source, W: Sink>(
     source: &mut R,
     sink: &mut W,
     settings: Settings,
-) -> Result<Answer, Refusal>
+) -> Result<Outcome, Refusal>
     requires source { R.failed source.old < 2 ^ 64 - 1 }
     requires sink { W.failed sink.old < 2 ^ 64 - 1 }
 
     // The bytes that the sink took are a report of all the bytes that the source had left. Of each register
     // it says yes, with a legal order; no, if there is none; or unknown.
-    ensures report { IfOk result (λ answer.
-        Reports (R.left source.old) (W.taken sink.old) (W.taken sink.new) answer) }
+    ensures report { IfOk result (λ outcome.
+        Reports (R.left source.old) (W.taken sink.old) (W.taken sink.new) outcome) }
 
     // A yes says that the whole history is atomic, and a no that it isn't.
     ensures atomic { IfOk result (TellsAtomic (R.left source.old)) }
@@ -82,9 +82,9 @@ pub fn run<T: Threads + Sync, R: Source, W: Sink>(
         → ReportsBeginning (R.left source.old) (W.taken sink.old) (W.taken sink.new) }
     ensures nothing { IfErr result (λ refusal. refusal ≢ Refusal.OutputFailed → sink.new ≡ sink.old) }
 {
-    let (bytes, answer) = answered(rt, alloc, source, settings)?;
+    let (bytes, outcome) = answered(rt, alloc, source, settings)?;
     match deliver(sink, &[bytes]) {
-        Ok(()) => Ok(answer),
+        Ok(()) => Ok(outcome),
         Err(_) => Err(Refusal::OutputFailed),
     }
 }

@@ -9,12 +9,12 @@ use Rattle.serde_json.specs.Written.{has_float, members_have_float}
 use Rattle.configurations.specs.declared.bounds.Bound.{Bound}
 use Rattle.configurations.specs.declared.bounds.Bound.TheVariants.{Configurations, Steps}
 use Rattle.search_text.specs.Text.{Field, fields_of, members_of, items_of, number_json}
-use Rattle.search_text.specs.Text.{numbers_json, bound_json, answer_json, object_json, always}
+use Rattle.search_text.specs.Text.{numbers_json, bound_json, outcome_json, object_json, always}
 use Rattle.search_text.specs.Text.{shown, fault_parts, gave_up_parts, last_fields, register_parts}
 use Rattle.search_text.specs.Text.{register_json, summary_parts, summary_json}
 use Rattle.search_text.specs.Sends.{SendsFields, SendsParts}
-use Rattle.search_text.specs.declared.report.Answer.{Answer}
-use Rattle.search_text.specs.declared.report.Answer.TheVariants as answer
+use Rattle.search_text.specs.declared.report.Outcome.{Outcome}
+use Rattle.search_text.specs.declared.report.Outcome.TheVariants as outcome
 use Rattle.search_text.specs.declared.report.Atomicity.{Atomicity}
 use Rattle.search_text.specs.declared.report.Atomicity.TheVariants.{Yes, No, Unknown}
 use Rattle.search_text.specs.declared.report.Fault.{Fault}
@@ -100,10 +100,10 @@ plain_bound : (bound : Bound) → has_float (bound_json bound) ≡ false
 plain_bound Configurations = refl
 plain_bound Steps = refl
 
-plain_answer : (a : Answer) → has_float (answer_json a) ≡ false
-plain_answer answer.Yes = refl
-plain_answer answer.No = refl
-plain_answer answer.Unknown = refl
+plain_outcome : (a : Outcome) → has_float (outcome_json a) ≡ false
+plain_outcome outcome.Yes = refl
+plain_outcome outcome.No = refl
+plain_outcome outcome.Unknown = refl
 
 plain_fault : (fault : Fault) → has_float (object_json (fault_parts fault)) ≡ false
 plain_fault (Unwritten call) = refl
@@ -178,7 +178,7 @@ register_has_no_float reg = plain_parts (register_parts reg reg.atomicity) (plai
 
 pub summary_has_no_float : (report : Report) → has_float (summary_json report) ≡ false
 summary_has_no_float report = plain_parts (summary_parts report) (
-  plain_always (codes "atomic") (answer_json report.atomic) (plain_answer report.atomic),
+  plain_always (codes "atomic") (outcome_json report.atomic) (plain_outcome report.atomic),
   (
     plain_always (codes "operations") (number_json report.operations) refl,
     (plain_always (codes "registers") (number_json (length report.registers.items)) refl, tt),

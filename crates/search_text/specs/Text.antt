@@ -7,8 +7,8 @@ use Rattle.serde_json.specs.Data.{no_items, item, Members, no_members, member}
 use Rattle.serde_json.specs.Written.{compact_text}
 use Rattle.configurations.specs.declared.bounds.Bound.{Bound}
 use Rattle.configurations.specs.declared.bounds.Bound.TheVariants.{Configurations, Steps}
-use Rattle.search_text.specs.declared.report.Answer.{Answer}
-use Rattle.search_text.specs.declared.report.Answer.TheVariants as answer
+use Rattle.search_text.specs.declared.report.Outcome.{Outcome}
+use Rattle.search_text.specs.declared.report.Outcome.TheVariants as outcome
 use Rattle.search_text.specs.declared.report.Atomicity.{Atomicity}
 use Rattle.search_text.specs.declared.report.Atomicity.TheVariants.{Yes, No, Unknown}
 use Rattle.search_text.specs.declared.report.Fault.{Fault}
@@ -105,14 +105,14 @@ register_parts reg (Unknown bound) =
 abbrev pub register_json : RegisterReport → Data
 register_json reg = object_json (register_parts reg reg.atomicity)
 
-abbrev pub answer_json : Answer → Data
-answer_json answer.Yes = string (codes "yes")
-answer_json answer.No = string (codes "no")
-answer_json answer.Unknown = string (codes "unknown")
+abbrev pub outcome_json : Outcome → Data
+outcome_json outcome.Yes = string (codes "yes")
+outcome_json outcome.No = string (codes "no")
+outcome_json outcome.Unknown = string (codes "unknown")
 
 abbrev pub summary_parts : Report → List (List Field)
 summary_parts report =
-    always (codes "atomic") (answer_json report.atomic)
+    always (codes "atomic") (outcome_json report.atomic)
     ∷ always (codes "operations") (number_json report.operations)
     ∷ always (codes "registers") (number_json (length report.registers.items))
     ∷ []

@@ -11,5 +11,5 @@ mod report;
 mod send;
 mod written;
 
-pub use report::{Answer, Atomicity, Fault, RegisterReport, Report};
+pub use report::{Atomicity, Fault, Outcome, RegisterReport, Report};
 pub use written::text;

@@ -52,7 +52,7 @@ pub struct RegisterReport {
 
 /// Whether a whole history is atomic.
 #[derive(Clone, Copy, Debug, PartialEq, Eq)]
-pub enum Answer {
+pub enum Outcome {
     /// Each register is.
     Yes,
     /// Some register isn't.
@@ -69,5 +69,5 @@ pub struct Report {
     /// The number of operations: the calls that didn't fail.
     pub operations: usize,
     /// Whether the whole history is atomic.
-    pub atomic: Answer,
+    pub atomic: Outcome,
 }

@@ -3,12 +3,12 @@ ghost use Rattle.std.specs.Prelude.{◌≡◌, length, OnOk};
 ghost use Rattle.serde_json.specs.Data.{string};
 ghost use Rattle.serde_json.specs.Events.{SendsValue};
 ghost use Rattle.search_text.specs.Text.{always, shown, number_json, numbers_json, bound_json};
-ghost use Rattle.search_text.specs.Text.{answer_json, object_json, fields_of, fault_parts};
+ghost use Rattle.search_text.specs.Text.{fault_parts, fields_of, object_json, outcome_json};
 ghost use Rattle.search_text.specs.Text.{gave_up_parts, cas_field, pending_field, last_fields};
 ghost use Rattle.search_text.specs.Text.{register_json, register_parts, summary_json, summary_parts};
 ghost use Rattle.search_text.specs.Sends.{SendsFields, SendsParts};
 
-use crate::report::{Answer, Atomicity, Fault, RegisterReport, Report};
+use crate::report::{Atomicity, Fault, Outcome, RegisterReport, Report};
 use cas_search::Bound;
 use serde::{Described, Serialize, Serializer};
 
@@ -71,14 +71,14 @@ fn send_bound<S: Serializer>(out: &mut S, key: &str, bound: Bound) -> Result<(),
     }
 }
 
-fn send_answer<S: Serializer>(out: &mut S, key: &str, answer: Answer) -> Result<(), S::Error>
+fn send_outcome<S: Serializer>(out: &mut S, key: &str, outcome: Outcome) -> Result<(), S::Error>
     ensures { OnOk result
-        (SendsFields (always key.now (answer_json answer)) (S.written out.old) (S.written out.new)) }
+        (SendsFields (always key.now (outcome_json outcome)) (S.written out.old) (S.written out.new)) }
 {
-    match answer {
-        Answer::Yes => send_text(out, key, "yes"),
-        Answer::No => send_text(out, key, "no"),
-        Answer::Unknown => send_text(out, key, "unknown"),
+    match outcome {
+        Outcome::Yes => send_text(out, key, "yes"),
+        Outcome::No => send_text(out, key, "no"),
+        Outcome::Unknown => send_text(out, key, "unknown"),
     }
 }
 
@@ -257,7 +257,7 @@ pub(crate) struct Summary<'a> {
 fn send_summary_parts<S: Serializer>(out: &mut S, report: &Report) -> Result<(), S::Error>
     ensures { OnOk result (SendsParts (summary_parts report.now) (S.written out.old) (S.written out.new)) }
 {
-    send_answer(out, "atomic", report.atomic)?;
+    send_outcome(out, "atomic", report.atomic)?;
     send_number(out, "operations", report.operations as u64)?;
     send_number(out, "registers", report.registers.len() as u64)
 }

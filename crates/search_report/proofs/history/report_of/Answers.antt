@@ -1,6 +1,6 @@
 use Rattle.std.proofs.Common.{◌∙◌, ap, subst, sym}
-use Rattle.search_report.specs.Meaning.{answer_of, IsWholeAnswer}
-use Rattle.search_report.proofs.Decided.{answer-is, count-is, line-is}
+use Rattle.search_report.specs.Meaning.{IsWholeOutcome, outcome_of}
+use Rattle.search_report.proofs.Decided.{outcome-is, count-is, line-is}
 use Rattle.search_report.proofs.history.report_of.Goals as goal
 
 pub returns : goal.returns
@@ -8,11 +8,11 @@ returns c = λ events is.
     let h = c.args.history.now in
     let reports = c.in_ok-registers.registers.items in
     let lines = c.in_ok-registers.ensures in
-    let told = c.answer-atomic.ensures ∙ ap answer_of c.deref.ensures.value in
+    let told = c.outcome-atomic.ensures ∙ ap outcome_of c.deref.ensures.value in
     record {
       count = count-is events h is reports lines;
       each = line-is events h is reports lines;
       called = is.operations;
       summary = told;
-      whole = subst (IsWholeAnswer events) (sym told) (answer-is events h is reports lines);
+      whole = subst (IsWholeOutcome events) (sym told) (outcome-is events h is reports lines);
     }

@@ -21,7 +21,7 @@ returns-clause-beginning g c = λ _.
       made.0,
       made.1,
       c.in_ok-bytes.bytes.items,
-      c.in_ok-bytes.answer,
+      c.in_ok-bytes.outcome,
       made.2,
       subst (AppendsBeginning (g.W.Sink.taken c.args.sink.now) (g.W.Sink.taken c.deliver.new.sink))
           (append-nil c.in_ok-bytes.bytes.items) c.in-Err.ensures.err,

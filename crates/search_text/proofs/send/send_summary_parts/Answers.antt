@@ -8,8 +8,8 @@ pub returns : goal.returns
 returns g c =
     let at = g.S.Serializer.written in
     on_ok_weaker c.send_number-2.result (λ e. (
-      at c.send_answer.new.out,
-      c.in_ok-send_answer.ensures,
+      at c.send_outcome.new.out,
+      c.in_ok-send_outcome.ensures,
       (
         at c.send_number.new.out,
         c.in_ok-send_number.ensures,
