@@ -12,10 +12,10 @@
 //! [`check_alone`] gives the report's values for bytes at hand, by the
 //! calling thread alone, and [`text`] their bytes.
 //!
-//! Read it in this order: `settings`; `lines`, `counts` and `register`, the line of one register;
-//! `rounds`, what is found of all, by workers that share them or by one thread; `registers`, the lines of all;
-//! `history`, the report; `whole`, from source to sink; `alone`, from bytes to the report; `wording`, why
-//! there is no report.
+//! Read it in this order: `settings`; `lines`, `counts` and `register`, what is found of one register;
+//! `rounds`, what is found of all, by workers that share them or by one thread; `registers`, the lines
+//! of all; `history`, the report; `whole`, from source to sink; `alone`, from bytes to the report;
+//! `wording`, why there is no report.
 #![tactic(auto)]
 
 mod alone;
