@@ -151,7 +151,7 @@ fn offspring<const W: usize>(
         owed: owed.minus(&freed.union(&content)),
         free: free.union(&owed.common(&freed)),
         last: config.last,
-        unanswered: table.count_unanswered(slot, config.unanswered),
+        cost: table.cost_with(slot, config.cost),
     }
 }
 

@@ -11,6 +11,12 @@ use crate::op::{NEVER, Op, is_alike, left, looks, misses, writes};
 use slot_sets::Slots;
 use std::alloc::{AllocError, Global};
 
+/// What it costs that a write takes effect which never replies, where a call that must
+/// still take effect costs 1; and what a cas does.
+const COST_OF_A_WRITE: u32 = 12;
+
+const COST_OF_A_CAS: u32 = 8;
+
 /// No slot.
 const NO_SLOT: u32 = 0xffff_ffff;
 
@@ -116,19 +122,18 @@ impl<const W: usize> Table<W> {
         }
     }
 
-    /// One more, if the call of a slot never replies.
+    /// What it costs in all once the call of a slot has taken effect, too: more if it never replies, and most
+    /// if it is a write, which may serve at any value later.
     #[inline(always)]
-    pub(crate) fn count_unanswered(&self, slot: u32, count: u32) -> u32 {
-        match self.op(slot) {
-            Some(op) => {
-                if op.rank >= NEVER {
-                    count.saturating_add(1)
-                } else {
-                    count
-                }
-            }
-            None => count,
+    pub(crate) fn cost_with(&self, slot: u32, cost: u32) -> u32 {
+        if !self.unanswered.has(slot) {
+            return cost;
         }
+        cost.saturating_add(if self.writes.has(slot) {
+            COST_OF_A_WRITE
+        } else {
+            COST_OF_A_CAS
+        })
     }
 
     /// The slots of the calls whose `from` is this value.
