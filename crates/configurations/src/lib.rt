@@ -14,7 +14,7 @@
 //! `is_of_use` with `freeing`, `is_led`, and the looks in `offspring` and `with_call`.
 //!
 //! Read it in this order: `op` and `moment`; `bounds` and `work`; `table`, the open calls; `config`;
-//! `call` and `reply`, one event; `run`, all of them; `thrift`, `eased` and `depth_first` (with `links`),
+//! `call` and `reply`, one event; `run`, all of them; `thrift`, `eased` and `depth_first` (with `links` and `tried`),
 //! other ways to go; `stages` and `forward`.
 #![tactic(auto)]
 
@@ -33,6 +33,7 @@ mod run;
 mod stages;
 mod table;
 mod thrift;
+mod tried;
 mod work;
 
 pub use bounds::{Bound, Bounds, MAX_CONFIGURATIONS, MAX_STEPS};

@@ -42,11 +42,11 @@ const MOST: usize = usize::MAX;
 /// The form, the beam and the configurations of each stage, if some changes have no reply: first those that
 /// are quick where they suffice. The last is as wide as the bounds allow.
 const STAGES: [(Form, usize, usize); 11] = [
+    (Form::DepthFirst, 1, 1),
     (Form::Thrifty, 8, MOST),
     (Form::Thrifty, 32, MOST),
     (Form::Eased, 4_096, 4_096),
     (Form::Thrifty, 128, MOST),
-    (Form::DepthFirst, 1, 1),
     (Form::Exact, 1_024, 1_024),
     (Form::Exact, 8, MOST),
     (Form::Thrifty, 512, MOST),
