@@ -125,8 +125,12 @@ fn run_stage<const W: usize>(
     Ok(found)
 }
 
-/// How many of the steps that are left a stage may spend: half of them, so that some are left for the others,
-/// or all if none comes after it.
+/// How many of the steps that are left a stage may spend: three quarters of them, so that some are left for
+/// the others, or all if none comes after it.
 fn share_of(stage: Stage, steps: u64) -> u64 {
-    if stage.beam == MOST { steps } else { steps / 2 }
+    if stage.beam == MOST {
+        steps
+    } else {
+        steps - steps / 4
+    }
 }
