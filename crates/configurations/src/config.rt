@@ -14,14 +14,14 @@ use std::alloc::{AllocError, Global};
 const NONE: u32 = 0xffff_ffff;
 
 /// The value of the register, the slots of the calls that must take effect before their reply, those of the
-/// calls that may, the place of the last move, and how many changes took effect that never reply.
+/// calls that may, the place of the last move, and what it cost that calls took effect which never reply.
 #[derive(Clone, Copy)]
 pub(crate) struct Config<const W: usize> {
     pub value: u32,
     pub owed: Slots<W>,
     pub free: Slots<W>,
     pub last: u32,
-    pub unanswered: u32,
+    pub cost: u32,
 }
 
 /// Configurations, found by their value: `head` has the place of the last one of each

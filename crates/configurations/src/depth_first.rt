@@ -13,19 +13,17 @@ use crate::found::{Found, Taken};
 use crate::links::{HEAD, Links};
 use crate::moment::Moment;
 use crate::op::{NEVER, Op, left, looks, suits};
+use crate::tried::Tried;
 use crate::work::Limits;
 use std::alloc::{AllocError, Global};
-use std::collections::BTreeSet;
 
 /// How many places it looks at: so many, and so many more for each event.
 const STEPS: u64 = 1 << 20;
 
 const STEPS_OF_AN_EVENT: u64 = 64;
 
-/// How many it remembers of what it tried: so many, and so many more for each event.
-const TRIED: usize = 1 << 15;
-
-const TRIED_OF_AN_EVENT: usize = 4;
+/// How many changes it tries without getting further. Where an order is found, few are in vain.
+const PATIENCE: u64 = 1 << 13;
 
 /// Which calls are tried.
 #[derive(Clone, Copy, PartialEq, Eq)]
@@ -63,11 +61,14 @@ struct Walk {
     replies: Vec<u32>,
     /// How many replies are left.
     left: usize,
+    /// How few were left at any time, and how many changes were tried then.
+    fewest: usize,
+    tried_then: u64,
     stand: Stand,
     value: u32,
     /// Tells apart the sets of calls that took effect.
     digest: u64,
-    tried: BTreeSet<(u64, u32)>,
+    tried: Tried,
     chosen: Vec<Choice>,
 }
 
@@ -85,15 +86,12 @@ pub(crate) fn depth_first(
         .saturating_mul(STEPS_OF_AN_EVENT)
         .saturating_add(STEPS)
         .min(limits.steps);
-    let most = count
-        .saturating_mul(TRIED_OF_AN_EVENT)
-        .saturating_add(TRIED);
     let mut walk = start(alloc, ops, events)?;
     for _ in 0..steps {
         if walk.left == 0 {
             return Ok(Found::Left(changes(alloc, ops, &walk)?));
         }
-        if walk.tried.len() > most || !step(&mut walk, ops, events)? {
+        if is_stuck(&mut walk) || !step(&mut walk, ops, events)? {
             return Ok(Found::Stopped(Bound::Steps));
         }
     }
@@ -108,6 +106,8 @@ fn start(alloc: Global, ops: &[Op], events: &[Moment]) -> Result<Walk, AllocErro
         unanswered: Links::new(alloc, events.len())?,
         replies: vec![in alloc; HEAD; ops.len()]?,
         left: 0,
+        fewest: usize::MAX,
+        tried_then: 0,
         stand: Stand {
             at: HEAD,
             turn: Turn::Looks,
@@ -115,7 +115,7 @@ fn start(alloc: Global, ops: &[Op], events: &[Moment]) -> Result<Walk, AllocErro
         },
         value: 0,
         digest: 0,
-        tried: BTreeSet::new(alloc),
+        tried: Tried::new(alloc)?,
         chosen: Vec::new(alloc),
     };
     let mut place = HEAD;
@@ -149,6 +149,16 @@ fn list(walk: &mut Walk, ops: &[Op], event: Moment, place: u32) {
     }
 }
 
+/// Whether many changes were tried since fewer replies were left than ever before.
+fn is_stuck(walk: &mut Walk) -> bool {
+    let tried = walk.tried.count();
+    if walk.left < walk.fewest {
+        walk.fewest = walk.left;
+        walk.tried_then = tried;
+    }
+    tried.saturating_sub(walk.tried_then) > PATIENCE
+}
+
 /// Looks at the next place; false if nothing is left to try.
 fn step(walk: &mut Walk, ops: &[Op], events: &[Moment]) -> Result<bool, AllocError> {
     let Some(number) = call_here(walk.stand, events) else {
@@ -157,7 +167,7 @@ fn step(walk: &mut Walk, ops: &[Op], events: &[Moment]) -> Result<bool, AllocErr
     let Some(op) = ops.get(number as usize) else {
         return Ok(false);
     };
-    if is_due(walk.stand.turn, op) && suits(op, walk.value) && is_untried(walk, number, op)? {
+    if is_due(walk.stand.turn, op) && suits(op, walk.value) && is_untried(walk, number, op) {
         choose(walk, number, op)?;
     } else {
         walk.stand.at = after(walk, walk.stand);
@@ -191,17 +201,17 @@ fn after(walk: &Walk, stand: Stand) -> u32 {
     }
 }
 
-/// Whether no other order of the same calls led to the value that this one leaves. Looks may take
-/// effect at once, so they are tried always.
-fn is_untried(walk: &mut Walk, number: u32, op: &Op) -> Result<bool, AllocError> {
+/// Whether no other order of the same calls is known to have led to the value that this one leaves. Looks may
+/// take effect at once, so they are tried always. Values are numbered from the other end than calls.
+fn is_untried(walk: &mut Walk, number: u32, op: &Op) -> bool {
     if looks(op) {
-        return Ok(true);
+        return true;
     }
-    let reached = (walk.digest ^ mark(number), left(op, walk.value));
-    Ok(walk.tried.insert(reached)?)
+    let value = left(op, walk.value);
+    walk.tried.insert(walk.digest ^ mark(number) ^ mark(!value))
 }
 
-/// A number that tells this call from the others, in all its bits (Steele, Lea and Flood, Fast
+/// A number that tells this one from the others, in all its bits (Steele, Lea and Flood, Fast
 /// Splittable Pseudorandom Number Generators, 2014).
 fn mark(number: u32) -> u64 {
     let seed = u64::from(number)

@@ -11,10 +11,10 @@
 //! rules: a look takes effect as soon as the value suits it; a write that nobody sees stays out of sight; of
 //! calls that change alike the one that replies first goes first; and a configuration that another one stands
 //! for is dropped. Each rule is a function with a contract of its own, and could be left out: `stands_for`,
-//! `is_of_use` with `freeing`, `is_led`, and the looks in `offspring` and `with_call`.
+//! `is_of_use` with `freeing`, `is_led` with `has_elder`, and the looks in `offspring` and `with_call`.
 //!
 //! Read it in this order: `op` and `moment`; `bounds` and `work`; `table`, the open calls; `config`;
-//! `call` and `reply`, one event; `run`, all of them; `thrift`, `eased` and `depth_first` (with `links`),
+//! `call` and `reply`, one event; `run`, all of them; `thrift`, `eased` and `depth_first` (with `links` and `tried`),
 //! other ways to go; `stages` and `forward`.
 #![tactic(auto)]
 
@@ -33,6 +33,7 @@ mod run;
 mod stages;
 mod table;
 mod thrift;
+mod tried;
 mod work;
 
 pub use bounds::{Bound, Bounds, MAX_CONFIGURATIONS, MAX_STEPS};

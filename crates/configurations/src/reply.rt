@@ -68,12 +68,27 @@ fn is_of_use<const W: usize>(table: &Table<W>, config: &Config<W>, slot: u32, re
     is_asked(table, config, table.left(slot, config.value))
 }
 
-/// How many calls that change alike are looked at for one that goes first. It is mostly among the first, and
-/// thousands of crashed calls may change alike.
+/// Whether the call before it goes first that changes alike, where neither ever replies. Thousands of crashed
+/// calls may change alike, and this leaves out all of them but one.
+#[inline(always)]
+fn has_elder<const W: usize>(table: &Table<W>, config: &Config<W>, slot: u32) -> bool
+    ensures { IsTrue result → IsLed table.now config.now slot }
+{
+    let Some(elder) = table.elder(slot) else {
+        return false;
+    };
+    if config.free.has(elder) && !config.owed.has(elder) && !config.owed.has(slot) {
+        table.goes_before(elder, slot)
+    } else {
+        false
+    }
+}
+
+/// How many calls that change alike are looked at for one that goes first.
 const MOST_RIVALS: usize = 1_024;
 
 /// Whether the call of another slot goes first: it changes alike and replies sooner, and
-/// must take effect or needn't as this one. Some are looked at.
+/// must take effect or needn't as this one. Some of those that reply are looked at.
 #[inline(always)]
 fn is_led<const W: usize>(table: &Table<W>, config: &Config<W>, slot: u32) -> bool
     requires table { IsTable table.now }
@@ -86,7 +101,7 @@ fn is_led<const W: usize>(table: &Table<W>, config: &Config<W>, slot: u32) -> bo
     } else {
         config.owed.either(&config.free)
     };
-    let rivals = table.alike(slot).common(&open);
+    let rivals = table.alike(slot).common(&open).minus(&table.unanswered);
     let mut at = 0;
     for _ in 0..MOST_RIVALS {
         let Some(rival) = rivals.first_from(at) else {
@@ -151,7 +166,7 @@ fn offspring<const W: usize>(
         owed: owed.minus(&freed.union(&content)),
         free: free.union(&owed.common(&freed)),
         last: config.last,
-        unanswered: table.count_unanswered(slot, config.unanswered),
+        cost: table.cost_with(slot, config.cost),
     }
 }
 
@@ -208,6 +223,9 @@ fn try_slot<const W: usize>(
     ensures kept { IfOk result (λ _. AreKept lists.old.work lists.old.next lists.new.work lists.new.next) }
     ensures goes { IfOk result (λ _. IsTried table.now config.now slot reply lists.new.work lists.new.next) }
 {
+    if has_elder(table, config, slot) {
+        return Ok(());
+    }
     if is_of_use(table, config, slot, reply) {
         if is_led(table, config, slot) {
             return Ok(());

@@ -97,7 +97,7 @@ fn first<const W: usize>(alloc: Global, values: usize) -> Result<Configs<W>, All
         owed: Slots::none(),
         free: Slots::none(),
         last: NO_MOVE,
-        unanswered: 0,
+        cost: 0,
     })?;
     Ok(now)
 }
@@ -187,7 +187,7 @@ fn begin<const W: usize>(
     }
 }
 
-/// Puts down those in which the fewest changes took effect that never reply, as many as the beam holds.
+/// Puts down the best, as many as the beam holds.
 fn narrow<const W: usize>(
     table: &Table<W>,
     now: &Configs<W>,
@@ -229,7 +229,7 @@ fn put_down_at<const W: usize>(
     }
 }
 
-/// The places of those in which the fewest changes took effect that never reply: of some of them.
+/// The places of the best, of some of them: those with the least burden, and of the others the first.
 fn best_of<const W: usize>(
     alloc: Global,
     configs: &[Config<W>],
@@ -237,11 +237,28 @@ fn best_of<const W: usize>(
 ) -> Result<Vec<usize>, AllocError> {
     let mut ranked = Vec::new(alloc);
     for (at, config) in configs.iter().enumerate() {
-        ranked.push((config.unanswered, at))?;
+        ranked.push((burden(config), at))?;
     }
     ranked.sort_unstable();
     ranked.truncate(count);
     ranked.iter().map(|one| one.1).collect(alloc)
+}
+
+/// What speaks against a configuration: what it cost that calls took effect which never reply, and how many
+/// calls must still take effect.
+fn burden<const W: usize>(config: &Config<W>) -> u32 {
+    config.cost.saturating_add(count(&config.owed))
+}
+
+/// How many slots are in a set.
+fn count<const W: usize>(slots: &Slots<W>) -> u32 {
+    let mut count: u32 = 0;
+    let mut at = 0;
+    while let Some(slot) = slots.first_from(at) {
+        count = count.saturating_add(1);
+        at = slot + 1;
+    }
+    count
 }
 
 /// Puts all down, the last one first.

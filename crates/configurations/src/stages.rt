@@ -41,15 +41,16 @@ const MOST: usize = usize::MAX;
 
 /// The form, the beam and the configurations of each stage, if some changes have no reply: first those that
 /// are quick where they suffice. The last is as wide as the bounds allow.
-const STAGES: [(Form, usize, usize); 10] = [
-    (Form::Thrifty, 8, MOST),
+const STAGES: [(Form, usize, usize); 11] = [
     (Form::DepthFirst, 1, 1),
-    (Form::Exact, 1_024, 1_024),
-    (Form::Eased, 4_096, 4_096),
+    (Form::Thrifty, 8, MOST),
     (Form::Thrifty, 32, MOST),
+    (Form::Eased, 4_096, 4_096),
     (Form::Thrifty, 128, MOST),
-    (Form::Exact, 32, MOST),
+    (Form::Exact, 1_024, 1_024),
+    (Form::Exact, 8, MOST),
     (Form::Thrifty, 512, MOST),
+    (Form::Exact, 32, MOST),
     (Form::Exact, 128, MOST),
     (Form::Exact, MOST, MOST),
 ];
@@ -95,7 +96,7 @@ fn has_unanswered_changes(ops: &[Op]) -> bool {
     ops.iter().any(|op| op.rank >= NEVER && !looks(op))
 }
 
-/// One stage, within the limits, of which the steps that are left remain.
+/// One stage, within its share of the limits. The steps that are left remain.
 fn run_stage<const W: usize>(
     alloc: Global,
     ops: &[Op],
@@ -106,7 +107,9 @@ fn run_stage<const W: usize>(
     requires room { 64 * W < 2 ^ 32 }
     ensures { IfOk result (λ found. AreInOrder ops.now [] events.now → IsFound ops.now events.now found) }
 {
+    let share = share_of(stage, limits.steps);
     let mut own = Limits {
+        steps: share,
         configurations: limits.configurations.min(stage.configurations),
         beam: stage.beam,
         is_thrifty: stage.form == Form::Thrifty,
@@ -118,6 +121,16 @@ fn run_stage<const W: usize>(
         Form::Eased => eased_run::<W>(alloc, ops, events, &mut own)?,
         Form::DepthFirst => depth_first(alloc, ops, events, &mut own)?,
     };
-    limits.steps = own.steps;
+    limits.steps = limits.steps.saturating_sub(share.saturating_sub(own.steps));
     Ok(found)
+}
+
+/// How many of the steps that are left a stage may spend: three quarters of them, so that some are left for
+/// the others, or all if none comes after it.
+fn share_of(stage: Stage, steps: u64) -> u64 {
+    if stage.beam == MOST {
+        steps
+    } else {
+        steps - steps / 4
+    }
 }

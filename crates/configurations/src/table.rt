@@ -10,6 +10,16 @@ ghost use Rattle.slot_sets.specs.Sets.{has};
 use crate::op::{NEVER, Op, is_alike, left, looks, misses, writes};
 use slot_sets::Slots;
 use std::alloc::{AllocError, Global};
+use std::collections::BTreeMap;
+
+/// What it costs that a write takes effect which never replies, where a call that must
+/// still take effect costs 1; and what a cas does.
+const COST_OF_A_WRITE: u32 = 12;
+
+const COST_OF_A_CAS: u32 = 8;
+
+/// No call.
+const NO_CALL: usize = usize::MAX;
 
 /// No slot.
 const NO_SLOT: u32 = 0xffff_ffff;
@@ -31,6 +41,8 @@ pub(crate) struct Table<const W: usize> {
     pub unanswered: Slots<W>,
     /// By value, the slots of the calls whose `from` it is.
     pub asks: Vec<Slots<W>>,
+    /// By call, the last one before it that changes alike, if neither replies. Nothing rests on them.
+    elders: Vec<usize>,
 }
 
 impl<const W: usize> Table<W> {
@@ -51,6 +63,7 @@ impl<const W: usize> Table<W> {
             misses: Slots::none(),
             unanswered: Slots::none(),
             asks: nothing_asked(alloc, values)?,
+            elders: elders(alloc, ops)?,
         })
     }
 
@@ -116,19 +129,25 @@ impl<const W: usize> Table<W> {
         }
     }
 
-    /// One more, if the call of a slot never replies.
+    /// What it costs in all once the call of a slot has taken effect, too: more if it never replies, and most
+    /// if it is a write, which may serve at any value later.
     #[inline(always)]
-    pub(crate) fn count_unanswered(&self, slot: u32, count: u32) -> u32 {
-        match self.op(slot) {
-            Some(op) => {
-                if op.rank >= NEVER {
-                    count.saturating_add(1)
-                } else {
-                    count
-                }
-            }
-            None => count,
+    pub(crate) fn cost_with(&self, slot: u32, cost: u32) -> u32 {
+        if !self.unanswered.has(slot) {
+            return cost;
         }
+        cost.saturating_add(if self.writes.has(slot) {
+            COST_OF_A_WRITE
+        } else {
+            COST_OF_A_CAS
+        })
+    }
+
+    /// For a call that never replies, the slot of the last one before it that doesn't either and changes alike.
+    #[inline(always)]
+    pub(crate) fn elder(&self, slot: u32) -> Option<u32> {
+        let elder = *self.elders.get(self.call(slot) as usize)?;
+        self.slot_of.get(elder).copied()
     }
 
     /// The slots of the calls whose `from` is this value.
@@ -219,6 +238,21 @@ impl<const W: usize> Table<W> {
             self.asks[from].remove(slot);
         }
     }
+}
+
+/// For each call the last one before it that changes alike, if neither replies.
+fn elders(alloc: Global, ops: &[Op]) -> Result<Vec<usize>, AllocError> {
+    let mut elders = Vec::new(alloc);
+    let mut last = BTreeMap::new(alloc);
+    for (place, op) in ops.iter().enumerate() {
+        let elder = if op.rank < NEVER {
+            None
+        } else {
+            last.insert((writes(op), op.from, op.to), place)?
+        };
+        elders.push(elder.unwrap_or(NO_CALL))?;
+    }
+    Ok(elders)
 }
 
 /// For each value that no slot asks for it.

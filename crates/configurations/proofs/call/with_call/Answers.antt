@@ -17,7 +17,7 @@ returns-then-is_free-clause-able g c = λ es _ none l.
       owed = c.args.config.now.owed;
       free = c.insert.new.self;
       last = c.args.config.now.last;
-      unanswered = c.args.config.now.unanswered;
+      cost = c.args.config.now.cost;
     }) c.args.slot es (slice_get-get_or c.args.table.now.calls.items c.args.slot 0 s.placed) none
     (c.insert.ensures.same s.small) c.insert.ensures.others refl refl l
 
@@ -29,6 +29,6 @@ returns-else-is_free-clause-able g c = λ es none _ l.
       owed = c.insert-else-is_free.new.self;
       free = c.args.config.now.free;
       last = c.args.config.now.last;
-      unanswered = c.args.config.now.unanswered;
+      cost = c.args.config.now.cost;
     }) c.args.slot es (slice_get-get_or c.args.table.now.calls.items c.args.slot 0 s.placed) none
     (c.insert-else-is_free.ensures.same s.small) c.insert-else-is_free.ensures.others refl refl l

@@ -18,7 +18,7 @@ returns g c =
       owed = c.minus.result;
       free = c.union-2.result;
       last = before.last;
-      unanswered = c.count_unanswered.result;
+      cost = c.cost_with.result;
     } in
     let o : IsOffspring t before after slot c.args.reply moved = record {
       owed = λ q b.

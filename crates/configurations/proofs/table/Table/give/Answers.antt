@@ -30,6 +30,7 @@ returns g c =
       misses = c.mark-3.new.slots;
       unanswered = c.mark-4.new.slots;
       asks = with_item t.asks op.from c.insert-2.new.self;
+      elders = t.elders;
     } in
     let giving : IsGiving t u slot c.args.number op c.insert-2.new.self = record {
       op = sym c.op_of.ensures ∙ c.in-Some-Some.is-0;

@@ -27,6 +27,7 @@ returns-then-from-len-clause-table g c =
       misses = t.misses;
       unanswered = t.unanswered;
       asks = with_item t.asks op.from c.remove-then-from-len.new.self;
+      elders = t.elders;
     } in
     let taking : IsTaking t u c.args.slot s.op.from c.remove-then-from-len.new.self = record {
       ops = refl;

@@ -1,0 +1,41 @@
+//! What was tried of late: each thing has a place, and the next one that has the same place takes it.
+use std::alloc::{AllocError, Global};
+
+/// How many places there are, a power of two.
+const PLACES: usize = 1 << 16;
+
+/// Things by their digests. Nothing is said of them here.
+#[derive(Drop)]
+pub(crate) struct Tried {
+    places: Vec<u64>,
+    count: u64,
+}
+
+impl Tried {
+    /// None.
+    pub(crate) fn new(alloc: Global) -> Result<Self, AllocError> {
+        Ok(Tried {
+            places: vec![in alloc; 0; PLACES]?,
+            count: 0,
+        })
+    }
+
+    /// How many were put in.
+    pub(crate) fn count(&self) -> u64 {
+        self.count
+    }
+
+    /// Puts one in; false if it is there.
+    pub(crate) fn insert(&mut self, digest: u64) -> bool {
+        let number = digest & (PLACES as u64 - 1);
+        let Some(place) = self.places.get_mut(number as usize) else {
+            return false;
+        };
+        if *place == digest {
+            return false;
+        }
+        *place = digest;
+        self.count = self.count.saturating_add(1);
+        true
+    }
+}
