@@ -18,6 +18,8 @@
 # make bench-compare: time it and an older build, OLD=..., in turn.
 # make bench-search: compare regsearch with a depth-first search on generated histories, in some twenty
 #   minutes or more; needs cargo.
+# make bench-search-worst: run regsearch over histories that are made to be hard, and say where it takes more
+#   time or memory than is promised.
 # make install: all of the next two below PREFIX, within DESTDIR.
 # make install-programs: the programs, man pages, documents, examples, completions, and the packages for
 #   other languages.
@@ -46,8 +48,9 @@ PROGRAMS := regcheck regsearch
 BUILT := bin
 DOCUMENTS = $(DESTDIR)$(PREFIX)/share/doc/regcheck
 
-.PHONY: all run try test edits costs fuzz picture-test bench bench-compare bench-search library embed-test \
-	bench-library install install-programs install-library dist dist-library wheel stores clean
+.PHONY: all run try test edits costs fuzz picture-test bench bench-compare bench-search bench-search-worst \
+	library embed-test bench-library install install-programs install-library dist dist-library wheel \
+	stores clean
 
 all: $(PROGRAMS:%=bin/%)
 
@@ -133,6 +136,9 @@ bench-compare: bin/regcheck bin/history_generator
 
 bench-search: bin/regsearch
 	bench/search
+
+bench-search-worst: bin/regsearch
+	bench/search_worst
 
 bin/regkit: $(PYTHON) python/make_archive
 	mkdir -p bin
