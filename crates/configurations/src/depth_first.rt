@@ -91,11 +91,11 @@ pub(crate) fn depth_first(
         if walk.left == 0 {
             return Ok(Found::Left(changes(alloc, ops, &walk)?));
         }
+        limits.steps = limits.steps.saturating_sub(1);
         if is_stuck(&mut walk) || !step(&mut walk, ops, events)? {
-            return Ok(Found::Stopped(Bound::Steps));
+            break;
         }
     }
-    limits.steps = limits.steps.saturating_sub(steps);
     Ok(Found::Stopped(Bound::Steps))
 }
 

@@ -14,8 +14,8 @@
 //! `is_of_use` with `freeing`, `is_led` with `has_elder`, and the looks in `offspring` and `with_call`.
 //!
 //! Read it in this order: `op` and `moment`; `bounds` and `work`; `table`, the open calls; `config`;
-//! `call` and `reply`, one event; `run`, all of them; `thrift`, `eased` and `depth_first` (with `links` and `tried`),
-//! other ways to go; `stages` and `forward`.
+//! `call` and `reply`, one event; `run`, all of them; `thrift`, `eased` and `depth_first` (with `links`
+//! and `tried`), other ways to go; `stages` and `forward`.
 #![tactic(auto)]
 
 mod bounds;

@@ -143,7 +143,7 @@ impl<const W: usize> Table<W> {
         })
     }
 
-    /// For a call that never replies, the slot of the last one before it that doesn't either and changes alike.
+    /// For a call that never replies, the slot of the last one before it that changes alike and never replies.
     #[inline(always)]
     pub(crate) fn elder(&self, slot: u32) -> Option<u32> {
         let elder = *self.elders.get(self.call(slot) as usize)?;
