@@ -40,8 +40,8 @@ struct Stage {
 const MOST: usize = usize::MAX;
 
 /// The form, the beam and the configurations of each stage, if some changes have no reply: first those that
-/// are quick where they suffice. An exact one comes before the eased one, since the reply that the latter names
-/// need not be the first hopeless one. The last is as wide as the bounds allow.
+/// are quick where they suffice. An exact one comes before the eased one, since the reply that the latter
+/// names need not be the first hopeless one. The last is as wide as the bounds allow.
 const STAGES: [(Form, usize, usize); 12] = [
     (Form::DepthFirst, 1, 1),
     (Form::Thrifty, 8, MOST),

@@ -143,7 +143,8 @@ impl<const W: usize> Table<W> {
         })
     }
 
-    /// For a call that never replies, the slot of the last one before it that changes alike and never replies.
+    /// For a call that never replies, the slot of the last one before it that changes alike and doesn't
+    /// reply either.
     #[inline(always)]
     pub(crate) fn elder(&self, slot: u32) -> Option<u32> {
         let elder = *self.elders.get(self.call(slot) as usize)?;
