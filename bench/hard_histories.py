@@ -183,9 +183,9 @@ def zero_replies(register: Register, size: Size, _chance: Chance) -> None:
 
 
 def concurrent_cas(register: Register, size: Size, chance: Chance) -> None:
-    """Of sixty cas at once tens of thousands of sets can have taken effect, and they are compared with one
-    another."""
-    concurrent(register, size, chance, Clients(60, 3, ["cas"]))
+    """Of sixty cas at once, some of which took place, thousands of sets can have taken effect, and they are
+    compared with one another."""
+    concurrent(register, size, chance, Clients(60, 6, ["cas", "miss", "miss", "miss"]))
 
 
 def concurrent_calls(register: Register, size: Size, chance: Chance) -> None:
@@ -415,7 +415,7 @@ def long_reads_and_asked_writes(register: Register, size: Size, _chance: Chance)
     writes = [register.write(value) for value in range(100, 220)]
     for value in range(100, 220):
         register.cas(value, 2)
-    for _ in range(1_600):
+    for _ in range(1_200):
         register.wrote(0)
     for write in writes:
         register.done(write)

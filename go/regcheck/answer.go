@@ -40,7 +40,7 @@ type Bound struct {
 const steps, configurations = "steps", "configurations"
 
 // Steps says how many steps the search for an order of one register may take; by default, or
-// if 0, 10,000,000,000.
+// if 0, 1,000,000,000.
 func Steps(most uint64) Bound { return Bound{steps, most} }
 
 // Configurations says how many configurations the search may hold in one list; by default, or if 0, 65,536.

@@ -79,7 +79,7 @@ public final class Recorder {
     }
 
     /**
-     * Says how many steps the search that cas and repeated values need may take, in place of 10,000,000,000.
+     * Says how many steps the search that cas and repeated values need may take, in place of 1,000,000,000.
      */
     public Recorder steps(long most) {
         bounds.put("--steps", most);

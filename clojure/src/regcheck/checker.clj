@@ -105,7 +105,7 @@
     :failed-cas      what the :fail of a :cas says. By default that it had no effect, and nothing of the
                      value; with :missed that the store compared, and found another value, unless its :error
                      says otherwise
-    :steps           where the search of regsearch gives up, in place of 10,000,000,000 steps for a register
+    :steps           where the search of regsearch gives up, in place of 1,000,000,000 steps for a register
     :configurations  the same, in place of 65,536 configurations in one list
     :regcheck        the path of the program regcheck; by default as the variable REGCHECK says, or the one on
                      PATH

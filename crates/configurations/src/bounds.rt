@@ -20,8 +20,8 @@ pub enum Bound {
 #[derive(Clone, Copy, Debug, PartialEq, Eq)]
 pub struct Bounds {
     /// How often two configurations may be compared, or a call be tried in one; each counts once for each 64
-    /// calls that are open at a time, their number rounded up to a power of two. That a change takes effect
-    /// counts as 256 more, since it is remembered.
+    /// calls that are open at a time, their number rounded up to a power of two. That two calls are compared
+    /// counts as one more, and that a change takes effect as 256, since it is remembered.
     pub steps: u64,
     /// How many configurations one list may hold.
     pub configurations: usize,
@@ -30,7 +30,7 @@ pub struct Bounds {
 impl Bounds {
     /// What a search may do if nobody says otherwise.
     pub const DEFAULT: Bounds = Bounds {
-        steps: 10_000_000_000,
+        steps: 1_000_000_000,
         configurations: 65_536,
     };
 }

@@ -15,8 +15,9 @@ use std::alloc::{AllocError, Global};
 /// that each configuration suits takes no slot.
 const MAX_WIDTH: usize = 256;
 
-/// The most words that the sets by value may have, so that they take at most 256 MB.
-const MAX_WORDS_BY_VALUE: usize = 1 << 25;
+/// How many words the sets by value may have for each configuration of the bound: as many as the widest
+/// configuration has, so that they take no more memory than a list of configurations.
+const WORDS_OF_A_CONFIGURATION: usize = 512;
 
 /// Goes forward over the events of some operations, whose values are below `values`.
 pub fn go_forward(
@@ -29,7 +30,8 @@ pub fn go_forward(
     ensures { IfOk result (λ found. AreInOrder ops.now [] events.now → IsFound ops.now events.now found) }
 {
     let words = words_for(most_open(ops, events)).min(MAX_WIDTH);
-    if words.saturating_mul(values) > MAX_WORDS_BY_VALUE {
+    let most = bounds.configurations.saturating_mul(WORDS_OF_A_CONFIGURATION);
+    if words.saturating_mul(values) > most {
         return Ok(Found::Stopped(Bound::Configurations));
     }
     let limits = Limits {

@@ -90,29 +90,36 @@ const MOST_RIVALS: usize = 1_024;
 /// Whether the call of another slot goes first: it changes alike and replies sooner, and
 /// must take effect or needn't as this one. Some of those that reply are looked at.
 #[inline(always)]
-fn is_led<const W: usize>(table: &Table<W>, config: &Config<W>, slot: u32) -> bool
+fn is_led<const W: usize>(
+    table: &Table<W>,
+    config: &Config<W>,
+    slot: u32,
+    spent: &mut Work,
+) -> Result<bool, Stop>
     requires table { IsTable table.now }
     requires held { IsHeld (has table.now.used) config.now }
     requires slot { has table.now.used slot ≡ true }
-    ensures { IsTrue result → IsLed table.now config.now slot }
+    ensures { IfOk result (λ led. IsTrue led → IsLed table.now config.now slot) }
 {
     let open = if config.owed.has(slot) {
         config.owed.minus(&config.free)
     } else {
         config.owed.either(&config.free)
     };
-    let rivals = table.alike(slot).common(&open).minus(&table.unanswered);
+    let mut rivals = table.alike(slot).common(&open).minus(&table.unanswered);
+    rivals.remove(slot);
     let mut at = 0;
     for _ in 0..MOST_RIVALS {
         let Some(rival) = rivals.first_from(at) else {
-            return false;
+            break
         };
+        spent.spend(1)?;
         if table.goes_before(rival, slot) {
-            return true;
+            return Ok(true);
         }
         at = rival + 1;
     }
-    false
+    Ok(false)
 }
 
 /// The slots of the writes that are free once the call of a slot has taken effect before the reply: of all
@@ -227,7 +234,7 @@ fn try_slot<const W: usize>(
         return Ok(());
     }
     if is_of_use(table, config, slot, reply) {
-        if is_led(table, config, slot) {
+        if is_led(table, config, slot, &mut lists.spent)? {
             return Ok(());
         }
         let child = offspring(table, config, slot, reply);

@@ -4,8 +4,8 @@ use crate::found::Taken;
 use std::alloc::{AllocError, AllocFailed, Global};
 use thiserror::Error;
 
-/// How many steps it spends to remember that a call took effect. By default some 40
-/// million are remembered, in half a gigabyte.
+/// How many steps it spends to remember that a call took effect. By default some 4
+/// million are remembered, in 50 MB.
 const STEPS_OF_A_MOVE: u64 = 256;
 
 /// The place of no move.

@@ -29,7 +29,7 @@ module _ (old : Command) (m : ArgMatches) (words : List Text) (p : IsParsedFrom 
   pub steps_found : HasNumber (found_of m) (codes "steps") (Unsigned 1 MAX_STEPS)
       (number_named command_line (codes "steps") words)
   steps_found =
-      number_found old m command_line p ours ready 2 (codes "steps") _ (codes "10000000000") (λ d. refl)
+      number_found old m command_line p ours ready 2 (codes "steps") _ (codes "1000000000") (λ d. refl)
       (refl, (refl, (refl, tt)))
       (record { some = refl; no_help = refl; no_version = refl }) words rows
 

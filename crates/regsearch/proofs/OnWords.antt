@@ -33,12 +33,12 @@ file_called_dash : IsTaken command_line (codes "./-" ∷ [])
 unfolding clap_on_literals IsTaken file_named
 file_called_dash = (refl, refl)
 
--- where no word says otherwise, there are 4 workers, 10,000,000,000 steps and 65,536 configurations
+-- where no word says otherwise, there are 4 workers, 1,000,000,000 steps and 65,536 configurations
 default_workers : number_named command_line (codes "workers") [] ≡ Some 4
 unfolding clap_on_literals number_named
 default_workers = refl
 
-default_bounds : (number_named command_line (codes "steps") [] ≡ Some 10000000000)
+default_bounds : (number_named command_line (codes "steps") [] ≡ Some 1000000000)
     × (number_named command_line (codes "configurations") [] ≡ Some 65536)
 unfolding clap_on_literals number_named
 default_bounds = (refl, refl)

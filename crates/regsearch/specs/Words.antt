@@ -10,9 +10,9 @@ use Rattle.search_report.specs.declared.settings.TheConstants.{MAX_WORKERS}
 abbrev pub workers_rule : Rule
 workers_rule = option_rule (codes "workers") (Unsigned 1 MAX_WORKERS) (codes "4")
 
--- how many steps the search for an order of one register may take, 10,000,000,000 by default
+-- how many steps the search for an order of one register may take, 1,000,000,000 by default
 abbrev pub steps_rule : Rule
-steps_rule = option_rule (codes "steps") (Unsigned 1 MAX_STEPS) (codes "10000000000")
+steps_rule = option_rule (codes "steps") (Unsigned 1 MAX_STEPS) (codes "1000000000")
 
 -- how many configurations it may hold in one list, 65,536 by default
 abbrev pub configurations_rule : Rule

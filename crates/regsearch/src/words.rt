@@ -62,7 +62,7 @@ fn command<'a>(alloc: Global) -> Result<Command<'a>, AllocError>
         .after_help(STATUSES)
         .arg(file(alloc))?
         .arg(option(alloc, "workers", up_to(u64::from(MAX_WORKERS)), "4").help(WORKERS))?
-        .arg(option(alloc, "steps", up_to(MAX_STEPS), "10000000000").help(STEPS))?
+        .arg(option(alloc, "steps", up_to(MAX_STEPS), "1000000000").help(STEPS))?
         .arg(option(
             alloc,
             "configurations",
@@ -73,7 +73,7 @@ fn command<'a>(alloc: Global) -> Result<Command<'a>, AllocError>
 }
 
 /// Reads the words after the program's name: one file at most, `--workers N`, `--steps N` and
-/// `--configurations N`. If they don't say, there are 4 workers, 10,000,000,000 steps and 65,536
+/// `--configurations N`. If they don't say, there are 4 workers, 1,000,000,000 steps and 65,536
 /// configurations. The word `-` is standard input, as no word is.
 ///
 /// # Errors

@@ -19,7 +19,7 @@ abbrev pub bound_of : ℕ → ℕ → ℕ → ℕ
 bound_of default most number = if number == 0 then default else min number most
 
 abbrev pub steps_of : ℕ → ℕ
-steps_of number = bound_of 10000000000 1000000000000 number
+steps_of number = bound_of 1000000000 1000000000000 number
 
 abbrev pub configurations_of : ℕ → ℕ
 configurations_of number = bound_of 65536 1048576 number

@@ -9,5 +9,5 @@ MAX_PROCESS = 4_294_967_295
 LEAST_VALUE, GREATEST_VALUE = -(2**63), 2**63 - 1
 MAX_STEPS = 1_000_000_000_000  # the most that the bounds of a search may be
 MAX_CONFIGURATIONS = 1_048_576
-DEFAULT_STEPS = 10_000_000_000  # what they are unless others are asked for
+DEFAULT_STEPS = 1_000_000_000  # what they are unless others are asked for
 DEFAULT_CONFIGURATIONS = 65_536

@@ -35,7 +35,7 @@ impl Answer {
 /// Where the search of regsearch gives up. The bounds count work and never time.
 #[derive(Clone, Copy, Debug, Default, PartialEq, Eq)]
 pub struct Bounds {
-    /// How many steps the search for an order of one register may take; by default, or if 0, 10,000,000,000.
+    /// How many steps the search for an order of one register may take; by default, or if 0, 1,000,000,000.
     pub steps: Option<u64>,
     /// How many configurations the search may hold in one list; by default, or if 0, 65,536.
     pub configurations: Option<u64>,
