@@ -115,7 +115,7 @@ fn start(alloc: Global, ops: &[Op], events: &[Moment]) -> Result<Walk, AllocErro
         },
         value: 0,
         digest: 0,
-        tried: Tried::new(alloc)?,
+        tried: Tried::new(alloc, events.len())?,
         chosen: Vec::new(alloc),
     };
     let mut place = HEAD;

@@ -30,7 +30,9 @@ pub fn go_forward(
     ensures { IfOk result (λ found. AreInOrder ops.now [] events.now → IsFound ops.now events.now found) }
 {
     let words = words_for(most_open(ops, events)).min(MAX_WIDTH);
-    let most = bounds.configurations.saturating_mul(WORDS_OF_A_CONFIGURATION);
+    let most = bounds
+        .configurations
+        .saturating_mul(WORDS_OF_A_CONFIGURATION);
     if words.saturating_mul(values) > most {
         return Ok(Found::Stopped(Bound::Configurations));
     }

@@ -1,8 +1,10 @@
 //! What was tried of late: each thing has a place, and the next one that has the same place takes it.
 use std::alloc::{AllocError, Global};
 
-/// How many places there are, a power of two.
-const PLACES: usize = 1 << 16;
+/// How many places there are for each event, and at most. Their number is a power of two.
+const PLACES_OF_AN_EVENT: usize = 4;
+
+const MOST_PLACES: usize = 1 << 16;
 
 /// Things by their digests. Nothing is said of them here.
 #[derive(Drop)]
@@ -12,10 +14,11 @@ pub(crate) struct Tried {
 }
 
 impl Tried {
-    /// None.
-    pub(crate) fn new(alloc: Global) -> Result<Self, AllocError> {
+    /// None, with places for so many events.
+    pub(crate) fn new(alloc: Global, events: usize) -> Result<Self, AllocError> {
+        let places = events.saturating_mul(PLACES_OF_AN_EVENT).min(MOST_PLACES);
         Ok(Tried {
-            places: vec![in alloc; 0; PLACES]?,
+            places: vec![in alloc; 0; places.next_power_of_two()]?,
             count: 0,
         })
     }
@@ -27,7 +30,7 @@ impl Tried {
 
     /// Puts one in; false if it is there.
     pub(crate) fn insert(&mut self, digest: u64) -> bool {
-        let number = digest & (PLACES as u64 - 1);
+        let number = digest & (self.places.len() as u64).saturating_sub(1);
         let Some(place) = self.places.get_mut(number as usize) else {
             return false;
         };
