@@ -14,6 +14,7 @@ use Rattle.cas_history.specs.Events.{is_of_process, last_event}
 use Rattle.cas_history.specs.Kept.{IsKept}
 use Rattle.cas_history.specs.Refusals.{event_reason, call_while_open, end_without_call, reply_disagrees}
 use Rattle.cas_history.specs.Refusals.{fail_disagrees, reply_without_value, too_many}
+use Rattle.history_model.proofs.Accepted.{or-first, or-second}
 
 -- the test of a map's keys is that of the processes
 pub same_key : (a b : ℕ) → is_eq (nat_cmp a b) ≡ eqb a b
@@ -71,14 +72,6 @@ kept-push events e old new k room is = record {
     inside p i true o q h =
         let same : length events ≡ i = cc (h) in omega (arith, same, length-append events (e ∷ []))
     inside p i false o q h = omega (arith, k.within p i (q ∙ h), length-append events (e ∷ []))
-
-or-second : {A : Type 0} (a b : Option A) → option_or a b ≡ None → b ≡ None
-or-second None b h = h
-or-second (Some x) b h = absurd (cc (h))
-
-or-first : {A : Type 0} (a b : Option A) → option_or a b ≡ None → a ≡ None
-or-first None b h = refl
-or-first (Some x) b h = absurd (cc (h))
 
 -- an event without a reason has a place
 pub room : (count : ℕ) (last : Option CasEvent) (e : CasEvent) → event_reason count last e ≡ None

@@ -1,4 +1,4 @@
--- The test on values decides their equality, and what an act that changes the register gives.
+-- What an act that changes the register gives.
 use Rattle.std.proofs.Common.{◌≡◌, is_some, unwrap_or, true, false, Option, Some, None, refl, sym, ap}
 use Rattle.std.specs.Prelude.{IsSomeAnd}
 use Rattle.std.proofs.lemmas.Bool.{false≢true}
@@ -9,16 +9,6 @@ use Rattle.history_text.specs.declared.event.Val.{Val}
 use Rattle.cas_model.specs.Acts.{suits, asks}
 use Rattle.cas_model.specs.declared.act.Act.{Act}
 use Rattle.cas_model.specs.declared.act.Act.TheVariants.{Read, Write, Cas, Miss}
-
-pub value-true : (a b : Val) → value_eq a b ≡ true → a ≡ b
-value-true Null Null h = refl
-value-true Null (Int j) h = absurd (false≢true h)
-value-true (Int i) Null h = absurd (false≢true h)
-value-true (Int i) (Int j) h = ap (λ k. Int k) ((Decides-int_eq i j).0 h)
-
-pub value-refl : (a : Val) → value_eq a a ≡ true
-value-refl Null = refl
-value-refl (Int i) = (Decides-int_eq i i).1 refl
 
 -- what suits the value after an act that gives one suits the given one, and the other way round
 pub given-suits : (P : Val → Type 0) (o : Option Val) (v : Val) → is_some o ≡ true → P (unwrap_or o v)

@@ -24,7 +24,7 @@ use Rattle.cas_model.specs.declared.operation.Operation.{Operation}
 use Rattle.cas_model.specs.Acts.{Suits, asks, changes, given_by}
 use Rattle.cas_model.specs.Legal.{IsLegal, IsMet, IsAtomic}
 use Rattle.cas_model.specs.WithoutCas.{HaveTimesAndValues, plain_act, plain_operation, plain_operations}
-use Rattle.cas_model.proofs.Values.{value-true, value-refl}
+use Rattle.history_model.proofs.Values.{value-true, value-refl}
 
 -- ---- one operation
 

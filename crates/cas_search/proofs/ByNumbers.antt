@@ -14,7 +14,7 @@ use Rattle.cas_model.specs.declared.act.Act.{Act}
 use Rattle.cas_model.specs.declared.act.Act.TheVariants.{Read, Write, Cas, Miss}
 use Rattle.cas_model.specs.declared.operation.Operation.{Operation}
 use Rattle.cas_model.specs.Acts.{suits, left_by}
-use Rattle.cas_model.proofs.Values.{value-true, value-refl}
+use Rattle.history_model.proofs.Values.{value-true, value-refl}
 use Rattle.configurations.specs.declared.moment.Moment.{Moment}
 use Rattle.configurations.specs.declared.moment.Moment.TheVariants.{Call, Reply}
 use Rattle.configurations.specs.declared.op.Op.{Op}

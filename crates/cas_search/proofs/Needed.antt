@@ -21,7 +21,7 @@ use Rattle.cas_model.specs.declared.operation.Operation.{Operation}
 use Rattle.cas_model.specs.Acts.{Suits, suits, asks, given_by}
 use Rattle.cas_model.specs.Legal.{IsAtomic}
 use Rattle.cas_model.specs.Operations.{initial_write}
-use Rattle.cas_model.proofs.Values.{value-true}
+use Rattle.history_model.proofs.Values.{value-true}
 use Rattle.cas_search.specs.Unwritten.{number_given, number_asked, number_needed}
 use Rattle.cas_search.specs.Unwritten.{IsGiven, IsUnwritten, HasGiven}
 

@@ -7,10 +7,7 @@ use Rattle.history_text.specs.declared.limits.TheConstants.{MAX_LINE}
 use Rattle.history_text.specs.Reading.{json_of}
 use Rattle.cas_text.specs.declared.fault.FaultKind.TheVariants.{NotJson}
 use Rattle.cas_text.specs.Reading.{event_of, line_event}
-
--- the line is not too long
-short : (bytes : List ℕ) → length bytes ≤ MAX_LINE → nat_lt MAX_LINE (length bytes) ≡ false
-short bytes le = grind (arith, nat_tests)
+use Rattle.history_text.proofs.Reading.{short}
 
 pub line_event-read : (n : ℕ) (bytes : List ℕ) (d : Data) → length bytes ≤ MAX_LINE → json_of bytes ≡ Some d
     → line_event n bytes ≡ event_of n d

@@ -14,7 +14,7 @@ use Rattle.cas_model.specs.Acts.{Suits, asks, given_by}
 use Rattle.cas_model.specs.Cut.{known_at, is_called_by, cut_at}
 use Rattle.cas_model.specs.Legal.{IsLegal, IsAtomic}
 use Rattle.cas_model.proofs.Filters.{filter-pass, filter-fail, filter-map}
-use Rattle.cas_model.proofs.Values.{value-true}
+use Rattle.history_model.proofs.Values.{value-true}
 use Rattle.distinct_values.specs.SomeOperations.{is_plain, ArePlain, is_kept, kept_of}
 
 -- two filters, one after the other

@@ -161,11 +161,11 @@ line-at es a i ev h =
 
 -- ---- the reasons by themselves
 
-or-first : {A : Type 0} (a b : Option A) → option_or a b ≡ None → a ≡ None
+pub or-first : {A : Type 0} (a b : Option A) → option_or a b ≡ None → a ≡ None
 or-first None b h = refl
 or-first (Some x) b h = absurd (cc (h))
 
-or-second : {A : Type 0} (a b : Option A) → option_or a b ≡ None → b ≡ None
+pub or-second : {A : Type 0} (a b : Option A) → option_or a b ≡ None → b ≡ None
 or-second None b h = h
 or-second (Some x) b h = absurd (cc (h))
 

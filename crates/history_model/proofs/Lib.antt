@@ -1,4 +1,6 @@
 pub mod Lists
+pub mod Indexes
+pub mod Values
 pub mod Rows
 pub mod Numbers
 pub mod Accepted

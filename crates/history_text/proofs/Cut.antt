@@ -15,13 +15,13 @@ use Rattle.history_text.specs.declared.lines.Span.{Span}
 use Rattle.history_text.specs.declared.lines.WholeLines.{WholeLines}
 use Rattle.history_text.specs.Lines.{AreWhole, IsWithin, lines, is_blank, spans_at}
 
-no_feed : (xs : List ℕ) → ((k : ℕ) → k < length xs → (get_or xs k 0 == 10) ≡ true → ⊥)
+pub no_feed : (xs : List ℕ) → ((k : ℕ) → k < length xs → (get_or xs k 0 == 10) ≡ true → ⊥)
     → All (λ b. (b == 10) ≡ false) xs
 no_feed xs h =
     All-from_get_or (λ b. (b == 10) ≡ false) xs 0 (λ k lt. false_from_ne_true (get_or xs k 0 == 10) (h k lt))
 
 -- bytes without a line feed are one line
-lines-none : (xs : List ℕ) → IsFirstByte (is_byte 10) xs None → lines xs ≡ xs ∷ []
+pub lines-none : (xs : List ℕ) → IsFirstByte (is_byte 10) xs None → lines xs ≡ xs ∷ []
 lines-none xs h = slice_split_none (λ b. b == 10) xs (no_feed xs (λ k lt. h k (omega arith) lt))
 
 -- the first line feed ends the first line, whatever may come behind the bytes

@@ -71,9 +71,6 @@ impl OptionalName {
     pub fn get(&self) -> Option<&Name>
         ensures { option_copied result ≡ self.now }
     {
-        match &self.name {
-            Some(name) => Some(name.as_ref()),
-            None => None,
-        }
+        self.name.as_deref()
     }
 }

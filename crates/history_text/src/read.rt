@@ -7,7 +7,7 @@ use crate::event::Line;
 use crate::limits::MAX_INPUT;
 use crate::line::{LineError, read_line};
 use crate::lines::{Span, lines_of};
-use parallel::{FEWEST_LINES, LINES, map_parts, share_size};
+use parallel::{FEWEST_LINES, LINES_PER_LIST, map_parts, share_size};
 use std::alloc::{AllocError, Global};
 use std::sync::atomic::{AtomicBool, Ordering};
 use std::thread::Threads;
@@ -40,7 +40,7 @@ pub fn read_lines(
 /// length, and so end at about the same time.
 fn list_size(rt: &impl Threads, count: usize) -> usize {
     let share = share_size(rt, count, FEWEST_LINES);
-    share / (share / LINES + 1) + 1
+    share / (share / LINES_PER_LIST + 1) + 1
 }
 
 /// What the lines at these spans of the bytes say, in order. They come in parts, as the threads read them,

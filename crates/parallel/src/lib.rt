@@ -15,6 +15,7 @@ mod steps;
 
 pub use pairs::{both, both_mut, map_jobs};
 pub use sizes::{
-    FEWEST_LINES, LINES, NUMBERS, OPERATIONS, POINTS, REGISTER_PARTS, is_alone, share_size,
+    FEWEST_LINES, LINES_PER_LIST, NUMBERS_PER_PART, OPERATIONS_PER_PART, POINTS_PER_PART,
+    REGISTER_PARTS, is_alone, share_size,
 };
 pub use steps::{map_each, map_parts};

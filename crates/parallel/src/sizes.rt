@@ -4,23 +4,23 @@ ghost use Rattle.std.specs.Prelude.{◌<◌};
 use rayon::current_num_threads;
 use std::thread::Threads;
 
-/// At most how many lines one thread reads into one list: enough that a block has few lists, and
+/// The most lines that one thread reads into one list: enough that a block has few lists, and
 /// few enough that several threads share a block.
-pub const LINES: usize = 8_192;
+pub const LINES_PER_LIST: usize = 8_192;
 
 /// The fewest lines to read that are worth a thread of their own.
 pub const FEWEST_LINES: usize = 4_096;
 
 /// How many operations of an order one thread turns into lines at a time: they take
 /// much longer than a thread takes to start.
-pub const OPERATIONS: usize = 16_384;
+pub const OPERATIONS_PER_PART: usize = 16_384;
 
 /// How many points' chains of operations one thread follows at a time: most points have one operation or
 /// none, so there are more of them than of operations.
-pub const POINTS: usize = 32_768;
+pub const POINTS_PER_PART: usize = 32_768;
 
 /// How many line numbers one thread writes at a time: they take much longer than a thread takes to start.
-pub const NUMBERS: usize = 16_384;
+pub const NUMBERS_PER_PART: usize = 16_384;
 
 /// About how many parts the lines of many registers are made in: enough for each thread to have some, and few
 /// enough to cost little beside the lines.

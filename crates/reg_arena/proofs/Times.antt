@@ -4,24 +4,28 @@ use Rattle.std.proofs.Common.{Some, None, List, refl, sym, ap, subst, ◌∙◌,
 use Rattle.history_text.specs.declared.limits.TheConstants.{MAX_EVENTS}
 use Rattle.history_text.specs.declared.event.Val.{Val}
 use Rattle.history_text.specs.declared.event.Val.TheVariants.{Null, Int}
+use Rattle.event_lists.specs.EventLists.{events_in, calls_in}
 use Rattle.history_model.specs.History.{History, IsRecorded, asked_for, event_value}
 use Rattle.history_model.specs.Events.{Asked}
 use Rattle.history_text.specs.declared.event.LineEvent.{LineEvent}
 use Rattle.history_model.proofs.Accepted.{IsLineAt, line-at, asking}
 use Rattle.history_model.specs.Walking.{IsFirstOf, key_at, by_register, by_value}
 use Rattle.history_model.specs.OfValue.{IsLastCall, IsFirstReply}
-use Rattle.reg_arena.specs.EventLists.{AreEventLists, HasTimes, IsCallOf, IsLastRead}
-use Rattle.reg_arena.specs.EventLists.{by_read, by_reply, by_write, last_time, later}
-use Rattle.reg_arena.specs.EventLists.{reply_time, value_entry, write_called, write_kept}
+use Rattle.event_lists.specs.EventLists.{AreEventLists, IsCallOf, IsLastRead}
+use Rattle.reg_arena.specs.ValueTimes.{HasTimes}
+use Rattle.event_lists.specs.EventLists.{by_read, by_reply, by_write, later}
+use Rattle.reg_arena.specs.ValueTimes.{last_time}
+use Rattle.event_lists.specs.EventLists.{entry_in, write_called, write_kept}
+use Rattle.reg_arena.specs.ValueTimes.{reply_time}
 use Rattle.history_model.specs.declared.ids.EvId.{EvId}
 use Rattle.history_model.specs.declared.event.Event.{Event}
-use Rattle.reg_arena.specs.declared.list_ends.Entry.{Entry}
-use Rattle.reg_arena.specs.declared.list_ends.Write.{Write}
-use Rattle.reg_arena.specs.declared.list_ends.Write.TheVariants.{Unwritten, Written, Failed}
-use Rattle.reg_arena.specs.declared.event_lists.EventLists.{EventLists}
-use Rattle.reg_arena.proofs.Append.{key-along, key-within, read-value}
-use Rattle.reg_arena.proofs.ByEvent.{kept-none, kept-write}
-use Rattle.reg_arena.proofs.ByValue.{key-by, key-parts, key-register}
+use Rattle.event_lists.specs.declared.list_ends.Entry.{Entry}
+use Rattle.event_lists.specs.declared.list_ends.Write.{Write}
+use Rattle.event_lists.specs.declared.list_ends.Write.TheVariants.{Unwritten, Written, Failed}
+use Rattle.event_lists.specs.declared.lists.EventLists.{EventLists}
+use Rattle.event_lists.proofs.Append.{key-along, key-within, read-value}
+use Rattle.event_lists.proofs.KeptWrite.{kept-none, kept-write}
+use Rattle.event_lists.proofs.ByValue.{key-by, key-parts, key-register}
 use Rattle.history_model.proofs.Named.{event-register}
 use Rattle.reg_arena.proofs.OfValue.{last-call_is, first-reply_null, first-reply_none, first-reply_entry}
 use Rattle.history_model.proofs.Lists.{slice_get_inside}
@@ -48,81 +52,81 @@ later-fits (Some a) (Some b) f g id h = go (nat_lt a.0 b.0) h
 
 -- the times of an entry fit
 pub has-times : (t : EventLists) → AreEventLists t → (k : ℕ × Val) (y : Entry)
-    → value_entry t.pairs t.entries.items k ≡ Some y → HasTimes y
+    → entry_in t k ≡ Some y → HasTimes y
 has-times t a k y q =
     let e = a.entries k y q in
     record {
       write =
           λ id r. let f =
-          subst (IsFirstOf by_write t.rows.events k) (kept-called y.write id r) e.write in let w =
-          key-within by_write t.rows.events id.0 k f.1 in omega (arith, w, a.room);
-      read = λ id r. read id (subst (IsLastRead t.rows.events t.rows.calls k) r e.read);
+          subst (IsFirstOf by_write (events_in t) k) (kept-called y.write id r) e.write in let w =
+          key-within by_write (events_in t) id.0 k f.1 in omega (arith, w, a.room);
+      read = λ id r. read id (subst (IsLastRead (events_in t) (calls_in t) k) r e.read);
       reply =
           λ id r. let f =
-          subst (IsFirstOf by_reply t.rows.events k) r e.reply in let w =
-          key-within by_reply t.rows.events id.0 k f.1 in omega (arith, w, a.room);
+          subst (IsFirstOf by_reply (events_in t) k) r e.reply in let w =
+          key-within by_reply (events_in t) id.0 k f.1 in omega (arith, w, a.room);
     }
   where
-    read : (id : EvId) → IsLastRead t.rows.events t.rows.calls k (Some id) → id.0 < MAX_EVENTS
+    read : (id : EvId) → IsLastRead (events_in t) (calls_in t) k (Some id) → id.0 < MAX_EVENTS
     read id l =
         let i = l.0.0 in
-        let w = key-within by_read t.rows.events i k l.0.1 in
-        let e = slice_get_inside t.rows.events i w in
-        let c = subst (IsCallOf t.rows.events i e.0) l.0.2 (a.calls i e.0 e.1) in
+        let w = key-within by_read (events_in t) i k l.0.1 in
+        let e = slice_get_inside (events_in t) i w in
+        let c = subst (IsCallOf (events_in t) i e.0) l.0.2 (a.calls i e.0 e.1) in
         let o = c.1.order in
         omega (arith, w, o, a.room)
 
 module _ (names : List (List ℕ)) (t : EventLists) (a : AreEventLists t)
-    (rec : IsRecorded (record { names = names; events = t.rows.events })) where
-  no-event : (k : ℕ × Val) → value_entry t.pairs t.entries.items k ≡ None → (i : ℕ)
-      → key_at by_value t.rows.events i ≡ Some k → ⊥
+    (rec : IsRecorded (record { names = names; events = events_in t })) where
+  no-event : (k : ℕ × Val) → entry_in t k ≡ None → (i : ℕ)
+      → key_at by_value (events_in t) i ≡ Some k → ⊥
   no-event k q i h = a.values.none k (ap (option_map (λ (y : Entry). y.ends)) q) i h
 
   pub last-time : (k : ℕ × Val) → k.0 < length names
-      → IsLastCall (record { names = names; events = t.rows.events }) k.0 k.1
-      (last_time k.1 (value_entry t.pairs t.entries.items k))
-  last-time k l = go (value_entry t.pairs t.entries.items k) refl
+      → IsLastCall (record { names = names; events = events_in t }) k.0 k.1
+      (last_time k.1 (entry_in t k))
+  last-time k l = go (entry_in t k) refl
     where
-      go : (o : Option Entry) → value_entry t.pairs t.entries.items k ≡ o
-          → IsLastCall (record { names = names; events = t.rows.events }) k.0 k.1
-          (last_time k.1 (value_entry t.pairs t.entries.items k))
+      go : (o : Option Entry) → entry_in t k ≡ o
+          → IsLastCall (record { names = names; events = events_in t }) k.0 k.1
+          (last_time k.1 (entry_in t k))
       go (Some y) q =
-          subst (λ o. IsLastCall (record { names = names; events = t.rows.events }) k.0 k.1
+          subst (λ o. IsLastCall (record { names = names; events = events_in t }) k.0 k.1
           (last_time k.1 o)) (sym q)
-          (last-call_is (record { names = names; events = t.rows.events }) rec k t.rows.calls a.calls
+          (last-call_is (record { names = names; events = events_in t }) rec k (calls_in t) a.calls
           (write_kept y.write) y.last_read l (kept-write t a k y q) (a.entries k y q).read)
       go None q =
-          subst (λ o. IsLastCall (record { names = names; events = t.rows.events }) k.0 k.1
+          subst (λ o. IsLastCall (record { names = names; events = events_in t }) k.0 k.1
           (last_time k.1 o)) (sym q)
-          (last-call_is (record { names = names; events = t.rows.events }) rec k t.rows.calls a.calls None
+          (last-call_is (record { names = names; events = events_in t }) rec k (calls_in t) a.calls None
           None l (kept-none t a k q)
-          (λ i x. no-event k q i (key-along by_read by_value t.rows.events k (λ e. read-value e k) i x)))
+          (λ i x. no-event k q i (key-along by_read by_value (events_in t) k (λ e. read-value e k) i x)))
 
   pub first-time : (k : ℕ × Val) → k.0 < length names
-      → IsFirstReply (record { names = names; events = t.rows.events }) k.0 k.1
-      (reply_time k.1 (value_entry t.pairs t.entries.items k))
-  first-time k l = go k.1 refl (value_entry t.pairs t.entries.items k) refl
+      → IsFirstReply (record { names = names; events = events_in t }) k.0 k.1
+      (reply_time k.1 (entry_in t k))
+  first-time k l = go k.1 refl (entry_in t k) refl
     where
-      go : (v : Val) → k.1 ≡ v → (o : Option Entry) → value_entry t.pairs t.entries.items k ≡ o
-          → IsFirstReply (record { names = names; events = t.rows.events }) k.0 k.1
-          (reply_time k.1 (value_entry t.pairs t.entries.items k))
+      go : (v : Val) → k.1 ≡ v → (o : Option Entry) → entry_in t k ≡ o
+          → IsFirstReply (record { names = names; events = events_in t }) k.0 k.1
+          (reply_time k.1 (entry_in t k))
       go Null w o q =
-          subst (λ v. IsFirstReply (record { names = names; events = t.rows.events }) k.0 k.1
-          (reply_time v (value_entry t.pairs t.entries.items k))) (sym w)
-          (first-reply_null (record { names = names; events = t.rows.events }) rec k w l)
+          subst (λ v. IsFirstReply (record { names = names; events = events_in t }) k.0 k.1
+          (reply_time v (entry_in t k))) (sym w)
+          (first-reply_null (record { names = names; events = events_in t }) rec k w l)
       go (Int n) w None q =
-          subst (λ v. IsFirstReply (record { names = names; events = t.rows.events }) k.0 k.1
-          (reply_time v (value_entry t.pairs t.entries.items k))) (sym w)
-          (subst (λ o. IsFirstReply (record { names = names; events = t.rows.events }) k.0 k.1
+          subst (λ v. IsFirstReply (record { names = names; events = events_in t }) k.0 k.1
+          (reply_time v (entry_in t k))) (sym w)
+          (subst (λ o. IsFirstReply (record { names = names; events = events_in t }) k.0 k.1
           (reply_time (Int n) o)) (sym q)
-          (first-reply_none (record { names = names; events = t.rows.events }) rec k (no-event k q)
+          (first-reply_none (record { names = names; events = events_in t }) rec k (no-event k q)
           (λ z. null-int n (sym w ∙ z))))
       go (Int n) w (Some y) q =
-          subst (λ v. IsFirstReply (record { names = names; events = t.rows.events }) k.0 k.1
-          (reply_time v (value_entry t.pairs t.entries.items k))) (sym w)
-          (subst (λ o. IsFirstReply (record { names = names; events = t.rows.events }) k.0 k.1
+          subst (λ v. IsFirstReply (record { names = names; events = events_in t }) k.0 k.1
+          (reply_time v (entry_in t k))) (sym w)
+          (subst (λ o. IsFirstReply (record { names = names; events = events_in t }) k.0 k.1
           (reply_time (Int n) o)) (sym q)
-          (first-reply_entry (record { names = names; events = t.rows.events }) rec k y.first_reply
+          (first-reply_entry (record { names = names; events = events_in t }) rec k y.first_reply
           (λ z. null-int n (sym w ∙ z)) (a.entries k y q).reply))
 
 -- the register of an event with a value has a name
@@ -162,46 +166,46 @@ key-there h rec i e v at has none = go (asked_for (take i rec.events) line.0) re
 -- ---- by an event
 
 module _ (names : List (List ℕ)) (t : EventLists) (a : AreEventLists t)
-    (rec : IsRecorded (record { names = names; events = t.rows.events })) (i : ℕ) where
+    (rec : IsRecorded (record { names = names; events = events_in t })) (i : ℕ) where
   pub times-there : (o : Option Entry)
-      → o ≡ option_and_then (value_entry t.pairs t.entries.items) (key_at by_value t.rows.events i)
+      → o ≡ option_and_then (entry_in t) (key_at by_value (events_in t) i)
       → (y : Entry) → o ≡ Some y → HasTimes y
-  times-there o q y h = go (key_at by_value t.rows.events i) refl
+  times-there o q y h = go (key_at by_value (events_in t) i) refl
     where
-      go : (k : Option (ℕ × Val)) → key_at by_value t.rows.events i ≡ k → HasTimes y
+      go : (k : Option (ℕ × Val)) → key_at by_value (events_in t) i ≡ k → HasTimes y
       go None w =
-          absurd (let z = ap (option_and_then (value_entry t.pairs t.entries.items)) w in cc (q, z, h))
+          absurd (let z = ap (option_and_then (entry_in t)) w in cc (q, z, h))
       go (Some k) w =
-          has-times t a k y (sym (q ∙ ap (option_and_then (value_entry t.pairs t.entries.items)) w) ∙ h)
+          has-times t a k y (sym (q ∙ ap (option_and_then (entry_in t)) w) ∙ h)
 
-  module _ (e : Event) (v : Val) (at : slice_get t.rows.events i ≡ Some e) (has : e.value ≡ Some v) (k : ℕ
-      × Val) (h : key_at by_value t.rows.events i ≡ Some k) where
+  module _ (e : Event) (v : Val) (at : slice_get (events_in t) i ≡ Some e) (has : e.value ≡ Some v) (k : ℕ
+      × Val) (h : key_at by_value (events_in t) i ≡ Some k) where
     entry-there : (o : Option Entry)
-        → o ≡ option_and_then (value_entry t.pairs t.entries.items) (key_at by_value t.rows.events i)
-        → o ≡ value_entry t.pairs t.entries.items k
-    entry-there o q = q ∙ ap (option_and_then (value_entry t.pairs t.entries.items)) h
+        → o ≡ option_and_then (entry_in t) (key_at by_value (events_in t) i)
+        → o ≡ entry_in t k
+    entry-there o q = q ∙ ap (option_and_then (entry_in t)) h
 
     known : k.0 < length names
-    known = key-known (record { names = names; events = t.rows.events }) rec i k h
+    known = key-known (record { names = names; events = events_in t }) rec i k h
 
     pub last-of_event : (o : Option Entry) (r : Option ℕ)
-        → o ≡ option_and_then (value_entry t.pairs t.entries.items) (key_at by_value t.rows.events i)
-        → r ≡ last_time v o → IsLastCall (record { names = names; events = t.rows.events }) k.0 k.1 r
+        → o ≡ option_and_then (entry_in t) (key_at by_value (events_in t) i)
+        → r ≡ last_time v o → IsLastCall (record { names = names; events = events_in t }) k.0 k.1 r
     last-of_event o r q w =
-        let is : r ≡ last_time k.1 (value_entry t.pairs t.entries.items k) =
+        let is : r ≡ last_time k.1 (entry_in t k) =
         w ∙ (ap (last_time v) (entry-there o q)
-        ∙ ap (λ v. last_time v (value_entry t.pairs t.entries.items k))
-        (key-of t.rows.events i e v k at has h).1) in
-        subst (IsLastCall (record { names = names; events = t.rows.events }) k.0 k.1) (sym is)
+        ∙ ap (λ v. last_time v (entry_in t k))
+        (key-of (events_in t) i e v k at has h).1) in
+        subst (IsLastCall (record { names = names; events = events_in t }) k.0 k.1) (sym is)
         (last-time names t a rec k known)
 
     pub first-of_event : (o : Option Entry) (r : Option ℕ)
-        → o ≡ option_and_then (value_entry t.pairs t.entries.items) (key_at by_value t.rows.events i)
-        → r ≡ reply_time v o → IsFirstReply (record { names = names; events = t.rows.events }) k.0 k.1 r
+        → o ≡ option_and_then (entry_in t) (key_at by_value (events_in t) i)
+        → r ≡ reply_time v o → IsFirstReply (record { names = names; events = events_in t }) k.0 k.1 r
     first-of_event o r q w =
-        let is : r ≡ reply_time k.1 (value_entry t.pairs t.entries.items k) =
+        let is : r ≡ reply_time k.1 (entry_in t k) =
         w ∙ (ap (reply_time v) (entry-there o q)
-        ∙ ap (λ v. reply_time v (value_entry t.pairs t.entries.items k))
-        (key-of t.rows.events i e v k at has h).1) in
-        subst (IsFirstReply (record { names = names; events = t.rows.events }) k.0 k.1) (sym is)
+        ∙ ap (λ v. reply_time v (entry_in t k))
+        (key-of (events_in t) i e v k at has h).1) in
+        subst (IsFirstReply (record { names = names; events = events_in t }) k.0 k.1) (sym is)
         (first-time names t a rec k known)

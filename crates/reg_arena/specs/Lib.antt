@@ -1,8 +1,5 @@
-pub mod Options
-pub mod Rows
-pub mod Tables
-pub mod Pairs
-pub mod EventLists
+pub mod ValueTimes
 pub mod Step
 pub mod Built
 pub mod Numbered
+pub use Rattle.event_lists.specs.EventLists

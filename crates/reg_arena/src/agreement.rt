@@ -36,10 +36,7 @@ pub(crate) fn fail_agrees(parts: &ReplyParts, names: &Names, opened: Open) -> bo
 fn op_agrees(said: Option<OpKind>, kind: OpKind) -> bool
     ensures { result ≡ agrees kind_eq said kind }
 {
-    match said {
-        None => true,
-        Some(said) => said == kind,
-    }
+    said.is_none_or(|said| said == kind)
 }
 
 /// Whether a reply or a fail names no register, or that of its call. The register's name may lie far
@@ -49,10 +46,10 @@ fn register_agrees(parts: &ReplyParts, names: &Names, register: RegId) -> bool
     ensures { (name : List ℕ) → slice_get names.now register.0 ≡ Some name
         → result ≡ agrees bytes_eq parts.now.register name }
 {
-    match parts.register.get() {
-        None => true,
-        Some(said) => said.as_str() == names.get(register.0),
-    }
+    parts
+        .register
+        .get()
+        .is_none_or(|said| said.as_str() == names.get(register.0))
 }
 
 fn value_agrees(written: Option<Val>, said: Option<Val>) -> bool

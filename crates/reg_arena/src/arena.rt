@@ -9,8 +9,8 @@ ghost use Rattle.history_model.specs.Naming.{IsNamed, IsOper, IsOperOf, begins_a
 ghost use Rattle.history_model.specs.OfValue.{IsWriteOf};
 ghost use Rattle.history_model.specs.declared.event.Event.{Event as AnEvent};
 
-use crate::event_lists::EventLists;
 use crate::names::Names;
+use event_lists::EventLists;
 use history_model::{EvId, Event, Op, Oper, RegId};
 use history_text::{OpKind, Val};
 use std::marker::Model;
@@ -25,14 +25,14 @@ pub struct Arena {
 impl Model for Arena {
     ghost use Rattle.std.specs.Prelude.{◌≡◌, length};
     ghost use Rattle.history_model.specs.History.{History, IsRecorded};
-    ghost use Rattle.reg_arena.specs.EventLists.{AreEventLists};
+    ghost use Rattle.event_lists.specs.EventLists.{AreEventLists, events_in, register_ends};
 
     ghost Value = { History };
 
-    ghost view = { λ a. record { names = a.names; events = a.lists.rows.events } };
+    ghost view = { λ a. record { names = a.names; events = events_in a.lists } };
 
-    ghost invariant = { λ a. AreEventLists a.lists × (length a.names ≡ length a.lists.registers.items)
-        × IsRecorded (record { names = a.names; events = a.lists.rows.events }) };
+    ghost invariant = { λ a. AreEventLists a.lists × (length a.names ≡ length (register_ends a.lists))
+        × IsRecorded (record { names = a.names; events = events_in a.lists }) };
 }
 
 impl Arena {
@@ -42,7 +42,7 @@ impl Arena {
         ensures bound { result ≤ MAX_EVENTS }
         ensures recorded { IsRecorded self.now }
     {
-        self.lists.rows.len() as u32
+        self.lists.event_count() as u32
     }
 
     /// How many registers there are: no more than events.
@@ -68,7 +68,7 @@ impl Arena {
         ensures at { slice_get self.now.events id.0 ≡ Some result }
         ensures bound { length self.now.events ≤ MAX_EVENTS }
     {
-        self.lists.rows.event(id)
+        self.lists.event(id)
     }
 
     /// The operation of this name, with its times.
@@ -96,10 +96,7 @@ impl Arena {
         requires { id.0 < length self.now.events }
         ensures { IsOperOf self.now id.0 result }
     {
-        match self.lists.rows.call(id) {
-            Some(call) => Some(Oper::Called(call)),
-            None => None,
-        }
+        self.lists.call(id).map(Oper::Called)
     }
 
     /// Whether the event begins an operation: it is a call that didn't fail.
@@ -108,7 +105,7 @@ impl Arena {
         ensures { (e : AnEvent) → slice_get self.now.events id.0 ≡ Some e
             → result ≡ begins_at self.now.events id.0 e }
     {
-        match self.lists.rows.call(id) {
+        match self.lists.call(id) {
             Some(call) => call.0 == id.0,
             None => false,
         }
@@ -131,12 +128,7 @@ impl Arena {
     pub fn first_of_register(&self, register: RegId) -> Option<EvId>
         ensures { IsFirstOf by_register self.now.events register.0 result }
     {
-        let number = register.0 as usize;
-        if number < self.lists.registers.len() {
-            Some(self.lists.registers[number].first)
-        } else {
-            None
-        }
+        self.lists.first_in_register(register)
     }
 
     /// The next event of the same register; of a crash, which has no register, `None`.
@@ -145,17 +137,14 @@ impl Arena {
         ensures next { IsNextOf by_register self.now.events id.0 result }
         ensures none { key_at by_register self.now.events id.0 ≡ None → result ≡ None }
     {
-        self.lists.rows.next_in_register(id)
+        self.lists.next_in_register(id)
     }
 
     /// The first event of a process.
     pub fn first_of_process(&self, process: u32) -> Option<EvId>
         ensures { IsFirstOf by_process self.now.events process result }
     {
-        match self.lists.processes.get(process) {
-            Some(ends) => Some(ends.first),
-            None => None,
-        }
+        self.lists.first_in_process(process)
     }
 
     /// The next event of the same process.
@@ -163,17 +152,14 @@ impl Arena {
         requires { id.0 < length self.now.events }
         ensures { IsNextOf by_process self.now.events id.0 result }
     {
-        self.lists.rows.next_in_process(id)
+        self.lists.next_in_process(id)
     }
 
     /// The first event of a register with a value. A read's call, a failed read's fail and a crash have none.
     pub fn first_with_value(&self, register: RegId, value: Val) -> Option<EvId>
         ensures { IsFirstOf by_value self.now.events (register.0, value) result }
     {
-        match self.lists.entry(register, value) {
-            Some(entry) => Some(entry.ends.first),
-            None => None,
-        }
+        self.lists.first_with_value(register, value)
     }
 
     /// The next event of the same register and value; of an event without a value `None`.
@@ -182,7 +168,7 @@ impl Arena {
         ensures next { IsNextOf by_value self.now.events id.0 result }
         ensures none { key_at by_value self.now.events id.0 ≡ None → result ≡ None }
     {
-        self.lists.rows.next_in_value(id)
+        self.lists.next_with_value(id)
     }
 
     /// The write of a value to a register, which didn't fail: of `Null` the initial write.
@@ -192,10 +178,7 @@ impl Arena {
     {
         match value {
             Val::Null => Some(Oper::Initial(register)),
-            Val::Int(_) => match self.lists.write(register, value) {
-                Some(id) => Some(Oper::Called(id)),
-                None => None,
-            },
+            Val::Int(_) => self.lists.write(register, value).map(Oper::Called),
         }
     }
 }

@@ -13,12 +13,10 @@ ghost use Rattle.reg_arena.specs.Step.{IsLastWith, IsNumber, IsStep, step_result
 
 use crate::appends::CallParts;
 use crate::arena::Arena;
-use crate::event_lists::EventLists;
-use crate::hash_key::HashKey;
-use crate::hasher::Seeded;
 use crate::names::Names;
 use crate::numbering::{NumberedLines, Numbering};
 use crate::refusals::refused;
+use event_lists::{EventLists, HashKey, Seeded};
 use history_model::{BuildError, EvId, Reason, RegId};
 use history_text::{Kind, LineEvent, LineFault, MAX_EVENTS, OpKind, ReplyParts, Val};
 use std::alloc::{AllocError, Global};
@@ -56,8 +54,7 @@ impl Arena {
         ensures built { IfOk result (IsBuilt []) }
         ensures names { IfOk result (λ a. a.names ≡ []) }
     {
-        let arena = Arena::new(alloc, MAX_EVENTS.min(count), Seeded::new(key))?;
-        Ok(arena)
+        Arena::new(alloc, MAX_EVENTS.min(count), Seeded::new(key))
     }
 
     /// The arena with the events of more lines after the others, or the refusal of the first faulty one of

@@ -11,37 +11,22 @@
 //! answer. No floor above calls [`Arena::first_of_process`], [`Arena::first_with_value`],
 //! [`Arena::next_with_value`] or [`Arena::write_of`].
 //!
-//! Read it in this order: `hash_key` and `hasher`, which make the hashes; `options`, `packing` and
-//! `rows`, which keep the events; `ascent` and `pairs`, which number the pairs of a register and a value;
-//! `list_ends`, `processes`, `joins`, `event_lists` and `entries`, the lists that run through the events;
-//! `numbering`, which numbers the registers of lines, and `names`; `arena`, `operation` and
-//! `value_times`, which answer; `process_standing`, `agreement` and `refusals`, which refuse an event;
-//! `appends`, which takes one in; and `build`.
+//! Read it in this order: `numbering`, which numbers the registers of lines, and `names`; `arena`, `operation`
+//! and `value_times`, which answer, from the lists of `event_lists`; `process_standing`, `agreement` and
+//! `refusals`, which refuse an event; `appends`, which takes one in; and `build`.
 #![tactic(auto)]
 
 mod agreement;
 mod appends;
 mod arena;
-mod ascent;
 mod build;
-mod entries;
-mod event_lists;
-mod hash_key;
-mod hasher;
-mod joins;
-mod list_ends;
 mod names;
 mod numbering;
 mod operation;
-mod options;
-mod packing;
-mod pairs;
 mod process_standing;
-mod processes;
 mod refusals;
-mod rows;
 mod value_times;
 
 pub use arena::Arena;
-pub use hash_key::HashKey;
+pub use event_lists::HashKey;
 pub use numbering::{NumberedLines, Numbering};

@@ -5,8 +5,7 @@ ghost use Rattle.std.specs.List.{position_or_len};
 ghost use Rattle.reg_arena.specs.Numbered.{AreNumbered, ArePartsNumbered, IsNumbered};
 ghost use Rattle.reg_arena.specs.Numbered.{lines_of, name_called, names_with, with_name};
 
-use crate::hash_key::HashKey;
-use crate::hasher::Seeded;
+use event_lists::{HashKey, Seeded};
 use history_text::{Kind, LineEvent, LineFault, Name};
 use indexmap::IndexSet;
 use std::alloc::{AllocError, Global};

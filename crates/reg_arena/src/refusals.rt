@@ -153,7 +153,7 @@ impl Arena {
         ensures { result ≡ cond (nat_le MAX_EVENTS (length self.now.events))
             (Some (record { line = event.now.line; reason = TooMany })) None }
     {
-        if self.lists.rows.len() >= MAX_EVENTS {
+        if self.lists.event_count() >= MAX_EVENTS {
             Some(refused(event.line, Reason::TooMany))
         } else {
             None

@@ -3,11 +3,11 @@ ghost use Rattle.std.specs.Prelude.{◌≡◌, ◌<◌, ℕ, length, None, Some}
 ghost use Rattle.history_text.specs.declared.event.Val.{Val as AVal};
 ghost use Rattle.history_model.specs.Walking.{by_value, key_at};
 ghost use Rattle.history_model.specs.OfValue.{IsFirstReply, IsLastCall, IsWriteOf};
-ghost use Rattle.reg_arena.specs.EventLists.{HasTimes, last_time, reply_time};
-ghost use Rattle.reg_arena.specs.declared.list_ends.Entry.{Entry as AnEntry};
+ghost use Rattle.reg_arena.specs.ValueTimes.{HasTimes, last_time, reply_time};
+ghost use Rattle.event_lists.specs.declared.list_ends.Entry.{Entry as AnEntry};
 
 use crate::arena::Arena;
-use crate::list_ends::Entry;
+use event_lists::Entry;
 use history_model::{EvId, Oper, RegId};
 use history_text::Val;
 
@@ -45,10 +45,7 @@ impl Arena {
         let value = event.value?;
         match value {
             Val::Null => Some(Oper::Initial(event.register?)),
-            Val::Int(_) => match self.lists.write_of_event(id) {
-                Some(write) => Some(Oper::Called(write)),
-                None => None,
-            },
+            Val::Int(_) => self.lists.write_of_event(id).map(Oper::Called),
         }
     }
 
@@ -60,10 +57,7 @@ impl Arena {
             → IsLastCall self.now k.0 k.1 result }
         ensures none { key_at by_value self.now.events id.0 ≡ None → result ≡ None }
     {
-        match self.event(id).value {
-            None => None,
-            Some(value) => last_time(value, self.lists.entry_of(id)),
-        }
+        last_time(self.event(id).value?, self.lists.entry_of(id))
     }
 
     /// `first_reply` of the register and value of an event, with no
@@ -74,10 +68,7 @@ impl Arena {
             → IsFirstReply self.now k.0 k.1 result }
         ensures none { key_at by_value self.now.events id.0 ≡ None → result ≡ None }
     {
-        match self.event(id).value {
-            None => None,
-            Some(value) => reply_time(value, self.lists.entry_of(id)),
-        }
+        reply_time(self.event(id).value?, self.lists.entry_of(id))
     }
 }
 
@@ -102,12 +93,8 @@ fn reply_time(value: Val, entry: Option<Entry>) -> Option<u32>
     requires { (y : AnEntry) → entry ≡ Some y → HasTimes y }
     ensures { result ≡ reply_time value entry }
 {
-    match (value, entry) {
-        (Val::Null, _) => Some(1),
-        (Val::Int(_), None) => None,
-        (Val::Int(_), Some(entry)) => match entry.first_reply {
-            Some(id) => Some(id.time()),
-            None => None,
-        },
+    match value {
+        Val::Null => Some(1),
+        Val::Int(_) => Some(entry?.first_reply?.time()),
     }
 }

@@ -1,6 +1,7 @@
 pub mod Pulling
-mod Passing
+pub mod Passing
+pub mod Written
 mod WholeRead
 mod Growing
 mod Turning
-mod Refusing
+pub mod Refusing

@@ -4,7 +4,7 @@ ghost use Rattle.reg_report.specs.Lines.{HaveCalls, HavePoints, call_line, point
 
 use crate::lists::Lines;
 use history_model::{EvId, Oper};
-use parallel::{OPERATIONS, map_parts};
+use parallel::{OPERATIONS_PER_PART, map_parts};
 use reg_arena::Arena;
 use reg_zones::Placed;
 use std::alloc::{AllocError, Global};
@@ -42,7 +42,7 @@ pub(crate) fn order_lines_in_parts(
         rt,
         alloc,
         order,
-        OPERATIONS,
+        OPERATIONS_PER_PART,
         |part: &[Placed]| -> Result<Lines, AllocError>
             requires { HaveCalls arena.now part.now }
             ensures { IfOk result (λ lines. lines ≡ lines_by (call_line arena.entry.now.events) part.now) }

@@ -7,7 +7,7 @@ ghost use Rattle.reg_report.specs.Text.{line_text, summary_json};
 use crate::bytes::summary_line;
 use crate::report::Report;
 use itoa::Buffer;
-use parallel::{NUMBERS, map_parts};
+use parallel::{NUMBERS_PER_PART, map_parts};
 use std::alloc::{AllocError, Global};
 use std::thread::Threads;
 
@@ -36,7 +36,7 @@ fn text_in_parts(
         rt,
         alloc,
         numbers,
-        NUMBERS,
+        NUMBERS_PER_PART,
         |part: &[u32]| -> Result<Vec<u8>, AllocError>
             ensures { IfOk result (λ text. text.items ≡ numbers_text part.now) }
         { text_of(alloc, part) },

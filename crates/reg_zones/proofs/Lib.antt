@@ -1,4 +1,3 @@
-pub mod Indexes
 pub mod Values
 pub mod Ends
 pub mod LowEnds

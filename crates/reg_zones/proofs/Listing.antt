@@ -16,7 +16,7 @@ use Rattle.reg_zones.specs.Entries.{turn, entry_of, same_place, ComesFirst, IsLi
 use Rattle.reg_zones.proofs.Complete.{listed-in, listed-member}
 use Rattle.reg_zones.proofs.LowEnds.{low_apart}
 use Rattle.reg_zones.proofs.Exists.{sooner_total}
-use Rattle.reg_zones.proofs.Indexes.{In-push, In-push_cases, Before-push_cases, pairs_from_Before}
+use Rattle.history_model.proofs.Indexes.{In-push, In-push_cases, Before-push_cases, pairs_from_Before}
 use Rattle.reg_zones.proofs.Registers.{cases_process, event-key}
 use Rattle.reg_zones.proofs.Walks.{IsWalk, walk-start, walk-more, walk-end}
 use Rattle.history_model.proofs.Recorded.{of_register-In}

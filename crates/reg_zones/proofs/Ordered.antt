@@ -13,7 +13,7 @@ use Rattle.reg_zones.specs.Order.{IsCanonical, IsOrder, placed_from, shown}
 use Rattle.reg_zones.proofs.Known.{IsKnown}
 use Rattle.reg_zones.specs.Entries.{entry_of, entries_placed, ComesFirst, IsListing}
 use Rattle.history_model.proofs.Lists.{In-map, map-In, map-Before, Before-first, Before-second}
-use Rattle.reg_zones.proofs.Indexes.{In-from_Contains, Contains-from_In, Before-from_pairs}
+use Rattle.history_model.proofs.Indexes.{In-from_Contains, Contains-from_In, Before-from_pairs}
 use Rattle.reg_zones.proofs.Unique.{ascending_one}
 use Rattle.reg_zones.proofs.Exists.{canonical}
 use Rattle.reg_zones.proofs.Complete.{legal}

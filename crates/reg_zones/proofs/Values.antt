@@ -5,26 +5,17 @@ use Rattle.std.proofs.lemmas.Bool.Decides.{Decides-int_eq}
 use Rattle.history_text.specs.Values.{value_eq, same_value}
 use Rattle.history_text.specs.declared.event.Val.TheVariants.{Null, Int}
 use Rattle.history_text.specs.declared.event.Val.{Val}
-
-val-true : (a b : Val) → value_eq a b ≡ true → a ≡ b
-val-true Null Null h = refl
-val-true Null (Int j) h = absurd (false≢true h)
-val-true (Int i) Null h = absurd (false≢true h)
-val-true (Int i) (Int j) h = ap (λ k. Int k) ((Decides-int_eq i j).0 h)
-
-val-refl : (a : Val) → value_eq a a ≡ true
-val-refl Null = refl
-val-refl (Int i) = (Decides-int_eq i i).1 refl
+use Rattle.history_model.proofs.Values.{value-true, value-refl}
 
 pub same-true : (a b : Option Val) → same_value a b ≡ true → a ≡ b
 same-true None None h = refl
 same-true None (Some b) h = absurd (false≢true h)
 same-true (Some a) None h = absurd (false≢true h)
-same-true (Some a) (Some b) h = ap (λ v. Some v) (val-true a b h)
+same-true (Some a) (Some b) h = ap (λ v. Some v) (value-true a b h)
 
 same-refl : (a : Option Val) → same_value a a ≡ true
 same-refl None = refl
-same-refl (Some a) = val-refl a
+same-refl (Some a) = value-refl a
 
 pub eq-same : (a b : Option Val) → a ≡ b → same_value a b ≡ true
 eq-same a b e = subst (λ v. same_value a v ≡ true) e (same-refl a)

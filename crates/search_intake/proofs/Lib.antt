@@ -1,4 +1,4 @@
 pub mod Pulling
 pub mod Taking
 pub mod Walking
-pub mod Passing
+pub 

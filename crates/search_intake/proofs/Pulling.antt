@@ -14,6 +14,7 @@ use Rattle.search_intake.specs.Pulled.{Gives, StopsAt}
 use Rattle.search_intake.specs.declared.refusal.Refusal.{Refusal}
 use Rattle.search_intake.specs.declared.refusal.Refusal.TheVariants.{At, TooLong, InputFailed}
 use Rattle.search_intake.specs.declared.refusal.Refusal.TheVariants.{NoRoom, OutputFailed}
+use Rattle.reg_intake.proofs.Refusing.{too-long}
 
 -- nothing is pulled
 pub gives-none : (left : Option (List ℕ)) (failed before : ℕ) → before ≤ MAX_INPUT
@@ -57,14 +58,6 @@ all-given None now bytes gave end = tt
 all-given (Some xs) None bytes gave end = absurd gave
 all-given (Some xs) (Some ys) bytes gave end = gave ∙ ap (λ zs. bytes ++ zs) end ∙ append-nil bytes
 
--- so many bytes pulled are no more than all that were left
-too-long : (left now : Option (List ℕ)) (bytes : List ℕ) → Consumes left now bytes → MAX_INPUT < length bytes
-    → IsTooLong left
-too-long None now bytes gave more = (bytes, tt, more)
-too-long (Some xs) None bytes gave more = absurd gave
-too-long (Some xs) (Some ys) bytes gave more =
-    (xs, refl, let whole = ap length gave in let joined = length-append bytes ys in omega arith)
-
 -- what stopped the pulls is why there is no history
 pub stopped : (left now : Option (List ℕ)) (failed failed_now : ℕ) (refusal : Refusal)
     → StopsAt left now failed failed_now 0 refusal → IsRefusedOf left failed failed_now refusal
@@ -83,17 +76,6 @@ front-of-resized xs ys more true k n within resized =
     omega (arith, within)) ∙ take-take k (k + n) xs (omega arith)
 front-of-resized xs ys more false k n within resized = ap (take k) resized
 
--- what is written behind the front stands behind it, whatever follows
-pub written-behind : (front piece rest tail : List ℕ) (k n long : ℕ) → length front ≡ k → n ≤ length piece
-    → k + n ≤ long → take (k + n) (take long ((front ++ (piece ++ rest)) ++ tail)) ≡ front ++ take n piece
-written-behind front piece rest tail k n long at within fits =
-    take-take (k + n) long ((front ++ (piece ++ rest)) ++ tail) fits
-    ∙ ap (take (k + n)) (append_assoc front (piece ++ rest) tail)
-    ∙ ap (λ m. take (m + n) (front ++ ((piece ++ rest) ++ tail))) (sym at)
-    ∙ take-append-add front ((piece ++ rest) ++ tail) n
-    ∙ ap (λ xs. front ++ take n xs) (append_assoc piece rest tail)
-    ∙ ap (λ xs. front ++ xs) (take-append-le n piece (rest ++ tail) within)
-
 -- and it is held
 pub written-held : (front piece rest tail : List ℕ) (k n long : ℕ) → length front ≡ k → n ≤ length piece
     → k + n ≤ long → k + n ≤ length (take long ((front ++ (piece ++ rest)) ++ tail))
@@ -103,12 +85,3 @@ written-held front piece rest tail k n long at within fits =
     let parts = length-append front (piece ++ rest) in
     let middle = length-append piece rest in
     omega arith
-
--- what is no longer than a part behind the front ends within the list
-pub fits-behind : (xs : List ℕ) (k m n : ℕ) → length (take k xs) ≡ k → n ≤ length (take m (drop k xs))
-    → k + n ≤ length xs
-fits-behind xs k m n at within =
-    let front = length-take k xs in
-    let part = length-take m (drop k xs) in
-    let rest = length-drop k xs in
-    omega (arith, at, within)

@@ -18,15 +18,7 @@ use Rattle.cas_history.specs.Refusals.{Line}
 use Rattle.cas_history.specs.declared.refusal.BuildError.{BuildError}
 use Rattle.search_intake.specs.Input.{history_lines}
 use Rattle.search_intake.specs.Taken.{AreTaken, IsNoHistory, read_line}
-
-no_feed : (xs : List ℕ) → ((k : ℕ) → k < length xs → (get_or xs k 0 == 10) ≡ true → ⊥)
-    → All (λ b. (b == 10) ≡ false) xs
-no_feed xs h =
-    All-from_get_or (λ b. (b == 10) ≡ false) xs 0 (λ k lt. false_from_ne_true (get_or xs k 0 == 10) (h k lt))
-
--- bytes without a line feed are one line
-lines-none : (xs : List ℕ) → IsFirstByte (is_byte 10) xs None → lines xs ≡ xs ∷ []
-lines-none xs h = slice_split_none (λ b. b == 10) xs (no_feed xs (λ k lt. h k (omega arith) lt))
+use Rattle.history_text.proofs.Cut.{no_feed, lines-none}
 
 -- the first line feed ends the first line
 lines-first : (xs : List ℕ) (k : ℕ) → IsFirstByte (is_byte 10) xs (Some k)

@@ -4,9 +4,11 @@ use Rattle.std.specs.Prelude.{is_ok}
 use Rattle.std.proofs.lemmas.List.{length-take-le}
 use Rattle.search_intake.specs.Input.{IsRefusedOf}
 use Rattle.search_intake.specs.Pulled.{Gives}
-use Rattle.search_intake.proofs.Passing.{passed-on}
-use Rattle.search_intake.proofs.Pulling.{all-given, fits-behind, front-of-resized, gives-more}
-use Rattle.search_intake.proofs.Pulling.{stopped, stops-after, written-behind, written-held}
+use Rattle.reg_intake.proofs.Passing.{passed-on}
+use Rattle.reg_intake.proofs.Written.{fits-behind}
+use Rattle.search_intake.proofs.Pulling.{all-given, front-of-resized, gives-more}
+use Rattle.reg_intake.proofs.Written.{written-behind}
+use Rattle.search_intake.proofs.Pulling.{stopped, stops-after, written-held}
 use Rattle.search_intake.proofs.bytes.all_bytes.Goals as goal
 
 pub returns-in_err-count-clause-err : goal.returns-in_err-count-clause-err

@@ -2,7 +2,7 @@
 use Rattle.std.proofs.Common.{◌≡◌, ◌+◌, ◌++◌, arith, length, length-append, take}
 use Rattle.std.proofs.lemmas.List.{length-take-le}
 use Rattle.search_intake.specs.Pulled.{StopsAt}
-use Rattle.search_intake.proofs.Passing.{passed-on}
+use Rattle.reg_intake.proofs.Passing.{passed-on}
 use Rattle.search_intake.proofs.Pulling.{gives-more, stops-after}
 use Rattle.search_intake.proofs.bytes.drop_rest.Goals as goal
 

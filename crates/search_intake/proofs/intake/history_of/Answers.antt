@@ -7,7 +7,7 @@ use Rattle.cas_history.specs.declared.refusal.BuildError.TheVariants.{Refused, M
 use Rattle.search_intake.specs.Input.{IsHistoryOfInput, IsRefusedOf, history_lines}
 use Rattle.search_intake.specs.Refusals.{of_build}
 use Rattle.search_intake.specs.Taken.{IsNoHistory}
-use Rattle.search_intake.proofs.Passing.{passed-on}
+use Rattle.reg_intake.proofs.Passing.{passed-on}
 use Rattle.search_intake.proofs.intake.history_of.Goals as goal
 
 -- why there is no history of all the bytes

@@ -4,7 +4,7 @@ use Rattle.cas_text.specs.declared.event.CasEvent.{CasEvent}
 use Rattle.cas_history.specs.History.{IsHistoryOf}
 use Rattle.search_intake.specs.Input.{history_lines}
 use Rattle.search_intake.specs.Taken.{IsNoHistory}
-use Rattle.search_intake.proofs.Passing.{passed-on}
+use Rattle.reg_intake.proofs.Passing.{passed-on}
 use Rattle.search_intake.proofs.Walking.{all-read, read-more, stopped-at, stopped-at-last}
 use Rattle.search_intake.proofs.lines.history_in.Goals as goal
 

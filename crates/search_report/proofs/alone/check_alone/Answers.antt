@@ -1,5 +1,5 @@
 use Rattle.std.proofs.Common.{arith, inl, refl}
-use Rattle.search_intake.proofs.Passing.{passed-on}
+use Rattle.reg_intake.proofs.Passing.{passed-on}
 use Rattle.search_intake.specs.Refusals.{of_build}
 use Rattle.search_intake.specs.declared.refusal.Refusal.TheVariants.{NoRoom}
 use Rattle.search_report.specs.Answer.{IsRefused}

@@ -5,7 +5,7 @@ use Rattle.history_model.specs.declared.event.What.TheVariants.{Call}
 use Rattle.reg_arena.specs.Step.{with_event}
 use Rattle.reg_arena.proofs.Step.{appended, call-next, call-registers, event_by}
 use Rattle.reg_arena.proofs.Step.{next-recorded, numbered, own-call, taken-room}
-use Rattle.reg_arena.proofs.ByEvent.{alike-call}
+use Rattle.reg_arena.proofs.Alike.{alike-call}
 use Rattle.reg_arena.proofs.arena.Arena.add_call.Goals as goal
 
 pub append-requires-clause-registers : goal.append-requires-clause-registers

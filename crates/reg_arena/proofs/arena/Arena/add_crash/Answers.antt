@@ -3,7 +3,7 @@ use Rattle.std.proofs.Common.{None, refl}
 use Rattle.history_model.specs.declared.event.What.TheVariants.{Crash}
 use Rattle.reg_arena.specs.Step.{with_event}
 use Rattle.reg_arena.proofs.Step.{appended, crash-next, event_by, next-recorded, no-call, taken-room}
-use Rattle.reg_arena.proofs.ByEvent.{alike-none}
+use Rattle.reg_arena.proofs.Alike.{alike-none}
 use Rattle.reg_arena.proofs.arena.Arena.add_crash.Goals as goal
 
 pub append-requires-clause-room : goal.append-requires-clause-room

@@ -2,14 +2,14 @@
 use Rattle.std.proofs.Common.{None, Option, Some, ap, arith, refl, subst, ◌∙◌}
 use Rattle.history_text.specs.declared.event.Val.{Val}
 use Rattle.history_model.specs.History.{History}
-use Rattle.reg_arena.specs.EventLists.{IsAlike}
+use Rattle.event_lists.specs.EventLists.{IsAlike}
 use Rattle.reg_arena.specs.Step.{IsOpenCall, with_event}
 use Rattle.history_model.specs.declared.ids.EvId.{EvId}
 use Rattle.history_model.specs.declared.event.Event.{Event}
 use Rattle.history_model.specs.declared.event.What.TheVariants.{Reply}
 use Rattle.reg_arena.proofs.Step.{appended, event_by, next-recorded, open-named}
 use Rattle.reg_arena.proofs.Step.{open-write, reply-call, reply-next, taken-room}
-use Rattle.reg_arena.proofs.ByEvent.{alike-same}
+use Rattle.reg_arena.proofs.Alike.{alike-same}
 use Rattle.reg_arena.proofs.arena.Arena.add_reply.Goals as goal
 use Rattle.reg_arena.proofs.arena.Arena.add_reply.Goals.{in-ReadOp, in-WriteOp}
 

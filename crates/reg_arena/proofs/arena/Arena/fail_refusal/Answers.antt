@@ -2,6 +2,7 @@
 use Rattle.std.proofs.Common.{arith, cond, nat_le, length, slice_get, true}
 use Rattle.std.proofs.Common.{false, Some, None, sym, ap, subst, ◌∙◌}
 use Rattle.history_text.specs.declared.limits.TheConstants.{MAX_EVENTS}
+use Rattle.event_lists.specs.EventLists.{events_in}
 use Rattle.history_model.specs.Refusals.{refused}
 use Rattle.history_model.specs.History.{History, IsRecorded}
 use Rattle.reg_arena.specs.Step.{IsOpenCall}
@@ -24,7 +25,7 @@ returns-then-not-fail_agrees c = λ es acc q.
     subst (λ (h : History). IsOpenCall h.events c.args.event.now.process c.args.opened) q
     c.requires.opened in
     let name =
-    open-name c.self.inside.names c.self.inside.lists.rows.events c.args.self.now c.self.view_is
+    open-name c.self.inside.names (events_in c.self.inside.lists) c.args.self.now c.self.view_is
     (subst IsRecorded c.self.view_is c.self.invariant.2) c.args.event.now.process c.args.opened
     c.requires.opened in
     let at =
@@ -40,7 +41,7 @@ returns c = λ es acc q.
     subst (λ (h : History). IsOpenCall h.events c.args.event.now.process c.args.opened) q
     c.requires.opened in
     let name =
-    open-name c.self.inside.names c.self.inside.lists.rows.events c.args.self.now c.self.view_is
+    open-name c.self.inside.names (events_in c.self.inside.lists) c.args.self.now c.self.view_is
     (subst IsRecorded c.self.view_is c.self.invariant.2) c.args.event.now.process c.args.opened
     c.requires.opened in
     let at =

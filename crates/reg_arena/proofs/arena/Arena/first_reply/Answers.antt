@@ -1,17 +1,19 @@
 use Rattle.std.proofs.Common.{◌≡◌, ◌<◌, ◌∙◌, ℕ, List, Option, None, ap, arith, length, sym, subst}
+use Rattle.event_lists.specs.EventLists.{events_in}
 use Rattle.history_model.specs.History.{History, IsRecorded}
 use Rattle.history_model.specs.OfValue.{IsFirstReply}
 use Rattle.history_text.specs.declared.event.Val.{Val}
-use Rattle.reg_arena.specs.EventLists.{AreEventLists, reply_time, value_entry}
-use Rattle.reg_arena.specs.declared.event_lists.EventLists.{EventLists}
+use Rattle.event_lists.specs.EventLists.{AreEventLists, entry_in}
+use Rattle.reg_arena.specs.ValueTimes.{reply_time}
+use Rattle.event_lists.specs.declared.lists.EventLists.{EventLists}
 use Rattle.reg_arena.proofs.Times.{has-times, first-time}
 use Rattle.reg_arena.proofs.arena.Arena.first_reply.Goals as goal
 
 module _ (names : List (List ℕ)) (t : EventLists) (a : AreEventLists t)
-    (rec : IsRecorded (record { names = names; events = t.rows.events })) where
+    (rec : IsRecorded (record { names = names; events = events_in t })) where
   -- the time by the entry of a register and value is the answer
-  by-entry : (h : History) → record { names = names; events = t.rows.events } ≡ h → (k : ℕ × Val)
-      → k.0 < length h.names → (r : Option ℕ) → r ≡ reply_time k.1 (value_entry t.pairs t.entries.items k)
+  by-entry : (h : History) → record { names = names; events = events_in t } ≡ h → (k : ℕ × Val)
+      → k.0 < length h.names → (r : Option ℕ) → r ≡ reply_time k.1 (entry_in t k)
       → IsFirstReply h k.0 k.1 r
   by-entry h viewed k known r is =
       let l = ap (λ (h : History). length h.names) viewed in
@@ -31,7 +33,7 @@ returns-in-Null c =
     let k : ℕ × Val = (c.args.register.0, c.args.value) in
     let initial =
     ap (λ v. reply_time v None) c.in-Null.is
-    ∙ sym (ap (λ v. reply_time v (value_entry t.pairs t.entries.items k)) c.in-Null.is) in
+    ∙ sym (ap (λ v. reply_time v (entry_in t k)) c.in-Null.is) in
     by-entry c.self.inside.names t c.self.invariant.0 c.self.invariant.2 c.args.self.now c.self.view_is k
     c.requires c.reply_time.result (c.reply_time.ensures ∙ initial)
 

@@ -1,7 +1,7 @@
 use Rattle.std.proofs.Common.{sym, ap, subst, ◌∙◌, arith, length}
 use Rattle.history_model.specs.History.{History}
 use Rattle.history_model.specs.OfValue.{IsLastCall}
-use Rattle.reg_arena.specs.EventLists.{last_time}
+use Rattle.reg_arena.specs.ValueTimes.{last_time}
 use Rattle.reg_arena.proofs.Times.{has-times, last-time}
 use Rattle.reg_arena.proofs.arena.Arena.last_call.Goals as goal
 

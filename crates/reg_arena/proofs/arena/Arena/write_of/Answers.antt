@@ -1,8 +1,10 @@
-use Rattle.std.proofs.Common.{sym, subst, ◌∙◌, Some, None}
+use Rattle.std.proofs.Common.{Option, sym, subst, ◌∙◌, Some, None, option_map}
 use Rattle.history_model.specs.History.{History, IsRecorded}
 use Rattle.history_model.specs.OfValue.{IsWriteOf}
-use Rattle.reg_arena.specs.EventLists.{IsKeptWrite}
-use Rattle.history_model.specs.declared.ids.Oper.TheVariants.{Initial}
+use Rattle.event_lists.specs.EventLists.{IsKeptWrite}
+use Rattle.history_model.specs.declared.ids.Oper.TheVariants.{Called, Initial}
+use Rattle.history_model.specs.declared.ids.EvId.{EvId}
+use Rattle.reg_arena.proofs.Mapped.{named-by}
 use Rattle.reg_arena.proofs.OfValue.{write-is, write-none, write-initial}
 use Rattle.reg_arena.proofs.Times.{null-int}
 use Rattle.reg_arena.proofs.arena.Arena.write_of.Goals as goal
@@ -14,16 +16,19 @@ returns-in-Null c =
     (write-initial c.args.self.now (subst IsRecorded c.self.view_is c.self.invariant.2) c.args.register
     c.requires)
 
-pub returns-in-Some : goal.returns-in-Some
-returns-in-Some c =
-    write-is c.args.self.now (subst IsRecorded c.self.view_is c.self.invariant.2) c.args.register.0
-    c.args.value c.in-Some.id
-    (subst (λ (h : History). IsKeptWrite h.events (c.args.register.0, c.args.value) (Some c.in-Some.id))
-    c.self.view_is c.in-Some.ensures)
+pub returns-in-Int : goal.returns-in-Int
+returns-in-Int c =
+    subst (IsWriteOf c.args.self.now c.args.register.0 c.args.value)
+    (sym (named-by c.write.result c.map.result c.map.ensures.cases)) (go c.write.result
+    (subst (λ (h : History). IsKeptWrite h.events (c.args.register.0, c.args.value) c.write.result)
+    c.self.view_is c.write.ensures))
+  where
+    rec : IsRecorded c.args.self.now
+    rec = subst IsRecorded c.self.view_is c.self.invariant.2
 
-pub returns-in-None : goal.returns-in-None
-returns-in-None c =
-    write-none c.args.self.now (subst IsRecorded c.self.view_is c.self.invariant.2) c.args.register.0
-    c.args.value (λ z. null-int _ (sym c.in-Int.is ∙ z))
-    (subst (λ (h : History). IsKeptWrite h.events (c.args.register.0, c.args.value) None) c.self.view_is
-    c.in-None.ensures)
+    go : (o : Option EvId) → IsKeptWrite c.args.self.now.events (c.args.register.0, c.args.value) o
+        → IsWriteOf c.args.self.now c.args.register.0 c.args.value (option_map Called o)
+    go None kept =
+        write-none c.args.self.now rec c.args.register.0 c.args.value
+        (λ z. null-int _ (sym c.in-Int.is ∙ z)) kept
+    go (Some id) kept = write-is c.args.self.now rec c.args.register.0 c.args.value id kept

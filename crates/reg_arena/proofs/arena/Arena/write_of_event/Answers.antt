@@ -1,11 +1,14 @@
-use Rattle.std.proofs.Common.{◌≡◌, ◌<◌, ℕ, length, Some, None, sym, ap, subst, ◌∙◌, option_map}
+use Rattle.std.proofs.Common.{◌≡◌, Option, ◌<◌, ℕ, length, Some, None, sym, ap, subst, ◌∙◌, option_map}
+use Rattle.history_text.specs.declared.event.Val.{Val}
 use Rattle.history_text.specs.declared.event.Val.TheVariants.{Null}
 use Rattle.history_model.specs.History.{History, IsRecorded}
 use Rattle.history_model.specs.Walking.{by_value, key_at}
 use Rattle.history_model.specs.OfValue.{IsWriteOf}
-use Rattle.reg_arena.specs.EventLists.{IsKeptWrite}
+use Rattle.event_lists.specs.EventLists.{IsKeptWrite}
 use Rattle.history_model.specs.declared.ids.RegId.{RegId}
-use Rattle.history_model.specs.declared.ids.Oper.TheVariants.{Initial}
+use Rattle.history_model.specs.declared.ids.Oper.TheVariants.{Called, Initial}
+use Rattle.history_model.specs.declared.ids.EvId.{EvId}
+use Rattle.reg_arena.proofs.Mapped.{named-by}
 use Rattle.reg_arena.proofs.OfValue.{write-is, write-none, write-initial}
 use Rattle.reg_arena.proofs.Times.{null-int, key-of, key-known, key-there}
 use Rattle.reg_arena.proofs.arena.Arena.write_of_event.Goals as goal
@@ -38,24 +41,29 @@ returns-in_ok-event-in-Null-clause-none c =
     λ q. absurd (key-there c.args.self.now (subst IsRecorded c.self.view_is c.self.invariant.2) c.args.id.0
     c.event-event.result c.in_ok-value.value c.event-event.ensures.at c.in_ok-value.was q)
 
-pub returns-in-Some-clause-none : goal.returns-in-Some-clause-none
-returns-in-Some-clause-none c =
+pub returns-in-Int-clause-none : goal.returns-in-Int-clause-none
+returns-in-Int-clause-none c =
     λ q. absurd (key-there c.args.self.now (subst IsRecorded c.self.view_is c.self.invariant.2) c.args.id.0
     c.event-event.result c.in_ok-value.value c.event-event.ensures.at c.in_ok-value.was q)
 
-pub returns-in-Some-clause-write : goal.returns-in-Some-clause-write
-returns-in-Some-clause-write c = λ k h.
-    let key = subst (λ (h : History). key_at by_value h.events c.args.id.0 ≡ Some k) (sym c.self.view_is) h in
-    write-is c.args.self.now (subst IsRecorded c.self.view_is c.self.invariant.2) k.0 k.1 c.in-Some.write
-    (subst (λ (h : History). IsKeptWrite h.events (k.0, k.1) (Some c.in-Some.write)) c.self.view_is
-    (c.in-Some.ensures k key))
-
-pub returns-in-None-clause-write : goal.returns-in-None-clause-write
-returns-in-None-clause-write c = λ k h.
+pub returns-in-Int-clause-write : goal.returns-in-Int-clause-write
+returns-in-Int-clause-write c = λ k h.
     let key = subst (λ (h : History). key_at by_value h.events c.args.id.0 ≡ Some k) (sym c.self.view_is) h in
     let same =
     key-of c.args.self.now.events c.args.id.0 c.event-event.result c.in_ok-value.value k
     c.event-event.ensures.at c.in_ok-value.was h in
-    write-none c.args.self.now (subst IsRecorded c.self.view_is c.self.invariant.2) k.0 k.1
-    (λ z. null-int _ (sym c.in-Int.is ∙ (same.1 ∙ z)))
-    (subst (λ (h : History). IsKeptWrite h.events (k.0, k.1) None) c.self.view_is (c.in-None.ensures k key))
+    subst (IsWriteOf c.args.self.now k.0 k.1)
+    (sym (named-by c.write_of_event.result c.map.result c.map.ensures.cases)) (go k same.1
+    c.write_of_event.result
+    (subst (λ (h : History). IsKeptWrite h.events (k.0, k.1) c.write_of_event.result) c.self.view_is
+    (c.write_of_event.ensures k key)))
+  where
+    rec : IsRecorded c.args.self.now
+    rec = subst IsRecorded c.self.view_is c.self.invariant.2
+
+    go : (k : ℕ × Val) → c.in_ok-value.value ≡ k.1 → (o : Option EvId)
+        → IsKeptWrite c.args.self.now.events (k.0, k.1) o
+        → IsWriteOf c.args.self.now k.0 k.1 (option_map Called o)
+    go k same None kept =
+        write-none c.args.self.now rec k.0 k.1 (λ z. null-int _ (sym c.in-Int.is ∙ (same ∙ z))) kept
+    go k same (Some id) kept = write-is c.args.self.now rec k.0 k.1 id kept

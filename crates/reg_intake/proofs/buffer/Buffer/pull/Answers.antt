@@ -7,6 +7,7 @@ use Rattle.reg_intake.specs.declared.buffer.Buffer.TheInside.{Inside}
 use Rattle.reg_intake.proofs.buffer.Buffer.pull.Goals.{then-len-self-lt-PULL+in_ok-resize}
 use Rattle.reg_intake.proofs.buffer.Buffer.pull.Goals.{else-len-self-lt-PULL}
 use Rattle.reg_intake.proofs.buffer.Buffer.pull.Goals as goal
+use Rattle.reg_intake.proofs.Written.{fits-behind, written-behind}
 
 -- the front stays when a list is cut after it and filled up
 front-of-resized : (xs ys more : List ℕ) (k n : ℕ) → k ≤ length xs → ys ≡ take (k + n) xs ++ more
@@ -15,26 +16,6 @@ front-of-resized xs ys more k n within resized =
     ap (take k) resized
     ∙ take-append-le k (take (k + n) xs) more (let long = length-take (k + n) xs in omega (arith, within))
     ∙ take-take k (k + n) xs (omega arith)
-
--- what is written after the front stands after it, whatever follows
-written-behind : (front piece rest tail : List ℕ) (k n long : ℕ) → length front ≡ k → n ≤ length piece
-    → k + n ≤ long → take (k + n) (take long ((front ++ (piece ++ rest)) ++ tail)) ≡ front ++ take n piece
-written-behind front piece rest tail k n long at within fits =
-    take-take (k + n) long ((front ++ (piece ++ rest)) ++ tail) fits
-    ∙ ap (take (k + n)) (append_assoc front (piece ++ rest) tail)
-    ∙ ap (λ m. take (m + n) (front ++ ((piece ++ rest) ++ tail))) (sym at)
-    ∙ take-append-add front ((piece ++ rest) ++ tail) n
-    ∙ ap (λ xs. front ++ take n xs) (append_assoc piece rest tail)
-    ∙ ap (λ xs. front ++ xs) (take-append-le n piece (rest ++ tail) within)
-
--- what is no longer than a part after the front ends within the list
-fits-behind : (xs : List ℕ) (k m n : ℕ) → length (take k xs) ≡ k → n ≤ length (take m (drop k xs))
-    → k + n ≤ length xs
-fits-behind xs k m n at within =
-    let front = length-take k xs in
-    let part = length-take m (drop k xs) in
-    let rest = length-drop k xs in
-    omega (arith, at, within)
 
 pub returns-clause-ok : goal.returns-clause-ok
 returns-clause-ok g c =

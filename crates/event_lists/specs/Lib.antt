@@ -1,0 +1,5 @@
+pub mod Options
+pub mod Rows
+pub mod Tables
+pub mod Pairs
+pub mod EventLists
