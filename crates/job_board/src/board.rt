@@ -10,7 +10,6 @@ use crate::parts::{Cut, Glue, Part};
 use crate::plays::{Counts, Draws, Flags, Looks};
 use crate::rule::Rule;
 use crate::seat::Seat;
-use crate::seats_out::SeatsOut;
 use crate::view::View;
 use atomic_table::Table;
 use std::alloc::{AllocError, Allocator};
@@ -40,12 +39,20 @@ impl<A: Allocator> Model for Board<A> {
     ghost invariant = { λ b. (b.table.shared.table_id.words ≡ 2) × (b.table.shared.table_id.slots ≡ 0) };
 }
 
+/// Some seats of the board are not in the one that [`close`](Board::close) was
+/// given. Board and seat come back as they were.
+#[derive(Drop)]
+pub struct SeatsOut<A: Allocator> {
+    pub board: Board<A>,
+    pub seat: Seat,
+}
+
 impl<A: Allocator> Board<A> {
     /// A board of the numbers from 0 to below `jobs`, none of them drawn or flagged, and its one seat, which
     /// has the [`FULL_WEIGHT`](crate::FULL_WEIGHT).
     ///
     /// # Errors
-    /// Want of memory. No later call on the board takes any.
+    /// Out of memory. No later call on the board takes any.
     pub fn open(alloc: A, jobs: u64) -> Result<(Board<A>, Seat), AllocError>
         requires { jobs ≤ MAX_JOBS }
         ensures { IfOk result (λ r. (r.0.jobs ≡ jobs) × (r.1.board ≡ r.0.id)

@@ -15,7 +15,7 @@
 //! lock, no wait, no second try. All calls but `open` take no memory and always answer.
 //!
 //! Read it in this order: `limits`, `view` and `seat`; `rule`, `plays` and `parts`, which say what the table
-//! keeps and tells; `board`; `seats_out`; `laws`.
+//! keeps and tells; `board`; `laws`.
 #![tactic(auto)]
 
 mod board;
@@ -25,13 +25,11 @@ mod parts;
 mod plays;
 mod rule;
 mod seat;
-mod seats_out;
 #[cfg(test)]
 mod tests;
 mod view;
 
-pub use board::Board;
+pub use board::{Board, SeatsOut};
 pub use limits::{FULL_WEIGHT, MAX_JOBS};
 pub use seat::Seat;
-pub use seats_out::SeatsOut;
 pub use view::View;

@@ -20,10 +20,7 @@ pub(crate) fn begins_write(arena: &Arena, id: EvId, event: &Event) -> bool
 fn is_another(writer: Option<u32>, process: u32) -> bool
     ensures { result ≡ another writer process }
 {
-    match writer {
-        Some(known) => known != process,
-        None => false,
-    }
+    writer.is_some_and(|known| known != process)
 }
 
 /// Whether at most one process calls writes of the register (Lamport, On

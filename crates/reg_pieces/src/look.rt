@@ -5,8 +5,6 @@ ghost use Rattle.reg_pieces.specs.Judged.{IsLookedAt, is_faulty};
 ghost use Rattle.reg_pieces.specs.Looks.{piece_of};
 ghost use Rattle.reg_pieces.specs.declared.piece.Piece.TheVariants as piece;
 
-use crate::judgement::Judgement;
-use crate::piece::Piece;
 use history_model::RegId;
 use reg_arena::Arena;
 use reg_zones::{Fault, sweep};
@@ -28,17 +26,6 @@ impl Look {
         ensures { result ≡ is_faulty (piece_of self.now) }
     {
         matches!(self, Look::Faulty(_))
-    }
-
-    /// The piece of work that it is.
-    pub(crate) fn into_piece(self) -> Piece
-        ensures { result ≡ piece_of self }
-    {
-        match self {
-            Look::Clean => Piece::Clean,
-            Look::Faulty(fault) => Piece::Judged(Judgement::Faulty(fault)),
-            Look::Skipped => Piece::Skipped,
-        }
     }
 }
 

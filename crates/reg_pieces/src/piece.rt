@@ -1,11 +1,12 @@
 //! What is done for one piece of work.
-ghost use Rattle.std.specs.Prelude.{◌<◌, length, IfOk, IfSome};
+ghost use Rattle.std.specs.Prelude.{◌≡◌, ◌<◌, length, IfOk, IfSome};
 ghost use Rattle.reg_lamport.specs.Reads.{IsReadList};
+ghost use Rattle.reg_pieces.specs.Looks.{piece_of};
 ghost use Rattle.reg_pieces.specs.Plan.{IsPieceAt, IsSomePlan};
 
 use crate::bad_reads::BadReads;
 use crate::judgement::{Judgement, judge};
-use crate::look::look_at;
+use crate::look::{Look, look_at};
 use crate::tasks::{Plan, Task};
 use reg_arena::Arena;
 use reg_lamport::ReadList;
@@ -22,6 +23,19 @@ pub enum Piece {
     Clean,
     /// If only that one is asked for: a lower register than this one isn't atomic.
     Skipped,
+}
+
+impl Look {
+    /// The piece of work that it is.
+    pub(crate) fn into_piece(self) -> Piece
+        ensures { result ≡ piece_of self }
+    {
+        match self {
+            Look::Clean => Piece::Clean,
+            Look::Faulty(fault) => Piece::Judged(Judgement::Faulty(fault)),
+            Look::Skipped => Piece::Skipped,
+        }
+    }
 }
 
 /// Does the piece of this number, as if no lower register were known that isn't atomic. The list of reads

@@ -92,6 +92,7 @@ pub fn work<G: Gate>(
     ensures { HasWorked arena.now plan.now seat result }
 {
     let mut done = Vec::new(alloc);
+    // Address space only; if it is refused, each push asks for itself.
     let _room = done.reserve(plan.len() as usize);
     let mut kept = None;
     while let Some(number) = board.draw(&mut seat) {

@@ -3,7 +3,7 @@ use Rattle.std.proofs.Common.{◌≡◌, ℕ, ◌+◌, ◌<◌, ◌≤◌, Optio
 use Rattle.std.proofs.Common.{inl, inr, refl, sym, ap, subst, ◌∙◌, arith}
 use Rattle.std.proofs.lemmas.Bool.{cases_lt}
 use Rattle.history_model.specs.Operations.{Operation, IsHistory}
-use Rattle.reg_zones.specs.declared.pass.Cluster.{Cluster}
+use Rattle.reg_zones.specs.declared.zone.Cluster.{Cluster}
 use Rattle.reg_zones.specs.Clusters.{IsKept, IsConflict, IsForward, IsClearBelow, IsFirstConflict, low_end}
 use Rattle.reg_zones.specs.Sweep.{IsClusterOf, IsLowEndAt, IsLastMet, AreClear, IsConflictWith, ZonesConflict}
 use Rattle.reg_zones.proofs.LowEnds.{low_apart, same_low}

@@ -5,7 +5,7 @@ use Rattle.history_model.specs.declared.ids.EvId.{EvId}
 use Rattle.history_model.specs.History.{History}
 use Rattle.history_model.specs.Operations.{Operation, of_register, operations, initial_write}
 use Rattle.history_model.specs.Walking.{IsFirstOf, IsNextOf, IsLeastFrom, by_register, key_at}
-use Rattle.reg_zones.specs.declared.pass.Cluster.{Cluster}
+use Rattle.reg_zones.specs.declared.zone.Cluster.{Cluster}
 use Rattle.reg_zones.specs.declared.pass.Compared.{Compared}
 use Rattle.reg_zones.specs.declared.pass.Compared.TheVariants.{Clear, Conflict}
 use Rattle.reg_zones.specs.Clusters.{IsKept, IsForward, low_end}

@@ -16,7 +16,7 @@ use Rattle.reg_zones.specs.Clusters.{IsKept, IsConflict, IsFirstConflict, IsClea
 use Rattle.reg_zones.specs.Clusters.{IsLastForward, first_reply, last_call, low_end}
 use Rattle.reg_zones.specs.Faults.{IsUnwritten, IsEarly}
 use Rattle.reg_zones.specs.declared.zone.Zone.{Zone}
-use Rattle.reg_zones.specs.declared.pass.Cluster.{Cluster}
+use Rattle.reg_zones.specs.declared.zone.Cluster.{Cluster}
 use Rattle.reg_zones.specs.declared.pass.Compared.{Compared}
 use Rattle.reg_zones.specs.declared.pass.Compared.TheVariants.{Clear, Conflict}
 use Rattle.reg_zones.specs.declared.pass.Found.{Found}

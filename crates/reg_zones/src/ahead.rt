@@ -62,10 +62,7 @@ fn oper_at(register: Register<'_>, event: Option<EvId>) -> Option<Oper>
     requires { IsOnWalk register.arena.now.events register.id.0 event }
     ensures { (id : AnEvId) → event ≡ Some id → IsOperOf register.entry.arena.now id.0 result }
 {
-    match event {
-        None => None,
-        Some(id) => register.arena.op_of(id),
-    }
+    register.arena.op_of(event?)
 }
 
 /// The event after an event of the register, if there is an event.
@@ -75,8 +72,5 @@ fn event_after(register: Register<'_>, event: Option<EvId>) -> Option<EvId>
         → IsNextOf by_register register.entry.arena.now.events id.0 result }
     ensures on { IsOnWalk register.entry.arena.now.events register.entry.id.0 result }
 {
-    match event {
-        None => None,
-        Some(id) => register.arena.next_in_register(id),
-    }
+    register.arena.next_in_register(event?)
 }

@@ -5,10 +5,9 @@ ghost use Rattle.reg_zones.specs.Entries.{IsListedAt, entry_of};
 ghost use Rattle.reg_zones.specs.Register.{operations_of};
 ghost use Rattle.reg_zones.specs.Sweep.{IsClusterOf, IsMetAt};
 
-use crate::pass::Cluster;
 use crate::register::{Met, Register};
 use crate::valued::valued_event;
-use crate::zone::zone_at;
+use crate::zone::{Cluster, zone_at};
 use history_model::{EvId, Oper};
 use history_text::OpKind;
 

@@ -7,8 +7,8 @@ ghost use Rattle.reg_zones.specs.Faults.{IsFault, IsConflictFault};
 ghost use Rattle.reg_zones.specs.Register.{operations_of};
 ghost use Rattle.reg_zones.specs.Sweep.{IsClusterOf};
 
-use crate::pass::Cluster;
 use crate::register::Register;
+use crate::zone::Cluster;
 use history_model::{EvId, Oper};
 
 /// The fault of a register: the first of these that applies.

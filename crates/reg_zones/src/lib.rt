@@ -7,11 +7,11 @@
 //! [`is_kept`] and [`zone_of`], which tell a kept write and a zone. [`laws`] says why zones decide.
 //!
 //! The method is that of Gibbons and Korach (Testing Shared Memories, 1997) for distinct written values.
-//! To read: `zone`, then `reads` (the two faults of single reads) and `pass` (one pass over the events,
-//! which also compares zones by their low ends), from which `atomic` answers; then `entry`, `walk` (the
-//! same pass, which also lists the operations) and `canonical` for the order, and `inversion`.
-//! `register` is a register with what is known of it, `ahead` what both passes know of the events to
-//! come, and `valued` asks for an operation's value.
+//! Read it in this order: `register`, a register with what is known of it, `valued`, which asks for an
+//! operation's value, and `ahead`, what is known of the events to come; `zone`, `fault` and `inversion`;
+//! `reads` (the two faults of single reads) and `pass` (one pass over the events, which also compares zones
+//! by their low ends), from which `atomic` answers; then `placed`, `entry`, `walk` (the same pass, which
+//! also lists the operations) and `canonical` for the order.
 #![tactic(auto)]
 
 mod ahead;

@@ -12,16 +12,8 @@ use crate::fault::Fault;
 use crate::reads::early_at;
 use crate::register::{Met, Register};
 use crate::valued::valued_event;
-use crate::zone::{Zone, zone_at, zone_of};
+use crate::zone::{Cluster, Zone, zone_at, zone_of};
 use history_model::{EvId, Oper};
-
-/// A cluster that the pass has met.
-#[derive(Clone, Copy, Debug, PartialEq, Eq)]
-pub(crate) struct Cluster {
-    /// Its write.
-    pub(crate) write: Oper,
-    pub(crate) zone: Zone,
-}
 
 /// What the pass knows of the zones that it has compared.
 #[derive(Clone, Copy, Debug, PartialEq, Eq)]

@@ -36,7 +36,7 @@ impl<'a> Register<'a> {
         ensures arena { result.arena.now ≡ arena.now }
         ensures id { result.id ≡ id }
     {
-        // Its contract says that the history is an accepted one.
+        // The contract of `event_count` says that the history is an accepted one.
         let _count = arena.event_count();
         Register { arena, id }
     }

@@ -1,4 +1,4 @@
-//! Kept writes, and the zones of their clusters.
+//! Kept writes, their clusters, and the zones of these.
 ghost use Rattle.std.specs.Prelude.{◌≡◌, ◌↔◌, ◌<◌, ℕ, IsTrue, Some, length, min};
 ghost use Rattle.history_text.specs.declared.event.Val.{Val as AVal};
 ghost use Rattle.history_model.specs.Operations.{Operation, of_register, operations};
@@ -37,6 +37,14 @@ impl Zone {
     {
         self.f < self.s
     }
+}
+
+/// A cluster, by its write.
+#[derive(Clone, Copy, Debug, PartialEq, Eq)]
+pub(crate) struct Cluster {
+    /// Its write.
+    pub(crate) write: Oper,
+    pub(crate) zone: Zone,
 }
 
 /// Whether the operation is a kept write: the initial one, a completed one, or a pending one whose value some
