@@ -1,35 +1,17 @@
 -- The bytes of a report: compact JSON (RFC 8259), a line for each register and
 -- one for the summary, keys in byte order.
-use Rattle.std.specs.Prelude.{ℕ, codes, List, [], ◌∷◌, ◌++◌, map, Bool, true, false, Option, Some, None}
+use Rattle.std.specs.Prelude.{ℕ, codes, List, [], ◌∷◌, ◌++◌, map, Bool, true, false}
 use Rattle.std.specs.List.{concat}
-use Rattle.serde_json.specs.Data.{Data, string, number, unsigned, array, object, Items}
-use Rattle.serde_json.specs.Data.{no_items, item, Members, no_members, member}
-use Rattle.serde_json.specs.Written.{compact_text}
+use Rattle.serde_json.specs.Data.{Data, string}
+use Rattle.json_fields.specs.Fields.{Field, always, shown, number_json, numbers_json}
+use Rattle.json_fields.specs.Fields.{object_json}
+pub use Rattle.json_fields.specs.Fields.{line_text}
 use Rattle.reg_text.specs.declared.report.Verdict.{Verdict}
 use Rattle.reg_text.specs.declared.report.Verdict.TheVariants.{Yes, No, SeveralWriters}
 use Rattle.reg_text.specs.declared.report.FaultLines.{FaultLines}
 use Rattle.reg_text.specs.declared.report.FaultLines.TheVariants.{Unwritten, Early, Zones}
 use Rattle.reg_text.specs.declared.report.RegReport.{RegReport}
 use Rattle.reg_text.specs.declared.report.Report.{Report}
-
--- a key and its value
-abbrev pub Field : Type 0
-Field = List ℕ × Data
-
--- an object of fields, which stand in byte order of their keys
-abbrev pub members_of : List Field → Members
-members_of [] = no_members
-members_of (f ∷ fs) = member f.0 f.1 (members_of fs)
-
-abbrev pub items_of : List Data → Items
-items_of [] = no_items
-items_of (d ∷ ds) = item d (items_of ds)
-
-abbrev pub number_json : ℕ → Data
-number_json n = number (unsigned n)
-
-abbrev pub numbers_json : List ℕ → Data
-numbers_json ns = array (items_of (map number_json ns))
 
 abbrev pub pair_json : ℕ × ℕ → Data
 pair_json p = numbers_json (p.0 ∷ p.1 ∷ [])
@@ -43,19 +25,6 @@ verdict_json Yes = string (codes "yes")
 verdict_json No = string (codes "no")
 verdict_json SeveralWriters = string (codes "several writers")
 
--- a key that is always there, and one that is there with a value
-abbrev pub always : List ℕ → Data → List Field
-always key d = (key, d) ∷ []
-
-abbrev pub shown : {A : Type 0} → List ℕ → (A → Data) → Option A → List Field
-shown key json None = []
-shown key json (Some x) = always key (json x)
-
--- parts of an object, one after another
-abbrev pub fields_of : List (List Field) → List Field
-fields_of [] = []
-fields_of (p ∷ ps) = p ++ fields_of ps
-
 abbrev pub fault_parts : FaultLines → List (List Field)
 fault_parts (Unwritten r) =
     always (codes "kind") (string (codes "unwritten")) ∷ always (codes "read") (number_json r) ∷ []
@@ -67,7 +36,7 @@ fault_parts (Zones writes first second) =
     ∷ always (codes "second") (pair_json second) ∷ always (codes "writes") (pair_json writes) ∷ []
 
 abbrev pub fault_json : FaultLines → Data
-fault_json fault = object (members_of (fields_of (fault_parts fault)))
+fault_json fault = object_json (fault_parts fault)
 
 -- the parts of a register's line, each of them one field or none
 abbrev pub register_parts : RegReport → List (List Field)
@@ -88,7 +57,7 @@ register_parts reg =
     ∷ []
 
 abbrev pub register_json : RegReport → Data
-register_json reg = object (members_of (fields_of (register_parts reg)))
+register_json reg = object_json (register_parts reg)
 
 abbrev pub summary_parts : Report → List (List Field)
 summary_parts report =
@@ -99,11 +68,7 @@ summary_parts report =
     ∷ []
 
 abbrev pub summary_json : Report → Data
-summary_json report = object (members_of (fields_of (summary_parts report)))
-
--- a value's compact text, and a line feed
-abbrev pub line_text : Data → List ℕ
-line_text d = compact_text d ++ 10 ∷ []
+summary_json report = object_json (summary_parts report)
 
 -- the lines of some registers
 abbrev pub registers_text : List RegReport → List ℕ

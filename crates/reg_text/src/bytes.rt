@@ -1,10 +1,12 @@
 //! From a report to its bytes.
-ghost use Rattle.std.specs.Prelude.{◌≡◌, [], ◌∷◌, ◌++◌, IfOk, OnOk};
+ghost use Rattle.std.specs.Prelude.{◌≡◌, ◌++◌, IfOk, OnOk};
 ghost use Rattle.serde_json.specs.Written.{compact_text};
-ghost use Rattle.reg_text.specs.Text.{line_text, register_json, registers_text, summary_json, report_text};
+ghost use Rattle.json_fields.specs.Fields.{line_text};
+ghost use Rattle.reg_text.specs.Text.{register_json, registers_text, summary_json, report_text};
 
 use crate::report::{RegReport, Report};
 use crate::send::Summary;
+use json_fields::put_line;
 use std::alloc::{AllocError, Global};
 
 /// The line of a register, without a line feed.
@@ -25,15 +27,6 @@ pub(crate) fn summary_line(alloc: Global, report: &Report) -> Result<Vec<u8>, Al
         Ok(line) => Ok(line),
         Err(_) => Err(AllocError),
     }
-}
-
-/// Appends a line and a line feed to `out`.
-fn put_line(out: &mut Vec<u8>, line: &[u8]) -> Result<(), AllocError>
-    ensures { OnOk result (out.new.items ≡ out.old.items ++ (line.now ++ 10 ∷ [])) }
-{
-    out.extend_from_slice(line)?;
-    out.push(b'\n')?;
-    Ok(())
 }
 
 /// Appends the line of a register and a line feed to `out`.

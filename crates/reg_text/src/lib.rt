@@ -6,8 +6,8 @@
 //! in parts, whose numbers several threads write. What a report has to say of a history is told by the
 //! floor above.
 //!
-//! Read it in this order: `report`, the values, with `lists`; `send`, what is sent to a serializer; `bytes`;
-//! and `summary_text`, the last line in parts.
+//! Read it in this order: `report`, the values, with `lists`; `send`, what is sent to a serializer, field by
+//! field as `json_fields` has it; `bytes`; and `summary_text`, the last line in parts.
 #![tactic(auto)]
 
 mod bytes;

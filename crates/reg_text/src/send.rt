@@ -1,48 +1,21 @@
 //! What the lines of a report send to a serializer.
 ghost use Rattle.std.specs.Prelude.{◌≡◌, ◌+◌, length, OnOk, if◌then◌else◌};
-ghost use Rattle.serde_json.specs.Data.{string};
 ghost use Rattle.serde_json.specs.Events.{SendsValue};
-ghost use Rattle.reg_text.specs.Text.{always, fields_of, shown, number_json, numbers_json};
+ghost use Rattle.json_fields.specs.Fields.{always, fields_of, shown, number_json, numbers_json};
+ghost use Rattle.json_fields.specs.Sends.{SendsFields, SendsParts};
 ghost use Rattle.reg_text.specs.Text.{pair_json, yes_or_no, verdict_json, fault_json, register_json};
 ghost use Rattle.reg_text.specs.Text.{register_parts, summary_json, summary_parts};
-ghost use Rattle.reg_text.specs.Sends.{SendsFields, SendsParts};
 
 use crate::lists::Lines;
 use crate::report::{FaultLines, RegReport, Report, Verdict};
+use json_fields::{send_numbers, send_text};
 use serde::{Described, Serialize, Serializer};
-
-fn send_text<S: Serializer>(out: &mut S, key: &str, text: &str) -> Result<(), S::Error>
-    ensures { OnOk result
-        (SendsFields (always key.now (string text.now)) (S.written out.old) (S.written out.new)) }
-{
-    out.key(key)?;
-    out.str(text)
-}
 
 fn send_number<S: Serializer>(out: &mut S, key: &str, n: u32) -> Result<(), S::Error>
     ensures { OnOk result
         (SendsFields (always key.now (number_json n)) (S.written out.old) (S.written out.new)) }
 {
-    out.key(key)?;
-    out.u64(u64::from(n))
-}
-
-fn send_items<S: Serializer>(out: &mut S, numbers: &[u32]) -> Result<(), S::Error>
-    ensures { OnOk result (SendsValue (numbers_json numbers.now) (S.written out.old) (S.written out.new)) }
-{
-    out.begin_seq(Some(numbers.len()))?;
-    for n in numbers {
-        out.u64(u64::from(*n))?;
-    }
-    out.end_seq()
-}
-
-fn send_numbers<S: Serializer>(out: &mut S, key: &str, numbers: &[u32]) -> Result<(), S::Error>
-    ensures { OnOk result
-        (SendsFields (always key.now (numbers_json numbers.now)) (S.written out.old) (S.written out.new)) }
-{
-    out.key(key)?;
-    send_items(out, numbers)
+    json_fields::send_number(out, key, u64::from(n))
 }
 
 fn send_pair<S: Serializer>(out: &mut S, key: &str, pair: (u32, u32)) -> Result<(), S::Error>

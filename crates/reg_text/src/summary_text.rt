@@ -2,7 +2,8 @@
 //! several threads write the numbers of its order.
 ghost use Rattle.std.specs.Prelude.{◌≡◌, ◌∷◌, Some, flat_map, IfOk};
 ghost use Rattle.reg_text.specs.SummaryText.{yes_or_no_text, beginning_text, end_text, numbers_text};
-ghost use Rattle.reg_text.specs.Text.{line_text, summary_json};
+ghost use Rattle.json_fields.specs.Fields.{line_text};
+ghost use Rattle.reg_text.specs.Text.{summary_json};
 
 use crate::bytes::summary_line;
 use crate::report::Report;

@@ -1,8 +1,8 @@
 use Rattle.std.proofs.Common.{refl, subst, codes}
 use Rattle.std.proofs.lemmas.Result.{on_ok_weaker}
 use Rattle.serde_json.specs.Data.{string}
-use Rattle.reg_text.specs.Text.{always}
-use Rattle.reg_text.specs.Sends.{SendsFields}
+use Rattle.json_fields.specs.Fields.{always}
+use Rattle.json_fields.specs.Sends.{SendsFields}
 use Rattle.reg_text.proofs.send.send_register_parts.Goals as goal
 
 pub returns : goal.returns

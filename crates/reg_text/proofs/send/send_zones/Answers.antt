@@ -2,7 +2,7 @@ use Rattle.std.proofs.Common.{refl}
 use Rattle.std.proofs.lemmas.Result.{on_ok_weaker}
 use Rattle.reg_text.specs.Text.{fault_parts}
 use Rattle.reg_text.specs.declared.report.FaultLines.TheVariants.{Zones}
-use Rattle.reg_text.proofs.Fields.{sends_object}
+use Rattle.json_fields.proofs.Fields.{sends_object}
 use Rattle.reg_text.proofs.send.send_zones.Goals as goal
 
 pub returns : goal.returns

@@ -1,8 +1,8 @@
 use Rattle.std.proofs.Common.{drop, map}
 use Rattle.serde.specs.Event.{Log}
 use Rattle.serde_json.specs.Events.{SendsItems}
-use Rattle.search_text.specs.Text.{items_of, number_json}
-use Rattle.search_text.proofs.send.send_items.Given as goal
+use Rattle.json_fields.specs.Fields.{items_of, number_json}
+use Rattle.json_fields.proofs.send.send_items.Given as goal
 
 -- whatever ends it well from here ends it well from the start
 abbrev pub invariant-loop-n : goal.invariant-loop-n

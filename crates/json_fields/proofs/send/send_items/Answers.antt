@@ -3,9 +3,9 @@ use Rattle.std.proofs.lemmas.List.{drop_all}
 use Rattle.std.proofs.lemmas.Result.{on_ok_weaker}
 use Rattle.serde.specs.Event.{Logs, seq_begins}
 use Rattle.serde_json.specs.Events.{SendsItems}
-use Rattle.search_text.specs.Text.{items_of, number_json}
-use Rattle.search_text.proofs.Fields.{items_len-numbers}
-use Rattle.search_text.proofs.send.send_items.Goals as goal
+use Rattle.json_fields.specs.Fields.{items_of, number_json}
+use Rattle.json_fields.proofs.Fields.{items_len-numbers}
+use Rattle.json_fields.proofs.send.send_items.Goals as goal
 
 pub returns : goal.returns
 returns g c =

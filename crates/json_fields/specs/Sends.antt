@@ -3,7 +3,7 @@ use Rattle.std.specs.Prelude.{◌≡◌, List, [], ◌∷◌}
 use Rattle.serde.specs.Event.{Log, Logs, field_key}
 use Rattle.serde.specs.declared.name.Case.TheVariants.{AsIs}
 use Rattle.serde_json.specs.Events.{SendsValue}
-use Rattle.search_text.specs.Text.{Field}
+use Rattle.json_fields.specs.Fields.{Field}
 
 abbrev pub SendsFields : List Field → Log → Log → Type 0
 SendsFields [] old new = new ≡ old
