@@ -16,7 +16,7 @@ use Rattle.reg_report.specs.First.{IsReportBy}
 use Rattle.reg_intake.specs.Refusals.{of_build}
 use Rattle.reg_intake.specs.declared.refusal.Refusal.{Refusal}
 use Rattle.reg_intake.specs.declared.refusal.Refusal.TheVariants.{NoRoom, TooLong}
-use Rattle.reg_report.specs.declared.report.Report.{Report}
+use Rattle.reg_text.specs.declared.report.Report.{Report}
 
 pub answer-within : (first : Bool) (input : List ℕ) (answer : Result Report Refusal)
     → length input ≤ MAX_INPUT → IsAnswerToLines first (history_lines input) answer

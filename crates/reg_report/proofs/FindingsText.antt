@@ -4,17 +4,16 @@ use Rattle.std.proofs.Common.{Vec, Global, refl, sym, ap, subst, flat_map, appen
 use Rattle.std.specs.List.{AllZip}
 use Rattle.std.proofs.Math.Seq.{take-suc}
 use Rattle.std.proofs.lemmas.List.Concat.{flat_map-append}
-use Rattle.serde_json.specs.Written.{compact_text}
 use Rattle.history_model.specs.History.{History}
 use Rattle.reg_report.specs.ReportText.{IsLinesText, IsTextOf}
 use Rattle.reg_report.specs.Meaning.{IsRegisterReport}
 use Rattle.reg_report.specs.Registers.{AreFindings}
-use Rattle.reg_report.specs.Text.{line_text, register_json, registers_text, report_text, summary_json}
+use Rattle.reg_text.specs.Text.{line_text, register_json, registers_text, report_text, summary_json}
 use Rattle.reg_report.specs.declared.findings.Finding.{Finding}
-use Rattle.reg_report.specs.declared.report.RegReport.{RegReport}
-use Rattle.reg_report.specs.declared.report.Report.{Report}
+use Rattle.reg_text.specs.declared.report.RegReport.{RegReport}
+use Rattle.reg_text.specs.declared.report.Report.{Report}
 use Rattle.reg_report.proofs.Found.{lines-of}
-use Rattle.reg_report.proofs.Joined.{lines-append}
+use Rattle.reg_text.proofs.Joined.{lines-append}
 use Rattle.byte_ends.proofs.Pushing.{bytes-of}
 
 module _ (h : History) where
@@ -38,23 +37,21 @@ module _ (h : History) where
   )
 
   -- the text with one line more
-  pub one-text-more : (findings : List Finding) (i : ℕ) (d : Finding) (reg : RegReport)
-      (out new bytes line : List ℕ)
+  pub one-text-more : (findings : List Finding) (i : ℕ) (d : Finding) (reg : RegReport) (out new : List ℕ)
       → i < length findings → d ≡ get_or findings i d → IsTextOf h (take i findings) out
-      → IsRegisterReport h d.register.0 reg → bytes ≡ line → line ≡ compact_text (register_json reg)
-      → new ≡ out ++ (bytes ++ 10 ∷ [])
+      → IsRegisterReport h d.register.0 reg → new ≡ out ++ line_text (register_json reg)
       → IsTextOf h (take (i + 1) findings) new
-  one-text-more findings i d reg out new bytes line inside at before reported same is made =
-      let text : bytes ++ 10 ∷ [] ≡ registers_text (reg ∷ []) =
-      ap (λ l. l ++ 10 ∷ []) (same ∙ is) ∙ sym (append-nil (line_text (register_json reg))) in
-      let here : IsTextOf h (d ∷ []) (bytes ++ 10 ∷ []) = (reg ∷ [], (reported, tt), text) in
+  one-text-more findings i d reg out new inside at before reported made =
+      let line = line_text (register_json reg) in
+      let text : line ≡ registers_text (reg ∷ []) = sym (append-nil line) in
+      let here : IsTextOf h (d ∷ []) line = (reg ∷ [], (reported, tt), text) in
       let next : i + 1 ≡ suc i = omega arith in
       let more : take (i + 1) findings ≡ take i findings ++ d ∷ [] =
       ap (λ n. take n findings) next
       ∙ (take-suc findings i d inside ∙ ap (λ x. take i findings ++ x ∷ []) (sym at)) in
       subst (λ fs. IsTextOf h fs new) (sym more)
       (subst (IsTextOf h (take i findings ++ d ∷ [])) (sym made)
-      (texts-joined (take i findings) (d ∷ []) out (bytes ++ 10 ∷ []) before here))
+      (texts-joined (take i findings) (d ∷ []) out line before here))
 
   all_made : (parts : List (List Finding)) (texts : List (Vec ℕ Global))
       → AllZip (λ (part : List Finding) (text : Vec ℕ Global). IsTextOf h part text.items) parts texts

@@ -9,7 +9,7 @@ use Rattle.reg_report.specs.ReportText.{AreLinesOf}
 use Rattle.reg_report.specs.Meaning.{IsRegisterReport}
 use Rattle.reg_report.specs.Registers.{AreFindings, AreFirstFindings, AreFirstLines, AreLines, IsFinding}
 use Rattle.reg_report.specs.declared.findings.Finding.{Finding}
-use Rattle.reg_report.specs.declared.report.RegReport.{RegReport}
+use Rattle.reg_text.specs.declared.report.RegReport.{RegReport}
 
 module _ (h : History) where
   pub one-finding-more : (n : ℕ) (findings : List Finding) (finding : Finding) → AreFirstFindings h n findings

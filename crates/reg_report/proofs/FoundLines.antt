@@ -18,8 +18,8 @@ use Rattle.reg_report.specs.Run.{IsOutcome}
 use Rattle.reg_report.specs.ArenaLaws.{ObeysLaws}
 use Rattle.reg_report.specs.declared.outcome.Outcome.TheVariants.{Atomic, NotAtomic}
 use Rattle.reg_intake.specs.declared.refusal.Refusal.TheVariants.{TooLong}
-use Rattle.reg_report.specs.declared.report.RegReport.{RegReport}
-use Rattle.reg_report.specs.declared.report.Report.{Report}
+use Rattle.reg_text.specs.declared.report.RegReport.{RegReport}
+use Rattle.reg_text.specs.declared.report.Report.{Report}
 use Rattle.reg_report.proofs.Locality.{each, nothing_atomic}
 
 module _ (h : History) (t : ObeysLaws h) (found : Option RegId) (regs : List RegReport)

@@ -1,7 +1,4 @@
-mod Fields
 mod Following
-mod Joined
-mod Results
 mod Tallying
 mod Naming
 mod MergedLines
@@ -18,7 +15,6 @@ mod Atomic
 mod Counting
 mod Found
 mod FindingsText
-mod SummaryText
 mod OneReport
 mod Cutting
 mod Assembly

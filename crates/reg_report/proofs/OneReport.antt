@@ -23,12 +23,12 @@ use Rattle.reg_report.specs.Meaning.{IsVerdict, HasLine, HaveLines, ShowsFault, 
 use Rattle.reg_report.specs.Meaning.{IsInversionShown, IsInversionAnswer, IsWholeAtomicity}
 use Rattle.reg_report.specs.Meaning.{IsRegisterReport, IsReport, lines_of, points_of}
 use Rattle.reg_report.specs.Merged.{MergesBefore, IsWholeOrder}
-use Rattle.reg_report.specs.declared.report.Verdict.{Verdict}
-use Rattle.reg_report.specs.declared.report.Verdict.TheVariants.{Yes, No, SeveralWriters}
-use Rattle.reg_report.specs.declared.report.FaultLines.{FaultLines}
-use Rattle.reg_report.specs.declared.report.FaultLines.TheVariants.{Unwritten, Early, Zones}
-use Rattle.reg_report.specs.declared.report.RegReport.{RegReport}
-use Rattle.reg_report.specs.declared.report.Report.{Report}
+use Rattle.reg_text.specs.declared.report.Verdict.{Verdict}
+use Rattle.reg_text.specs.declared.report.Verdict.TheVariants.{Yes, No, SeveralWriters}
+use Rattle.reg_text.specs.declared.report.FaultLines.{FaultLines}
+use Rattle.reg_text.specs.declared.report.FaultLines.TheVariants.{Unwritten, Early, Zones}
+use Rattle.reg_text.specs.declared.report.RegReport.{RegReport}
+use Rattle.reg_text.specs.declared.report.Report.{Report}
 use Rattle.std.proofs.lemmas.Option.{same_Some}
 
 -- two lists of one length whose elements are the same place by place

@@ -5,8 +5,8 @@ use Rattle.history_model.specs.Legal.{IsAtomic}
 use Rattle.history_model.specs.Operations.{calls, operations}
 use Rattle.reg_pieces.specs.Workers.{IsFirstFaulty}
 use Rattle.reg_report.specs.Meaning.{IsRegisterReport, IsReport}
-use Rattle.reg_report.specs.declared.report.RegReport.{RegReport}
-use Rattle.reg_report.specs.declared.report.Report.{Report}
+use Rattle.reg_text.specs.declared.report.RegReport.{RegReport}
+use Rattle.reg_text.specs.declared.report.Report.{Report}
 
 -- the whole history is atomic, and there is no line; or it isn't, and there is the line of the first
 -- register by appearance that isn't atomic

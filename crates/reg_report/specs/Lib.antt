@@ -1,5 +1,3 @@
-pub mod Text
-pub mod Sends
 pub mod ByPoint
 pub mod Merged
 pub mod Meaning
@@ -13,6 +11,5 @@ pub mod Atomicity
 pub mod Registers
 pub mod Answer
 pub mod ReportText
-pub mod SummaryText
 pub mod Run
 pub mod Cuts

@@ -12,7 +12,7 @@ use Rattle.reg_report.specs.Merged.{AreGathered, IsMergedAnswer}
 use Rattle.reg_report.specs.Tally.{IsTally}
 use Rattle.history_model.specs.Operations.{register_of}
 use Rattle.reg_report.specs.declared.findings.Finding.{Finding}
-use Rattle.reg_report.specs.declared.report.RegReport.{RegReport}
+use Rattle.reg_text.specs.declared.report.RegReport.{RegReport}
 
 -- what is found of a register is so
 pub record IsFinding (h : History) (finding : Finding) : Type 0 where

@@ -6,10 +6,10 @@ ghost use Rattle.reg_report.specs.Meaning.{IsReport};
 
 use crate::history::history_report;
 use crate::lone_thread::find_one_by_one;
-use crate::report::Report;
 use history_text::{MAX_INPUT, read_lines_alone};
 use reg_arena::Arena;
 use reg_intake::Refusal;
+use reg_text::Report;
 use std::alloc::{AllocError, Global};
 
 /// The report of an accepted history, made by this thread.

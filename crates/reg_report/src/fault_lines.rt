@@ -3,9 +3,9 @@ ghost use Rattle.history_model.specs.Naming.{IsOper};
 ghost use Rattle.reg_report.specs.Meaning.{HasLine, HaveLines, ShowsFault};
 ghost use Rattle.reg_report.specs.Named.{AreOpers, HasOpers};
 
-use crate::report::FaultLines;
 use history_model::Oper;
 use reg_arena::Arena;
+use reg_text::FaultLines;
 use reg_zones::Fault;
 
 /// The line of an operation's call; 0 of an initial write.

@@ -6,19 +6,16 @@ ghost use Rattle.history_model.specs.Operations.{calls};
 ghost use Rattle.reg_report.specs.ReportText.{IsLinesText, IsReportText, IsTextOf};
 ghost use Rattle.reg_report.specs.Meaning.{IsWholeAtomicity};
 ghost use Rattle.reg_report.specs.Registers.{AreFindings, IsFinding};
-ghost use Rattle.reg_report.specs.Text.{line_text, summary_json};
+ghost use Rattle.reg_text.specs.Text.{line_text, summary_json};
 
-use crate::bytes::{put_line, register_line};
 use crate::findings::Finding;
 use crate::history::whole_order_in_parts;
-use crate::lists::{Lines, Registers};
 use crate::outcome::Outcome;
 use crate::register::register_report;
-use crate::report::Report;
 use crate::report_text::ReportText;
-use crate::summary_text::summary_text;
 use parallel::{REGISTER_PARTS, both, map_parts, share_size};
 use reg_arena::Arena;
+use reg_text::{Lines, Registers, Report, put_register_line, summary_in_parts};
 use std::alloc::{AllocError, Global};
 use std::thread::Threads;
 
@@ -30,7 +27,7 @@ fn lines_text(alloc: Global, arena: &Arena, findings: &[Finding]) -> Result<Vec<
     let mut out = Vec::new(alloc);
     for finding in findings {
         let reg = register_report(alloc, arena, finding)?;
-        put_line(&mut out, register_line(alloc, &reg)?.as_slice())?;
+        put_register_line(alloc, &mut out, &reg)?;
     }
     Ok(out)
 }
@@ -113,7 +110,7 @@ fn summary_beside_drop<T: Threads + Sync>(
             requires { IsSync T.row }
             ensures { IfOk result (λ parts. flat_map (λ part. part.items) parts.items
                 ≡ line_text (summary_json report.entry.now)) }
-        { summary_text(rt, alloc, report) },
+        { summary_in_parts(rt, alloc, report) },
         move || drop((arena, findings)),
     );
     parts

@@ -6,14 +6,13 @@ ghost use Rattle.reg_report.specs.Meaning.{IsRegisterReport};
 ghost use Rattle.reg_report.specs.Tally.{AreTallies};
 
 use crate::arena_laws::arena_laws;
-use crate::lists::Registers;
 use crate::lone_thread::finding_of;
 use crate::register::register_report;
-use crate::report::{RegReport, Report};
 use crate::tally::{Tally, count_calls};
 use history_model::RegId;
 use reg_arena::Arena;
 use reg_pieces::{Gate, Settings, first_faulty, plan};
+use reg_text::{RegReport, Registers, Report};
 use std::alloc::{AllocError, Global};
 use std::thread::Threads;
 

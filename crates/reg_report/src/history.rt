@@ -8,15 +8,14 @@ ghost use Rattle.reg_report.specs.Registers.{AreLines, IsFinding, IsMergedIfAtom
 
 use crate::arena_laws::arena_laws;
 use crate::findings::Finding;
-use crate::lists::{Lines, Registers};
 use crate::merged_lines::merged_lines_in_parts;
 use crate::merged_order::merge_gathered;
 use crate::order_lines::order_lines;
 use crate::register::register_report;
-use crate::report::{RegReport, Report};
 use parallel::{both, map_each};
 use reg_arena::Arena;
 use reg_pieces::Judgement;
+use reg_text::{Lines, RegReport, Registers, Report};
 use reg_zones::Placed;
 use std::alloc::{AllocError, Global};
 use std::thread::Threads;

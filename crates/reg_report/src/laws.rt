@@ -8,7 +8,7 @@ ghost use Rattle.reg_zones.specs.Order.{PlacedOperation, operations_of};
 ghost use Rattle.reg_report.specs.First.{IsFirstReport};
 ghost use Rattle.reg_report.specs.Meaning.{IsEachAtomic, IsReport};
 ghost use Rattle.reg_report.specs.Merged.{IsMerged};
-ghost use Rattle.reg_report.specs.declared.report.Report.{Report as AReport};
+ghost use Rattle.reg_text.specs.declared.report.Report.{Report as AReport};
 
 use history_model::{accepted_is_history, names_are_unique, registers_are_numbered};
 

@@ -10,11 +10,11 @@ ghost use Rattle.reg_pieces.specs.Plan.{IsPlan};
 ghost use Rattle.reg_pieces.specs.Slots.{AreDoneFrom};
 
 use crate::fault_lines::line;
-use crate::report::Verdict;
 use history_model::{EvId, Oper, RegId};
 use reg_arena::Arena;
 use reg_lamport::Level;
 use reg_pieces::{BadReads, Pieces, Plan};
+use reg_text::Verdict;
 
 /// What is said of one level: the verdict, and if it is no, the line of the read that breaks the level.
 #[derive(Clone, Copy, Debug, PartialEq, Eq)]

@@ -3,29 +3,28 @@
 //! What the floor above may rely on: [`run`] pulls all the bytes of a source, and the bytes that it pushes
 //! into a sink are the report of their history; or it answers a refusal, and has pushed nothing, or a
 //! beginning if it is the sink that failed. [`check`] gives the report's values, and so does [`check_alone`]
-//! without threads; [`text`] gives their bytes; [`merge`] lists the operations of all registers in one legal
-//! order. [`plan`] and [`work`], handed on from `reg_pieces`, are the pieces of work and one worker; how many
-//! workers there are, and how they take turns, changes no report. Sources and sinks are handed on from
-//! `byte_ends`, and [`Refusal`] from `reg_intake`. [`laws`] says why the whole history is atomic exactly if
-//! each of its registers is, and that a history has one report.
+//! without threads; [`merge`] lists the operations of all registers in one legal order. The values and
+//! [`text`], which gives their bytes, are handed on from `reg_text`. [`plan`] and [`work`], handed on from
+//! `reg_pieces`, are the pieces of work and one worker; how many workers there are, and how they take turns,
+//! changes no report. Sources and sinks are handed on from `byte_ends`, and [`Refusal`] from `reg_intake`.
+//! [`laws`] says why the whole history is atomic exactly if each of its registers is, and that a history has
+//! one report.
 //!
 //! To read, from the arena on, which `reg_intake` makes: `report_text`, which has the report made as
 //! bytes, as `report_values` does as values, from a slice as a source (`slice`), and `alone` without
 //! threads; below them `findings`, which has `reg_pieces` do the work and `tally` count the calls, and
 //! puts together what was found of each register, with `levels`, and `lone_thread`, where one thread does
-//! all; `findings_text`, which writes each register's line as soon as it is made, with `summary_text` for
-//! the last line, or `history`, which makes the report's values. If the first register that isn't atomic
-//! is all that is asked for, `first` has `reg_pieces` look for it. `register` makes the line of one
-//! register, with `fault_lines` and `order_lines`, and `merged_order` the order of all, with `by_point`;
-//! `merged_lines` finds that order's lines by several threads. Then come `report` with `lists`, `send` and
-//! `bytes`, and `outcome` and `whole` at last. `wording` says why there is no report, and
-//! `arena_laws` which laws the arena's history obeys.
+//! all; `findings_text`, which has each register's line written as soon as it is made, or `history`, which
+//! makes the report's values. If the first register that isn't atomic is all that is asked for, `first` has
+//! `reg_pieces` look for it. `register` makes the line of one register, with `fault_lines` and `order_lines`,
+//! and `merged_order` the order of all, with `by_point`; `merged_lines` finds that order's lines by several
+//! threads. Then come `outcome` and `whole`. `wording` says why there is no report, and `arena_laws` which
+//! laws the arena's history obeys.
 #![tactic(auto)]
 
 mod alone;
 mod arena_laws;
 mod by_point;
-mod bytes;
 mod fault_lines;
 mod findings;
 mod findings_text;
@@ -33,27 +32,21 @@ mod first;
 mod history;
 pub mod laws;
 mod levels;
-mod lists;
 mod lone_thread;
 mod merged_lines;
 mod merged_order;
 mod order_lines;
 mod outcome;
 mod register;
-mod report;
 mod report_text;
 mod report_values;
-mod send;
 mod slice;
-mod summary_text;
 mod tally;
 mod whole;
 mod wording;
 
 pub use alone::check_alone;
 pub use byte_ends::{FromReader, FromWriter, IoFail, MemSink, MemSource, Sink, Source};
-pub use bytes::text;
-pub use lists::{Lines, Registers};
 pub use merged_order::merge;
 pub use outcome::Outcome;
 pub use reg_intake::Refusal;
@@ -61,7 +54,7 @@ pub use reg_pieces::{
     BadReads, Gate, Judgement, MAX_CUT, MAX_WORKERS, OpenGate, Order, Piece, Plan, Settings,
     Worked, plan, work,
 };
-pub use report::{FaultLines, RegReport, Report, Verdict};
+pub use reg_text::{FaultLines, Lines, RegReport, Registers, Report, Verdict, text};
 pub use report_values::check;
 pub use whole::run;
 pub use wording::message;

@@ -2,10 +2,10 @@
 ghost use Rattle.std.specs.Prelude.{◌≡◌, flat_map, IfOk};
 ghost use Rattle.reg_report.specs.Lines.{HaveCalls, HavePoints, call_line, point_line, lines_by};
 
-use crate::lists::Lines;
 use history_model::{EvId, Oper};
 use parallel::{OPERATIONS_PER_PART, map_parts};
 use reg_arena::Arena;
+use reg_text::Lines;
 use reg_zones::Placed;
 use std::alloc::{AllocError, Global};
 use std::thread::Threads;

@@ -2,13 +2,13 @@
 ghost use Rattle.std.specs.Prelude.{◌≡◌, true, IfOk};
 ghost use Rattle.reg_report.specs.ReportText.{IsReportText};
 
-use crate::bytes::text;
 use crate::findings::find;
 use crate::findings_text::whole_text;
 use crate::first::report_of_first;
 use crate::outcome::Outcome;
 use reg_arena::Arena;
 use reg_pieces::{Gate, Settings};
+use reg_text::text;
 use std::alloc::{AllocError, Global};
 use std::thread::Threads;
 

@@ -5,10 +5,10 @@ use Rattle.std.specs.Prelude.{if◌then◌else◌, Option, Some, None, Ok, Err}
 use Rattle.reg_report.specs.Answer.{IsAnswer, IsRefused}
 use Rattle.reg_intake.specs.Refusals.{is_of_input, number_of, line_of, other_of}
 use Rattle.reg_report.specs.Run.{IsOutcome}
-use Rattle.reg_report.specs.Text.{report_text}
+use Rattle.reg_text.specs.Text.{report_text}
 use Rattle.reg_report.specs.declared.outcome.Outcome.TheVariants.{Atomic, NotAtomic}
 use Rattle.reg_intake.specs.declared.refusal.Refusal.{Refusal}
-use Rattle.reg_report.specs.declared.report.Report.{Report}
+use Rattle.reg_text.specs.declared.report.Report.{Report}
 use Rattle.regcheck_c.specs.declared.answer.Answer.{Answer}
 
 -- the place with a text at its beginning, if there is room for all of it; else as it was

@@ -1,7 +1,7 @@
 //! What a call says of its input.
 ghost use Rattle.std.specs.Prelude.{◌≡◌, length as length_of};
 ghost use Rattle.regcheck_c.specs.Called.{answer_of_refusal, answer_of_report};
-ghost use Rattle.reg_report.specs.Text.{report_text};
+ghost use Rattle.reg_text.specs.Text.{report_text};
 
 use crate::status::{ATOMIC, NO_MEMORY, NOT_ATOMIC, REFUSED, TOO_SMALL};
 use reg_report::{Refusal, Report};

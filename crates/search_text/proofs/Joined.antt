@@ -1,18 +1,11 @@
--- The lines of one register more, and of two parts of a list of registers.
-use Rattle.std.proofs.Common.{◌≡◌, ℕ, zero, suc, ◌+◌, ◌<◌, List, [], ◌∷◌, ◌++◌, length, map, take}
-use Rattle.std.proofs.Common.{get_or, sym, ◌∙◌, ap, arith, append_assoc, append-nil, add-one}
+-- The lines of one register more.
+use Rattle.std.proofs.Common.{◌≡◌, ℕ, ◌+◌, ◌<◌, List, [], ◌∷◌, ◌++◌, length, take}
+use Rattle.std.proofs.Common.{get_or, sym, ◌∙◌, ap, add-one}
 use Rattle.serde_json.specs.Written.{compact_text}
-use Rattle.search_text.specs.Text.{line_text, register_json, registers_text}
+use Rattle.json_fields.specs.Fields.{line_text}
+use Rattle.json_fields.proofs.Lines.{concat_more}
+use Rattle.search_text.specs.Text.{register_json, registers_text}
 use Rattle.search_text.specs.declared.report.RegisterReport.{RegisterReport}
-use Rattle.std.specs.List.{concat}
-
-pub concat_more : {A : Type 0} (f : A → List ℕ) (xs : List A) (i : ℕ) (d : A) → i < length xs
-    → concat (map f (take (suc i) xs)) ≡ concat (map f (take i xs)) ++ f (get_or xs i d)
-concat_more f [] i d h = absurd (omega arith)
-concat_more f (x ∷ xs) zero d h = append-nil (f x)
-concat_more f (x ∷ xs) (suc i) d h =
-    ap (λ ys. f x ++ ys) (concat_more f xs i d (omega arith))
-    ∙ sym (append_assoc (f x) (concat (map f (take i xs))) (f (get_or xs i d)))
 
 pub one_line_more : (xs : List RegisterReport) (i : ℕ) (d : RegisterReport) (out new bytes line : List ℕ)
     → i < length xs → d ≡ get_or xs i d → out ≡ registers_text (take i xs) → bytes ≡ line

@@ -2,9 +2,9 @@
 -- one for the summary, keys in byte order.
 use Rattle.std.specs.Prelude.{ℕ, codes, List, [], ◌∷◌, ◌++◌, length, map, Option, Some, None}
 use Rattle.std.specs.List.{concat}
-use Rattle.serde_json.specs.Data.{Data, string, number, unsigned, array, object, Items}
-use Rattle.serde_json.specs.Data.{no_items, item, Members, no_members, member}
-use Rattle.serde_json.specs.Written.{compact_text}
+use Rattle.serde_json.specs.Data.{Data, string}
+use Rattle.json_fields.specs.Fields.{Field, always, shown, number_json, numbers_json}
+use Rattle.json_fields.specs.Fields.{object_json, line_text}
 use Rattle.configurations.specs.declared.bounds.Bound.{Bound}
 use Rattle.configurations.specs.declared.bounds.Bound.TheVariants.{Configurations, Steps}
 use Rattle.search_text.specs.declared.report.Outcome.{Outcome}
@@ -15,41 +15,6 @@ use Rattle.search_text.specs.declared.report.Fault.{Fault}
 use Rattle.search_text.specs.declared.report.Fault.TheVariants.{Unwritten, Search}
 use Rattle.search_text.specs.declared.report.RegisterReport.{RegisterReport}
 use Rattle.search_text.specs.declared.report.Report.{Report}
-
--- a key and its value
-abbrev pub Field : Type 0
-Field = List ℕ × Data
-
--- an object of fields, in this order; below they stand in byte order of their keys
-abbrev pub members_of : List Field → Members
-members_of [] = no_members
-members_of (f ∷ fs) = member f.0 f.1 (members_of fs)
-
-abbrev pub items_of : List Data → Items
-items_of [] = no_items
-items_of (d ∷ ds) = item d (items_of ds)
-
-abbrev pub number_json : ℕ → Data
-number_json n = number (unsigned n)
-
-abbrev pub numbers_json : List ℕ → Data
-numbers_json ns = array (items_of (map number_json ns))
-
--- a key that is always there, and one that is there with a value
-abbrev pub always : List ℕ → Data → List Field
-always key d = (key, d) ∷ []
-
-abbrev pub shown : {A : Type 0} → List ℕ → (A → Data) → Option A → List Field
-shown key json None = []
-shown key json (Some x) = always key (json x)
-
--- parts of an object, one after another
-abbrev pub fields_of : List (List Field) → List Field
-fields_of [] = []
-fields_of (p ∷ ps) = p ++ fields_of ps
-
-abbrev pub object_json : List (List Field) → Data
-object_json parts = object (members_of (fields_of parts))
 
 abbrev pub fault_parts : Fault → List (List Field)
 fault_parts (Unwritten call) =
@@ -119,10 +84,6 @@ summary_parts report =
 
 abbrev pub summary_json : Report → Data
 summary_json report = object_json (summary_parts report)
-
--- a value's compact text, and a line feed
-abbrev pub line_text : Data → List ℕ
-line_text d = compact_text d ++ 10 ∷ []
 
 -- the lines of some registers
 abbrev pub registers_text : List RegisterReport → List ℕ

@@ -4,7 +4,8 @@
 //! JSON for each register and one for the summary, keys in byte order. What a report has to say
 //! of a history is told by the floor above.
 //!
-//! Read it in this order: `report`, the values; `send`, what is sent to a serializer; `written`, the bytes.
+//! Read it in this order: `report`, the values; `send`, what is sent to a serializer, field by field as
+//! `json_fields` has it; `written`, the bytes.
 #![tactic(auto)]
 
 mod report;

@@ -1,50 +1,16 @@
 //! What the lines of a report send to a serializer.
 ghost use Rattle.std.specs.Prelude.{◌≡◌, length, OnOk};
-ghost use Rattle.serde_json.specs.Data.{string};
 ghost use Rattle.serde_json.specs.Events.{SendsValue};
-ghost use Rattle.search_text.specs.Text.{always, shown, number_json, numbers_json, bound_json};
-ghost use Rattle.search_text.specs.Text.{fault_parts, fields_of, object_json, outcome_json};
+ghost use Rattle.json_fields.specs.Fields.{always, shown, fields_of, numbers_json, object_json};
+ghost use Rattle.json_fields.specs.Sends.{SendsFields, SendsParts};
+ghost use Rattle.search_text.specs.Text.{bound_json, fault_parts, outcome_json};
 ghost use Rattle.search_text.specs.Text.{gave_up_parts, cas_field, pending_field, last_fields};
 ghost use Rattle.search_text.specs.Text.{register_json, register_parts, summary_json, summary_parts};
-ghost use Rattle.search_text.specs.Sends.{SendsFields, SendsParts};
 
 use crate::report::{Atomicity, Fault, Outcome, RegisterReport, Report};
 use cas_search::Bound;
+use json_fields::{send_number, send_numbers, send_text};
 use serde::{Described, Serialize, Serializer};
-
-fn send_text<S: Serializer>(out: &mut S, key: &str, text: &str) -> Result<(), S::Error>
-    ensures { OnOk result
-        (SendsFields (always key.now (string text.now)) (S.written out.old) (S.written out.new)) }
-{
-    out.key(key)?;
-    out.str(text)
-}
-
-fn send_number<S: Serializer>(out: &mut S, key: &str, n: u64) -> Result<(), S::Error>
-    ensures { OnOk result
-        (SendsFields (always key.now (number_json n)) (S.written out.old) (S.written out.new)) }
-{
-    out.key(key)?;
-    out.u64(n)
-}
-
-fn send_items<S: Serializer>(out: &mut S, numbers: &[u32]) -> Result<(), S::Error>
-    ensures { OnOk result (SendsValue (numbers_json numbers.now) (S.written out.old) (S.written out.new)) }
-{
-    out.begin_seq(Some(numbers.len()))?;
-    for n in numbers {
-        out.u64(u64::from(*n))?;
-    }
-    out.end_seq()
-}
-
-fn send_numbers<S: Serializer>(out: &mut S, key: &str, numbers: &[u32]) -> Result<(), S::Error>
-    ensures { OnOk result
-        (SendsFields (always key.now (numbers_json numbers.now)) (S.written out.old) (S.written out.new)) }
-{
-    out.key(key)?;
-    send_items(out, numbers)
-}
 
 fn show_numbers<S: Serializer>(
     out: &mut S,

@@ -1,10 +1,11 @@
 //! From a report to its bytes.
-ghost use Rattle.std.specs.Prelude.{◌≡◌, [], ◌∷◌, ◌++◌, IfOk, OnOk};
+ghost use Rattle.std.specs.Prelude.{◌≡◌, IfOk};
 ghost use Rattle.serde_json.specs.Written.{compact_text};
 ghost use Rattle.search_text.specs.Text.{register_json, registers_text, summary_json, report_text};
 
 use crate::report::{RegisterReport, Report};
 use crate::send::Summary;
+use json_fields::put_line;
 use std::alloc::{AllocError, Global};
 
 /// The line of a register, without a line feed.
@@ -25,15 +26,6 @@ fn summary_line(alloc: Global, report: &Report) -> Result<Vec<u8>, AllocError>
         Ok(line) => Ok(line),
         Err(_) => Err(AllocError),
     }
-}
-
-/// Puts a line and a line feed after the lines in `out`.
-fn put_line(out: &mut Vec<u8>, line: &[u8]) -> Result<(), AllocError>
-    ensures { OnOk result (out.new.items ≡ out.old.items ++ (line.now ++ 10 ∷ [])) }
-{
-    out.extend_from_slice(line)?;
-    out.push(b'\n')?;
-    Ok(())
 }
 
 /// The lines of some registers, one after another.

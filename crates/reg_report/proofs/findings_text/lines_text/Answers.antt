@@ -6,6 +6,5 @@ pub loop-finding-preserved : goal.loop-finding-preserved
 loop-finding-preserved c =
     let l = c.loop-finding in
     one-text-more c.args.arena.now c.args.findings.now l.finding-index c.finding-item.result c.in_ok-reg.reg
-    l.out.items c.put_line.new.out.items c.as_slice.result.now c.in_ok-register_line.field-0.items
-    (omega arith) c.finding-item.is l.invariant c.in_ok-reg.ensures c.as_slice.ensures.value
-    c.in_ok-register_line.ensures c.in_ok-put_line.ensures
+    l.out.items c.put_register_line.new.out.items (omega arith) c.finding-item.is l.invariant
+    c.in_ok-reg.ensures c.in_ok-put_register_line.ensures

@@ -1,11 +1,11 @@
 -- The lines, by whatever thread each was made, are those of the findings in order.
 use Rattle.std.proofs.Common.{refl}
+use Rattle.std.proofs.lemmas.Result.{IfOk-weaker}
 use Rattle.parallel.proofs.Callers.{all-given}
 use Rattle.reg_report.specs.Meaning.{IsRegisterReport}
 use Rattle.reg_report.specs.declared.findings.Finding.{Finding}
-use Rattle.reg_report.specs.declared.report.RegReport.{RegReport}
+use Rattle.reg_text.specs.declared.report.RegReport.{RegReport}
 use Rattle.reg_report.proofs.Found.{each-found, lines-of}
-use Rattle.reg_report.proofs.Results.{ok-then}
 use Rattle.reg_report.proofs.history.register_reports_in_parts.Goals as goal
 
 pub map_each-requires-after_bounds : goal.map_each-requires-after_bounds
@@ -17,7 +17,8 @@ pub returns : goal.returns
 returns g c =
     let h = c.args.arena.now in
     let findings = c.args.findings.now in
-    ok-then c.map_each.result _ _ c.map_each.ensures
+    IfOk-weaker c.map_each.result _ _
     (λ regs made. lines-of h findings regs.items c.requires
     (all-given _ _ (λ (finding : Finding) (reg : RegReport). IsRegisterReport h finding.register.0 reg)
     (λ finding reg is. is) findings regs.items made))
+    c.map_each.ensures

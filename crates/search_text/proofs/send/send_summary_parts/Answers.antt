@@ -1,7 +1,7 @@
 use Rattle.std.proofs.Common.{codes, refl, subst, ◌∙◌}
 use Rattle.std.proofs.lemmas.Result.{on_ok_weaker}
-use Rattle.search_text.specs.Text.{always, number_json}
-use Rattle.search_text.specs.Sends.{SendsFields}
+use Rattle.json_fields.specs.Fields.{always, number_json}
+use Rattle.json_fields.specs.Sends.{SendsFields}
 use Rattle.search_text.proofs.send.send_summary_parts.Goals as goal
 
 pub returns : goal.returns

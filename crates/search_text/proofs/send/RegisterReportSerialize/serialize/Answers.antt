@@ -1,6 +1,6 @@
 use Rattle.std.proofs.lemmas.Result.{on_ok_weaker}
 use Rattle.search_text.specs.Text.{register_parts}
-use Rattle.search_text.proofs.Fields.{sends_object}
+use Rattle.json_fields.proofs.Fields.{sends_object}
 use Rattle.search_text.proofs.send.RegisterReportSerialize.serialize.Goals as goal
 
 pub returns : goal.returns

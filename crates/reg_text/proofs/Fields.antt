@@ -1,0 +1,149 @@
+-- How many fields the lines of a report have, and that none of their values is a float.
+use Rattle.std.proofs.Common.{◌≡◌, ℕ, ◌+◌, List, [], ◌∷◌, length, Bool, true, false, Option}
+use Rattle.std.proofs.Common.{Some, None, refl, ◌∙◌, ap, arith, length-append, codes}
+use Rattle.std.specs.Prelude.{is_some, if◌then◌else◌}
+use Rattle.serde_json.specs.Data.{Data, string}
+use Rattle.serde_json.specs.Written.{has_float}
+use Rattle.json_fields.specs.Fields.{Field, fields_of, number_json, numbers_json, shown}
+use Rattle.json_fields.proofs.Fields.{plain_always, plain_numbers, plain_parts, plain_shown}
+use Rattle.reg_text.specs.Text.{pair_json, yes_or_no, verdict_json, fault_json}
+use Rattle.reg_text.specs.Text.{register_parts, register_json, summary_parts, summary_json}
+use Rattle.reg_text.specs.declared.report.Verdict.{Verdict}
+use Rattle.reg_text.specs.declared.report.Verdict.TheVariants.{Yes, No, SeveralWriters}
+use Rattle.reg_text.specs.declared.report.FaultLines.{FaultLines}
+use Rattle.reg_text.specs.declared.report.FaultLines.TheVariants.{Unwritten, Early, Zones}
+use Rattle.reg_text.specs.declared.report.RegReport.{RegReport}
+use Rattle.reg_text.specs.declared.report.Report.{Report}
+
+-- ---- how many fields there are
+
+pub parts_len : List (List Field) → ℕ
+parts_len [] = 0
+parts_len (p ∷ ps) = length p + parts_len ps
+
+length-fields_of : (ps : List (List Field)) → length (fields_of ps) ≡ parts_len ps
+unfolding parts_len
+length-fields_of [] = refl
+length-fields_of (p ∷ ps) = length-append p (fields_of ps) ∙ ap (λ n. length p + n) (length-fields_of ps)
+
+shown_len : {A : Type 0} (key : List ℕ) (json : A → Data) (o : Option A)
+    → length (shown key json o) ≡ (if is_some o then 1 else 0)
+shown_len key json None = refl
+shown_len key json (Some x) = refl
+
+abbrev pub one_when : Bool → ℕ
+one_when b = if b then 1 else 0
+
+pub one_of : {A : Type 0} (o : Option A) (b : Bool) (n : ℕ) → b ≡ is_some o → n ≡ one_when b
+    → n ≡ one_when (is_some o)
+one_of o b n e h = h ∙ ap one_when e
+
+pub register_parts_len : (reg : RegReport)
+    → length (fields_of (register_parts reg)) ≡ 7 + (if is_some reg.fault then 1
+    else 0) + (if is_some reg.inversion then 1 else 0) + (if is_some reg.order then 1
+    else 0) + (if is_some reg.points then 1 else 0) + (if is_some reg.regular_read then 1
+    else 0) + (if is_some reg.safe_read then 1 else 0)
+unfolding parts_len
+register_parts_len reg =
+    let whole = length-fields_of (register_parts reg) in
+    let a = shown_len (codes "fault") fault_json reg.fault in
+    let b = shown_len (codes "inversion") pair_json reg.inversion in
+    let c = shown_len (codes "order") numbers_json reg.order in
+    let d = shown_len (codes "points") numbers_json reg.points in
+    let e = shown_len (codes "regular_read") number_json reg.regular_read in
+    let f = shown_len (codes "safe_read") number_json reg.safe_read in
+    omega arith
+
+pub register_count : (reg : RegReport) (a b c d e f : ℕ) → a ≡ one_when (is_some reg.fault)
+    → b ≡ one_when (is_some reg.inversion) → c ≡ one_when (is_some reg.order)
+    → d ≡ one_when (is_some reg.points) → e ≡ one_when (is_some reg.regular_read)
+    → f ≡ one_when (is_some reg.safe_read)
+    → 7 + a + b + c + d + e + f ≡ length (fields_of (register_parts reg))
+register_count reg a b c d e f ha hb hc hd he hf = let whole = register_parts_len reg in omega arith
+
+pub summary_count : (report : Report) (a : ℕ) → a ≡ one_when (is_some report.order)
+    → 3 + a ≡ length (fields_of (summary_parts report))
+unfolding parts_len
+summary_count report a h =
+    let whole = length-fields_of (summary_parts report) in
+    let b = shown_len (codes "order") numbers_json report.order in
+    omega arith
+
+-- ---- no floats
+
+plain_pair : (p : ℕ × ℕ) → has_float (pair_json p) ≡ false
+plain_pair p = plain_numbers (p.0 ∷ p.1 ∷ [])
+
+plain_number : (n : ℕ) → has_float (number_json n) ≡ false
+plain_number n = refl
+
+plain_yes : (b : Bool) → has_float (yes_or_no b) ≡ false
+plain_yes true = refl
+plain_yes false = refl
+
+plain_verdict : (v : Verdict) → has_float (verdict_json v) ≡ false
+plain_verdict Yes = refl
+plain_verdict No = refl
+plain_verdict SeveralWriters = refl
+
+plain_fault : (f : FaultLines) → has_float (fault_json f) ≡ false
+plain_fault (Unwritten r) = refl
+plain_fault (Early r w) = refl
+plain_fault (Zones w f s) = refl
+
+pub register_has_no_float : (reg : RegReport) → has_float (register_json reg) ≡ false
+register_has_no_float reg = plain_parts (register_parts reg) (
+  plain_always (codes "atomic") (yes_or_no reg.atomic) (plain_yes reg.atomic),
+  (
+    plain_shown (codes "fault") fault_json reg.fault plain_fault,
+    (
+      plain_shown (codes "inversion") pair_json reg.inversion plain_pair,
+      (
+        plain_shown (codes "order") numbers_json reg.order plain_numbers,
+        (
+          plain_always (codes "pending") (number_json reg.pending) refl,
+          (
+            plain_shown (codes "points") numbers_json reg.points plain_numbers,
+            (
+              plain_always (codes "reads") (number_json reg.reads) refl,
+              (
+                plain_always (codes "register") (string reg.register) refl,
+                (
+                  plain_always (codes "regular") (verdict_json reg.regular) (plain_verdict reg.regular),
+                  (
+                    plain_shown (codes "regular_read") number_json reg.regular_read plain_number,
+                    (
+                      plain_always (codes "safe") (verdict_json reg.safe) (plain_verdict reg.safe),
+                      (
+                        plain_shown (codes "safe_read") number_json reg.safe_read plain_number,
+                        (
+                          plain_always (codes "writes") (number_json reg.writes) refl,
+                          tt,
+                        ),
+                      ),
+                    ),
+                  ),
+                ),
+              ),
+            ),
+          ),
+        ),
+      ),
+    ),
+  ),
+)
+
+pub summary_has_no_float : (report : Report) → has_float (summary_json report) ≡ false
+summary_has_no_float report = plain_parts (summary_parts report) (
+  plain_always (codes "atomic") (yes_or_no report.atomic) (plain_yes report.atomic),
+  (
+    plain_always (codes "operations") (number_json report.operations) refl,
+    (
+      plain_shown (codes "order") numbers_json report.order plain_numbers,
+      (
+        plain_always (codes "registers") (number_json report.registers) refl,
+        tt,
+      ),
+    ),
+  ),
+)

@@ -1,0 +1,3 @@
+mod Fields
+pub mod Joined
+mod SummaryText
