@@ -8,9 +8,9 @@
 //! changes no answer.
 //!
 //! Read it in this order: `hash_key` and `hasher`, which make the hashes; `options`, `packing` and `rows`,
-//! which keep the events; `tables`, `ascent` and `pairs`, which number the pairs of a register and a value; `list_ends`
-//! and `processes`, the ends of the lists; `joins`, by which an event joins a list; `lists`, which holds all;
-//! and `entries` and `walks`, which answer.
+//! which keep the events; `tables`, `ascent` and `pairs`, which number the pairs of a register and a value;
+//! `list_ends` and `processes`, the ends of the lists; `joins`, by which an event joins a list; `lists`,
+//! which holds all; and `entries` and `walks`, which answer.
 #![tactic(auto)]
 
 mod ascent;

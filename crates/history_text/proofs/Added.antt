@@ -8,7 +8,7 @@ use Rattle.json.specs.Lex.{token, colon, lex, between}
 use Rattle.json.proofs.Printed.Utf8.{are_ascii}
 use Rattle.serde_json.specs.Data.{Data, string, Members, put}
 use Rattle.serde_json.proofs.Views.{get_member-put, get_member-put_other}
-use Rattle.history_text.specs.declared.flat_members.Found.{Found}
+use Rattle.history_text.specs.declared.flat_members.FlatMembers.{FlatMembers}
 use Rattle.history_text.specs.declared.event.Val.{Val}
 use Rattle.history_text.specs.declared.event.OpKind.{OpKind}
 use Rattle.history_text.specs.declared.event.EventWord.{EventWord}
@@ -24,7 +24,7 @@ differ x y xs ys h e = h (ap (λ l. get_or l 0 0) e)
 ok_or_op : codes "ok" ≡ codes "op" → ⊥
 ok_or_op e = differ _ _ _ _ (λ e. omega arith) (ap (λ l. drop 1 l) e)
 
-module _ (f : Found) (ms : Members) (h : Holds ms f) where
+module _ (f : FlatMembers) (ms : Members) (h : Holds ms f) where
   put_process : (p : ℕ) → p ≤ MAX_PROCESS → Holds (put (codes "process") (whole_data p) ms) (record {
     process = Some p;
     event = f.event;
@@ -173,7 +173,7 @@ keyed k name text rest lexed ascii named = (
   λ u. subst IsUtf8 (sym named.begins) (ascii_front name named.behind ascii (named.gap.utf8 u)),
 )
 
-adds_member : (k : List ℕ) (d : Data) (old new : Found) (text mid rest : List ℕ) → IsKeyed k text mid
+adds_member : (k : List ℕ) (d : Data) (old new : FlatMembers) (text mid rest : List ℕ) → IsKeyed k text mid
     → Scalar mid d rest
     → ((ms : Members) → Holds ms old → Holds (put k d ms) new) → Adds text old new rest
 adds_member k d old new text mid rest front scalar put_holds ended =
@@ -187,7 +187,7 @@ adds_member k d old new text mid rest front scalar put_holds ended =
       put_holds,
     )
 
-module _ (f : Found) (text mid rest : List ℕ) where
+module _ (f : FlatMembers) (text mid rest : List ℕ) where
   pub adds_process : (p : ℕ) → p ≤ MAX_PROCESS → Named (codes "\"process\":") text mid
       → Scalar mid (whole_data p) rest
       → Adds text f (record {

@@ -12,7 +12,7 @@ ghost use Rattle.history_text.specs.Reading.{call_kind, parts_form, kind_of, lin
 ghost use Rattle.history_text.specs.Flat.{Holds};
 
 use crate::event::{EventWord, Kind, LineEvent, OpKind, ReplyParts, Val};
-use crate::flat_members::{Found, flat_object};
+use crate::flat_members::{FlatMembers, flat_object};
 use crate::limits::MAX_NAME;
 use crate::name::Name;
 use crate::optional_name::OptionalName;
@@ -48,7 +48,7 @@ pub fn flat_event(alloc: Global, bytes: &[u8], line: u32) -> Result<Option<LineE
 
 /// What happened, as the word of the event says it.
 #[inline(always)]
-fn kind(alloc: Global, found: Found<'_>, event: EventWord) -> Result<Option<Kind>, AllocError>
+fn kind(alloc: Global, found: FlatMembers<'_>, event: EventWord) -> Result<Option<Kind>, AllocError>
     ensures { IfOk result (λ o. IfSome o (λ kind. (ms : Members) → Holds ms found.entry
         → kind_of (object ms) event ≡ Ok kind)) }
 {
@@ -61,7 +61,7 @@ fn kind(alloc: Global, found: Found<'_>, event: EventWord) -> Result<Option<Kind
 }
 
 /// The call of an operation on a register.
-fn call(alloc: Global, found: Found<'_>) -> Result<Option<Kind>, AllocError>
+fn call(alloc: Global, found: FlatMembers<'_>) -> Result<Option<Kind>, AllocError>
     ensures { IfOk result (λ o. IfSome o (λ kind. (ms : Members) → Holds ms found.entry
         → call_kind (object ms) ≡ Ok kind)) }
 {
@@ -91,7 +91,7 @@ fn call(alloc: Global, found: Found<'_>) -> Result<Option<Kind>, AllocError>
 }
 
 /// What a reply or a fail says of its call.
-fn parts(alloc: Global, found: Found<'_>) -> Result<Option<ReplyParts>, AllocError>
+fn parts(alloc: Global, found: FlatMembers<'_>) -> Result<Option<ReplyParts>, AllocError>
     ensures { IfOk result (λ o. IfSome o (λ parts. (ms : Members) → Holds ms found.entry
         → parts_form (object ms) ≡ Ok parts)) }
 {

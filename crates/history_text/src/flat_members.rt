@@ -18,7 +18,7 @@ use crate::scan::{after, next_byte, plain_string, signed, skip_spaces, unsigned}
 
 /// What was found of the members, each as it is read. What is absent is `None`.
 #[derive(Clone, Copy, Drop)]
-pub(crate) struct Found<'a> {
+pub(crate) struct FlatMembers<'a> {
     pub(crate) process: Option<u32>,
     pub(crate) event: Option<EventWord>,
     pub(crate) op: Option<OpKind>,
@@ -26,7 +26,7 @@ pub(crate) struct Found<'a> {
     pub(crate) value: Option<Val>,
 }
 
-const NOTHING: Found<'static> = Found {
+const NOTHING: FlatMembers<'static> = FlatMembers {
     process: None,
     event: None,
     op: None,
@@ -136,7 +136,7 @@ fn passed(text: &[u8]) -> Option<&[u8]>
 
 /// One more member; it replaces an earlier one of the same name.
 #[inline(always)]
-fn member<'a>(text: &'a [u8], found: Found<'a>) -> Option<(Found<'a>, &'a [u8])>
+fn member<'a>(text: &'a [u8], found: FlatMembers<'a>) -> Option<(FlatMembers<'a>, &'a [u8])>
     ensures { IfSome result (λ r. Adds text.now found.entry r.0 r.1.now) }
 {
     let mut found = found;
@@ -171,7 +171,7 @@ fn member<'a>(text: &'a [u8], found: Found<'a>) -> Option<(Found<'a>, &'a [u8])>
 
 /// The members, if the text is one flat object with nothing but spaces around it.
 #[inline(always)]
-pub(crate) fn flat_object(text: &[u8]) -> Option<Found<'_>>
+pub(crate) fn flat_object(text: &[u8]) -> Option<FlatMembers<'_>>
     ensures { IfSome result (λ found. IsFlat text.now found) }
 {
     let mut rest = skip_spaces(after(skip_spaces(text), b"{")?);

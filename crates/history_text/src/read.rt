@@ -36,8 +36,8 @@ pub fn read_lines(
     Ok(lines)
 }
 
-/// How many of `count` lines go into one list. The threads get equally many lists, all of about the same
-/// length, and so end at about the same time.
+/// How many of `count` lines go into one list. The lists are of about the same length, and the threads get
+/// about equally many of them.
 fn list_size(rt: &impl Threads, count: usize) -> usize {
     let share = share_size(rt, count, FEWEST_LINES);
     share / (share / LINES_PER_LIST + 1) + 1
@@ -46,7 +46,7 @@ fn list_size(rt: &impl Threads, count: usize) -> usize {
 /// What the lines at these spans of the bytes say, in order. They come in parts, as the threads read them,
 /// since joining them would copy each line.
 ///
-/// Several threads read many lines, as many threads as leave one processor free.
+/// Several threads read many lines.
 ///
 /// # Errors
 /// Out of memory; nothing is kept.

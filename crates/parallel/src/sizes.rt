@@ -26,8 +26,8 @@ pub const NUMBERS_PER_PART: usize = 16_384;
 /// enough to cost little beside the lines.
 pub const REGISTER_PARTS: usize = 64;
 
-/// Whether this is the only thread: there is one processor, or it isn't known how many there are.
-pub fn is_alone(rt: &impl Threads) -> bool {
+/// Whether there is one processor for this process, or it isn't known how many there are.
+pub fn has_one_processor(rt: &impl Threads) -> bool {
     current_num_threads(rt) == 1
 }
 

@@ -15,8 +15,8 @@ use Rattle.reg_intake.specs.declared.refusal.Refusal.TheVariants.{At, TooLong, I
 use Rattle.reg_intake.specs.declared.refusal.Refusal.TheVariants.{NoRoom, OutputFailed}
 
 -- if more bytes than the limit were pulled, more than the limit were left
-pub too-long : (left now : Option (List ℕ)) (bytes : List ℕ) → Consumes left now bytes → MAX_INPUT < length bytes
-    → IsTooLong left
+pub too-long : (left now : Option (List ℕ)) (bytes : List ℕ) → Consumes left now bytes
+    → MAX_INPUT < length bytes → IsTooLong left
 too-long None now bytes gave more = (bytes, tt, more)
 too-long (Some xs) None bytes gave more = absurd gave
 too-long (Some xs) (Some ys) bytes gave more =

@@ -13,7 +13,7 @@ use crate::refusal::Refusal;
 use crate::underway::Underway;
 use byte_ends::Source;
 use history_text::MAX_EVENTS;
-use parallel::is_alone;
+use parallel::has_one_processor;
 use reg_arena::{Arena, HashKey};
 use std::alloc::Global;
 use std::collections::VecDeque;
@@ -55,11 +55,11 @@ fn read_arena<T: Threads + RandomSource + Sync, S: Source>(
         (IsStopped (S.left source.old) (S.left source.new) (S.failed source.old)
         (S.failed source.new) intake.new.pulled) }
 {
-    let is_alone = is_alone(rt);
-    intake.fill(source, first_block_size(rt, is_alone))?;
+    let has_one_processor = has_one_processor(rt);
+    intake.fill(source, first_block_size(rt, has_one_processor))?;
     let key = HashKey::drawn(rt, intake.held());
     let arena = Arena::empty(alloc, key, room_for(intake))?;
-    let mut reader = Reader::new(alloc, is_alone, key);
+    let mut reader = Reader::new(alloc, has_one_processor, key);
     let ahead = VecDeque::from_vec(reader.read_and_number(rt, intake)?);
     let mut underway = Underway { arena, ahead };
     while !intake.is_ended() || !reader.unnumbered.is_empty() {

@@ -20,10 +20,10 @@ const SMALL_BLOCK: usize = 262_144;
 
 /// How many bytes a block has, by whether there is one processor alone and how many bytes are held. If a line
 /// is longer than a block, the rest of it comes in larger ones, since all of it is looked through each time.
-pub(crate) fn block_size(is_alone: bool, held: usize) -> usize
+pub(crate) fn block_size(has_one_processor: bool, held: usize) -> usize
     ensures { (0 < result) × (result ≤ LONG_BLOCK) }
 {
-    if is_alone && held < SMALL_BLOCK {
+    if has_one_processor && held < SMALL_BLOCK {
         SMALL_BLOCK
     } else if held < BLOCK {
         BLOCK
@@ -34,9 +34,9 @@ pub(crate) fn block_size(is_alone: bool, held: usize) -> usize
 
 /// How many bytes are held before the first lines are read. If the system gives no random bytes, that is all
 /// of them: the key of the hashes is a digest of them then.
-pub(crate) fn first_block_size<T: RandomSource>(rt: &T, is_alone: bool) -> usize {
+pub(crate) fn first_block_size<T: RandomSource>(rt: &T, has_one_processor: bool) -> usize {
     match rt.fill_bytes(&mut [0]) {
-        Ok(()) => block_size(is_alone, 0),
+        Ok(()) => block_size(has_one_processor, 0),
         Err(_) => MAX_INPUT,
     }
 }

@@ -17,7 +17,7 @@ use std::thread::Threads;
 pub(crate) struct Reader {
     pub(crate) alloc: Global,
     /// Whether there is one processor alone, so that a thread more would gain nothing.
-    pub(crate) is_alone: bool,
+    pub(crate) has_one_processor: bool,
     /// The numbers of the registers so far.
     numbering: Numbering,
     /// The lines that were read last, in parts. They have no numbers yet.
@@ -29,13 +29,13 @@ pub(crate) struct Reader {
 
 impl Reader {
     /// Nothing is read, and no register has a number. The key is that of the names' hashes.
-    pub(crate) fn new(alloc: Global, is_alone: bool, key: HashKey) -> Self
+    pub(crate) fn new(alloc: Global, has_one_processor: bool, key: HashKey) -> Self
         ensures none { result.unnumbered.items ≡ [] }
         ensures names { result.numbering ≡ [] }
     {
         Reader {
             alloc,
-            is_alone,
+            has_one_processor,
             numbering: Numbering::new(alloc, key),
             unnumbered: Vec::new(alloc),
             spent: VecDeque::new(alloc),
@@ -88,7 +88,7 @@ impl Reader {
         ensures none { IfOk result (λ _. intake.old.held ≡ [] → self.new.unnumbered.items ≡ []) }
         ensures pulled { intake.new.pulled ≡ intake.old.pulled }
     {
-        if self.is_alone || intake.held().is_empty() {
+        if self.has_one_processor || intake.held().is_empty() {
             return self.read_and_number(rt, intake);
         }
         let alloc = self.alloc;

@@ -87,7 +87,7 @@ fn read_and_take_in<T: Threads + Sync>(
     let alloc = reader.alloc;
     let is_read = AtomicBool::new(false);
     let mut arena = Some(arena);
-    if reader.is_alone {
+    if reader.has_one_processor {
         let grown = take_in(alloc, &mut arena, parts, &is_read);
         return (reader.read_on(rt, intake), grown);
     }
@@ -154,7 +154,7 @@ impl Underway {
             → IsStopped left (S.left source.new) failed (S.failed source.new) intake.new.pulled refusal) }
     {
         let held = intake.held().len();
-        let enough = held + block_size(reader.is_alone, held);
+        let enough = held + block_size(reader.has_one_processor, held);
         intake.fill(source, enough)?;
         let Underway { arena, mut ahead } = self;
         let (numbered, grown) = read_and_take_in(

@@ -8,7 +8,7 @@ use Rattle.reg_report.specs.Meaning.{IsRegisterReport}
 use Rattle.reg_report.specs.Registers.{AreLines}
 use Rattle.reg_text.specs.Text.{registers_text, report_text}
 use Rattle.reg_report.specs.declared.findings.Finding.{Finding}
-use Rattle.reg_report.specs.declared.report_text.ReportText.{ReportText}
+use Rattle.reg_report.specs.declared.findings_text.ReportText.{ReportText}
 use Rattle.reg_text.specs.declared.report.RegReport.{RegReport}
 use Rattle.reg_text.specs.declared.report.Report.{Report}
 

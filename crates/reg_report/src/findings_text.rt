@@ -12,12 +12,18 @@ use crate::findings::Finding;
 use crate::history::whole_order_in_parts;
 use crate::outcome::Outcome;
 use crate::register::register_report;
-use crate::report_text::ReportText;
 use parallel::{REGISTER_PARTS, both, map_parts, share_size};
 use reg_arena::Arena;
 use reg_text::{Lines, Registers, Report, put_register_line, summary_in_parts};
 use std::alloc::{AllocError, Global};
 use std::thread::Threads;
+
+/// The bytes of a report in parts, in order, and what it says of the whole history.
+#[derive(Drop)]
+pub(crate) struct ReportText {
+    pub(crate) parts: Vec<Vec<u8>>,
+    pub(crate) outcome: Outcome,
+}
 
 /// The lines of some registers, one after another, each written before the next is made.
 fn lines_text(alloc: Global, arena: &Arena, findings: &[Finding]) -> Result<Vec<u8>, AllocError>
@@ -92,7 +98,7 @@ fn order_and_lines<T: Threads + Sync>(
     Ok((order?, lines?))
 }
 
-/// The last line of a report and its line feed in parts, made while another thread drops what
+/// The last line of a report and its line feed in parts. A new thread makes them, while this one drops what
 /// the report came from, which takes a while.
 fn summary_beside_drop<T: Threads + Sync>(
     rt: &T,

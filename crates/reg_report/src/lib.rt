@@ -10,16 +10,11 @@
 //! [`laws`] says why the whole history is atomic exactly if each of its registers is, and that a history has
 //! one report.
 //!
-//! To read, from the arena on, which `reg_intake` makes: `report_text`, which has the report made as
-//! bytes, as `report_values` does as values, from a slice as a source (`slice`), and `alone` without
-//! threads; below them `findings`, which has `reg_pieces` do the work and `tally` count the calls, and
-//! puts together what was found of each register, with `levels`, and `lone_thread`, where one thread does
-//! all; `findings_text`, which has each register's line written as soon as it is made, or `history`, which
-//! makes the report's values. If the first register that isn't atomic is all that is asked for, `first` has
-//! `reg_pieces` look for it. `register` makes the line of one register, with `fault_lines` and `order_lines`,
-//! and `merged_order` the order of all, with `by_point`; `merged_lines` finds that order's lines by several
-//! threads. Then come `outcome` and `whole`. `wording` says why there is no report, and `arena_laws` which
-//! laws the arena's history obeys.
+//! Read it in this order: `arena_laws`; `fault_lines` and `order_lines`; `by_point`, `merged_order` and
+//! `merged_lines`, the order of all registers; `levels` and `tally`; `findings`, what is found of each
+//! register, and `lone_thread`, the same without threads; `register`, the line of one; `history`, the values
+//! of a report; `outcome` and `findings_text`, its bytes; `first`, the first register that isn't atomic;
+//! `report_text`; `slice` and `report_values`; `alone`; `whole`; `wording`.
 #![tactic(auto)]
 
 mod alone;

@@ -3,7 +3,7 @@ ghost use Rattle.std.specs.Prelude.{◌≡◌, true, IfOk};
 ghost use Rattle.reg_report.specs.ReportText.{IsReportText};
 
 use crate::findings::find;
-use crate::findings_text::whole_text;
+use crate::findings_text::{ReportText, whole_text};
 use crate::first::report_of_first;
 use crate::outcome::Outcome;
 use reg_arena::Arena;
@@ -11,13 +11,6 @@ use reg_pieces::{Gate, Settings};
 use reg_text::text;
 use std::alloc::{AllocError, Global};
 use std::thread::Threads;
-
-/// The bytes of a report in parts, in order, and what it says of the whole history.
-#[derive(Drop)]
-pub(crate) struct ReportText {
-    pub(crate) parts: Vec<Vec<u8>>,
-    pub(crate) outcome: Outcome,
-}
 
 /// The text of the report of the first register that isn't atomic.
 fn text_of_first<T: Threads + Sync, G: Gate + Sync>(

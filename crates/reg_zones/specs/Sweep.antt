@@ -19,7 +19,7 @@ use Rattle.reg_zones.specs.declared.zone.Zone.{Zone}
 use Rattle.reg_zones.specs.declared.zone.Cluster.{Cluster}
 use Rattle.reg_zones.specs.declared.pass.Compared.{Compared}
 use Rattle.reg_zones.specs.declared.pass.Compared.TheVariants.{Clear, Conflict}
-use Rattle.reg_zones.specs.declared.pass.Found.{Found}
+use Rattle.reg_zones.specs.declared.pass.LaterFaults.{LaterFaults}
 use Rattle.reg_zones.specs.declared.reads.Read.{Read}
 use Rattle.reg_zones.specs.declared.register.Met.{Met}
 use Rattle.reg_zones.specs.declared.register.Met.TheVariants.{Call, Reply, Nothing}
@@ -172,7 +172,7 @@ IsConflictFound ops None = (v w : Operation) → IsConflict ops v w → ⊥
 IsConflictFound ops (Some pair) = AreFirstConflict ops pair.0 pair.1
 
 -- what is found of a register in which each completed read has its write
-pub record IsFound (ops : List Operation) (found : Found) : Type 0 where
+pub record AreLaterFaults (ops : List Operation) (found : LaterFaults) : Type 0 where
   pub written : AreWritten ops
   pub early : IsEarlyFound ops found.early
   pub conflict : IsConflictFound ops found.conflict

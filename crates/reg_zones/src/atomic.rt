@@ -4,10 +4,10 @@ ghost use Rattle.history_model.specs.Operations.{of_register, operations};
 ghost use Rattle.history_model.specs.Legal.{IsAtomic};
 ghost use Rattle.reg_zones.specs.Faults.{HasNoFault, IsFault};
 ghost use Rattle.reg_zones.specs.Register.{operations_of};
-ghost use Rattle.reg_zones.specs.Sweep.{IsFound};
+ghost use Rattle.reg_zones.specs.Sweep.{AreLaterFaults};
 
 use crate::fault::{Fault, conflict_of};
-use crate::pass::{Found, pass};
+use crate::pass::{LaterFaults, pass};
 use crate::register::Register;
 use history_model::RegId;
 use reg_arena::Arena;
@@ -28,8 +28,8 @@ pub fn sweep(arena: &Arena, register: RegId) -> Result<(), Fault>
 }
 
 /// The fault that was found, an early read before a conflict, or that there is none.
-pub(crate) fn verdict(register: Register<'_>, found: Found) -> Result<(), Fault>
-    requires { IsFound (operations_of register) found }
+pub(crate) fn verdict(register: Register<'_>, found: LaterFaults) -> Result<(), Fault>
+    requires { AreLaterFaults (operations_of register) found }
     ensures ok { IfOk result (λ _. HasNoFault (operations_of register.entry)) }
     ensures err { IfErr result (λ fault. IsFault (operations_of register.entry) fault) }
 {

@@ -4,7 +4,7 @@ ghost use Rattle.std.specs.Prelude.{◌≡◌, ◌+◌, IfOk, IfErr};
 ghost use Rattle.history_model.specs.Operations.{initial_write};
 ghost use Rattle.reg_zones.specs.Faults.{IsFault};
 ghost use Rattle.reg_zones.specs.Register.{operations_of};
-ghost use Rattle.reg_zones.specs.Sweep.{AreCompared, IsConflictWith, IsClusterOf, IsFound};
+ghost use Rattle.reg_zones.specs.Sweep.{AreCompared, IsConflictWith, IsClusterOf, AreLaterFaults};
 ghost use Rattle.reg_zones.specs.Sweep.{IsLowEndAt, AreClear, IsMetAt, conflict_in};
 
 use crate::ahead::Ahead;
@@ -36,9 +36,9 @@ impl Compared {
     }
 }
 
-/// What the pass found, if each completed read has its write.
+/// The faults that count if each completed read has its write, as the pass found them.
 #[derive(Clone, Copy, Debug, PartialEq, Eq)]
-pub(crate) struct Found {
+pub(crate) struct LaterFaults {
     /// Of the reads that precede their write, the one called first, with that write.
     pub(crate) early: Option<(Oper, Oper)>,
     /// The first two clusters that conflict, by the second's low end.
@@ -50,8 +50,8 @@ pub(crate) struct Found {
 /// At each event that is the low end of a cluster, that cluster's zone is compared with the last forward zone
 /// met, and with no other, until two conflict. Of the first two that conflict, the one with the earlier low
 /// end is forward, and no forward zone comes between them.
-pub(crate) fn pass(register: Register<'_>) -> Result<Found, Fault>
-    ensures ok { IfOk result (λ found. IsFound (operations_of register.entry) found) }
+pub(crate) fn pass(register: Register<'_>) -> Result<LaterFaults, Fault>
+    ensures ok { IfOk result (λ found. AreLaterFaults (operations_of register.entry) found) }
     ensures err { IfErr result (λ fault. IsFault (operations_of register.entry) fault) }
 {
     let mut early = None;
@@ -67,7 +67,7 @@ pub(crate) fn pass(register: Register<'_>) -> Result<Found, Fault>
         ahead = further;
     }
     let conflict = clusters.conflict();
-    Ok(Found { early, conflict })
+    Ok(LaterFaults { early, conflict })
 }
 
 /// The cluster of the initial write, if its zone is forward: the last forward cluster before all events.

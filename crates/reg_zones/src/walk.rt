@@ -7,12 +7,12 @@ ghost use Rattle.history_model.specs.Walking.{IsOnWalk};
 ghost use Rattle.reg_zones.specs.Entries.{IsListing};
 ghost use Rattle.reg_zones.specs.Faults.{IsFault};
 ghost use Rattle.reg_zones.specs.Register.{operations_of};
-ghost use Rattle.reg_zones.specs.Sweep.{IsFound};
+ghost use Rattle.reg_zones.specs.Sweep.{AreLaterFaults};
 
 use crate::ahead::Ahead;
 use crate::entry::{Entry, initial_entry, listed_at};
 use crate::fault::Fault;
-use crate::pass::{Compared, Found, compare_at, initial_cluster, initial_forward};
+use crate::pass::{Compared, LaterFaults, compare_at, initial_cluster, initial_forward};
 use crate::reads::early_at;
 use crate::register::Register;
 use history_model::EvId;
@@ -68,9 +68,9 @@ fn next_left(
 pub(crate) fn found_and_listed(
     alloc: Global,
     register: Register<'_>,
-) -> Result<Result<(Found, Vec<Entry>), Fault>, AllocError>
+) -> Result<Result<(LaterFaults, Vec<Entry>), Fault>, AllocError>
     ensures { IfOk result (λ walked. MatchResult walked
-        (λ both. IsFound (operations_of register.entry) both.0
+        (λ both. AreLaterFaults (operations_of register.entry) both.0
         × IsListing (operations_of register.entry) both.1.items)
         (λ fault. IsFault (operations_of register.entry) fault)) }
 {
@@ -97,5 +97,5 @@ pub(crate) fn found_and_listed(
         ahead = further;
     }
     let conflict = clusters.conflict();
-    Ok(Ok((Found { early, conflict }, entries)))
+    Ok(Ok((LaterFaults { early, conflict }, entries)))
 }

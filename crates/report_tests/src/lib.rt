@@ -5,7 +5,7 @@
 //!
 //! Read it in this order: `rows`, some histories with their answers; `answer`, which runs them; `messages`,
 //! what is said of lines of other numbers; `failing_ends`, where little comes at a time or something fails;
-//! `workers`, where several work at once.
+//! `values`, what a caller in code gets; `workers`, where several work at once.
 #![tactic(auto)]
 
 #[cfg(test)]
@@ -16,5 +16,7 @@ mod failing_ends;
 mod messages;
 #[cfg(test)]
 mod rows;
+#[cfg(test)]
+mod values;
 #[cfg(test)]
 mod workers;

@@ -6,7 +6,7 @@ use Rattle.serde_json.specs.Find.{get_member}
 use Rattle.history_text.specs.declared.event.Kind.{Kind}
 use Rattle.history_text.specs.declared.event.EventWord.{EventWord}
 use Rattle.history_text.specs.declared.event.EventWord.TheVariants as word
-use Rattle.history_text.specs.declared.flat_members.Found.{Found}
+use Rattle.history_text.specs.declared.flat_members.FlatMembers.{FlatMembers}
 use Rattle.history_text.specs.Flat.{Holds, IsFlat, whole_data, event_data}
 use Rattle.history_text.specs.Limits.{MAX_LINE, MAX_PROCESS}
 use Rattle.history_text.specs.Members.{event_form}
@@ -20,7 +20,7 @@ event_word word.Reply = refl
 event_word word.Fail = refl
 event_word word.Crash = refl
 
-event_made : (n p : ℕ) (w : EventWord) (kind : Kind) (bytes : List ℕ) (f : Found) → length bytes ≤ MAX_LINE
+event_made : (n p : ℕ) (w : EventWord) (kind : Kind) (bytes : List ℕ) (f : FlatMembers) → length bytes ≤ MAX_LINE
     → IsFlat bytes f → f.process ≡ Some p → f.event ≡ Some w
     → ((ms : Members) → Holds ms f → kind_of (object ms) w ≡ Ok kind) → line_form n bytes ≡ Ok (record {
       line = n;

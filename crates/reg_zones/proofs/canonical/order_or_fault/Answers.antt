@@ -5,7 +5,7 @@ use Rattle.reg_zones.specs.Entries.{IsListing}
 use Rattle.reg_zones.specs.Faults.{IsFault}
 use Rattle.reg_zones.specs.Order.{IsOrder}
 use Rattle.reg_zones.specs.Register.{operations_of}
-use Rattle.reg_zones.specs.Sweep.{IsFound}
+use Rattle.reg_zones.specs.Sweep.{AreLaterFaults}
 use Rattle.reg_zones.proofs.Exists.{decides}
 use Rattle.reg_zones.proofs.Known.{facts, operations-at}
 use Rattle.reg_zones.proofs.Ordered.{ordered}
@@ -17,7 +17,7 @@ returns-in-Err c =
     let register = c.new-register.result in
     let ops = operations_of register in
     let fault =
-    subst (λ w. MatchResult w (λ both. IsFound ops both.0 × IsListing ops both.1.items)
+    subst (λ w. MatchResult w (λ both. AreLaterFaults ops both.0 × IsListing ops both.1.items)
     (λ f. IsFault ops f)) c.in-Err.is c.in_ok-fault.ensures in
     subst (λ (o : List Operation). (IsAtomic o → ⊥) × IsFault o c.in-Err.fault)
     (operations-at register c.new-register.ensures.arena c.new-register.ensures.id)
@@ -36,7 +36,7 @@ returns-in_ok-ranked-in-Ok-verdict c =
     let ops = operations_of register in
     let answer = c.in_ok-ranked-in-Ok-verdict.field-0.items in
     let both =
-    subst (λ w. MatchResult w (λ b. IsFound ops b.0 × IsListing ops b.1.items) (λ f. IsFault ops f))
+    subst (λ w. MatchResult w (λ b. AreLaterFaults ops b.0 × IsListing ops b.1.items) (λ f. IsFault ops f))
     c.in-Ok.is c.in_ok-fault.ensures in
     let ranking = c.in_ok-ranked-in-Ok-verdict.ensures in
     let faultless = c.in-Ok-verdict.ensures.ok in

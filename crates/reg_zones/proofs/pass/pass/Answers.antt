@@ -2,7 +2,7 @@ use Rattle.std.proofs.Common.{◌≡◌, ◌+◌, None, Option, List, Result, Ok
 use Rattle.history_model.specs.declared.ids.Oper.{Oper}
 use Rattle.history_model.specs.Operations.{Operation, of_register, operations}
 use Rattle.reg_zones.specs.declared.fault.Fault.{Fault}
-use Rattle.reg_zones.specs.declared.pass.Found.{Found}
+use Rattle.reg_zones.specs.declared.pass.LaterFaults.{LaterFaults}
 use Rattle.reg_zones.specs.Faults.{IsFault}
 use Rattle.reg_zones.specs.Sweep.{IsConflictFound, IsEarlyAt, IsUnwrittenAt}
 use Rattle.reg_zones.proofs.Known.{facts}
@@ -32,7 +32,7 @@ meet-met-requires-clause-event c = c.loop-ahead.invariant.walk.here c.in-Some.id
 pub meet-met-requires-clause-oper : goal.meet-met-requires-clause-oper
 meet-met-requires-clause-oper c = c.loop-ahead.invariant.ahead.oper c.in-Some.id c.in-Some.is
 
-passed_up : (ops : List Operation) (fault : Fault) (result : Result Found Fault)
+passed_up : (ops : List Operation) (fault : Fault) (result : Result LaterFaults Fault)
     → IsErrAnd result (λ e. e ≡ fault) → IsFault ops fault → IfErr result (λ e. IsFault ops e)
 passed_up ops fault (Ok found) e f = tt
 passed_up ops fault (Err g) e f = subst (IsFault ops) (sym e) f

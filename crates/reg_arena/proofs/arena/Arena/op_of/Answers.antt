@@ -12,7 +12,8 @@ pub returns : goal.returns
 returns c =
     let e = slice_get_inside c.args.self.now.events c.args.id.0 c.requires in
     let there = ap (λ (h : History). slice_get h.events c.args.id.0) c.self.view_is ∙ e.1 in
-    subst (IsOperOf c.args.self.now c.args.id.0) (sym (named-by c.call.result c.map.result c.map.ensures.cases))
+    subst (IsOperOf c.args.self.now c.args.id.0)
+    (sym (named-by c.call.result c.map.result c.map.ensures.cases))
     (event-operation c.args.self.now (subst IsRecorded c.self.view_is c.self.invariant.2) c.args.id.0 e.0
     c.call.result e.1
     (subst (λ (h : History). IsCallOf h.events c.args.id.0 e.0 c.call.result) c.self.view_is
