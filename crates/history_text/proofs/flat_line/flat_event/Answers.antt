@@ -20,8 +20,8 @@ event_word word.Reply = refl
 event_word word.Fail = refl
 event_word word.Crash = refl
 
-event_made : (n p : ℕ) (w : EventWord) (kind : Kind) (bytes : List ℕ) (f : FlatMembers) → length bytes ≤ MAX_LINE
-    → IsFlat bytes f → f.process ≡ Some p → f.event ≡ Some w
+event_made : (n p : ℕ) (w : EventWord) (kind : Kind) (bytes : List ℕ) (f : FlatMembers)
+    → length bytes ≤ MAX_LINE → IsFlat bytes f → f.process ≡ Some p → f.event ≡ Some w
     → ((ms : Members) → Holds ms f → kind_of (object ms) w ≡ Ok kind) → line_form n bytes ≡ Ok (record {
       line = n;
       process = p;
