@@ -8,7 +8,7 @@ use crate::ends::{IoFail, Sink};
 use std::alloc::{AllocError, Global};
 use std::marker::Model;
 
-/// So many bytes of memory as a sink, which fails when it is full, and at a flush if it is told to.
+/// A fixed number of bytes of memory as a sink, which fails when it is full, and at a flush if it is told to.
 #[derive(Drop)]
 pub struct MemSink {
     buffer: Vec<u8>,

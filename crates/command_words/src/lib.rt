@@ -4,7 +4,7 @@
 //! What the floor above may rely on: [`file`] and [`option`] make the arguments of the definitions.
 //! [`read`] reads words by a command, and what it finds is what the command's rules say of those words;
 //! [`file_in`] gives the file's name. [`status`] numbers the endings. [`words_given`], [`tell`] and their
-//! like speak with the system, and promise nothing.
+//! like talk to the system, and promise nothing.
 //!
 //! Read it in this order: `fault`, why there are no words; `argument`; `reading`; `given`, the words from the
 //! system; `ending`, which numbers the endings; `telling`, what goes to standard error.

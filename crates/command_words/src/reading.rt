@@ -36,8 +36,8 @@ pub fn read<'a>(
     }
 }
 
-/// The name of the file that was found; none for standard input, which
-/// the word `-` stands for as no word does.
+/// The name of the file that was found; none for standard input, which the word `-` means, as does giving no
+/// file.
 pub fn file_in(alloc: Global, matches: &ArgMatches) -> Result<Option<String>, AllocError>
     ensures { IfOk result (λ file.
         option_map string_bytes file ≡ file_of (first_value (found_of matches.now) (codes "file"))) }

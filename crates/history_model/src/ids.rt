@@ -1,4 +1,4 @@
-//! What registers, events and operations are called by, and the times of events.
+//! The names of registers, events and operations, and the times of events.
 ghost use Rattle.std.specs.Prelude.{◌≡◌, ◌<◌, ◌≤◌, ◌+◌, ◌-◌, ◌^◌};
 
 /// A register, numbered from 0 in the order of the first calls.

@@ -1,6 +1,6 @@
 //! An event that isn't refused joins the history, with the name of its register if that is new.
 //!
-//! A step that runs out of memory half way leaves an empty arena: an arena
+//! A step that runs out of memory halfway leaves an empty arena: an arena
 //! is the history of some events at any time.
 ghost use Rattle.std.specs.Prelude.{◌≡◌, ◌<◌, length, max, IfOk, OnOk, Some, true};
 ghost use Rattle.history_text.specs.declared.event.LineEvent.{LineEvent as ALineEvent};
@@ -120,7 +120,7 @@ impl Arena {
     }
 
     /// Appends an event with the event of its call, and the name of its register if that is new. If
-    /// memory runs out half way, the arena is empty.
+    /// memory runs out halfway, the arena is empty.
     ///
     /// `alike` is an event of the same register and value, if there is one. A crash
     /// has no call, and `call` is then not read.

@@ -111,7 +111,7 @@ impl Arena {
         }
     }
 
-    /// Whether the reply of the one comes before the call of the other.
+    /// Whether the first is completed before the second is called.
     pub fn precedes(&self, one: Oper, other: Oper) -> bool
         requires one { IsOper self.now one }
         requires other { IsOper self.now other }

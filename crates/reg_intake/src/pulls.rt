@@ -72,7 +72,7 @@ impl Pulls {
     /// Pulls all that the source has left and drops it, so that too long an input is known as such.
     ///
     /// # Errors
-    /// As of `pull`.
+    /// Those of `pull`.
     // Inlined, its piece would lie on the caller's stack for good.
     #[inline(never)]
     pub(crate) fn drop_rest<S: Source>(&mut self, source: &mut S) -> Result<(), Refusal>

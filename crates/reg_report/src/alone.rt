@@ -25,7 +25,7 @@ fn report_alone(alloc: Global, arena: &Arena) -> Result<Report, AllocError>
 /// arena's hashes is a digest of all events.
 ///
 /// # Errors
-/// As of [`check`](crate::check).
+/// Those of [`check`](crate::check).
 pub fn check_alone(alloc: Global, input: &[u8]) -> Result<Report, Refusal>
     ensures ok { IfOk result (λ report. IsAnswer false input.now (Ok report)) }
     ensures err { IfErr result (IsRefused false input.now) }

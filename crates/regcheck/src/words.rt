@@ -72,7 +72,8 @@ fn command<'a>(alloc: Global) -> Result<Command<'a>, AllocError>
 }
 
 /// Reads the words after the program's name: one file at most, `--workers N`, `--cut N` and `--first`. If
-/// they don't say, there are 4 workers, and the cut is 4096. The word `-` is standard input, as no word is.
+/// they don't say, there are 4 workers, and the cut is 4096. The word `-` means standard
+/// input, as does giving no file.
 ///
 /// # Errors
 /// `Bad` if the words are others, or ask for help or the version; `Memory` if memory ran out.

@@ -45,10 +45,10 @@ pub extern "C" fn regcheck_report(alloc: Global, input: &[u8], out: &mut [u8], a
 /// there is room for all of it. Gives its length, or 0 if the input isn't refused, or if memory ran out.
 #[unsafe(no_mangle)]
 pub extern "C" fn regcheck_refusal(alloc: Global, input: &[u8], out: &mut [u8]) -> usize
-    // So many bytes are put into `out`, or none.
+    // This many bytes are put into `out`, or none.
     ensures worded { IsWorded out.old out.new result }
 
-    // Some are said only of an input that is refused.
+    // A line is given only for an input that is refused.
     ensures refused { IsSaidOf input.now result }
 {
     match check_alone(alloc, input) {
