@@ -20,7 +20,7 @@ use std::alloc::{AllocError, Global};
 /// How many places it looks at: so many, and so many more for each event.
 const STEPS: u64 = 1 << 20;
 
-const STEPS_OF_AN_EVENT: u64 = 64;
+const STEPS_PER_EVENT: u64 = 64;
 
 /// How many changes it tries without getting further. Where an order is found, few are in vain.
 const PATIENCE: u64 = 1 << 13;
@@ -83,7 +83,7 @@ pub(crate) fn depth_first(
 {
     let count = events.len();
     let steps = (count as u64)
-        .saturating_mul(STEPS_OF_AN_EVENT)
+        .saturating_mul(STEPS_PER_EVENT)
         .saturating_add(STEPS)
         .min(limits.steps);
     let mut walk = start(alloc, ops, events)?;

@@ -14,9 +14,9 @@ use std::collections::BTreeMap;
 
 /// What it costs that a write takes effect which never replies, where a call that must
 /// still take effect costs 1; and what a cas does.
-const COST_OF_A_WRITE: u32 = 12;
+const WRITE_COST: u32 = 12;
 
-const COST_OF_A_CAS: u32 = 8;
+const CAS_COST: u32 = 8;
 
 /// No call.
 const NO_CALL: usize = usize::MAX;
@@ -137,9 +137,9 @@ impl<const W: usize> Table<W> {
             return cost;
         }
         cost.saturating_add(if self.writes.has(slot) {
-            COST_OF_A_WRITE
+            WRITE_COST
         } else {
-            COST_OF_A_CAS
+            CAS_COST
         })
     }
 
