@@ -124,7 +124,8 @@ impl Work {
     /// Whether it is enough for the beam that so many were gone over
     /// at a reply, and so many are left after it.
     pub(crate) fn is_enough(&self, over: usize, left: usize) -> bool {
-        over >= self.beam.saturating_mul(OVER_PER_BEAM) || left >= self.beam.saturating_mul(LEFT_PER_BEAM)
+        over >= self.beam.saturating_mul(OVER_PER_BEAM)
+            || left >= self.beam.saturating_mul(LEFT_PER_BEAM)
     }
 
     /// The most configurations that a list may hold.
