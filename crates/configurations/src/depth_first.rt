@@ -17,7 +17,7 @@ use crate::tried::Tried;
 use crate::work::Limits;
 use std::alloc::{AllocError, Global};
 
-/// How many places it looks at: so many, and so many more for each event.
+/// How many places it looks at: this many, plus some for each event.
 const STEPS: u64 = 1 << 20;
 
 const STEPS_PER_EVENT: u64 = 64;

@@ -163,7 +163,7 @@ fn over_reply<const W: usize>(
 }
 
 /// Puts those that go on in `work`, or in `next` if they have no call
-/// that must take effect; true if that are all.
+/// that must take effect; true if all of them go on.
 fn begin<const W: usize>(
     table: &Table<W>,
     now: &Configs<W>,
@@ -229,7 +229,7 @@ fn put_down_at<const W: usize>(
     }
 }
 
-/// The places of the best, of some of them: those with the least burden, and of the others the first.
+/// The places of the `count` configurations with the least burden; of equal ones, the first.
 fn best_of<const W: usize>(
     alloc: Global,
     configs: &[Config<W>],

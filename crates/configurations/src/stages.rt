@@ -28,7 +28,7 @@ enum Form {
     DepthFirst,
 }
 
-/// A stage: so many configurations go on from one reply to the next, and a list holds so many.
+/// A stage: its form, how many configurations go on from one reply to the next, and how many a list may hold.
 #[derive(Clone, Copy)]
 struct Stage {
     form: Form,

@@ -1,4 +1,4 @@
-//! What was tried of late: each thing has a place, and the next one that has the same place takes it.
+//! What was tried recently: each digest has one place, and a later one with the same place overwrites it.
 use std::alloc::{AllocError, Global};
 
 /// How many places there are for each event, and at most. Their number is a power of two.

@@ -88,7 +88,7 @@ impl Work {
         }
     }
 
-    /// Whether a list of so many configurations may hold no more.
+    /// Whether a list that holds `held` configurations is full.
     pub(crate) fn is_full(&self, held: usize) -> bool {
         held >= self.configurations
     }
@@ -121,8 +121,7 @@ impl Work {
         self.steps
     }
 
-    /// Whether it is enough for the beam that so many were gone over
-    /// at a reply, and so many are left after it.
+    /// Whether the beam may stop at this reply: enough were gone over, or enough are left.
     pub(crate) fn is_enough(&self, over: usize, left: usize) -> bool {
         over >= self.beam.saturating_mul(OVER_PER_BEAM)
             || left >= self.beam.saturating_mul(LEFT_PER_BEAM)

@@ -21,7 +21,7 @@ const REGISTERS_IN_A_ROUND: u64 = 2;
 /// default that many are searched at once.
 const MOST_PARTS: u64 = 4;
 
-/// How far the search of each of so many registers goes if they are searched one after another.
+/// How far the search of each of this many registers goes if they are searched one after another.
 fn in_turn(bounds: Bounds, registers: usize) -> Bounds {
     let steps = bounds.steps.saturating_mul(REGISTERS_IN_A_ROUND) / (registers as u64).max(1);
     Bounds {
@@ -99,7 +99,7 @@ fn second_round(
     found_again(alloc, lines, registers, first, second)
 }
 
-/// What is found of each register, in order, by so many workers that share the registers.
+/// What is found of each register, in order, by this many workers that share the registers.
 fn found_by_workers(
     rt: &(impl Threads + Sync),
     alloc: Global,
