@@ -158,8 +158,5 @@ fn hopeless_at(alloc: Global, ops: &[Operation]) -> Result<Option<u32>, AllocErr
 fn replies_then(ops: &[Operation], place: u32, time: u32) -> bool
     ensures { IsTrue result → RepliesAt ops.now place time }
 {
-    match reply_time(ops, place) {
-        Some(reply) => reply == time,
-        None => false,
-    }
+    reply_time(ops, place) == Some(time)
 }
