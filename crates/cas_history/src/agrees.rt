@@ -61,7 +61,7 @@ fn op_agrees(said: Option<OpWord>, asked: Asked) -> bool
 {
     match said {
         None => true,
-        Some(word) => same_word(word, word_of(asked)),
+        Some(word) => word == word_of(asked),
     }
 }
 
@@ -81,17 +81,6 @@ fn word_of(asked: Asked) -> OpWord
         Asked::Read => OpWord::Read,
         Asked::Write(_) => OpWord::Write,
         Asked::Cas { .. } => OpWord::Cas,
-    }
-}
-
-fn same_word(one: OpWord, other: OpWord) -> bool
-    ensures { result ≡ defined.same_word one other }
-{
-    match (one, other) {
-        (OpWord::Read, OpWord::Read) => true,
-        (OpWord::Write, OpWord::Write) => true,
-        (OpWord::Cas, OpWord::Cas) => true,
-        _ => false,
     }
 }
 

@@ -22,6 +22,7 @@ use Rattle.configurations.specs.declared.op.Kind.{Kind}
 use Rattle.configurations.specs.declared.op.Kind.TheVariants as kinds
 use Rattle.configurations.specs.Ops as by
 use Rattle.configurations.specs.Runs.{AliveFree, over_free, called_free, replied_free, uses}
+use Rattle.configurations.proofs.Tables.{eq_true}
 use Rattle.cas_search.specs.Taking.{option_suits, option_left_by, suits_at, left_at}
 use Rattle.cas_search.specs.Runs.{Alive, over, called, replied, takes}
 use Rattle.cas_search.specs.ByNumbers.{IsNumbering, number_in, IsMore, DoesAs, IsCas, IsByNumber}
@@ -92,9 +93,6 @@ each-more old new ops i d before after o lt more is e each =
 
 -- ---- one act
 
-same-test : (m n : ℕ) → m ≡ n → (m == n) ≡ true
-same-test m n e = grind (arith, nat_tests)
-
 other-test : (m n : ℕ) → (m ≡ n → ⊥) → not (m == n) ≡ true
 other-test m n d = grind (arith, nat_tests)
 
@@ -112,12 +110,12 @@ module _ (number : Val → Option ℕ) (numbering : IsNumbering number) (o : Op)
   fits (Read None) d s =
       by-kind kinds.Miss d.0 (other-test n o.from (λ e. numbering.nothing v (is ∙ ap Some (e ∙ d.1))))
   fits (Read (Some w)) d s =
-      by-kind kinds.Read d.0 (same-test n o.from (same-number w o.from d.1 (value-true v w s)))
+      by-kind kinds.Read d.0 (eq_true n o.from (same-number w o.from d.1 (value-true v w s)))
   fits (Write w) d s = by-kind kinds.Write d.0 refl
   fits (Cas w m) d s = go (o.from == o.to) d.0
     where
       found : (n == o.from) ≡ true
-      found = same-test n o.from (same-number w o.from d.1 (value-true v w s))
+      found = eq_true n o.from (same-number w o.from d.1 (value-true v w s))
 
       go : (b : Bool) → o.kind ≡ cond b kinds.Read kinds.Cas → by.fits o n ≡ true
       go true e = by-kind kinds.Read e found

@@ -17,10 +17,10 @@ use Rattle.cas_model.specs.Operations.{IsCompleted, Precedes, initial_write}
 use Rattle.cas_model.specs.Placed.{PlacedOperation, placed_from, placed}
 use Rattle.cas_model.proofs.InTurn.{in-turn}
 use Rattle.cas_model.proofs.Placed.{operations_of-placed, rising, after_call}
+use Rattle.configurations.proofs.Lists.{same_or}
 use Rattle.cas_search.specs.Checked.{IsMarked, ArePoints, IsCheckedOrder}
 use Rattle.cas_search.specs.Timeline.{AreCalls, operations_at}
 use Rattle.cas_search.proofs.Linked.{Stand, stand-In, In-stand, Before-stand, place-of, one-place}
-use Rattle.cas_search.proofs.Lists.{same_or}
 
 -- ---- the operations of numbers
 

@@ -8,8 +8,8 @@ use Rattle.configurations.specs.declared.moment.Moment.TheVariants.{Call, Reply}
 use Rattle.history_model.specs.Lists.{In, Before}
 use Rattle.cas_search.specs.Taking.{left_at}
 use Rattle.configurations.specs.Runs.{without}
+use Rattle.configurations.proofs.Lists.{without-In, In-without, In-or}
 use Rattle.cas_search.specs.Runs.{Alive, over, called, replied, takes}
-use Rattle.cas_search.proofs.Lists.{without-In, In-without, In-or}
 use Rattle.cas_search.proofs.LegalOrder.{MeetsAt, IsNumbered}
 
 -- Of a legal order the operations `todo` have not taken effect, and those of them that were called are in p.

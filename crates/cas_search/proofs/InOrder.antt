@@ -12,10 +12,10 @@ use Rattle.configurations.specs.declared.op.Op.{Op}
 use Rattle.configurations.specs.declared.op.TheConstants.{NEVER}
 use Rattle.configurations.specs.Ops.{option_rank, rank_at}
 use Rattle.configurations.specs.Runs.{AreInOrder, without}
+use Rattle.configurations.proofs.Lists.{without-In}
 use Rattle.cas_search.specs.ByNumbers.{IsByNumber, IsRank}
 use Rattle.cas_search.specs.Timeline.{IsTimeline, time_by}
 use Rattle.cas_search.proofs.ByNumbers.{at-place}
-use Rattle.cas_search.proofs.Lists.{without-In}
 
 -- the moments from some time on: each later moment of the operations is among them too
 record AreLast (ops : List Operation) (es : List Moment) : Type 0 where

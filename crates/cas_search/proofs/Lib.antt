@@ -1,4 +1,3 @@
-pub mod Lists
 pub mod LegalOrder
 pub mod Explained
 pub mod Numbers

@@ -79,10 +79,7 @@ fn is_left_out(op: &Operation, marks: &[bool], place: usize) -> bool
 fn is_marked(marks: &[bool], place: usize) -> bool
     ensures { IsTrue result → slice_get marks.now place ≡ Some true }
 {
-    match marks.get(place) {
-        Some(mark) => *mark,
-        None => false,
-    }
+    marks.get(place).copied().unwrap_or(false)
 }
 
 /// Whether the operations take effect in this order, from null on, each at a value that suits it.
@@ -130,8 +127,5 @@ fn points_of(
 fn is_over(op: &Operation, time: u32) -> bool
     ensures { result ≡ false → (t : ℕ) → op.now.reply ≡ Some t → time < t }
 {
-    match op.reply {
-        Some(reply) => reply <= time,
-        None => false,
-    }
+    op.reply.is_some_and(|reply| reply <= time)
 }

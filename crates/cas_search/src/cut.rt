@@ -29,8 +29,5 @@ fn known(op: &Operation, time: u32) -> Operation
 fn replied(reply: Option<u32>, time: u32) -> Option<u32>
     ensures { result ≡ reply_by time reply }
 {
-    match reply {
-        Some(at) => { if at <= time { Some(at) } else { None } }
-        None => None,
-    }
+    reply.filter(|at| *at <= time)
 }

@@ -97,8 +97,5 @@ pub fn legal_before(
 pub fn reply_time(ops: &[Operation], place: u32) -> Option<u32>
     ensures { MatchOption result ((t : ℕ) → RepliesAt ops.now place t → ⊥) (λ t. RepliesAt ops.now place t) }
 {
-    match ops.get(place as usize) {
-        Some(op) => op.reply,
-        None => None,
-    }
+    ops.get(place as usize)?.reply
 }

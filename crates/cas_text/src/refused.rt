@@ -1,4 +1,4 @@
-//! Why the event of a line could not be made, before the line's number is joined to it.
+//! Why the event of a line could not be made, before the line's number is attached to it.
 ghost use Rattle.std.specs.Prelude.{◌≡◌};
 ghost use Rattle.cas_text.specs.declared.refused.Refused.TheVariants.{Fault, Memory};
 

@@ -39,10 +39,10 @@ nothing_pushed [] w old new (suc v) q = has_past [] q (omega arith)
 nothing_pushed (x ∷ xs) w old new zero q = old zero q
 nothing_pushed (x ∷ xs) w old new (suc v) q = nothing_pushed xs w (λ v q. old (suc v) q) new v q
 
-eq_true : (a b : ℕ) → a ≡ b → (a == b) ≡ true
+pub eq_true : (a b : ℕ) → a ≡ b → (a == b) ≡ true
 eq_true a b e = grind (arith, nat_tests)
 
-eq_false : (a b : ℕ) → (a ≡ b → ⊥) → (a == b) ≡ false
+pub eq_false : (a b : ℕ) → (a ≡ b → ⊥) → (a == b) ≡ false
 eq_false a b n = grind (arith, nat_tests)
 
 -- one set of a vector was changed at one slot

@@ -17,7 +17,7 @@ const MAX_WIDTH: usize = 256;
 
 /// How many words the sets by value may have for each configuration of the bound: as many as the widest
 /// configuration has, so that they take no more memory than a list of configurations.
-const WORDS_OF_A_CONFIGURATION: usize = 512;
+const WORDS_PER_CONFIGURATION: usize = 512;
 
 /// Goes forward over the events of some operations, whose values are below `values`.
 pub fn go_forward(
@@ -32,7 +32,7 @@ pub fn go_forward(
     let words = words_for(most_open(ops, events)).min(MAX_WIDTH);
     let most = bounds
         .configurations
-        .saturating_mul(WORDS_OF_A_CONFIGURATION);
+        .saturating_mul(WORDS_PER_CONFIGURATION);
     if words.saturating_mul(values) > most {
         return Ok(Found::Stopped(Bound::Configurations));
     }

@@ -21,7 +21,7 @@ impl Links {
         })
     }
 
-    /// Puts a place behind all others.
+    /// Puts a place after all others.
     pub(crate) fn push(&mut self, place: u32) {
         let last = get(&self.before, HEAD);
         set(&mut self.next, last, place);
@@ -30,7 +30,7 @@ impl Links {
         set(&mut self.before, HEAD, place);
     }
 
-    /// The place behind this one.
+    /// The place after this one.
     pub(crate) fn after(&self, place: u32) -> u32 {
         get(&self.next, place)
     }

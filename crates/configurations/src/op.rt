@@ -3,7 +3,7 @@ ghost use Rattle.std.specs.Prelude.{◌≡◌, IsTrue, ℕ};
 ghost use Rattle.configurations.specs.Ops.{fits, kind_looks, kind_misses, kind_writes, left_by};
 
 /// What an operation did.
-#[derive(Clone, Copy)]
+#[derive(Clone, Copy, Debug, PartialEq, Eq)]
 pub enum Kind {
     /// It gave the value `from`.
     Read,
@@ -16,7 +16,7 @@ pub enum Kind {
 }
 
 /// An operation on a register. Its values are numbers; the register has the value 0 at first.
-#[derive(Clone, Copy)]
+#[derive(Clone, Copy, Debug, PartialEq, Eq)]
 pub struct Op {
     pub kind: Kind,
     pub from: u32,
@@ -34,10 +34,8 @@ pub(crate) fn left(op: &Op, value: u32) -> u32
     ensures { result ≡ left_by op.now value }
 {
     match op.kind {
-        Kind::Write => op.to,
-        Kind::Cas => op.to,
-        Kind::Read => value,
-        Kind::Miss => value,
+        Kind::Write | Kind::Cas => op.to,
+        Kind::Read | Kind::Miss => value,
     }
 }
 
@@ -46,12 +44,7 @@ pub(crate) fn left(op: &Op, value: u32) -> u32
 pub(crate) fn looks(op: &Op) -> bool
     ensures { result ≡ kind_looks op.now.kind }
 {
-    match op.kind {
-        Kind::Read => true,
-        Kind::Miss => true,
-        Kind::Write => false,
-        Kind::Cas => false,
-    }
+    matches!(op.kind, Kind::Read | Kind::Miss)
 }
 
 /// Whether it is a write.
@@ -59,12 +52,7 @@ pub(crate) fn looks(op: &Op) -> bool
 pub(crate) fn writes(op: &Op) -> bool
     ensures { result ≡ kind_writes op.now.kind }
 {
-    match op.kind {
-        Kind::Write => true,
-        Kind::Read => false,
-        Kind::Cas => false,
-        Kind::Miss => false,
-    }
+    matches!(op.kind, Kind::Write)
 }
 
 /// Whether it is a cas that missed.
@@ -72,12 +60,7 @@ pub(crate) fn writes(op: &Op) -> bool
 pub(crate) fn misses(op: &Op) -> bool
     ensures { result ≡ kind_misses op.now.kind }
 {
-    match op.kind {
-        Kind::Miss => true,
-        Kind::Read => false,
-        Kind::Write => false,
-        Kind::Cas => false,
-    }
+    matches!(op.kind, Kind::Miss)
 }
 
 /// Whether it may meet this value.
@@ -87,9 +70,8 @@ pub(crate) fn suits(op: &Op, value: u32) -> bool
 {
     match op.kind {
         Kind::Write => true,
-        Kind::Read => value == op.from,
-        Kind::Cas => value == op.from,
-        Kind::Miss => !(value == op.from),
+        Kind::Read | Kind::Cas => value == op.from,
+        Kind::Miss => value != op.from,
     }
 }
 

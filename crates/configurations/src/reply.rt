@@ -244,7 +244,7 @@ fn try_slot<const W: usize>(
     }
 }
 
-/// Lets each call of some slots take effect that is of use.
+/// Lets each useful call of these slots take effect.
 #[inline(always)]
 fn try_each<const W: usize>(
     table: &Table<W>,
@@ -273,7 +273,7 @@ fn try_each<const W: usize>(
     Ok(())
 }
 
-/// Lets each call of use take effect, but for those of the slots that are left out.
+/// Lets each useful call take effect, except those of `left_out`.
 #[inline(always)]
 fn try_all<const W: usize>(
     table: &Table<W>,

@@ -66,8 +66,8 @@ fn search<const W: usize>(
     for (place, event) in events.iter().enumerate() {
         let last = last_move(now);
         lists.spent.go_to(place)?;
-        whole = are_both(whole, over(table, now, lists, *event)?);
-        if is_none(now) {
+        whole = are_both(whole, step_over(table, now, lists, *event)?);
+        if is_hopeless(now) {
             if !whole {
                 return Err(Stop::Bound(Bound::Configurations));
             }
@@ -102,8 +102,8 @@ fn first<const W: usize>(alloc: Global, values: usize) -> Result<Configs<W>, All
     Ok(now)
 }
 
-/// Whether there are none.
-fn is_none<const W: usize>(now: &Configs<W>) -> bool
+/// Whether no configuration is left.
+fn is_hopeless<const W: usize>(now: &Configs<W>) -> bool
     ensures { IsTrue result → now.now.list.items ≡ [] }
 {
     now.list.is_empty()
@@ -118,7 +118,7 @@ fn last_move<const W: usize>(now: &Configs<W>) -> u32 {
 }
 
 /// The step over an event; true if no configuration was let go.
-fn over<const W: usize>(
+fn step_over<const W: usize>(
     table: &mut Table<W>,
     now: &mut Configs<W>,
     lists: &mut Lists<W>,
@@ -163,7 +163,7 @@ fn over_reply<const W: usize>(
 }
 
 /// Puts those that go on in `work`, or in `next` if they have no call
-/// that must take effect; true if that are all.
+/// that must take effect; true if all of them go on.
 fn begin<const W: usize>(
     table: &Table<W>,
     now: &Configs<W>,
@@ -179,16 +179,16 @@ fn begin<const W: usize>(
         (λ whole. IsTrue whole → IsBegun table.now now.now reply lists.new.work lists.new.next) }
 {
     if now.list.len() <= lists.spent.beam() {
-        thin(table, now, lists, reply)?;
+        put_down_all(table, now, lists, reply)?;
         Ok(true)
     } else {
-        narrow(table, now, lists, reply)?;
+        put_down_best(table, now, lists, reply)?;
         Ok(false)
     }
 }
 
 /// Puts down the best, as many as the beam holds.
-fn narrow<const W: usize>(
+fn put_down_best<const W: usize>(
     table: &Table<W>,
     now: &Configs<W>,
     lists: &mut Lists<W>,
@@ -229,7 +229,7 @@ fn put_down_at<const W: usize>(
     }
 }
 
-/// The places of the best, of some of them: those with the least burden, and of the others the first.
+/// The places of the `count` configurations with the least burden; of equal ones, the first.
 fn best_of<const W: usize>(
     alloc: Global,
     configs: &[Config<W>],
@@ -262,7 +262,7 @@ fn count<const W: usize>(slots: &Slots<W>) -> u32 {
 }
 
 /// Puts all down, the last one first.
-fn thin<const W: usize>(
+fn put_down_all<const W: usize>(
     table: &Table<W>,
     now: &Configs<W>,
     lists: &mut Lists<W>,

@@ -28,7 +28,7 @@ enum Form {
     DepthFirst,
 }
 
-/// A stage: so many configurations go on from one reply to the next, and a list holds so many.
+/// A stage: its form, how many configurations go on from one reply to the next, and how many a list may hold.
 #[derive(Clone, Copy)]
 struct Stage {
     form: Form,
@@ -36,33 +36,40 @@ struct Stage {
     configurations: usize,
 }
 
+/// A stage as one line: its form, its beam and its configurations.
+macro_rules! stage {
+    ($form:ident, $beam:expr, $configurations:expr) => {
+        Stage {
+            form: Form::$form,
+            beam: $beam,
+            configurations: $configurations,
+        }
+    };
+}
+
 /// As many as the bounds allow.
 const MOST: usize = usize::MAX;
 
-/// The form, the beam and the configurations of each stage, if some changes have no reply: first those that
-/// are quick where they suffice. An exact one comes before the eased one, since the reply that the latter
-/// names need not be the first hopeless one. The last is as wide as the bounds allow.
-const STAGES: [(Form, usize, usize); 12] = [
-    (Form::DepthFirst, 1, 1),
-    (Form::Thrifty, 8, MOST),
-    (Form::Thrifty, 32, MOST),
-    (Form::Exact, 256, 256),
-    (Form::Eased, 4_096, 4_096),
-    (Form::Thrifty, 128, MOST),
-    (Form::Exact, 1_024, 1_024),
-    (Form::Exact, 8, MOST),
-    (Form::Thrifty, 512, MOST),
-    (Form::Exact, 32, MOST),
-    (Form::Exact, 128, MOST),
-    (Form::Exact, MOST, MOST),
+/// The stages if some changes have no reply: first those that are quick where they suffice. An exact one
+/// comes before the eased one, since the reply that the latter names need not be the first hopeless one. The
+/// last is as wide as the bounds allow.
+const STAGES: [Stage; 12] = [
+    stage!(DepthFirst, 1, 1),
+    stage!(Thrifty, 8, MOST),
+    stage!(Thrifty, 32, MOST),
+    stage!(Exact, 256, 256),
+    stage!(Eased, 4_096, 4_096),
+    stage!(Thrifty, 128, MOST),
+    stage!(Exact, 1_024, 1_024),
+    stage!(Exact, 8, MOST),
+    stage!(Thrifty, 512, MOST),
+    stage!(Exact, 32, MOST),
+    stage!(Exact, 128, MOST),
+    stage!(Exact, MOST, MOST),
 ];
 
 /// The only stage if each change has a reply: few configurations are left anyway.
-const WIDEST: Stage = Stage {
-    form: Form::Exact,
-    beam: MOST,
-    configurations: MOST,
-};
+const WIDEST: Stage = stage!(Exact, MOST, MOST);
 
 /// Goes through the stages until one answers.
 pub(crate) fn in_stages<const W: usize>(
@@ -79,12 +86,7 @@ pub(crate) fn in_stages<const W: usize>(
         return run_stage::<W>(alloc, ops, events, WIDEST, &mut limits);
     }
     let mut bound = Bound::Steps;
-    for (form, beam, configurations) in STAGES {
-        let stage = Stage {
-            form,
-            beam,
-            configurations,
-        };
+    for stage in STAGES {
         match run_stage::<W>(alloc, ops, events, stage, &mut limits)? {
             Found::Stopped(met) => bound = met,
             found => return Ok(found),

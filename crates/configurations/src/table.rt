@@ -12,11 +12,11 @@ use slot_sets::Slots;
 use std::alloc::{AllocError, Global};
 use std::collections::BTreeMap;
 
-/// What it costs that a write takes effect which never replies, where a call that must
-/// still take effect costs 1; and what a cas does.
-const COST_OF_A_WRITE: u32 = 12;
+/// The cost of letting a write that never replies take effect; a call that must still take effect counts 1.
+const WRITE_COST: u32 = 12;
 
-const COST_OF_A_CAS: u32 = 8;
+/// The cost of letting a cas that never replies take effect.
+const CAS_COST: u32 = 8;
 
 /// No call.
 const NO_CALL: usize = usize::MAX;
@@ -137,9 +137,9 @@ impl<const W: usize> Table<W> {
             return cost;
         }
         cost.saturating_add(if self.writes.has(slot) {
-            COST_OF_A_WRITE
+            WRITE_COST
         } else {
-            COST_OF_A_CAS
+            CAS_COST
         })
     }
 
@@ -256,7 +256,7 @@ fn elders(alloc: Global, ops: &[Op]) -> Result<Vec<usize>, AllocError> {
     Ok(elders)
 }
 
-/// For each value that no slot asks for it.
+/// For each value, the empty set: no slot asks for it.
 fn nothing_asked<const W: usize>(alloc: Global, values: usize) -> Result<Vec<Slots<W>>, AllocError>
     requires room { 64 * W < 2 ^ 32 }
     ensures { IfOk result (λ asks. (v q : ℕ) → has (get_or asks.items v []) q ≡ false) }

@@ -1,8 +1,8 @@
-//! What was tried of late: each thing has a place, and the next one that has the same place takes it.
+//! What was tried recently: each digest has one place, and a later one with the same place overwrites it.
 use std::alloc::{AllocError, Global};
 
 /// How many places there are for each event, and at most. Their number is a power of two.
-const PLACES_OF_AN_EVENT: usize = 4;
+const PLACES_PER_EVENT: usize = 4;
 
 const MOST_PLACES: usize = 1 << 16;
 
@@ -16,7 +16,7 @@ pub(crate) struct Tried {
 impl Tried {
     /// None, with places for so many events.
     pub(crate) fn new(alloc: Global, events: usize) -> Result<Self, AllocError> {
-        let places = events.saturating_mul(PLACES_OF_AN_EVENT).min(MOST_PLACES);
+        let places = events.saturating_mul(PLACES_PER_EVENT).min(MOST_PLACES);
         Ok(Tried {
             places: vec![in alloc; 0; places.next_power_of_two()]?,
             count: 0,

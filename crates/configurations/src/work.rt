@@ -6,7 +6,13 @@ use thiserror::Error;
 
 /// How many steps it spends to remember that a call took effect. By default some 4
 /// million are remembered, in 50 MB.
-const STEPS_OF_A_MOVE: u64 = 256;
+const STEPS_PER_MOVE: u64 = 256;
+
+/// How many configurations are gone over at a reply, and how many are left after it, for each one that the
+/// beam holds, until the beam may stop there.
+const OVER_PER_BEAM: usize = 16;
+
+const LEFT_PER_BEAM: usize = 4;
 
 /// The place of no move.
 pub(crate) const NO_MOVE: u32 = 0xffff_ffff;
@@ -82,7 +88,7 @@ impl Work {
         }
     }
 
-    /// Whether a list of so many configurations may hold no more.
+    /// Whether a list that holds `held` configurations is full.
     pub(crate) fn is_full(&self, held: usize) -> bool {
         held >= self.configurations
     }
@@ -115,10 +121,10 @@ impl Work {
         self.steps
     }
 
-    /// Whether it is enough for the beam that so many were gone over
-    /// at a reply, and so many are left after it.
+    /// Whether the beam may stop at this reply: enough were gone over, or enough are left.
     pub(crate) fn is_enough(&self, over: usize, left: usize) -> bool {
-        over >= self.beam.saturating_mul(16) || left >= self.beam.saturating_mul(4)
+        over >= self.beam.saturating_mul(OVER_PER_BEAM)
+            || left >= self.beam.saturating_mul(LEFT_PER_BEAM)
     }
 
     /// The most configurations that a list may hold.
@@ -146,7 +152,7 @@ impl Work {
     /// A call takes effect after others, the last of which has the place
     /// `before` among the moves; gives its own place.
     pub(crate) fn moved(&mut self, number: u32, before: u32) -> Result<u32, Stop> {
-        self.spend(STEPS_OF_A_MOVE)?;
+        self.spend(STEPS_PER_MOVE)?;
         let place = self.moves.len();
         if place >= NO_MOVE as usize {
             return Err(Stop::Bound(Bound::Steps));

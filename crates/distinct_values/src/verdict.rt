@@ -16,7 +16,7 @@ use std::alloc::{AllocError, Global};
 /// Steps that decide common histories, for each register and for each of its events.
 const QUICK_STEPS: u64 = 1_000_000;
 
-const QUICK_STEPS_AN_EVENT: u64 = 256;
+const QUICK_STEPS_PER_EVENT: u64 = 256;
 
 /// Decides the operations of a register, `ops`, of which `events` are the calls and the replies. The bounds
 /// are those of a register with a cas or a repeated value; any other is decided whatever they are.
@@ -57,7 +57,7 @@ fn soon_or_by_zones(
 /// Bounds within which common histories are decided, none above those given.
 fn quick(events: usize, bounds: Bounds) -> Bounds {
     let most = (events as u64)
-        .saturating_mul(QUICK_STEPS_AN_EVENT)
+        .saturating_mul(QUICK_STEPS_PER_EVENT)
         .saturating_add(QUICK_STEPS);
     Bounds {
         steps: bounds.steps.min(most),
@@ -158,8 +158,5 @@ fn hopeless_at(alloc: Global, ops: &[Operation]) -> Result<Option<u32>, AllocErr
 fn replies_then(ops: &[Operation], place: u32, time: u32) -> bool
     ensures { IsTrue result → RepliesAt ops.now place time }
 {
-    match reply_time(ops, place) {
-        Some(reply) => reply == time,
-        None => false,
-    }
+    reply_time(ops, place) == Some(time)
 }

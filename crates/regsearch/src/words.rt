@@ -74,7 +74,7 @@ fn command<'a>(alloc: Global) -> Result<Command<'a>, AllocError>
 
 /// Reads the words after the program's name: one file at most, `--workers N`, `--steps N` and
 /// `--configurations N`. If they don't say, there are 4 workers, 1,000,000,000 steps and 65,536
-/// configurations. The word `-` is standard input, as no word is.
+/// configurations. The word `-` means standard input, as does giving no file.
 ///
 /// # Errors
 /// `Bad` if the words are others, or ask for help or the version; `Memory` if memory ran out.

@@ -1,6 +1,6 @@
 -- What a call answers, and what it leaves in the place for the report (this
 -- project's own interface; docs/embedding.md).
-use Rattle.std.specs.Prelude.{◌≡◌, ◌⊎◌, ◌++◌, ℕ, List, length, drop, min, nat_le, ◌==◌}
+use Rattle.std.specs.Prelude.{◌≡◌, ◌⊎◌, ◌++◌, ℕ, Bool, List, length, drop, min, nat_le, ◌==◌}
 use Rattle.std.specs.Prelude.{◌&&◌, if◌then◌else◌, Option, Some, None, Ok, Err}
 use Rattle.cas_history.specs.Refusals.{events_of}
 use Rattle.search_intake.specs.Input.{history_lines}
@@ -54,9 +54,13 @@ abbrev pub line_or_0 : Option ℕ → ℕ
 line_or_0 (Some line) = line
 line_or_0 None = 0
 
--- the status of a refusal, as the program has it: 16 to 18 are failures of input, memory and output
+-- the numbers 16 to 18 are failures of input, memory and output
+abbrev pub is_failure : ℕ → Bool
+is_failure number = nat_le 16 number && nat_le number 18
+
+-- the status of a refusal, as the program has it
 abbrev pub status_of_refusal : Refusal → ℕ
-status_of_refusal refusal = if nat_le 16 (number_of refusal) && nat_le (number_of refusal) 18 then 4 else 2
+status_of_refusal refusal = if is_failure (number_of refusal) then 4 else 2
 
 -- what is said of a refusal
 abbrev pub answer_of_refusal : Refusal → Answer

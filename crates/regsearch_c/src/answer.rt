@@ -1,6 +1,7 @@
 //! What a call says of its input.
 ghost use Rattle.std.specs.Prelude.{◌≡◌, length as length_of};
 ghost use Rattle.regsearch_c.specs.Called.{answer_of_refusal, answer_of_report, status_of_outcome};
+ghost use Rattle.regsearch_c.specs.Called.{is_failure as is_failure_number};
 ghost use Rattle.search_text.specs.Text.{report_text};
 
 use crate::status::{ATOMIC, NO_MEMORY, NOT_ATOMIC, REFUSED, TOO_SMALL, UNKNOWN};
@@ -29,7 +30,7 @@ pub(crate) fn refused(refusal: &Refusal) -> Answer
 {
     let number = refusal.number();
     Answer {
-        status: if 16 <= number && number <= 18 {
+        status: if is_failure(number) {
             NO_MEMORY
         } else {
             REFUSED
@@ -39,6 +40,13 @@ pub(crate) fn refused(refusal: &Refusal) -> Answer
         other: refusal.other().unwrap_or(0),
         length: 0,
     }
+}
+
+/// Whether a refusal of this number says that the source, memory or the sink failed.
+fn is_failure(number: u8) -> bool
+    ensures { result ≡ is_failure_number number }
+{
+    16 <= number && number <= 18
 }
 
 /// The status of a report that there is room for.

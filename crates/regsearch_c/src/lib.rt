@@ -1,5 +1,5 @@
-//! The search for programs in C, and for languages that call C: two functions on bytes, for histories of any
-//! registers. They start no thread, open no file and keep nothing between calls.
+//! The search for programs in C, and for languages that call C: two functions on bytes, for histories of
+//! reads, writes and cas. They start no thread, open no file and keep nothing between calls.
 //!
 //! What a C program may rely on: [`regsearch_report`] says of the history in its input what
 //! `regsearch` would say within the same bounds, and writes the same report if there is room

@@ -72,7 +72,7 @@ fn pull<S: Source>(source: &mut S, piece: &mut [u8], before: usize) -> Result<us
 /// Pulls all that the source has left, after `before` bytes, and drops it.
 ///
 /// # Errors
-/// As of `pull`.
+/// Those of `pull`.
 // Inlined, its piece would lie on the caller's stack for good.
 #[inline(never)]
 fn drop_rest<S: Source>(source: &mut S, before: usize) -> Result<(), Refusal>

@@ -11,10 +11,10 @@ use std::alloc::{AllocError, Global};
 pub(crate) fn line_of_time(lines: &[u32], time: u32) -> u32
     ensures { result ≡ line_at lines.now time }
 {
-    match lines.get(time.saturating_sub(2) as usize) {
-        Some(line) => *line,
-        None => 0,
-    }
+    lines
+        .get(time.saturating_sub(2) as usize)
+        .copied()
+        .unwrap_or(0)
 }
 
 /// The lines of the events at some times.
@@ -71,10 +71,7 @@ fn is_open(op: &Operation, time: u32) -> bool
 fn is_awaited(reply: Option<u32>, time: u32) -> bool
     ensures { result ≡ is_unanswered time reply }
 {
-    match reply {
-        Some(at) => time <= at,
-        None => true,
-    }
+    reply.is_none_or(|at| time <= at)
 }
 
 /// Adds the line of the call of one more operation.

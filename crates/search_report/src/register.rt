@@ -66,7 +66,7 @@ fn lines_before(
 }
 
 /// What the verdict of a search says, by lines.
-fn told(
+fn atomicity_by_lines(
     alloc: Global,
     lines: &[u32],
     ops: &[Operation],
@@ -101,7 +101,7 @@ fn searched(
 {
     let moments = timeline(alloc, ops)?;
     let verdict = decide(alloc, ops, &moments, bounds)?;
-    told(alloc, lines, ops, verdict)
+    atomicity_by_lines(alloc, lines, ops, verdict)
 }
 
 /// Whether a register with these operations is atomic, as far as the
@@ -124,7 +124,7 @@ fn atomicity(
 }
 
 /// What is found of a register with these operations, whose events have these lines.
-pub(crate) fn found(
+pub(crate) fn finding_of(
     alloc: Global,
     lines: &[u32],
     ops: &[Operation],

@@ -5,7 +5,7 @@
 ghost use Rattle.std.specs.Prelude.{IfOk};
 ghost use Rattle.search_report.specs.Registers.{AreFindings, AreFindingsOf, IsFinding};
 
-use crate::register::{Finding, found, is_unknown};
+use crate::register::{Finding, finding_of, is_unknown};
 use crate::settings::Settings;
 use cas_history::History;
 use cas_model::Operation;
@@ -21,7 +21,7 @@ const REGISTERS_IN_A_ROUND: u64 = 2;
 /// default that many are searched at once.
 const MOST_PARTS: u64 = 4;
 
-/// How far the search of each of so many registers goes if they are searched one after another.
+/// How far the search of each of this many registers goes if they are searched one after another.
 fn in_turn(bounds: Bounds, registers: usize) -> Bounds {
     let steps = bounds.steps.saturating_mul(REGISTERS_IN_A_ROUND) / (registers as u64).max(1);
     Bounds {
@@ -32,7 +32,7 @@ fn in_turn(bounds: Bounds, registers: usize) -> Bounds {
 
 /// How far it goes if several of them are searched at once.
 fn at_once(bounds: Bounds, registers: usize) -> Bounds {
-    let parts = (registers as u64).max(1).min(MOST_PARTS);
+    let parts = (registers as u64).clamp(1, MOST_PARTS);
     Bounds {
         steps: in_turn(bounds, registers).steps.min(bounds.steps / parts),
         configurations: bounds.configurations / parts as usize,
@@ -52,7 +52,7 @@ fn known_or_found(
     ensures { IfOk result (IsFinding lines.now ops.now) }
 {
     if is_unknown(&before.atomicity) {
-        found(alloc, lines, ops, bounds)
+        finding_of(alloc, lines, ops, bounds)
     } else {
         Ok(before)
     }
@@ -99,7 +99,7 @@ fn second_round(
     found_again(alloc, lines, registers, first, second)
 }
 
-/// What is found of each register, in order, by so many workers that share the registers.
+/// What is found of each register, in order, by this many workers that share the registers.
 fn found_by_workers(
     rt: &(impl Threads + Sync),
     alloc: Global,
@@ -119,7 +119,7 @@ fn found_by_workers(
         share,
         |ops: &Vec<Operation>| -> Result<Finding, AllocError>
             ensures { IfOk result (IsFinding lines.entry.now ops.now.items) }
-        { found(alloc, lines, ops, bounds) },
+        { finding_of(alloc, lines, ops, bounds) },
     )
 }
 
@@ -149,7 +149,7 @@ fn found_of_each(
 {
     let mut findings = Vec::new(alloc);
     for ops in registers {
-        findings.push(found(alloc, lines, ops, bounds)?)?;
+        findings.push(finding_of(alloc, lines, ops, bounds)?)?;
     }
     Ok(findings)
 }

@@ -1,4 +1,4 @@
-//! How a run goes about its work.
+//! How many workers a run has, and how far its search may go.
 ghost use Rattle.std.specs.Prelude.{◌≡◌, ◌≤◌, None, Some};
 
 use cas_search::Bounds;

@@ -14,7 +14,7 @@ loop-place-init g c = record {
 
 pub loop-place-preserved : goal.loop-place-preserved
 loop-place-preserved g c =
-    let after = c.in_ok-over.ensures in
+    let after = c.in_ok-step_over.ensures in
     record {
       table = after.table;
       held = after.held;
@@ -22,15 +22,15 @@ loop-place-preserved g c =
       covers = λ whole.
           let all = c.are_both-whole.ensures whole in
           more_covers c.args.table.now.ops.items c.args.events.now c.loop-place.place _ c.loop-place.table
-          c.over.new.table c.loop-place.now c.over.new.now c.loop-place-test.true (after.step all.1)
+          c.step_over.new.table c.loop-place.now c.step_over.new.now c.loop-place-test.true (after.step all.1)
           (c.loop-place.invariant.covers all.0);
     }
 
-pub returns-then-is_none : goal.returns-then-is_none
-returns-then-is_none g c = λ in_order alive.
+pub returns-then-is_hopeless : goal.returns-then-is_hopeless
+returns-then-is_hopeless g c = λ in_order alive.
     let all = c.are_both-whole.ensures c.if-not-whole.false in
-    none_left c.args.table.now.ops.items c.args.events.now c.loop-place.place c.over.new.table c.over.new.now
-    (c.is_none.ensures c.if-is_none.true)
+    none_left c.args.table.now.ops.items c.args.events.now c.loop-place.place c.step_over.new.table
+    c.step_over.new.now (c.is_hopeless.ensures c.if-is_hopeless.true)
     (more_covers c.args.table.now.ops.items c.args.events.now c.loop-place.place _ c.loop-place.table
-    c.over.new.table c.loop-place.now c.over.new.now c.loop-place-test.true
-    (c.in_ok-over.ensures.step all.1) (c.loop-place.invariant.covers all.0)) in_order alive
+    c.step_over.new.table c.loop-place.now c.step_over.new.now c.loop-place-test.true
+    (c.in_ok-step_over.ensures.step all.1) (c.loop-place.invariant.covers all.0)) in_order alive

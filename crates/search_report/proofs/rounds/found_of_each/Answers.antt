@@ -9,8 +9,8 @@ loop-ops-preserved c =
     let l = c.loop-ops in
     let ops = c.ops-item.result in
     one-finding-more c.args.lines.now c.args.registers.now l.findings.items c.push.new.self.items l.ops-index
-    ops c.in_ok-found.field-0
+    ops c.in_ok-finding_of.field-0
     (slice_get_read c.args.registers.now (length c.args.registers.now) l.ops-index ops refl
     c.loop-ops-test.true c.ops-item.is) l.invariant
-    (subst (λ xs. IsFinding c.args.lines.now xs c.in_ok-found.field-0) c.deref.ensures.value
-    c.in_ok-found.ensures) c.in_ok-push.ensures.items
+    (subst (λ xs. IsFinding c.args.lines.now xs c.in_ok-finding_of.field-0) c.deref.ensures.value
+    c.in_ok-finding_of.ensures) c.in_ok-push.ensures.items

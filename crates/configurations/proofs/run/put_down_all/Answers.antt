@@ -4,7 +4,7 @@ use Rattle.std.proofs.lemmas.Option.{slice_get_read, slice_get_within}
 use Rattle.configurations.specs.Configs.{GoesBy, free_of, owed_by}
 use Rattle.configurations.specs.Tables.{call_at}
 use Rattle.configurations.proofs.Replying.{none_apart, still_goes}
-use Rattle.configurations.proofs.run.thin.Goals as goal
+use Rattle.configurations.proofs.run.put_down_all.Goals as goal
 
 pub loop-i-init : goal.loop-i-init
 loop-i-init g c = record {

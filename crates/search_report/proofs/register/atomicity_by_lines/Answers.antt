@@ -3,7 +3,7 @@ use Rattle.cas_search.specs.Timeline.{operations_at}
 use Rattle.cas_search.specs.Verdicts.{IsVerdict}
 use Rattle.search_report.specs.Meaning.{line_at, lines_of}
 use Rattle.search_report.proofs.Told.{order-told, no-told}
-use Rattle.search_report.proofs.register.told.Goals as goal
+use Rattle.search_report.proofs.register.atomicity_by_lines.Goals as goal
 
 pub returns-in_ok-lines_of_times-in-Yes : goal.returns-in_ok-lines_of_times-in-Yes
 returns-in_ok-lines_of_times-in-Yes c = λ r timed first verdict.

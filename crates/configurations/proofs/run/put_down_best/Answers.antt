@@ -1,5 +1,5 @@
 use Rattle.configurations.proofs.Replying.{none_apart}
-use Rattle.configurations.proofs.run.narrow.Goals as goal
+use Rattle.configurations.proofs.run.put_down_best.Goals as goal
 
 pub loop-at-init : goal.loop-at-init
 loop-at-init g c =

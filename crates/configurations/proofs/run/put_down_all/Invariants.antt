@@ -2,7 +2,7 @@ use Rattle.std.proofs.Common.{ℕ, ◌≡◌, ◌≤◌, ◌-◌, slice_get, Som
 use Rattle.configurations.specs.declared.config.Config.{Config}
 use Rattle.configurations.specs.Configs.{AreApart, GoesBy, free_of, owed_by}
 use Rattle.configurations.specs.Tables.{call_at}
-use Rattle.configurations.proofs.run.thin.Given as goal
+use Rattle.configurations.proofs.run.put_down_all.Given as goal
 
 abbrev pub invariant-loop-i : goal.invariant-loop-i
 invariant-loop-i g l = record {
