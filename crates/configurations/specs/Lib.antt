@@ -1,6 +1,6 @@
 pub mod Ops
 pub mod Runs
-pub mod Found
+pub mod Reached
 pub mod Use
 pub mod Tables
 pub mod Configs

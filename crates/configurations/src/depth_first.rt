@@ -5,11 +5,11 @@
 //! Looks take effect as soon as a value suits them. Then changes that reply are tried, the
 //! earliest call first, and then those that don't.
 ghost use Rattle.std.specs.Prelude.{[], IfOk};
-ghost use Rattle.configurations.specs.Found.{IsFound};
+ghost use Rattle.configurations.specs.Reached.{IsReached};
 ghost use Rattle.configurations.specs.Runs.{AreInOrder};
 
 use crate::bounds::Bound;
-use crate::found::{Found, Taken};
+use crate::reached::{Reached, Taken};
 use crate::links::{HEAD, Links};
 use crate::moment::Moment;
 use crate::op::{NEVER, Op, left, looks, suits};
@@ -78,8 +78,8 @@ pub(crate) fn depth_first(
     ops: &[Op],
     events: &[Moment],
     limits: &mut Limits,
-) -> Result<Found, AllocError>
-    ensures { IfOk result (λ found. AreInOrder ops.now [] events.now → IsFound ops.now events.now found) }
+) -> Result<Reached, AllocError>
+    ensures { IfOk result (λ found. AreInOrder ops.now [] events.now → IsReached ops.now events.now found) }
 {
     let count = events.len();
     let steps = (count as u64)
@@ -89,7 +89,7 @@ pub(crate) fn depth_first(
     let mut walk = Walk::new(alloc, ops, events)?;
     for _ in 0..steps {
         if walk.left == 0 {
-            return Ok(Found::Left(walk.changes(alloc, ops)?));
+            return Ok(Reached::Left(walk.changes(alloc, ops)?));
         }
         limits.steps = limits.steps.saturating_sub(1);
         walk.note_fewest();
@@ -97,7 +97,7 @@ pub(crate) fn depth_first(
             break;
         }
     }
-    Ok(Found::Stopped(Bound::Steps))
+    Ok(Reached::Stopped(Bound::Steps))
 }
 
 impl Walk {

@@ -1,11 +1,11 @@
 //! Operations that can do more: a cas without a reply may take effect at any value, as a write.
 ghost use Rattle.std.specs.Prelude.{◌≡◌, ◌<◌, ◌*◌, ◌^◌, [], map, IfOk};
 ghost use Rattle.configurations.specs.Eased.{ease};
-ghost use Rattle.configurations.specs.Found.{IsFound};
+ghost use Rattle.configurations.specs.Reached.{IsReached};
 ghost use Rattle.configurations.specs.Runs.{AreInOrder};
 
 use crate::bounds::Bound;
-use crate::found::Found;
+use crate::reached::Reached;
 use crate::moment::Moment;
 use crate::op::{Kind, NEVER, Op};
 use crate::run::run;
@@ -18,15 +18,15 @@ pub(crate) fn eased_run<const W: usize>(
     ops: &[Op],
     events: &[Moment],
     limits: &mut Limits,
-) -> Result<Found, AllocError>
+) -> Result<Reached, AllocError>
     requires room { 64 * W < 2 ^ 32 }
-    ensures { IfOk result (λ found. AreInOrder ops.now [] events.now → IsFound ops.now events.now found) }
+    ensures { IfOk result (λ found. AreInOrder ops.now [] events.now → IsReached ops.now events.now found) }
 {
     let eased = all_eased(alloc, ops)?;
     match run::<W>(alloc, &eased, events, limits)? {
-        Found::Hopeless { place, before } => Ok(Found::Hopeless { place, before }),
-        Found::Left(_) => Ok(Found::Stopped(Bound::Configurations)),
-        Found::Stopped(bound) => Ok(Found::Stopped(bound)),
+        Reached::Hopeless { place, before } => Ok(Reached::Hopeless { place, before }),
+        Reached::Left(_) => Ok(Reached::Stopped(Bound::Configurations)),
+        Reached::Stopped(bound) => Ok(Reached::Stopped(bound)),
     }
 }
 

@@ -1,10 +1,10 @@
 //! The operations of a register, with sets as wide as its open calls need.
 ghost use Rattle.std.specs.Prelude.{[], IfOk};
-ghost use Rattle.configurations.specs.Found.{IsFound};
+ghost use Rattle.configurations.specs.Reached.{IsReached};
 ghost use Rattle.configurations.specs.Runs.{AreInOrder};
 
 use crate::bounds::{Bound, Bounds};
-use crate::found::Found;
+use crate::reached::Reached;
 use crate::moment::Moment;
 use crate::op::{NEVER, Op, looks};
 use crate::stages::in_stages;
@@ -26,15 +26,15 @@ pub fn go_forward(
     events: &[Moment],
     values: usize,
     bounds: Bounds,
-) -> Result<Found, AllocError>
-    ensures { IfOk result (λ found. AreInOrder ops.now [] events.now → IsFound ops.now events.now found) }
+) -> Result<Reached, AllocError>
+    ensures { IfOk result (λ found. AreInOrder ops.now [] events.now → IsReached ops.now events.now found) }
 {
     let words = words_for(most_open(ops, events)).min(MAX_WIDTH);
     let most = bounds
         .configurations
         .saturating_mul(WORDS_PER_CONFIGURATION);
     if words.saturating_mul(values) > most {
-        return Ok(Found::Stopped(Bound::Configurations));
+        return Ok(Reached::Stopped(Bound::Configurations));
     }
     let limits = Limits {
         values,
@@ -53,7 +53,7 @@ pub fn go_forward(
         64 => in_stages::<64>(alloc, ops, events, limits),
         128 => in_stages::<128>(alloc, ops, events, limits),
         256 => in_stages::<256>(alloc, ops, events, limits),
-        _ => Ok(Found::Stopped(Bound::Configurations)),
+        _ => Ok(Reached::Stopped(Bound::Configurations)),
     }
 }
 

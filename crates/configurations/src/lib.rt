@@ -13,7 +13,7 @@
 //! for is dropped. Each rule is a function with a contract of its own, and could be left out: `stands_for`,
 //! `is_of_use` with `freeing`, `is_led` with `has_elder`, and the looks in `offspring` and `with_call`.
 //!
-//! Read it in this order: `op` and `moment`; `bounds`, `found` and `work`; `table`, the open calls; `config`;
+//! Read it in this order: `op` and `moment`; `bounds`, `reached` and `work`; `table`, the open calls; `config`;
 //! `call` and `reply`, one event; `thrift` and `run`, all of them; `eased` and `depth_first` (with `links`
 //! and `tried`), other ways to go; `stages` and `forward`.
 #![tactic(auto)]
@@ -24,7 +24,7 @@ mod config;
 mod depth_first;
 mod eased;
 mod forward;
-mod found;
+mod reached;
 mod links;
 mod moment;
 mod op;
@@ -38,6 +38,6 @@ mod work;
 
 pub use bounds::{Bound, Bounds, MAX_CONFIGURATIONS, MAX_STEPS};
 pub use forward::go_forward;
-pub use found::{Found, Taken};
+pub use reached::{Reached, Taken};
 pub use moment::Moment;
 pub use op::{Kind, NEVER, Op};

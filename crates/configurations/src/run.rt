@@ -1,7 +1,7 @@
 //! One run over all events.
 ghost use Rattle.std.specs.Prelude.{◌≡◌, ◌<◌, ◌*◌, ◌^◌, [], true, false, IsTrue, IfOk, ℕ};
 ghost use Rattle.configurations.specs.Configs.{AreApart, AreHeld, IsBegun, IsFirst, IsOver};
-ghost use Rattle.configurations.specs.Found.{IsFound};
+ghost use Rattle.configurations.specs.Reached.{IsReached};
 ghost use Rattle.configurations.specs.Runs.{AreInOrder};
 ghost use Rattle.configurations.specs.Tables.{IsTable};
 ghost use Rattle.configurations.specs.declared.moment.Moment.TheVariants.{Reply as AReply};
@@ -10,7 +10,7 @@ ghost use Rattle.slot_sets.specs.Sets.{has};
 use crate::bounds::Bound;
 use crate::call::over_call;
 use crate::config::{Config, Configs};
-use crate::found::Found;
+use crate::reached::Reached;
 use crate::moment::Moment;
 use crate::op::Op;
 use crate::reply::{Lists, put_down};
@@ -28,9 +28,9 @@ pub(crate) fn run<const W: usize>(
     ops: &[Op],
     events: &[Moment],
     limits: &mut Limits,
-) -> Result<Found, AllocError>
+) -> Result<Reached, AllocError>
     requires room { 64 * W < 2 ^ 32 }
-    ensures { IfOk result (λ found. AreInOrder ops.now [] events.now → IsFound ops.now events.now found) }
+    ensures { IfOk result (λ found. AreInOrder ops.now [] events.now → IsReached ops.now events.now found) }
 {
     let mut table = Table::<W>::new(alloc, ops, limits.values)?;
     let mut now = first(alloc, limits.values)?;
@@ -43,7 +43,7 @@ pub(crate) fn run<const W: usize>(
     limits.steps = lists.spent.steps_left();
     match found {
         Ok(found) => Ok(found),
-        Err(Stop::Bound(bound)) => Ok(Found::Stopped(bound)),
+        Err(Stop::Bound(bound)) => Ok(Reached::Stopped(bound)),
         Err(Stop::Memory) => Err(AllocError),
     }
 }
@@ -55,12 +55,12 @@ fn search<const W: usize>(
     now: &mut Configs<W>,
     events: &[Moment],
     lists: &mut Lists<W>,
-) -> Result<Found, Stop>
+) -> Result<Reached, Stop>
     requires table { IsTable table.old }
     requires none { (q : ℕ) → has table.old.used q ≡ false }
     requires first { IsFirst now.old }
     ensures { IfOk result (λ found.
-        AreInOrder table.old.ops.items [] events.now → IsFound table.old.ops.items events.now found) }
+        AreInOrder table.old.ops.items [] events.now → IsReached table.old.ops.items events.now found) }
 {
     let mut whole = true;
     for (place, event) in events.iter().enumerate() {
@@ -72,11 +72,11 @@ fn search<const W: usize>(
                 return Err(Stop::Bound(Bound::Configurations));
             }
             let before = lists.spent.changes_to(last)?;
-            return Ok(Found::Hopeless { place, before });
+            return Ok(Reached::Hopeless { place, before });
         }
     }
     let last = last_move(now);
-    Ok(Found::Left(lists.spent.changes_to(last)?))
+    Ok(Reached::Left(lists.spent.changes_to(last)?))
 }
 
 /// Whether both are true.

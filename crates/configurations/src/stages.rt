@@ -1,13 +1,13 @@
 //! The stages of a search. No contract depends on this table: a no counts only if
 //! nothing was let go, and a yes is checked.
 ghost use Rattle.std.specs.Prelude.{◌<◌, ◌*◌, ◌^◌, [], IfOk};
-ghost use Rattle.configurations.specs.Found.{IsFound};
+ghost use Rattle.configurations.specs.Reached.{IsReached};
 ghost use Rattle.configurations.specs.Runs.{AreInOrder};
 
 use crate::bounds::Bound;
 use crate::depth_first::depth_first;
 use crate::eased::eased_run;
-use crate::found::Found;
+use crate::reached::Reached;
 use crate::moment::Moment;
 use crate::op::{NEVER, Op, looks};
 use crate::run::run;
@@ -77,9 +77,9 @@ pub(crate) fn in_stages<const W: usize>(
     ops: &[Op],
     events: &[Moment],
     limits: Limits,
-) -> Result<Found, AllocError>
+) -> Result<Reached, AllocError>
     requires room { 64 * W < 2 ^ 32 }
-    ensures { IfOk result (λ found. AreInOrder ops.now [] events.now → IsFound ops.now events.now found) }
+    ensures { IfOk result (λ found. AreInOrder ops.now [] events.now → IsReached ops.now events.now found) }
 {
     let mut limits = limits;
     if !has_unanswered_changes(ops) {
@@ -88,11 +88,11 @@ pub(crate) fn in_stages<const W: usize>(
     let mut bound = Bound::Steps;
     for stage in STAGES {
         match run_stage::<W>(alloc, ops, events, stage, &mut limits)? {
-            Found::Stopped(met) => bound = met,
+            Reached::Stopped(met) => bound = met,
             found => return Ok(found),
         }
     }
-    Ok(Found::Stopped(bound))
+    Ok(Reached::Stopped(bound))
 }
 
 /// Whether some changes have no reply.
@@ -107,9 +107,9 @@ fn run_stage<const W: usize>(
     events: &[Moment],
     stage: Stage,
     limits: &mut Limits,
-) -> Result<Found, AllocError>
+) -> Result<Reached, AllocError>
     requires room { 64 * W < 2 ^ 32 }
-    ensures { IfOk result (λ found. AreInOrder ops.now [] events.now → IsFound ops.now events.now found) }
+    ensures { IfOk result (λ found. AreInOrder ops.now [] events.now → IsReached ops.now events.now found) }
 {
     let share = share_of(stage, limits.steps);
     let mut own = Limits {

@@ -2,7 +2,7 @@
 ghost use Rattle.std.specs.Prelude.{◌≤◌, length};
 
 use crate::part::Shown;
-use crate::zones::{Found, ask_zones};
+use crate::zones::{ByZones, ask_zones};
 use cas_model::Operation;
 use cas_search::Moment;
 use std::alloc::{AllocError, Global};
@@ -37,15 +37,15 @@ pub(crate) fn first_fault(
         return Ok(None);
     };
     match ask_zones(alloc, ops, before)? {
-        Found::Order(order) => Ok(replied(events, order, shown)),
-        Found::Fault(shown) => {
+        ByZones::Order(order) => Ok(replied(events, order, shown)),
+        ByZones::Fault(shown) => {
             let fine = Fine {
                 count: 0,
                 order: Vec::new(alloc),
             };
             halved(alloc, ops, before, fine, shown)
         }
-        Found::Nothing => Ok(None),
+        ByZones::Nothing => Ok(None),
     }
 }
 
@@ -88,15 +88,15 @@ fn halved(
     }
     let middle = fine.count + left / 2;
     match ask_zones(alloc, ops, &events[..middle])? {
-        Found::Order(order) => {
+        ByZones::Order(order) => {
             let fine = Fine {
                 count: middle,
                 order,
             };
             halved(alloc, ops, events, fine, shown)
         }
-        Found::Fault(shown) => halved(alloc, ops, &events[..middle], fine, shown),
-        Found::Nothing => Ok(None),
+        ByZones::Fault(shown) => halved(alloc, ops, &events[..middle], fine, shown),
+        ByZones::Nothing => Ok(None),
     }
 }
 

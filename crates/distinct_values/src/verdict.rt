@@ -8,7 +8,7 @@ ghost use Rattle.distinct_values.specs.SomeOperations.{ArePlain};
 use crate::distinct::has_distinct_values;
 use crate::first::{FirstFault, first_fault};
 use crate::part::{Shown, part_of};
-use crate::zones::{Found, ask_zones};
+use crate::zones::{ByZones, ask_zones};
 use cas_model::Operation;
 use cas_search::{Bound, Bounds, Moment, Verdict, check_order, legal_before, reply_time, timeline};
 use std::alloc::{AllocError, Global};
@@ -77,9 +77,9 @@ fn by_zones(
         → IsVerdict r ops.now verdict) }
 {
     match ask_zones(alloc, ops, events)? {
-        Found::Order(order) => checked(alloc, ops, order, bound),
-        Found::Fault(shown) => at_first_fault(alloc, ops, events, shown, bound),
-        Found::Nothing => Ok(Verdict::Unknown(bound)),
+        ByZones::Order(order) => checked(alloc, ops, order, bound),
+        ByZones::Fault(shown) => at_first_fault(alloc, ops, events, shown, bound),
+        ByZones::Nothing => Ok(Verdict::Unknown(bound)),
     }
 }
 

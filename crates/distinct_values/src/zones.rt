@@ -12,7 +12,7 @@ use std::alloc::{AllocError, Global};
 
 /// What zones found.
 #[derive(Debug, Drop)]
-pub(crate) enum Found {
+pub(crate) enum ByZones {
     /// An order of the operations, by their places. The initial write, which comes first, is left out.
     Order(Vec<u32>),
     /// A fault.
@@ -26,13 +26,13 @@ pub(crate) fn ask_zones(
     alloc: Global,
     ops: &[Operation],
     events: &[Moment],
-) -> Result<Found, AllocError> {
+) -> Result<ByZones, AllocError> {
     let Some(lines) = lines_of(alloc, ops, events)? else {
-        return Ok(Found::Nothing);
+        return Ok(ByZones::Nothing);
     };
     match Arena::build(alloc, lines) {
         Ok(arena) => judged(alloc, ops, events, &arena),
-        Err(BuildError::Refused(_)) => Ok(Found::Nothing),
+        Err(BuildError::Refused(_)) => Ok(ByZones::Nothing),
         Err(BuildError::Memory) => Err(AllocError),
     }
 }
@@ -43,12 +43,12 @@ fn judged(
     ops: &[Operation],
     events: &[Moment],
     arena: &Arena,
-) -> Result<Found, AllocError> {
+) -> Result<ByZones, AllocError> {
     if arena.register_count() == 0 {
-        return Ok(Found::Nothing);
+        return Ok(ByZones::Nothing);
     }
     match order_or_fault(alloc, arena, RegId(0))? {
-        Ok(order) => Ok(Found::Order(places_of(alloc, events, &order)?)),
+        Ok(order) => Ok(ByZones::Order(places_of(alloc, events, &order)?)),
         Err(fault) => faulty(alloc, ops, events, fault),
     }
 }
@@ -83,7 +83,7 @@ fn faulty(
     ops: &[Operation],
     events: &[Moment],
     fault: Fault,
-) -> Result<Found, AllocError> {
+) -> Result<ByZones, AllocError> {
     let (writes, first, second) = match fault {
         Fault::Unwritten { read } => ((read, read), (read, read), (read, read)),
         Fault::Early { read, write } => ((read, write), (read, read), (read, read)),
@@ -99,7 +99,7 @@ fn faulty(
             calls.push(op.call)?;
         }
     }
-    Ok(Found::Fault(Shown {
+    Ok(ByZones::Fault(Shown {
         one: value_of(ops, events, writes.0),
         other: value_of(ops, events, writes.1),
         calls,

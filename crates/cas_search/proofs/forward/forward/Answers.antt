@@ -1,5 +1,5 @@
 use Rattle.std.proofs.Common.{[], sym, subst}
-use Rattle.configurations.specs.Found.{IsFound}
+use Rattle.configurations.specs.Reached.{IsReached}
 use Rattle.configurations.specs.Runs.{AreInOrder}
 use Rattle.cas_search.specs.ByNumbers.{AreByNumbers}
 use Rattle.cas_search.proofs.Beginnings.{found-hopeless}
@@ -13,5 +13,5 @@ returns-in-Hopeless c =
     let same = subst (AreByNumbers ops) (sym c.deref.ensures.value) c.in_ok-numbered.ensures in
     let none =
     subst (λ found. AreInOrder numbered [] events
-    → IsFound numbered events found) c.in-Hopeless.is c.in_ok-place.ensures in
+    → IsReached numbered events found) c.in-Hopeless.is c.in_ok-place.ensures in
     found-hopeless ops events numbered c.in-Hopeless.place c.hopeless.result same none c.hopeless.ensures

@@ -10,7 +10,7 @@ pub struct Taken {
 
 /// What came of going forward.
 #[derive(Debug, PartialEq, Drop)]
-pub enum Found {
+pub enum Reached {
     /// No configuration is left after the reply at this place. `before` has the changes that took effect in
     /// one that was left just before it; none that can be relied on if operations were eased.
     Hopeless { place: usize, before: Vec<Taken> },
