@@ -13,9 +13,9 @@
 //! for is dropped. Each rule is a function with a contract of its own, and could be left out: `stands_for`,
 //! `is_of_use` with `freeing`, `is_led` with `has_elder`, and the looks in `offspring` and `with_call`.
 //!
-//! Read it in this order: `op` and `moment`; `bounds`, `reached` and `work`; `table`, the open calls; `config`;
-//! `call` and `reply`, one event; `thrift` and `run`, all of them; `eased` and `depth_first` (with `links`
-//! and `tried`), other ways to go; `stages` and `forward`.
+//! Read it in this order: `op` and `moment`; `bounds`, `reached` and `work`; `table`, the open calls;
+//! `config`; `call` and `reply`, one event; `thrift` and `run`, all of them; `eased` and `depth_first` (with
+//! `links` and `tried`), other ways to go; `stages` and `forward`.
 #![tactic(auto)]
 
 mod bounds;
