@@ -9,10 +9,10 @@ ghost use Rattle.configurations.specs.Reached.{IsReached};
 ghost use Rattle.configurations.specs.Runs.{AreInOrder};
 
 use crate::bounds::Bound;
-use crate::reached::{Reached, Taken};
 use crate::links::{HEAD, Links};
 use crate::moment::Moment;
 use crate::op::{NEVER, Op, left, looks, suits};
+use crate::reached::{Reached, Taken};
 use crate::tried::Tried;
 use crate::work::Limits;
 use std::alloc::{AllocError, Global};

@@ -5,9 +5,9 @@ ghost use Rattle.configurations.specs.Reached.{IsReached};
 ghost use Rattle.configurations.specs.Runs.{AreInOrder};
 
 use crate::bounds::Bound;
-use crate::reached::Reached;
 use crate::moment::Moment;
 use crate::op::{Kind, NEVER, Op};
+use crate::reached::Reached;
 use crate::run::run;
 use crate::work::Limits;
 use std::alloc::{AllocError, Global};

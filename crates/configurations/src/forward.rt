@@ -4,9 +4,9 @@ ghost use Rattle.configurations.specs.Reached.{IsReached};
 ghost use Rattle.configurations.specs.Runs.{AreInOrder};
 
 use crate::bounds::{Bound, Bounds};
-use crate::reached::Reached;
 use crate::moment::Moment;
 use crate::op::{NEVER, Op, looks};
+use crate::reached::Reached;
 use crate::stages::in_stages;
 use crate::work::Limits;
 use std::alloc::{AllocError, Global};

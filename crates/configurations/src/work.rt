@@ -1,6 +1,6 @@
 //! What a search spends, and which calls it let take effect.
 use crate::bounds::Bound;
-use crate::found::Taken;
+use crate::reached::Taken;
 use std::alloc::{AllocError, AllocFailed, Global};
 use thiserror::Error;
 

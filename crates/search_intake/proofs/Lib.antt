@@ -1,4 +1,3 @@
 pub mod Pulling
 pub mod Taking
 pub mod Walking
-pub 
