@@ -32,7 +32,8 @@ pub fn both_mut<R: Threads, F: FnMut() -> X + Send, G: FnMut() -> Y, X: Send, Y>
     join_mut(rt, first, second)
 }
 
-/// What the closure makes of each job, in order. Each job has a thread of its own, if one can be started.
+/// What the closure makes of each job, in order. The calling thread does one; each other has a thread of its
+/// own, if one can be started.
 ///
 /// # Errors
 /// Out of memory; what was made is dropped, and some jobs may have been dropped without a call.

@@ -57,7 +57,10 @@ impl Arena {
             → IsLastCall self.now k.0 k.1 result }
         ensures none { key_at by_value self.now.events id.0 ≡ None → result ≡ None }
     {
-        last_time(self.event(id).value?, self.lists.entry_of(id))
+        match self.event(id).value {
+            None => None,
+            Some(value) => last_time(value, self.lists.entry_of(id)),
+        }
     }
 
     /// `first_reply` of the register and value of an event, with no
@@ -68,7 +71,10 @@ impl Arena {
             → IsFirstReply self.now k.0 k.1 result }
         ensures none { key_at by_value self.now.events id.0 ≡ None → result ≡ None }
     {
-        reply_time(self.event(id).value?, self.lists.entry_of(id))
+        match self.event(id).value {
+            None => None,
+            Some(value) => reply_time(value, self.lists.entry_of(id)),
+        }
     }
 }
 
