@@ -270,8 +270,8 @@ class Surroundings(unittest.TestCase):
         others = [read(process) for process in range(20, 33)]
         page = explained([*INVERSION[:5], *others, *INVERSION[5:]], row(zones([1, 3], [1, 4], [4, 19])))
         self.assertIn("8 other calls of this register.", page)
-        self.assertIn("No other call of this "
-                      "register.", explained(FAILED, row({"kind": "unwritten", "read": 3})))
+        alone = explained(FAILED, row({"kind": "unwritten", "read": 3}))
+        self.assertIn("No other call of this register.", alone)
 
     def test_the_write_of_a_value(self) -> None:
         page = explained(INVERSION, row(zones([1, 3], [1, 4], [4, 6])))

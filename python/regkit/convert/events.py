@@ -138,7 +138,6 @@ class _Log:
         called.answer = event.get("value") if told and not found_nothing else None
         return ending
 
-
     def _cas_reply(self, event: Event, line: int) -> Optional[str]:
         """How a cas ended that got a reply."""
         ending, _ = self.outcomes.of(event, False)

@@ -114,10 +114,9 @@ class Rows:
         if self.choices.outcomes and folded(word) in self.choices.outcomes:
             return ENDINGS[self.choices.outcomes[folded(word)]]
         if word.lower() not in OUTCOMES:
-            raise Refused(f"the outcome is {word}, and ok, fail, unknown or info is expected, or missed: "
-                          "say what it "
-                          f"means with --outcomes {shlex.quote(word + '=unknown')} (or ok, or fail, if it "
-                          "certainly had no effect), or which column is the outcome with --columns "
+            raise Refused(f"the outcome is {word}, and ok, fail, unknown or info is expected, or missed: say "
+                          f"what it means with --outcomes {shlex.quote(word + '=unknown')} (or ok, or fail, "
+                          "if it certainly had no effect), or which column is the outcome with --columns "
                           "outcome=NAME", row.line)
         if outcome is not None and not word:
             self.empty = self.empty or row.line

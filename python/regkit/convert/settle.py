@@ -68,9 +68,8 @@ def _settle_kind(operation: Operation, keeps_cas: bool) -> None:
         pass
     elif operation.kind == CAS:
         raise Refused("cas reads and writes at once, and by --cas refuse only reads and writes are taken: "
-                      "keep "
-                      "it for regsearch with --cas keep, leave it out of the workload, or leave out the keys "
-                      "that it touches with --cas skip-key", operation.line)
+                      "keep it for regsearch with --cas keep, leave it out of the workload, or leave out the "
+                      "keys that it touches with --cas skip-key", operation.line)
     elif operation.kind in READ_AND_WRITE:
         raise Refused(f"{operation.kind} reads and writes at once, and a register has reads, writes and cas "
                       f"only: leave {operation.kind} out of the workload, leave out the keys that it touches "
@@ -83,9 +82,9 @@ def _settle_kind(operation: Operation, keeps_cas: bool) -> None:
         option = f"--ops {shlex.quote(operation.kind + '=')}"
         raise Refused(f"{operation.kind} is no word for a read ({', '.join(sorted(READS))}) or a write "
                       f"({', '.join(sorted(WRITES))}) or a cas: say {option}read or {option}write or "
-                      f"{option}cas "
-                      f"if it is one, leave out the keys that it touches with {option}other --cas skip-key, "
-                      "or check queues, sets and counters with Knossos or Porcupine", operation.line)
+                      f"{option}cas if it is one, leave out the keys that it touches with {option}other "
+                      "--cas skip-key, or check queues, sets and counters with Knossos or Porcupine",
+                      operation.line)
 
 
 def _settle_ending(operation: Operation) -> None:
@@ -118,10 +117,9 @@ def _settle_cas(operation: Operation, read_value: Callable[[Any], Value], form: 
     if answered is None or tuple(map(read_value, answered)) != (operation.expected, operation.value):
         name = WRITE_ANSWERS[form]
         raise Refused(f"the reply of a cas has the value {edn.write(operation.answer)[:60]}, which isn't "
-                      "that "
-                      f"of its call, at line {operation.line}: say --ok-when {name}=WORD,.. with the words "
-                      f"by which the cas took place, or --ignore-member {name} if what a cas answers means "
-                      "nothing", operation.end_line)
+                      f"that of its call, at line {operation.line}: say --ok-when {name}=WORD,.. with the "
+                      f"words by which the cas took place, or --ignore-member {name} if what a cas answers "
+                      "means nothing", operation.end_line)
 
 
 def _halves(value: Any) -> Optional[tuple[Any, Any]]:

@@ -84,7 +84,6 @@ class Marks:
         marks.named = {line: operation for line, operation in self.named.items() if line}
         return marks
 
-
     def of(self, calls: list[Operation], loose: set[int]) -> "Marks":
         """The same for a picture of a few of the calls, some of whose replies needn't count."""
         marks = Marks()

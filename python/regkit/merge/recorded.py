@@ -8,8 +8,6 @@ from regkit.words.quoting import quoted
 
 NO_TIME = ("has no `time` in whole nanoseconds: record with a clock, as in "
            "Recorder(\"history.jsonl\", clock=time.monotonic_ns)")
-
-
 _ENCODER = json.JSONEncoder(ensure_ascii=False, separators=(",", ":"))
 
 
