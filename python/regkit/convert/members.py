@@ -13,8 +13,9 @@ from collections import Counter
 from typing import Any, Iterable, Iterator, Mapping, NamedTuple, Optional
 
 from regkit.convert import edn
-from regkit.convert.model import ENDINGS, Choices, Refused, counted, folded
+from regkit.convert.model import ENDINGS, Choices, Refused, folded
 from regkit.convert.values import spelled
+from regkit.words.phrases import counted
 
 # By form, and for Porcupine by place, the members that its reader understands.
 UNDERSTOOD: dict[str, frozenset[str]] = {

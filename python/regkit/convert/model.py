@@ -53,11 +53,6 @@ class Operation:
         self.node = ""  # that was asked, if the source says which
 
 
-def counted(number: int, what: str) -> str:
-    """A number of things, in words."""
-    return f"{number:,} {what}" if number == 1 else f"{number:,} {what}s"
-
-
 class Choices(NamedTuple):
     """What the command line says of a source. Its words for operations, outcomes and members are folded."""
 

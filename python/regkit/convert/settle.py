@@ -6,8 +6,9 @@ from typing import Any, Callable, Optional
 from regkit.convert import edn
 from regkit.convert.members import WRITE_ANSWERS
 from regkit.convert.model import (CAS, OTHER, READ_AND_WRITE, READS, WRITES, Choices, Operation, Refused,
-                                  Source, Value, counted)
+                                  Source, Value)
 from regkit.convert.values import ALL_TEXTS, bare, readable, settled, shown
+from regkit.words.phrases import counted
 
 _OPAQUE = frozenset({"object", "error"})  # tags of values that can't be compared by how they are written
 

@@ -13,8 +13,9 @@ from typing import Any, Iterable, Iterator, Optional
 
 from regkit.convert.json_values import json_values
 from regkit.convert.members import Known
-from regkit.convert.model import Choices, Refused, Source, WrongWords, counted
+from regkit.convert.model import Choices, Refused, Source, WrongWords
 from regkit.convert.rows import ABSENT, Row, Rows
+from regkit.words.phrases import counted
 
 PLAIN_COLUMNS = ("process", "start", "end", "register", "op", "value", "outcome")
 CAS_COLUMNS = ("from", "to", "ok")  # which only a cas has

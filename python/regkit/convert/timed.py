@@ -11,7 +11,8 @@ say.
 from typing import Any, Optional
 
 from regkit.convert.clock import Clock, Time
-from regkit.convert.model import Choices, Operation, Refused, Source, counted
+from regkit.convert.model import Choices, Operation, Refused, Source
+from regkit.words.phrases import counted
 
 
 class Timed:

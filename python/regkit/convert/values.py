@@ -54,10 +54,15 @@ def initial_value(word: str, form: str, alike: bool = False) -> Value:
         return None
     value: Any = word
     if re.fullmatch(r':[^\s,"]+|"(?:[^"\\]|\\.)*"', word):
-        return settled(next(edn.values([word]))[1], frozenset(), alike=alike)
+        return settled(unsettled(word), frozenset(), alike=alike)
     if word in ("true", "false") and form not in ALL_TEXTS:
         value = word == "true"
     return settled(value, frozenset(), True, alike)
+
+
+def unsettled(value: Value) -> Any:
+    """A settled value as its source has it: a text is EDN."""
+    return next(edn.values([value]))[1] if type(value) is str else value
 
 
 def readable(texts: Iterable[str]) -> dict[str, str]:
@@ -73,7 +78,7 @@ def readable(texts: Iterable[str]) -> dict[str, str]:
 def _unquoted(text: str) -> str:
     if text[0] != '"' or text == '""':
         return text
-    return str(next(edn.values([text]))[1]) if "\\" in text else text[1:-1]
+    return str(unsettled(text)) if "\\" in text else text[1:-1]
 
 
 class _Numbers:
