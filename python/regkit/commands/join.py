@@ -6,6 +6,7 @@ from typing import NamedTuple, Sequence
 from regkit.base.limits import MAX_EVENTS
 from regkit.base.statuses import ExitStatus
 from regkit.checker.programs import CHECK, SEARCH
+from regkit.commands.stopping import complain
 from regkit.parts.folder import Manifest, NotSplit, read_manifest
 from regkit.parts.joining import (STATUSES, Answered, Outcome, RefusedPart, Unanswered, command_again,
                                   outcomes, takes_search, verdict_of, write_report)
@@ -45,7 +46,7 @@ def run(arguments: argparse.Namespace) -> int:
     try:
         manifest = read_manifest(arguments.directory)
     except NotSplit as error:
-        return failed(str(error))
+        return complain("join", str(error), ExitStatus.FAILED)
     with Progress() as progress:
         progress.step("reading the answers")
         found = list(outcomes(arguments.directory, manifest))
@@ -57,8 +58,9 @@ def run(arguments: argparse.Namespace) -> int:
     if refused is not None:
         return refuse(arguments.directory, refused)
     if manifest.stopped is not None:
-        return failed(f"the checker accepts line {manifest.stopped}, and regkit split could not read it, so "
-                      "no later line was checked. This is a defect of regkit: please report the line")
+        words = (f"the checker accepts line {manifest.stopped}, and regkit split could not read it, so no "
+                 "later line was checked. This is a defect of regkit: please report the line")
+        return complain("join", words, ExitStatus.FAILED)
     return write([each for each in found if isinstance(each, Answered)], manifest, arguments.order)
 
 
@@ -99,8 +101,8 @@ def refuse(directory: str, refused: RefusedPart) -> int:
 def write(parts: list[Answered], manifest: Manifest, order: str) -> int:
     by_search = parts[0].program == SEARCH
     if by_search and order == "always":
-        print("regkit join: a report of regsearch has no merged order: leave out --order", file=sys.stderr)
-        return ExitStatus.COMMAND_LINE
+        return complain("join", "a report of regsearch has no merged order: leave out --order",
+                        ExitStatus.COMMAND_LINE)
     with_order = order == "always" or (order == "auto" and manifest.events <= MAX_EVENTS)
     with Progress() as progress:
         progress.step("joining", len(manifest.registers))
@@ -112,9 +114,4 @@ def name_them(directory: str, parts: Sequence[Again], program: str) -> int:
     for each in parts:
         print(f"part-{each.part:03} {each.why}; run it again:", file=sys.stderr)
         print(f"  {command_again(directory, each.part, program)}", file=sys.stderr)
-    return ExitStatus.FAILED
-
-
-def failed(words: str) -> int:
-    print(f"regkit join: {words}", file=sys.stderr)
     return ExitStatus.FAILED

@@ -23,7 +23,7 @@ from regkit.convert.model import CAS, READS, WRITES, Choices, Operation, Refused
 from regkit.convert.pairing import Pairing
 from regkit.convert.rows import client_of
 from regkit.convert.settle import settle
-from regkit.convert.timed import Timed
+from regkit.convert.timed import TimedOperations
 from regkit.convert.values import spelled
 
 # Operations in Porcupine's models: the key-value model has numbers, the register says whether it is a read.
@@ -49,7 +49,7 @@ class _Values:
 
     def __init__(self, choices: Choices) -> None:
         self.choices = choices
-        self.timed = Timed()
+        self.timed = TimedOperations()
         self.pairing = Pairing()
         self.outcomes = Outcomes(choices)
         self.known = {place: Known(choices, place) for place in (

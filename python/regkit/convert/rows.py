@@ -5,7 +5,7 @@ from typing import Any, NamedTuple, Optional
 from regkit.convert.members import Known, Outcomes, ok_of
 from regkit.convert.model import CAS, ENDINGS, READS, Choices, Client, Operation, Refused, Source, folded
 from regkit.convert.settle import settle
-from regkit.convert.timed import Timed
+from regkit.convert.timed import TimedOperations
 from regkit.convert.values import settled, spelled
 
 OUTCOMES = {"ok": "ok", "fail": "fail", "unknown": "unknown", "info": "unknown", "missed": "missed", "": "ok"}
@@ -31,7 +31,7 @@ class Rows:
         self.choices = choices
         self.is_csv = choices.form == "csv"
         self.known = Known(choices, choices.form, what=what)
-        self.timed = Timed()
+        self.timed = TimedOperations()
         self.outcomes = Outcomes(choices)
         self.empty: Optional[int] = None  # the line of the first outcome that is an empty text
         self.well: Optional[int] = None  # and of the first that is ok

@@ -15,7 +15,7 @@ from regkit.convert.model import Choices, Operation, Refused, Source
 from regkit.words.phrases import counted
 
 
-class Timed:
+class TimedOperations:
     """Operations as they are read, with their times."""
 
     def __init__(self) -> None:

@@ -222,7 +222,7 @@ def advice(history: bytes, refusal: str, name: str = "-") -> str:
     for beginning, words in OF_THE_RUN.items():
         if beginning in refusal:
             return words
-    found = read_refusal(refusal, lambda line: line)
+    found = read_refusal(refusal)
     if found is None:
         return ""
     if found.number <= 3:

@@ -11,9 +11,10 @@ from typing import Any, BinaryIO, Callable, Iterator, NamedTuple, Optional, Sequ
 
 from regkit.base.statuses import ExitStatus
 from regkit.checker.programs import CHECK, SEARCH, Answer, find_program, is_for_search
-from regkit.checker.refusals import BAD_OP, REPEATED, SEARCH_TEXTS, TEXTS, Refusal, read_refusal
+from regkit.checker.refusals import (BAD_OP, REPEATED, SEARCH_TEXTS, TEXTS, Refusal, read_refusal,
+                                     same_line)
 from regkit.checker.report import Row
-from regkit.parts.folder import MAP, LineMap, Manifest, file_of, same_line
+from regkit.parts.folder import MAP, LineMap, Manifest, file_of
 
 # The keys of a register's line whose values are line numbers.
 LINE_KEYS = ("fault", "inversion", "order", "points", "regular_read", "safe_read")
