@@ -8,7 +8,7 @@ from regkit.base.statuses import ExitStatus
 from regkit.checker.programs import CHECK, SEARCH
 from regkit.commands.stopping import complain
 from regkit.parts.folder import Manifest, NotSplit, read_manifest
-from regkit.parts.joining import (STATUSES, Answered, Outcome, RefusedPart, Unanswered, command_again,
+from regkit.parts.joining import (STATUSES, Answered, PartOutcome, RefusedPart, Unanswered, command_again,
                                   outcomes, takes_search, verdict_of, write_report)
 from regkit.words.progress import Progress
 
@@ -71,7 +71,7 @@ class Again(NamedTuple):
     why: str  # as a person would go on after its name
 
 
-def to_run_again(found: Sequence[Outcome]) -> list[Again]:
+def to_run_again(found: Sequence[PartOutcome]) -> list[Again]:
     """The parts without an answer; if there are none, those of regcheck if regsearch checked others."""
     unanswered = [Again(each.part, f"has no answer: {each.why}")
                   for each in found if isinstance(each, Unanswered)]
@@ -81,11 +81,11 @@ def to_run_again(found: Sequence[Outcome]) -> list[Again]:
             if not isinstance(each, Unanswered) and each.program == CHECK]
 
 
-def programs_of(found: Sequence[Outcome]) -> list[str]:
+def programs_of(found: Sequence[PartOutcome]) -> list[str]:
     return [each.program for each in found if not isinstance(each, Unanswered) and each.program is not None]
 
 
-def program_to_run(found: Sequence[Outcome], manifest: Manifest) -> str:
+def program_to_run(found: Sequence[PartOutcome], manifest: Manifest) -> str:
     """Which program is to check the parts that lack an answer: regsearch if any other part has one of it."""
     return SEARCH if manifest.cas or SEARCH in programs_of(found) else CHECK
 

@@ -26,7 +26,7 @@ Event = dict[str, Any]
 
 
 def from_events(lines: Iterable[str], choices: Choices) -> Source:
-    log = _Log(choices)
+    log = _EventLog(choices)
     for line, event in json_values(lines):
         if not isinstance(event, dict) or event.get("process") is None:
             raise Refused('no event: an object such as {"process":1,"event":"reply"} is expected', line)
@@ -37,7 +37,7 @@ def from_events(lines: Iterable[str], choices: Choices) -> Source:
     return source
 
 
-class _Log:
+class _EventLog:
     """Pairs calls with what ended them."""
 
     def __init__(self, choices: Choices) -> None:

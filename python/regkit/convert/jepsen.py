@@ -41,7 +41,9 @@ Events = Iterable[tuple[int, Event]]
 def from_jepsen(lines: Iterable[str], choices: Choices) -> Source:
     """Tells JSON, EDN and lines for people by what they begin with."""
     found, everything = is_json(lines)
-    return _Log(choices).source(_json_events(everything)) if found else from_edn_or_log(everything, choices)
+    if not found:
+        return from_edn_or_log(everything, choices)
+    return _JepsenLog(choices).source(_json_events(everything))
 
 
 def from_edn_or_log(lines: Iterable[str], choices: Choices) -> Source:
@@ -54,7 +56,8 @@ def from_edn_or_log(lines: Iterable[str], choices: Choices) -> Source:
             break
     first = held[-1].strip() if held else ""
     everything = itertools.chain(held, rest)
-    return _Log(choices).source(_edn_events(everything) if first[:1] in "{[(#;" else line_events(everything))
+    events = _edn_events(everything) if first[:1] in "{[(#;" else line_events(everything)
+    return _JepsenLog(choices).source(events)
 
 
 def _edn_events(lines: Iterable[str]) -> Iterator[tuple[int, Event]]:
@@ -88,7 +91,7 @@ def _as_edn(value: Any) -> Any:
     return value
 
 
-class _Log:
+class _JepsenLog:
     """Pairs events first, since only all calls together tell whether their values have keys."""
 
     def __init__(self, choices: Choices) -> None:

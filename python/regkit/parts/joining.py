@@ -50,13 +50,13 @@ class Unanswered(NamedTuple):
     why: str
 
 
-Outcome = Union[Answered, RefusedPart, Unanswered]
+PartOutcome = Union[Answered, RefusedPart, Unanswered]
 
 
 # ---- what the runs of the parts left
 
 
-def outcomes(directory: str, manifest: Manifest) -> Iterator[Outcome]:
+def outcomes(directory: str, manifest: Manifest) -> Iterator[PartOutcome]:
     """What came of each part, in the order of the parts."""
     allow_open_files(2 * manifest.parts)
     registers = [0] * manifest.parts
@@ -86,7 +86,7 @@ def allow_open_files(count: int) -> None:
             resource.setrlimit(resource.RLIMIT_NOFILE, (least, hard))
 
 
-def outcome(directory: str, part: int, registers: int, line_of: LineOf) -> Outcome:
+def outcome(directory: str, part: int, registers: int, line_of: LineOf) -> PartOutcome:
     """What one run left. Raises FileNotFoundError and ValueError if that isn't whole."""
     status = file_of(directory, part, "status").read_text(encoding="utf-8", errors="replace").strip()
     words = file_of(directory, part, "err").read_text(encoding="utf-8", errors="replace").strip()
