@@ -21,8 +21,8 @@ from regkit.convert.independent import are_independent, nothing_for, pair_of, pa
 from regkit.convert.jepsen_lines import NO_OPERATION, line_events
 from regkit.convert.json_values import is_json, json_values
 from regkit.convert.members import Ended, Known, Outcomes, word_of
-from regkit.convert.model import (CAS, ENDINGS, KNOWN, OTHER, READS, WRITES, Choices, Operation, Refused,
-                                  Source, folded)
+from regkit.convert.model import (CAS, ENDINGS, KNOWN, OTHER, READS, WRITES, Choices, Refused, Source,
+                                  SourceOperation, folded)
 from regkit.convert.pairing import Pairing
 from regkit.convert.settle import settle
 from regkit.convert.transactions import refuse_appends, take_apart
@@ -128,7 +128,7 @@ class _JepsenLog:
         settle(source, self.choices)
         return source
 
-    def _look_at_versions(self, source: Source, operations: list[Operation]) -> None:
+    def _look_at_versions(self, source: Source, operations: list[SourceOperation]) -> None:
         """Takes versions out of the values, if there are any."""
         if not self.choices.drop_versions:
             pairs.refuse_versions(operations, self.choices)
@@ -157,7 +157,7 @@ class _JepsenLog:
         kind = spelled(event.get(":type"))
         if kind == ":invoke":
             function = self._function(event, line)
-            self.pairing.call(Operation(line, client, function, event.get(":key"), event.get(":value")))
+            self.pairing.call(SourceOperation(line, client, function, event.get(":key"), event.get(":value")))
             return
         if self.choices.outcomes and folded(kind) in self.choices.outcomes:
             ending = ENDINGS[self.choices.outcomes[folded(kind)]] or "crash"
@@ -222,7 +222,7 @@ class _JepsenLog:
                               f"{name[1:]} if that means nothing", line)
         return self.outcomes.of(event, is_read)
 
-    def _failure(self, called: Operation, event: Event) -> str:
+    def _failure(self, called: SourceOperation, event: Event) -> str:
         """What the log's own failure says: with --failed-cas missed, a cas found another value.
 
         But an error may say that it failed for another reason, and then it is no more than a failure.
@@ -238,7 +238,7 @@ class _JepsenLog:
         self.refused_cas.append(word)
         return "fail"
 
-    def _asks_for_null(self, called: Operation) -> bool:
+    def _asks_for_null(self, called: SourceOperation) -> bool:
         """Whether a cas may ask for what a key has that doesn't exist."""
         pair = pair_of(called.value) or (None, None)
         word = word_of((pair_of(pair[1]) or pair)[0])
@@ -260,7 +260,7 @@ def _error(event: Event) -> Any:
     return None
 
 
-def _place(operation: Operation, independent: bool, choices: Choices) -> None:
+def _place(operation: SourceOperation, independent: bool, choices: Choices) -> None:
     """Gives an operation its key, and takes the key out of its values."""
     if operation.kind == "txn":
         take_apart(operation)

@@ -2,16 +2,15 @@
 import shlex
 from typing import Any, NamedTuple, Optional
 
-from regkit.convert.members import Known, Outcomes, ok_of
-from regkit.convert.model import CAS, ENDINGS, READS, Choices, Client, Operation, Refused, Source, folded
+from regkit.convert.members import Known, Members, Outcomes, ok_of
+from regkit.convert.model import (CAS, ENDINGS, READS, Choices, Client, Refused, Source, SourceOperation,
+                                  folded)
 from regkit.convert.settle import settle
 from regkit.convert.timed import TimedOperations
 from regkit.convert.values import settled, spelled
 
 OUTCOMES = {"ok": "ok", "fail": "fail", "unknown": "unknown", "info": "unknown", "missed": "missed", "": "ok"}
 ABSENT: Any = object()  # a value that isn't there
-
-Members = dict[str, Any]
 
 
 class Row(NamedTuple):
@@ -47,7 +46,7 @@ class Rows:
     def take(self, row: Row) -> None:
         register, end = _or_none(row.register), _or_none(row.end)
         kind = self.choices.kind_of(row.op.strip().lower() if type(row.op) is str else spelled(row.op))
-        operation = Operation(row.line, client_of(row.process, self.is_csv), kind,
+        operation = SourceOperation(row.line, client_of(row.process, self.is_csv), kind,
                               self.choices.register if register is None else register, _or_none(row.value))
         operation.answer = operation.value
         operation.ending = self._ending(row, kind)
@@ -65,7 +64,7 @@ class Rows:
                           "say which member is the value with --columns value=NAME", row.line)
         self.timed.add(operation, row.start, end, self.names)
 
-    def _found_nothing(self, operation: Operation, members: Members) -> bool:
+    def _found_nothing(self, operation: SourceOperation, members: Members) -> bool:
         """Ends an operation as --ok-when says, and tells whether it is a read that found no value."""
         if operation.ending == "reply":
             operation.ending, found_nothing = self.outcomes.of(members, operation.kind in READS)
@@ -74,7 +73,7 @@ class Rows:
             return found_nothing
         return False
 
-    def _take_cas(self, operation: Operation, row: Row) -> None:
+    def _take_cas(self, operation: SourceOperation, row: Row) -> None:
         """Gives a cas its two values, and its ending by `ok`."""
         line, told = row.line, row.ok
         if row.asked is ABSENT or row.written is ABSENT:

@@ -5,8 +5,8 @@ from typing import Any, Callable, Optional
 
 from regkit.convert import edn
 from regkit.convert.members import WRITE_ANSWERS
-from regkit.convert.model import (CAS, OTHER, READ_AND_WRITE, READS, WRITES, Choices, Operation, Refused,
-                                  Source, Value)
+from regkit.convert.model import (CAS, OTHER, READS, READ_AND_WRITE, WRITES, Choices, Refused, Source,
+                                  SourceOperation, Value)
 from regkit.convert.values import ALL_TEXTS, bare, readable, settled, shown
 from regkit.words.phrases import counted
 
@@ -36,7 +36,7 @@ def settle(source: Source, choices: Choices) -> None:
                 _settle_value(operation, read_value, choices.form)
 
 
-def _settle_key(operation: Operation, keys: dict[object, str], alike: bool) -> None:
+def _settle_key(operation: SourceOperation, keys: dict[object, str], alike: bool) -> None:
     """The key as EDN writes it. Texts and whole numbers are looked up, since a source repeats its keys."""
     key = bare(operation.key) if alike else operation.key
     if type(key) is not str and type(key) is not int:
@@ -48,7 +48,7 @@ def _settle_key(operation: Operation, keys: dict[object, str], alike: bool) -> N
     operation.key = known
 
 
-def _skip(source: Source, operations: list[Operation], skipped: set[str]) -> None:
+def _skip(source: Source, operations: list[SourceOperation], skipped: set[str]) -> None:
     """Leaves out every operation of some keys, and the crashes that ended such operations."""
     left = sum(operation.key in skipped for operation in operations)
     keys = len({operation.key for operation in operations})
@@ -60,7 +60,7 @@ def _skip(source: Source, operations: list[Operation], skipped: set[str]) -> Non
     source.notes.append(source.skipped)
 
 
-def _settle_kind(operation: Operation, keeps_cas: bool) -> None:
+def _settle_kind(operation: SourceOperation, keeps_cas: bool) -> None:
     if operation.kind in READS:
         operation.kind = "read"
     elif operation.kind in WRITES:
@@ -88,7 +88,7 @@ def _settle_kind(operation: Operation, keeps_cas: bool) -> None:
                       operation.line)
 
 
-def _settle_ending(operation: Operation) -> None:
+def _settle_ending(operation: SourceOperation) -> None:
     if operation.ending != "missed":
         return
     if operation.kind != CAS:
@@ -103,7 +103,7 @@ def _refuse_opaque(value: Any, line: int) -> None:
                       "client record the value itself", line)
 
 
-def _settle_cas(operation: Operation, read_value: Callable[[Any], Value], form: str) -> None:
+def _settle_cas(operation: SourceOperation, read_value: Callable[[Any], Value], form: str) -> None:
     """Parts what a cas asks for from what it writes. Its reply has both too, or neither."""
     called = _halves(operation.value)
     if called is None:
@@ -135,7 +135,7 @@ def _differ_in_version(called: Any, answered: Any) -> bool:
     return one is not None and other is not None and edn.write(one[1]) == edn.write(other[1])
 
 
-def _settle_value(operation: Operation, read_value: Callable[[Any], Value], form: str) -> None:
+def _settle_value(operation: SourceOperation, read_value: Callable[[Any], Value], form: str) -> None:
     """A write's value is that of its call, with which its reply agrees; a read's is that of its reply."""
     for value in (operation.value, operation.answer):
         _refuse_opaque(value, operation.line)

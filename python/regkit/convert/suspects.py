@@ -9,7 +9,7 @@ import shlex
 from typing import Any, Iterator, Optional
 
 from regkit.convert import edn
-from regkit.convert.model import CAS, Choices, Operation, Refused, Source, Value
+from regkit.convert.model import CAS, Choices, Refused, Source, SourceOperation, Value
 from regkit.convert.values import Written, bare, initial_value, shown, spelled, unsettled
 from regkit.words.phrases import counted
 
@@ -29,7 +29,7 @@ def look_at_reads(source: Source, written: Written, choices: Choices) -> Iterato
     it was found may be misread as well as one that is never written.
     """
     spellings = _Spellings(written, choices.form)
-    nothing: dict[Value, Operation] = {}
+    nothing: dict[Value, SourceOperation] = {}
     begun: set[tuple[str, Value]] = set()  # what was written so far, by key
     unwritten = failed = 0
     for each, is_call in source.moments():
@@ -56,7 +56,7 @@ def look_at_reads(source: Source, written: Written, choices: Choices) -> Iterato
                "no effect? Else its outcome is unknown (--outcomes WORD=unknown)")
 
 
-def _find(operation: Operation) -> Value:
+def _find(operation: SourceOperation) -> Value:
     """What a completed read, or a cas that took place, found."""
     if operation.ending != "reply" or operation.missed:
         return None
@@ -65,7 +65,7 @@ def _find(operation: Operation) -> Value:
     return operation.value if operation.kind == "read" else None
 
 
-def _refuse_suspect(read: Operation, found: Value, spellings: "_Spellings", choices: Choices) -> None:
+def _refuse_suspect(read: SourceOperation, found: Value, spellings: "_Spellings", choices: Choices) -> None:
     value = unsettled(found)
     why = _spells_null(value, choices)
     if why is None and choices.values == "auto":

@@ -4,7 +4,7 @@ from typing import AbstractSet, Any, Iterable
 
 from regkit.base.limits import GREATEST_VALUE, LEAST_VALUE
 from regkit.convert import edn
-from regkit.convert.model import Operation, Refused, Value
+from regkit.convert.model import Refused, SourceOperation, Value
 
 ALL_TEXTS = frozenset({"csv", "porcupine"})  # forms in which a text of a whole number is that number
 _WHOLE = re.compile(r"-?[1-9][0-9]{0,18}|0")  # a longer one has more than 64 bits
@@ -12,7 +12,8 @@ _WHOLE = re.compile(r"-?[1-9][0-9]{0,18}|0")  # a longer one has more than 64 bi
 _QUOTED = re.compile(r"""b?(["'])(.*)\1""", re.DOTALL)  # a text as JSON, EDN or Python shows it, or its bytes
 
 Table = dict[str, dict[str, int]]  # by key, the number of each text
-Written = dict[str, dict[Value, Operation]]  # by key and value, what wrote it, and didn't fail if any didn't
+# By key and value, what wrote it: a write that didn't fail, if there is one.
+Written = dict[str, dict[Value, SourceOperation]]
 
 
 def spelled(value: Any) -> str:
@@ -100,7 +101,7 @@ class _Numbers:
         return self.last
 
 
-def number_texts(operations: Iterable[Operation]) -> Table:
+def number_texts(operations: Iterable[SourceOperation]) -> Table:
     """Gives each text a number, register by register, and says which."""
     held = list(operations)
     numbers = {operation.key: _Numbers() for operation in held
@@ -118,7 +119,7 @@ def number_texts(operations: Iterable[Operation]) -> Table:
     return {key: mine.texts for key, mine in numbers.items()}
 
 
-def all_written(operations: Iterable[Operation]) -> Written:
+def all_written(operations: Iterable[SourceOperation]) -> Written:
     """What is written to each register, by writes and by each cas that didn't miss. Raises Refused."""
     written: Written = {}
     for operation in operations:
@@ -137,7 +138,7 @@ def all_written(operations: Iterable[Operation]) -> Written:
     return written
 
 
-def repeats(operations: Iterable[Operation]) -> bool:
+def repeats(operations: Iterable[SourceOperation]) -> bool:
     """Whether some register is written a value twice, be it by a write that failed."""
     seen: set[tuple[str, Value]] = set()
     for operation in operations:

@@ -8,7 +8,7 @@ import json
 from typing import Any, Callable, Iterator
 
 from regkit.convert import edn
-from regkit.convert.model import CAS, Operation, Source, Value
+from regkit.convert.model import CAS, Source, SourceOperation, Value
 from regkit.convert.tables import COLUMNS, PLAIN_COLUMNS
 from regkit.convert.values import unsettled
 
@@ -22,7 +22,7 @@ def _edn_value(value: Value) -> str:
     return "nil" if value is None else str(value)
 
 
-def _events(source: Source, shown: Callable[[Value], str]) -> Iterator[tuple[Operation, str, str, str]]:
+def _events(source: Source, shown: Callable[[Value], str]) -> Iterator[tuple[SourceOperation, str, str, str]]:
     """Each step with its type in Jepsen's words, its value and perhaps an error. Only a read's call has none.
 
     A cas that missed is a failure, as the tools write it. One that failed has an error beside that, so that
@@ -70,7 +70,7 @@ def _plain(value: Value) -> str:
 
 def _rows(source: Source) -> list[list[Any]]:
     """The columns of each operation, in the order of the calls."""
-    rows: dict[Operation, list[Any]] = {}
+    rows: dict[SourceOperation, list[Any]] = {}
     for place, (step, is_call) in enumerate(source.moments()):
         if step.kind == "crash":
             continue

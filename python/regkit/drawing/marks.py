@@ -1,14 +1,14 @@
 """What a picture points at: the two clusters that contradict each other, the precedences between them, the
 first read that can't be explained, the writes that were open beside it, and a stale read and a fresh one."""
-from typing import Any, NamedTuple, Optional
+from typing import NamedTuple, Optional
 
+from regkit.checker.report import Row
 from regkit.explain.causes import StalePair, stale_pair
 from regkit.explain.searched import contradicted, is_unwritten, value_after, without_effect
 from regkit.explain.sentences import pairs_of, value_of
 from regkit.explain.unexplained import Unexplained
 from regkit.history.operations import History, Operation
 
-Row = dict[str, Any]
 FIRST, SECOND = "first", "second"  # the two clusters, by the numbers of the arrows that leave them
 
 
