@@ -18,7 +18,7 @@ from regkit.explain.shrinking import MOST_RUNS
 from regkit.history.inputs import STANDARD_INPUT, TooLong, read_input, shown_name
 from regkit.history.operations import History, NoRegister, NotAHistory, read_history
 from regkit.history.source_map import NotAMap, put_labels
-from regkit.judging.failures import failure, failure_of, refusal_advice
+from regkit.judging.failures import file_failure, program_failure, refusal_advice
 from regkit.words.colour import CHOICES, painter
 from regkit.words.phrases import counted
 from regkit.words.progress import Progress
@@ -79,7 +79,7 @@ def written_report(arguments: argparse.Namespace, data: bytes) -> bytes:
         hint = refusal_advice(data, answer, arguments.history)
         raise Stop(ExitStatus.REFUSED, f"refused: {answer.refusal}", hint)
     if not answer.decided:
-        raise Stop(ExitStatus.FAILED, failure_of(answer))
+        raise Stop(ExitStatus.FAILED, program_failure(answer))
     return answer.report
 
 
@@ -168,7 +168,7 @@ def answer_to(arguments: argparse.Namespace) -> tuple[int, str]:
     except (NotAHistory, NotAMap, NotOfHistory) as error:
         raise Stop(ExitStatus.REFUSED, str(error)) from error
     except OSError as error:
-        raise Stop(ExitStatus.FAILED, failure(arguments.history, error)) from error
+        raise Stop(ExitStatus.FAILED, file_failure(arguments.history, error)) from error
     except NoChecker as error:
         raise Stop(ExitStatus.FAILED, str(error)) from error
 

@@ -52,7 +52,7 @@ def run(arguments: argparse.Namespace) -> int:
         found = list(outcomes(arguments.directory, manifest))
     again = to_run_again(found)
     if again:
-        return name_them(arguments.directory, again, program_to_run(found, manifest))
+        return ask_to_run_again(arguments.directory, again, program_to_run(found, manifest))
     refused = min((each for each in found if isinstance(each, RefusedPart)),
                   key=lambda each: each.refusal.rank, default=None)
     if refused is not None:
@@ -110,7 +110,7 @@ def write(parts: list[Answered], manifest: Manifest, order: str) -> int:
     return STATUSES[verdict_of(parts)]
 
 
-def name_them(directory: str, parts: Sequence[Again], program: str) -> int:
+def ask_to_run_again(directory: str, parts: Sequence[Again], program: str) -> int:
     for each in parts:
         print(f"part-{each.part:03} {each.why}; run it again:", file=sys.stderr)
         print(f"  {command_again(directory, each.part, program)}", file=sys.stderr)

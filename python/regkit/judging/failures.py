@@ -3,13 +3,13 @@ from regkit.checker.programs import Answer, with_search_hint
 from regkit.words.quoting import plain
 
 
-def failure(name: str, error: OSError) -> str:
+def file_failure(name: str, error: OSError) -> str:
     """What failed, with its name if that isn't the history's own."""
     other = "" if error.filename in (None, name) else f"{error.filename}: "
     return other + (error.strerror or str(error))
 
 
-def failure_of(answer: Answer) -> str:
+def program_failure(answer: Answer) -> str:
     """How a program ended that gave no answer."""
     if answer.status < 0:
         return f"{answer.program} was ended by signal {-answer.status}: was there too little memory?"

@@ -9,7 +9,7 @@ from regkit.evidence.counting import Reads
 from regkit.evidence.evidence import Evidence
 from regkit.history.inputs import TooLong, read_input, shown_name
 from regkit.history.operations import NotAHistory
-from regkit.judging.failures import advice, failure, failure_of, refusal_advice
+from regkit.judging.failures import advice, file_failure, program_failure, refusal_advice
 from regkit.judging.outcome import Outcome, evidence_in_words, lacks
 from regkit.judging.pages import Pages
 from regkit.judging.reads import enough_reads, first_reads, unusual_reads
@@ -47,7 +47,7 @@ def judge_file(name: str, label: str, settings: CheckSettings, progress: Progres
     except TooLong as error:
         return Outcome(name, ExitStatus.REFUSED, str(error), advice(b"", str(error), name))
     except OSError as error:
-        return Outcome(name, ExitStatus.FAILED, plain(failure(name, error)))
+        return Outcome(name, ExitStatus.FAILED, plain(file_failure(name, error)))
     except MemoryError:
         hint = "check parts of it: `regkit split` makes them"
         return Outcome(name, ExitStatus.FAILED, "no memory", hint)
@@ -83,7 +83,7 @@ def outcome_by(subject: Subject, answer: Answer, reads: Optional[Reads]) -> Outc
     if answer.decided:
         return outcome_by_report(subject, answer, reads)
     if answer.status != ExitStatus.REFUSED:
-        return Outcome(name, ExitStatus.FAILED, failure_of(answer), advice(b"", answer.refusal, name))
+        return Outcome(name, ExitStatus.FAILED, program_failure(answer), advice(b"", answer.refusal, name))
     if subject.settings.verify:
         verify_refusal(data, answer)
     return Outcome(name, ExitStatus.REFUSED, plain(answer.refusal), refusal_advice(data, answer, name))
