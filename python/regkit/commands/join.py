@@ -7,9 +7,10 @@ from regkit.base.limits import MAX_EVENTS
 from regkit.base.statuses import ExitStatus
 from regkit.checker.programs import CHECK, SEARCH
 from regkit.commands.stopping import complain
+from regkit.parts.answers import (STATUSES, Answered, PartOutcome, RefusedPart, Unanswered, command_again,
+                                  outcomes, takes_search)
 from regkit.parts.folder import Manifest, NotSplit, read_manifest
-from regkit.parts.joining import (STATUSES, Answered, PartOutcome, RefusedPart, Unanswered, command_again,
-                                  outcomes, takes_search, verdict_of, write_report)
+from regkit.parts.joining import verdict_of, write_report
 from regkit.words.progress import Progress
 
 HELP = "join the reports of the parts of a split history into the report of the whole"

@@ -13,8 +13,8 @@ from regkit.checker.programs import (CHECK, SEARCH, Answer, NoChecker, find_prog
 from regkit.checker.refusals import Refusal, read_refusal
 from regkit.commands.stopping import complain
 from regkit.history.inputs import opened
+from regkit.parts.answers import line_map
 from regkit.parts.folder import BLANK, MAP, MAX_PARTS, Manifest, file_of
-from regkit.parts.joining import line_map
 from regkit.parts.splitting import CannotSplit, Plan, split
 from regkit.words.progress import Progress
 

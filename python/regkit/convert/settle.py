@@ -60,32 +60,33 @@ def _skip(source: Source, operations: list[SourceOperation], skipped: set[str]) 
     source.notes.append(source.skipped)
 
 
-def _settle_kind(operation: SourceOperation, keeps_cas: bool) -> None:
+def _settle_kind(operation: SourceOperation, takes_cas: bool) -> None:
     if operation.kind in READS:
         operation.kind = "read"
     elif operation.kind in WRITES:
         operation.kind = "write"
-    elif operation.kind == CAS and keeps_cas:
-        pass
-    elif operation.kind == CAS:
-        raise Refused("cas reads and writes at once, and by --cas refuse only reads and writes are taken: "
-                      "keep it for regsearch with --cas keep, leave it out of the workload, or leave out the "
-                      "keys that it touches with --cas skip-key", operation.line)
-    elif operation.kind in READ_AND_WRITE:
-        raise Refused(f"{operation.kind} reads and writes at once, and a register has reads, writes and cas "
-                      f"only: leave {operation.kind} out of the workload, leave out the keys that it touches "
-                      "with --cas skip-key, or check the history with Porcupine and its key-value model",
-                      operation.line)
-    elif operation.kind == OTHER:
-        raise Refused("by --ops this is neither a read nor a write nor a cas: leave out the keys that it "
-                      "touches with --cas skip-key", operation.line)
-    else:
-        option = f"--ops {shlex.quote(operation.kind + '=')}"
-        raise Refused(f"{operation.kind} is no word for a read ({', '.join(sorted(READS))}) or a write "
-                      f"({', '.join(sorted(WRITES))}) or a cas: say {option}read or {option}write or "
-                      f"{option}cas if it is one, leave out the keys that it touches with {option}other "
-                      "--cas skip-key, or check queues, sets and counters with Knossos or Porcupine",
-                      operation.line)
+    elif operation.kind != CAS or not takes_cas:
+        raise Refused(_not_taken(operation.kind), operation.line)
+
+
+def _not_taken(kind: str) -> str:
+    """What to do about an operation that is none of a register, as far as the options say."""
+    if kind == CAS:
+        return ("cas reads and writes at once, and by --cas refuse only reads and writes are taken: keep it "
+                "for regsearch with --cas keep, leave it out of the workload, or leave out the keys that it "
+                "touches with --cas skip-key")
+    if kind in READ_AND_WRITE:
+        return (f"{kind} reads and writes at once, and a register has reads, writes and cas only: leave "
+                f"{kind} out of the workload, leave out the keys that it touches with --cas skip-key, or "
+                "check the history with Porcupine and its key-value model")
+    if kind == OTHER:
+        return ("by --ops this is neither a read nor a write nor a cas: leave out the keys that it touches "
+                "with --cas skip-key")
+    option = f"--ops {shlex.quote(kind + '=')}"
+    return (f"{kind} is no word for a read ({', '.join(sorted(READS))}) or a write "
+            f"({', '.join(sorted(WRITES))}) or a cas: say {option}read or {option}write or {option}cas if it "
+            f"is one, leave out the keys that it touches with {option}other --cas skip-key, or check queues, "
+            "sets and counters with Knossos or Porcupine")
 
 
 def _settle_ending(operation: SourceOperation) -> None:
