@@ -139,6 +139,8 @@ class Index(Files):
                          ["index.html", os.fsdecode(b"<b> #%? \xff.html"), "old.html"])
         for link in links:
             self.assertIn("<svg", link.read_text("utf-8", "surrogateescape"))
+        heads = re.findall("<th>(.*?)</th>", page)
+        self.assertEqual(heads, ["Written", "Verdict", "Run", "What came out"])
         verdicts = re.findall('<td class="(?:yes|no)">(.*?)</td>', page)
         self.assertEqual(verdicts, ["refused", "linearizable", "not linearizable", "linearizable"])
         for words in ("4 runs; 1 not linearizable.", "The write of 1 by process 1",

@@ -55,7 +55,7 @@ def page(runs: list[ListedRun], found: int, folder: pathlib.Path, output: pathli
     """The whole page, which will stand at `output`. There may be more runs in the folder than are listed."""
     wrong = sum(run.outcome.status == ExitStatus.NOT_ATOMIC for run in runs)
     listed = ("" if len(runs) == found else f"The newest {len(runs):,} of ") + counted(found, "run")
-    head = "".join(tag("th", words(each)) for each in ("Written", "Verdict", "ListedRun", "What came out"))
+    head = "".join(tag("th", words(each)) for each in ("Written", "Verdict", "Run", "What came out"))
     title = folder.resolve().name
     rows = "\n".join(row(run, output) for run in runs)
     body = [tag("h1", f"Runs of {name(title)}"),
