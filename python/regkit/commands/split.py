@@ -136,8 +136,9 @@ def first_refused(directory: str, manifest: Manifest,
     for part in range(manifest.parts):
         history = file_of(directory, part, "jsonl").read_bytes()
         answer = check(history)
-        if answer.status == ExitStatus.REFUSED:
-            refusal = read_refusal(answer.refusal, line_map(directory, part, manifest))
-            found += [PartRefusal(refusal, is_for_search(history, answer))] if refusal is not None else []
-    found.sort(key=lambda each: each.refusal.rank)
-    return found[0] if found else None
+        if answer.status != ExitStatus.REFUSED:
+            continue
+        refusal = read_refusal(answer.refusal, line_map(directory, part, manifest))
+        if refusal is not None:
+            found.append(PartRefusal(refusal, is_for_search(history, answer)))
+    return min(found, key=lambda each: each.refusal.rank) if found else None
