@@ -12,7 +12,7 @@ from typing import Optional, Sequence, Union
 
 from regkit.base.statuses import ExitStatus
 from regkit.checker.bounds import bounds
-from regkit.checker.programs import WOULD_DECIDE, Answer, NoChecker, decide, is_for_search
+from regkit.checker.programs import Answer, NoChecker, decide, with_search_hint
 from regkit.checker.report import read_report
 from regkit.evidence.evidence import Evidence, count_evidence
 from regkit.history.operations import read_history
@@ -129,7 +129,7 @@ def _without_verdict(data: bytes, answer: Answer) -> str:
 
         unknown = read_report(answer.report).unknown
         return f"unknown: the search gave up; {what_to_do(unknown, dashes='')}"
-    return f"{answer.refusal}; {WOULD_DECIDE}" if is_for_search(data, answer) else answer.refusal
+    return with_search_hint(answer.refusal, data, answer)
 
 
 def _not_atomic(data: bytes, answer: Answer, path: Optional[pathlib.Path], options: Sequence[str]) -> str:

@@ -11,7 +11,7 @@ from xml.etree import ElementTree
 from regkit.base.statuses import ExitStatus
 from regkit.judging.annotations import annotations
 from regkit.judging.junit import document
-from regkit.judging.outcome import Outcome, Timed
+from regkit.judging.outcome import Outcome, TimedOutcome
 
 from .events import Line, gave, read, reply, run, stale, text, write
 from .test_draw import DANGEROUS, Elements
@@ -62,7 +62,7 @@ class JUnit(Files):
     def test_hostile_names(self) -> None:
         suite = self.suite(self.file("h", stale(HOSTILE)))
         self.assertIn('register "a\\u001b\\u202e<&\\"\'%,:\\u000a]]>": ', suite[0][0].text or "")
-        made = document([Timed(Outcome(HOSTILE + "\udc80", ExitStatus.REFUSED, "no"), 0.5)])
+        made = document([TimedOutcome(Outcome(HOSTILE + "\udc80", ExitStatus.REFUSED, "no"), 0.5)])
         self.assertIsNone(DANGEROUS.search(made.replace("\n", "")))
         case = ElementTree.fromstring(made.encode())[0][0]
         self.assertEqual((case.get("name"), case.get("time")),
@@ -139,6 +139,8 @@ class Index(Files):
                          ["index.html", os.fsdecode(b"<b> #%? \xff.html"), "old.html"])
         for link in links:
             self.assertIn("<svg", link.read_text("utf-8", "surrogateescape"))
+        heads = re.findall("<th>(.*?)</th>", page)
+        self.assertEqual(heads, ["Written", "Verdict", "Run", "What came out"])
         verdicts = re.findall('<td class="(?:yes|no)">(.*?)</td>', page)
         self.assertEqual(verdicts, ["refused", "linearizable", "not linearizable", "linearizable"])
         for words in ("4 runs; 1 not linearizable.", "The write of 1 by process 1",

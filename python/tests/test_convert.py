@@ -599,15 +599,15 @@ REFUSALS: List[Tuple[str, str, Sequence[str], str]] = [
      "line 2: a write of null to x: only the initial value is null"),
     ("jepsen", jepsen("0 invoke cas [1 2]"), ("--cas", "refuse"),
      "line 1: cas reads and writes at once, and by --cas refuse only reads and writes are taken"),
-    ("jepsen", jepsen("0 invoke cas 1"), (), "line 1: the value 1 of a cas isn't [from to], what it asks "
-                                             "for"),
+    ("jepsen", jepsen("0 invoke cas 1"), (),
+     "line 1: the value 1 of a cas isn't [from to], what it asks for"),
     ("jepsen", jepsen("0 invoke cas [1 2 3]"), (), "line 1: the value [1 2 3] of a cas isn't [from to]"),
     ("jepsen", jepsen("0 invoke cas [1 nil]"), (), "line 1: a cas of null to x: only the initial value is"),
     ("jepsen", jepsen("0 invoke cas [1 2]", "0 ok cas [1 3]"), (),
      "line 2: the reply of a cas has the value [1 3], which isn't that of its call, at line 1: say "
      "--ok-when"),
-    ("jepsen", jepsen("0 invoke cas [1 2]", "0 ok cas false"), (), "line 2: the reply of a cas has the "
-                                                                   "value f"),
+    ("jepsen", jepsen("0 invoke cas [1 2]", "0 ok cas false"), (),
+     "line 2: the reply of a cas has the value f"),
     ("jepsen", jepsen("0 invoke cas [0 2]", "0 ok cas [0 2]"), (),
      "line 2: a cas found 0, which nothing writes to x: say --initial=0 if registers start with it, "
      "--null=0"),
@@ -621,8 +621,7 @@ REFUSALS: List[Tuple[str, str, Sequence[str], str]] = [
      "line 2: by --outcomes it missed, and it is a read, not a cas: say what the word means of all"),
     ("porcupine", '{:process 0, :type :invoke, :f :append, :key "5", :value "a"}', (),
      "line 1: append reads and writes at once, and a register has reads, writes and cas only: leave append "
-     "out "
-     "of the workload, leave out the keys that it touches with --cas skip-key, or check the history with "
+     "out of the workload, leave out the keys that it touches with --cas skip-key, or check the history with "
      "Porcupine and its key-value model"),
     ("porcupine", '{"Call":1,"Input":{"Op":"cas","From":1},"Output":{"Ok":true},"Return":2}', (),
      "line 1: the input of a cas has From and To, and no Value"),
@@ -638,43 +637,42 @@ REFUSALS: List[Tuple[str, str, Sequence[str], str]] = [
      "line 1: the input of a cas has Arg1 and Arg2"),
     ("porcupine", '{"Call":1,"Input":{"Op":2,"Arg1":0,"Arg2":3},"Output":{"Unknown":"no"},"Return":2}', (),
      "line 1: Unknown is no, and true or false is expected"),
-    ("csv", HEADER + row(0, "cas", "", 0, 1), (), "line 2: a cas has from and to: say which they are with "
-                                                  "--col"),
-    ("csv", CAS_HEADER + "0,0,1,x,cas,7,ok,1,2,true\n", (), "line 2: a cas has from and to, and no value, "
-                                                            "but th"),
+    ("csv", HEADER + row(0, "cas", "", 0, 1), (),
+     "line 2: a cas has from and to: say which they are with --col"),
+    ("csv", CAS_HEADER + "0,0,1,x,cas,7,ok,1,2,true\n", (),
+     "line 2: a cas has from and to, and no value, but th"),
     ("csv", CAS_HEADER + "0,0,1,x,cas,,ok,1,2,yes\n", (), "line 2: ok is yes, and true or false is expected"),
-    ("csv", CAS_HEADER + "0,0,1,x,cas,,fail,1,2,true\n", (), "line 2: ok is true, and the outcome is "
-                                                             "another"),
-    ("csv", CAS_HEADER + "0,0,1,x,cas,,,1,2,\n", (), "line 2: the row of a cas doesn't say whether it took "
-                                                     "place"),
-    ("csv", CAS_HEADER + "0,0,1,x,write,1,ok,,,false\n", (), "line 2: the column ok isn't understood, and "
-                                                             "it may"),
-    ("csv", CAS_HEADER + "0,0,1,x,read,1,ok,5,,\n", (), "line 2: the column from isn't understood, and it "
-                                                        "may"),
+    ("csv", CAS_HEADER + "0,0,1,x,cas,,fail,1,2,true\n", (),
+     "line 2: ok is true, and the outcome is another"),
+    ("csv", CAS_HEADER + "0,0,1,x,cas,,,1,2,\n", (),
+     "line 2: the row of a cas doesn't say whether it took place"),
+    ("csv", CAS_HEADER + "0,0,1,x,write,1,ok,,,false\n", (),
+     "line 2: the column ok isn't understood, and it may"),
+    ("csv", CAS_HEADER + "0,0,1,x,read,1,ok,5,,\n", (),
+     "line 2: the column from isn't understood, and it may"),
     ("operations", '{"process":0,"start":1,"op":"write","value":1,"ok":true}', (),
      "line 1: the member ok isn't understood, and it may tell the outcome"),
-    ("jsonl", '{"process":1,"event":"call","op":"cas","from":1}', (), "line 1: the call of a cas has from "
-                                                                      "and to"),
+    ("jsonl", '{"process":1,"event":"call","op":"cas","from":1}', (),
+     "line 1: the call of a cas has from and to"),
     ("jsonl", '{"process":1,"event":"call","op":"cas","from":1,"to":2,"value":2}', (),
      "line 1: the call of a cas has from and to, and no value"),
-    ("jsonl", CAS_CALL + '{"process":1,"event":"reply"}', (), "line 2: a cas's reply has no ok, true or "
-                                                              "false"),
-    ("jsonl", CAS_CALL + '{"process":1,"event":"reply","ok":"true"}', (), "line 2: a cas's reply has no ok, "
-                                                                          "tr"),
-    ("jsonl", CAS_CALL + '{"process":1,"event":"reply","ok":true,"value":3}', (), "line 2: the reply of a "
-                                                                                  "cas has"),
-    ("jsonl", CAS_CALL + '{"process":1,"event":"reply","ok":true,"from":3}', (), "line 2: from is 3, and "
-                                                                                 "the call"),
+    ("jsonl", CAS_CALL + '{"process":1,"event":"reply"}', (),
+     "line 2: a cas's reply has no ok, true or false"),
+    ("jsonl", CAS_CALL + '{"process":1,"event":"reply","ok":"true"}', (),
+     "line 2: a cas's reply has no ok, tr"),
+    ("jsonl", CAS_CALL + '{"process":1,"event":"reply","ok":true,"value":3}', (),
+     "line 2: the reply of a cas has"),
+    ("jsonl", CAS_CALL + '{"process":1,"event":"reply","ok":true,"from":3}', (),
+     "line 2: from is 3, and the call"),
     ("jsonl", CAS_CALL + '{"process":1,"event":"fail","ok":true}', (),
      'line 2: the cas ends by "fail", and ok is true: did it take place or not?'),
-    ("jsonl", '{"process":1,"event":"call","op":"read","from":1}', (), "line 1: the member from isn't "
-                                                                       "understood"),
+    ("jsonl", '{"process":1,"event":"call","op":"read","from":1}', (),
+     "line 1: the member from isn't understood"),
     ("jepsen", jepsen("0 invoke read nil", "1 invoke enqueue 1"), (),
      "line 2: enqueue is no word for a read (get, r, read) or a write (put, set, w, write) or a cas: say "
-     "--ops "
-     "enqueue=read or --ops enqueue=write or --ops enqueue=cas if it is one, leave out the keys that it "
-     "touches "
-     "with --ops enqueue=other --cas skip-key, or check queues, sets and counters with Knossos or Porcupine"),
+     "--ops enqueue=read or --ops enqueue=write or --ops enqueue=cas if it is one, leave out the keys that "
+     "it touches with --ops enqueue=other --cas skip-key, or check queues, sets and counters with Knossos "
+     "or Porcupine"),
     ("jepsen", jepsen("0 invoke read nil", "0 invoke read nil"), (),
      "line 2: client 0 calls while its call of line 1 is open"),
     ("jepsen", jepsen("0 ok read nil"), (), "line 1: client 0 has no open call that this could end"),

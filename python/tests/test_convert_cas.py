@@ -284,8 +284,7 @@ class Words(unittest.TestCase):
                    "{:process 0 :type :fail :f :cas :error :late}")
         told = run(source, "jepsen", "--failed-cas", "missed").told
         self.assertIn("read 5 operations of 1 client on 1 register: 2 writes, 0 reads, 3 cas; 1 failed, 1 "
-                      "missed, "
-                      "0 of unknown outcome\n", told)
+                      "missed, 0 of unknown outcome\n", told)
         self.assertIn("the history has cas and repeated values, so it is one for regsearch; regkit "
                       "check", told)
         self.assertIn("took 1 cas with an error such as late as failed, and not as missed: --outcomes "

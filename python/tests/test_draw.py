@@ -18,7 +18,7 @@ from regkit.drawing.draw import Mismatch, draw_page, page_of
 from regkit.drawing.figure import PAGE_WIDTH, RIGHT, gutter_of
 from regkit.drawing.lanes import MOST_LANES, Span
 from regkit.drawing.marks import Marks, marks_of_fault, overlapped_writes
-from regkit.drawing.page import Asked
+from regkit.drawing.page import DrawSettings
 from regkit.drawing.scene import Register, Scene, fitted, strips
 from regkit.drawing.windows import Window, count_left_out, windows_around
 from regkit.history.operations import History, NoRegister, read_history
@@ -130,7 +130,7 @@ class Names(unittest.TestCase):
             history = data(stale(name) + stale("other") + third)
             rows = [zones([0, 1], [1, 3], [0, 1], name), zones([0, 5], [5, 7], [0, 5], "other")]
             rows.append({"atomic": "no", "register": "third", "fault": {"kind": "unwritten", "read": 10}})
-            for shown in (Asked(), Asked(registers=["other"])):
+            for shown in (DrawSettings(), DrawSettings(registers=["other"])):
                 page = page_of(read_history(history), read_report(report(*rows)), name, shown)
                 self.check(page, name)
 
@@ -440,7 +440,7 @@ class Signs(unittest.TestCase):
                 self.page(INVERSION, row)
         with self.assertRaises(NoRegister):
             page_of(read_history(data(INVERSION)), read_report(report(zones([1, 4], [4, 6], [1, 3]))), "h",
-                    Asked(registers=["y"]))
+                    DrawSettings(registers=["y"]))
 
 
 class Command(unittest.TestCase):

@@ -10,8 +10,8 @@ from unittest import mock
 
 from regkit.checker.programs import run_checker
 from regkit.checker.report import read_report
-from regkit.explain.explanation import Wishes, explain, explain_text
-from regkit.explain.surroundings import find_scene, role_of
+from regkit.explain.explanation import ExplainSettings, explain, explain_text
+from regkit.explain.surroundings import find_surroundings, role_of
 from regkit.explain.timeline import Entry, draw
 from regkit.explain.unexplained import Peaks, find_unexplained
 from regkit.history.operations import Operation, read_history
@@ -167,7 +167,7 @@ def bystanders(events: Sequence[Line]) -> List[str]:
     calls = read_history(text(*events)).calls
     told, _ = find_unexplained(calls)
     assert told is not None
-    scene = find_scene(told, calls)
+    scene = find_surroundings(told, calls)
     return [role_of(scene, bystander) for bystander in scene.bystanders]
 
 
@@ -270,8 +270,8 @@ class Surroundings(unittest.TestCase):
         others = [read(process) for process in range(20, 33)]
         page = explained([*INVERSION[:5], *others, *INVERSION[5:]], row(zones([1, 3], [1, 4], [4, 19])))
         self.assertIn("8 other calls of this register.", page)
-        self.assertIn("No other call of this "
-                      "register.", explained(FAILED, row({"kind": "unwritten", "read": 3})))
+        alone = explained(FAILED, row({"kind": "unwritten", "read": 3}))
+        self.assertIn("No other call of this register.", alone)
 
     def test_the_write_of_a_value(self) -> None:
         page = explained(INVERSION, row(zones([1, 3], [1, 4], [4, 6])))
@@ -428,8 +428,8 @@ class Colour(unittest.TestCase):
     def test_the_words_are_the_same(self) -> None:
         history = read_history(text(*STALE_FILL))
         rows = read_report(report(row(zones([1, 4], [1, 4], [4, 7]))))
-        plain = explain(history, rows, Wishes())
-        coloured = explain(history, rows, Wishes(paint=Painter(True)))
+        plain = explain(history, rows, ExplainSettings())
+        coloured = explain(history, rows, ExplainSettings(paint=Painter(True)))
         self.assertIn("\x1b[1;31m", coloured)
         for code in ("1;31", "33", "1", "2", "0"):
             coloured = coloured.replace(f"\x1b[{code}m", "")

@@ -172,7 +172,7 @@ class Values(unittest.TestCase):
 
     def test_a_stale_read(self) -> None:
         found = self.reached(STALE, 7)
-        self.assertEqual((found.values, found.last, found.taken, found.broken), ([5], [5], [], None))
+        self.assertEqual((found.values, found.taken, found.broken), ([5], [], None))
 
     def test_open_calls(self) -> None:
         events = [write(1, 5), reply(1), write(2, 6), cas(3, 6, 7), read(4), gave(4, 8)]
@@ -182,7 +182,7 @@ class Values(unittest.TestCase):
     def test_a_cas_that_came_too_late(self) -> None:
         """It may find its value, but then the other cas, which was answered first, doesn't."""
         found = self.reached(TWO_WINNERS, 4)
-        self.assertEqual((found.values, found.last, found.taken), ([1, 3], [3], [1]))
+        self.assertEqual((found.values, found.taken), ([1, 3], [1]))
         assert found.broken is not None
         self.assertEqual(found.broken.line, 3)
 
@@ -205,7 +205,6 @@ class Values(unittest.TestCase):
             traces = [trace for order in legal_orders([each for each in kept if each.call is not call])
                       for trace in [values_behind(order, call)]]
             self.assertEqual(found.values, sorted({by for trace in traces for by in trace}), seed)
-            self.assertEqual(found.last, sorted({trace[-1] for trace in traces}), seed)
             seen += 1
         self.assertGreater(seen, 40)
 

@@ -90,14 +90,14 @@ class Counting(unittest.TestCase):
             ("a read before a write", [read(2), gave(2, None), write(1, 5), reply(1)], Evidence(2, 1, 1, 0)),
             ("a read in a write", [write(1, 5), read(2), gave(2, 5), reply(1)], Evidence(2, 1, 1, 1)),
             ("a write in a read", [read(2), write(1, 5), reply(1), gave(2, 5)], Evidence(2, 1, 1, 1)),
-            ("a pending write overlaps what comes "
-             "after", [write(1, 5), read(2), gave(2, None)], Evidence(2, 1, 1, 1)),
+            ("a pending write overlaps what comes after", [write(1, 5), read(2), gave(2, None)],
+             Evidence(2, 1, 1, 1)),
             ("so does that of a process that crashed", [write(1, 5), crash(1), read(2), gave(2, None)],
              Evidence(2, 1, 1, 1)),
             ("a failed write is none", [write(1, 5), read(2), gave(2, None), fail(1)], Evidence(1, 1, 1, 0)),
             ("a failed read is none", [write(1, 5), read(2), fail(2), reply(1)], Evidence(1, 1, 0, 0)),
-            ("another register's "
-             "write", [write(1, 5, "y"), read(2), gave(2, None), reply(1)], Evidence(2, 2, 1, 0)),
+            ("another register's write", [write(1, 5, "y"), read(2), gave(2, None), reply(1)],
+             Evidence(2, 2, 1, 0)),
             ("a register of failed calls alone", [write(1, 5), fail(1)], Evidence(0, 1, 0, 0)),
         ]
         for name, events, expected in table:

@@ -206,7 +206,7 @@ class Searched(HandMade):
             write_manifest(self.directory, manifest)
             self.part(0, "4", words="no memory or no thread")
             self.part(1, "6" if answered else "4", [GAVE_UP, summary("unknown", 1, 1)] if answered else [])
-            with mock.patch("regkit.parts.joining.find_program", lambda name: None):
+            with mock.patch("regkit.parts.answers.find_program", lambda name: None):
                 self.assertIn(f"  {expected} {self.directory}/part-000.jsonl > ", self.join().words)
 
 

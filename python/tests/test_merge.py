@@ -17,7 +17,7 @@ from regkit.commands import merge as command
 from regkit.commands.merge import duration
 from regkit.merge import Unmergeable, merge
 from regkit.merge.order import in_order
-from regkit.merge.recorded import Event
+from regkit.merge.recorded import RecordedEvent
 from regkit.record import Call, Client, Read, Recorder, Write
 
 from .events import Line, cas, crash, fail, gave, read, reply, text, took, write
@@ -30,23 +30,23 @@ Place = Tuple[int, int]  # a file, and an event of it
 # ---- the rule, against all pairs of events
 
 
-def random_events(chance: random.Random) -> List[Event]:
+def random_events(chance: random.Random) -> List[RecordedEvent]:
     """A file of at most nine events, some of them at one time."""
     times = sorted(chance.randrange(chance.choice([5, 20, 60])) for _ in range(chance.randrange(10)))
-    events: List[Event] = []
+    events: List[RecordedEvent] = []
     opened: Set[int] = set()
     for time in times:
         process = chance.randrange(3)
         what = chance.choice(["reply", "reply", "reply", "fail"]) if process in opened else "call"
         opened.symmetric_difference_update({process})
-        events.append(Event(time, process, what, ""))
+        events.append(RecordedEvent(time, process, what, ""))
     return events
 
 
 class Laid:
     """Some files, and the places of their events in the merged history."""
 
-    def __init__(self, files: List[List[Event]], error: int) -> None:
+    def __init__(self, files: List[List[RecordedEvent]], error: int) -> None:
         self.files, self.error = files, error
         rest = [{kind: iter([place for place, event in enumerate(events) if (event.what == "call") == kind])
                  for kind in (True, False)} for events in files]
@@ -59,7 +59,7 @@ class Laid:
             if step.given_up:
                 self.given_up.add(place)
 
-    def event(self, place: Place) -> Event:
+    def event(self, place: Place) -> RecordedEvent:
         return self.files[place[0]][place[1]]
 
     def is_certain(self, before: Place, after: Place) -> bool:
@@ -126,9 +126,9 @@ class Rule(unittest.TestCase):
         self.assertEqual(list(in_order([], 5)), [])
 
     def test_a_call_that_may_be_early_leaves_the_other_file_as_it_is(self) -> None:
-        busy = [Event(10, 1, "call", ""), Event(20, 1, "reply", ""),
-                Event(30, 1, "call", ""), Event(40, 1, "reply", "")]
-        slow = [Event(35, 1, "call", ""), Event(50, 1, "reply", "")]
+        busy = [RecordedEvent(10, 1, "call", ""), RecordedEvent(20, 1, "reply", ""),
+                RecordedEvent(30, 1, "call", ""), RecordedEvent(40, 1, "reply", "")]
+        slow = [RecordedEvent(35, 1, "call", ""), RecordedEvent(50, 1, "reply", "")]
         steps = list(in_order([busy, slow], 20))
         self.assertEqual([step.event for step in steps if step.file == 0], busy)
         self.assertEqual([step.event.time for step in steps], [10, 35, 20, 30, 40, 50])
@@ -136,8 +136,8 @@ class Rule(unittest.TestCase):
 
     def test_two_orders_that_contradict_each_other(self) -> None:
         """Each file has two operations, one after the other, all within the clock error."""
-        one = [Event(10 * place, 1, what, "") for place, what in enumerate(["call", "reply"] * 2, 1)]
-        other = [Event(event.time + 1, 1, event.what, "") for event in one]
+        one = [RecordedEvent(10 * place, 1, what, "") for place, what in enumerate(["call", "reply"] * 2, 1)]
+        other = [RecordedEvent(event.time + 1, 1, event.what, "") for event in one]
         steps = list(in_order([one, other], 100))
         self.assertEqual([(step.file, step.event.time) for step in steps if step.given_up], [(0, 30)])
         kept = [step.event for step in steps if step.file == 1]

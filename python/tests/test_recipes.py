@@ -58,7 +58,6 @@ class Recipes(unittest.TestCase):
             statuses.append(run_checker(ran.history.encode()).status)
         self.assertEqual(statuses, [1, 0])
 
-
     @unittest.skipUnless(find_program(SEARCH), "regsearch isn't built")
     def test_lock(self) -> None:
         """Two cas of which one is told that it missed. Both can't take place."""

@@ -12,8 +12,8 @@ from regkit import cli
 from regkit.checker.programs import SEARCH, NoChecker, find_checker, find_program
 from regkit.commands import split as command
 from regkit.parts import routing, splitting
+from regkit.parts.answers import line_map
 from regkit.parts.folder import BLANK, MAP, LineMap, file_of, read_manifest
-from regkit.parts.joining import line_map
 from regkit.parts.routing import CertainRefusal, Router
 from regkit.parts.splitting import Plan, lines_of, split
 from tests import split_support

@@ -97,8 +97,8 @@ def held(history: bytes) -> BinaryIO:
     return stream  # type: ignore[no-any-return]
 
 
-class Run:
-    """A run of the program that has begun. Whoever began it may work until it asks for the answer."""
+class RunningProgram:
+    """A program at work on a history. Whoever started it may go on until it asks for the answer."""
 
     def __init__(self, history: bytes, options: Sequence[str] = (), program: Optional[str] = None,
                  name: str = CHECK) -> None:
@@ -117,7 +117,7 @@ class Run:
         told = words.decode("utf-8", "replace").rstrip("\n")
         return Answer(self.process.returncode, report, told, self.name)
 
-    def __enter__(self) -> "Run":
+    def __enter__(self) -> "RunningProgram":
         return self
 
     def __exit__(self, kind: Optional[type[BaseException]], error: Optional[BaseException],
@@ -128,8 +128,8 @@ class Run:
             self.process.communicate()
 
 
-class Told:
-    """An answer that was there at once, in the place of a run."""
+class ReadyAnswer:
+    """The answer of the library, which is there at once, in the place of a running program."""
 
     def __init__(self, answer: Answer) -> None:
         self._answer = answer
@@ -137,7 +137,7 @@ class Told:
     def answer(self) -> Answer:
         return self._answer
 
-    def __enter__(self) -> "Told":
+    def __enter__(self) -> "ReadyAnswer":
         return self
 
     def __exit__(self, *_: object) -> None:
@@ -146,21 +146,21 @@ class Told:
 
 def run_checker(history: bytes, options: Sequence[str] = (), program: Optional[str] = None) -> Answer:
     """Runs the checker on a history. Raises NoChecker if it can't be started."""
-    with Run(history, options, program) as run:
+    with RunningProgram(history, options, program) as run:
         return run.answer()
 
 
 def run_search(history: bytes, options: Sequence[str], program: str) -> Answer:
     """Runs `regsearch`, at a path, on a history. Raises NoChecker if it can't be started."""
-    with Run(history, options, program, SEARCH) as run:
+    with RunningProgram(history, options, program, SEARCH) as run:
         return run.answer()
 
 
-def begin(history: bytes, options: Sequence[str] = ()) -> Union[Run, Told]:
+def begin(history: bytes, options: Sequence[str] = ()) -> Union[RunningProgram, ReadyAnswer]:
     """Begins to judge a history: by the library if the history is small and there are no options, else by the
     program. Their answers are the same."""
     if options or len(history) > LIBRARY_BYTES:
-        return Run(history, options)
+        return RunningProgram(history, options)
     from regkit.checker.library import NoLibrary, find_library  # a long history doesn't wait for this
 
     try:
@@ -168,9 +168,9 @@ def begin(history: bytes, options: Sequence[str] = ()) -> Union[Run, Told]:
     except NoLibrary as error:
         raise NoChecker(str(error)) from error
     if library is None:
-        return Run(history)
+        return RunningProgram(history)
     told = library.check(history)
-    return Told(Answer(told.status, told.report, told.refusal))
+    return ReadyAnswer(Answer(told.status, told.report, told.refusal))
 
 
 def judge(history: bytes, options: Sequence[str] = ()) -> Answer:
@@ -183,7 +183,7 @@ def is_for_search(history: bytes, answer: Answer) -> bool:
     """Whether regcheck refused the history for a value that was written already, or at the line of a cas."""
     if answer.status != ExitStatus.REFUSED or answer.by_search:
         return False
-    refusal = read_refusal(answer.refusal, lambda line: line)
+    refusal = read_refusal(answer.refusal)
     if refusal is None or refusal.number != BAD_OP:
         return refusal is not None and refusal.number == REPEATED
     try:
@@ -191,6 +191,11 @@ def is_for_search(history: bytes, answer: Answer) -> bool:
     except (NotJson, StopIteration):
         return False
     return isinstance(event, dict) and event.get("op") == "cas"
+
+
+def with_search_hint(words: str, history: bytes, answer: Answer) -> str:
+    """Some words about a refusal; where regsearch would decide the history and isn't there, that too."""
+    return f"{words}; {WOULD_DECIDE}" if is_for_search(history, answer) else words
 
 
 def searched(history: bytes, answer: Answer, options: Sequence[str] = ()) -> Answer:

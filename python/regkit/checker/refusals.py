@@ -50,8 +50,15 @@ class Refusal(NamedTuple):
         return f"line {self.line}: {self.text}" + ("" if self.other is None else f" at line {self.other}")
 
 
-def read_refusal(words: str, line_of: Callable[[int], int]) -> Optional[Refusal]:
-    """The refusal of a part, with the lines of the whole. None if it is about the size of the part."""
+def same_line(line: int) -> int:
+    """The line of the whole history, where that has the number it has in the part."""
+    return line
+
+
+def read_refusal(words: str, line_of: Callable[[int], int] = same_line) -> Optional[Refusal]:
+    """The refusal in a program's words. None if it is about the size of the input.
+
+    `line_of` gives for each line of a part its line in the whole history."""
     found = WORDS.fullmatch(words)
     if found is None or found[2] not in NUMBERS:
         return None

@@ -7,9 +7,12 @@ import time
 
 from regkit.base.statuses import ExitStatus
 from regkit.commands.options import add_bounds, bounds_of, count
+from regkit.commands.stopping import complain
 from regkit.history.inputs import STANDARD_INPUT, shown_name
-from regkit.judging.judge import Judge, Wishes
-from regkit.judging.outcome import Outcome, Timed, gravest, json_of, text_of
+from regkit.judging.judge import judge_file
+from regkit.judging.outcome import Outcome, TimedOutcome, gravest, json_of, text_of
+from regkit.judging.pages import Pages
+from regkit.judging.settings import CheckSettings
 from regkit.words.colour import CHOICES, Painter, painter
 from regkit.words.progress import Progress
 from regkit.words.quoting import plain
@@ -101,23 +104,26 @@ def wrong_words(arguments: argparse.Namespace) -> str:
     return ""
 
 
+def settings_of(arguments: argparse.Namespace) -> CheckSettings:
+    return CheckSettings(
+        most=arguments.most, least_reads=arguments.least_reads, least_overlaps=arguments.least_overlaps,
+        first=arguments.first, verify=arguments.verify, count_all=arguments.count_all or arguments.json,
+        bounds=bounds_of(arguments), pages=None if arguments.draw is None else Pages(arguments.draw))
+
+
 def run(arguments: argparse.Namespace) -> int:
     wrong = wrong_words(arguments)
     if wrong:
-        print(f"regkit check: {wrong}", file=sys.stderr)
-        return ExitStatus.COMMAND_LINE
+        return complain("check", wrong, ExitStatus.COMMAND_LINE)
     files: list[str] = arguments.files or [STANDARD_INPUT]
-    wishes = Wishes(arguments.most, arguments.least_reads, arguments.least_overlaps, arguments.first,
-                    arguments.verify, arguments.draw, arguments.count_all or arguments.json,
-                    bounds_of(arguments))
-    told: list[Timed] = []
+    settings = settings_of(arguments)
+    told: list[TimedOutcome] = []
     with Progress() as progress:
-        judge = Judge(wishes, progress)
         for place, name in enumerate(files, 1):
             label = plain(shown_name(name)) + (f" ({place} of {len(files)})" if len(files) > 1 else "")
             began = time.monotonic()
-            outcome = judge.judge(name, label)
-            told.append(Timed(outcome, time.monotonic() - began))
+            outcome = judge_file(name, label, settings, progress)
+            told.append(TimedOutcome(outcome, time.monotonic() - began))
             tell(outcome, arguments, progress)
     if arguments.junit is not None:
         from regkit.judging.junit import document  # only who asks for it waits for this

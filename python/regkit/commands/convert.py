@@ -8,6 +8,7 @@ from typing import Iterable, Iterator, Optional, TextIO
 
 from regkit.base.garbage import many_objects
 from regkit.base.statuses import ExitStatus
+from regkit.commands.stopping import complain
 from regkit.convert import output, summary, write_back
 from regkit.convert.edn import NotEdn
 from regkit.convert.model import Refused, WrongWords
@@ -52,18 +53,14 @@ def run(arguments: argparse.Namespace) -> int:
         with many_objects():
             return _run(arguments)
     except WrongWords as error:
-        return _complain(str(error), ExitStatus.COMMAND_LINE)
+        return complain("convert", str(error), ExitStatus.COMMAND_LINE)
     except (Refused, NotEdn) as error:
-        return _complain(str(error), ExitStatus.REFUSED)
+        return complain("convert", str(error), ExitStatus.REFUSED)
     except UnicodeDecodeError as error:
-        return _complain(f"the source isn't UTF-8 ({error.reason}): convert it to UTF-8", ExitStatus.REFUSED)
+        words = f"the source isn't UTF-8 ({error.reason}): convert it to UTF-8"
+        return complain("convert", words, ExitStatus.REFUSED)
     except ValueError as error:  # Python reads no number of thousands of digits
-        return _complain(f"a value of the source can't be read: {error}", ExitStatus.REFUSED)
-
-
-def _complain(words: str, status: int) -> int:
-    print(f"regkit convert: {words}", file=sys.stderr)
-    return status
+        return complain("convert", f"a value of the source can't be read: {error}", ExitStatus.REFUSED)
 
 
 def _run(arguments: argparse.Namespace) -> int:

@@ -2,16 +2,16 @@
 import argparse
 import os
 import sys
-from typing import Union
 
 from regkit.base.garbage import many_objects
 from regkit.base.statuses import ExitStatus
-from regkit.checker.programs import WOULD_DECIDE, NoChecker, decide, is_for_search
+from regkit.checker.programs import NoChecker, decide, with_search_hint
 from regkit.checker.report import read_report
 from regkit.commands.options import add_bounds, bounds_of
+from regkit.commands.stopping import Stop, complain
 from regkit.drawing.draw import page_of
-from regkit.drawing.page import Asked
-from regkit.explain.shrinking import MOST_RUNS, Searcher
+from regkit.drawing.page import DrawSettings
+from regkit.explain.shrinking import MOST_RUNS, ShrinkSettings
 from regkit.history.inputs import TooLong, read_input, shown_name
 from regkit.history.operations import NoRegister, read_history
 from regkit.words.progress import Progress
@@ -58,51 +58,43 @@ def positive(word: str) -> int:
 
 def run(arguments: argparse.Namespace) -> int:
     if arguments.history == arguments.report == "-":
-        return fail(ExitStatus.COMMAND_LINE, "only one of the files can be standard input")
+        return complain("draw", "only one of the files can be standard input", ExitStatus.COMMAND_LINE)
     try:
-        return draw(arguments)
+        write(arguments.output, drawn(arguments))
+        return ExitStatus.DONE
+    except Stop as stop:
+        return complain("draw", str(stop), stop.status)
     except NoChecker as error:
-        return fail(ExitStatus.FAILED, str(error))
+        return complain("draw", str(error), ExitStatus.FAILED)
     except NoRegister as error:
-        return fail(ExitStatus.COMMAND_LINE, f"{shown_name(arguments.history)}: {error}")
+        return complain("draw", f"{shown_name(arguments.history)}: {error}", ExitStatus.COMMAND_LINE)
     except (TooLong, ValueError) as error:
-        return fail(ExitStatus.REFUSED, f"{shown_name(arguments.history)}: {error}")
+        return complain("draw", f"{shown_name(arguments.history)}: {error}", ExitStatus.REFUSED)
 
 
-def fail(status: int, words: str) -> int:
-    print(f"regkit draw: {words}", file=sys.stderr)
-    return status
-
-
-def draw(arguments: argparse.Namespace) -> int:
-    """Raises ValueError if the report isn't of the history."""
+def drawn(arguments: argparse.Namespace) -> str:
+    """The page. Raises Stop if there is no report, and ValueError if the report isn't of the history."""
     with Progress() as progress, many_objects():
         data = read_input(arguments.history)
         progress.step("regcheck")
-        report = report_of(arguments, data)
-        if isinstance(report, int):
-            return report
-        verdict = read_report(report)
+        report = read_report(written_report(arguments, data))
         progress.step("reading", data.count(b"\n"))
         history = read_history(data, progress.reach)
-        progress.step("drawing", MOST_RUNS if verdict.by_search else 0)
+        progress.step("drawing", MOST_RUNS if report.by_search else 0)
         title = os.path.basename(shown_name(arguments.history))
-        searcher = Searcher(bounds_of(arguments), progress.reach)
-        page = page_of(history, verdict, title, Asked(arguments.most, arguments.register, searcher))
-    write(arguments.output, page)
-    return ExitStatus.DONE
+        shrinking = ShrinkSettings(bounds_of(arguments), progress.reach)
+        return page_of(history, report, title, DrawSettings(arguments.most, arguments.register, shrinking))
 
 
-def report_of(arguments: argparse.Namespace, history: bytes) -> Union[bytes, int]:
-    """The report in a file, or of a new run; the status if there is none."""
+def written_report(arguments: argparse.Namespace, history: bytes) -> bytes:
+    """The report in a file, or of a new run. Raises Stop if there is none."""
     if arguments.report is not None:
         return read_input(arguments.report)
     answer = decide(history, bounds_of(arguments))
     if answer.decided:
         return answer.report
-    refused = answer.status == ExitStatus.REFUSED
-    words = f"{answer.refusal}; {WOULD_DECIDE}" if is_for_search(history, answer) else answer.refusal
-    return fail(ExitStatus.REFUSED if refused else ExitStatus.FAILED, words)
+    status = ExitStatus.REFUSED if answer.status == ExitStatus.REFUSED else ExitStatus.FAILED
+    raise Stop(status, with_search_hint(answer.refusal, history, answer))
 
 
 def write(name: str, page: str) -> None:

@@ -6,17 +6,19 @@ import sys
 from regkit.base.garbage import many_objects
 from regkit.base.limits import MAX_BYTES
 from regkit.base.statuses import ExitStatus
-from regkit.checker.programs import WOULD_DECIDE, NoChecker, decide, is_for_search
+from regkit.checker.programs import NoChecker, decide
 from regkit.checker.report import Report, Row, read_report
 from regkit.commands.options import add_bounds, bounds_of, count
+from regkit.commands.stopping import Stop, complain
 from regkit.explain.advice import advice
-from regkit.explain.explanation import NotOfHistory, Wishes, explain
+from regkit.explain.explanation import ExplainSettings, explain
+from regkit.explain.page import NotOfHistory
 from regkit.explain.searched import what_to_do
 from regkit.explain.shrinking import MOST_RUNS
 from regkit.history.inputs import STANDARD_INPUT, TooLong, read_input, shown_name
 from regkit.history.operations import History, NoRegister, NotAHistory, read_history
 from regkit.history.source_map import NotAMap, put_labels
-from regkit.judging.judge import failure, failure_of
+from regkit.judging.failures import file_failure, program_failure, refusal_advice
 from regkit.words.colour import CHOICES, painter
 from regkit.words.phrases import counted
 from regkit.words.progress import Progress
@@ -55,15 +57,6 @@ exit status:
 NARROWEST, WIDEST = 40, 120  # characters a line
 
 
-class Stop(Exception):
-    """There is no explanation, for a reason that a person has to know."""
-
-    def __init__(self, status: int, words: str, hint: str = "") -> None:
-        super().__init__(words)
-        self.status = status
-        self.hint = hint
-
-
 def add_arguments(parser: argparse.ArgumentParser) -> None:
     parser.add_argument("history", metavar="HISTORY", help="the history; - is standard input")
     parser.add_argument("report", metavar="REPORT", nargs="?", help="its report (default: regcheck is run)")
@@ -83,11 +76,10 @@ def written_report(arguments: argparse.Namespace, data: bytes) -> bytes:
         return read_input(arguments.report, None)
     answer = decide(data, bounds_of(arguments))
     if answer.status == ExitStatus.REFUSED:
-        told = advice(data, answer.refusal, arguments.history)
-        told += f"; {WOULD_DECIDE}" if is_for_search(data, answer) else ""
-        raise Stop(ExitStatus.REFUSED, f"refused: {answer.refusal}", told)
+        hint = refusal_advice(data, answer, arguments.history)
+        raise Stop(ExitStatus.REFUSED, f"refused: {answer.refusal}", hint)
     if not answer.decided:
-        raise Stop(ExitStatus.FAILED, failure_of(answer))
+        raise Stop(ExitStatus.FAILED, program_failure(answer))
     return answer.report
 
 
@@ -109,35 +101,44 @@ def labelled_history(arguments: argparse.Namespace, data: bytes, progress: Progr
     return history
 
 
+def settings_of(arguments: argparse.Namespace, progress: Progress) -> ExplainSettings:
+    width = max(NARROWEST, min(WIDEST, shutil.get_terminal_size((100, 24)).columns))
+    return ExplainSettings(arguments.most, arguments.register, width, painter(arguments.color, sys.stdout),
+                           bounds_of(arguments), progress.reach)
+
+
 def explained(arguments: argparse.Namespace, progress: Progress) -> tuple[int, str]:
     """The exit status and the explanation. Raises Stop if there is none."""
-    name = plain(shown_name(arguments.history))
+    name, register = plain(shown_name(arguments.history)), arguments.register
     # A report of `regkit join` may be of a history that is longer than the checker takes.
     data = read_input(arguments.history, MAX_BYTES if arguments.report is None else None)
     progress.step(f"{name}: checking")
     report = parsed_report(written_report(arguments, data))
-    rows = [row for row in report.faulty if arguments.register in (None, row["register"])]
-    unknown = [row for row in report.unknown if arguments.register in (None, row["register"])]
-    if not rows and unknown:
+    faulty = [row for row in report.faulty if register in (None, row["register"])]
+    unknown = [row for row in report.unknown if register in (None, row["register"])]
+    if not faulty and unknown:
         return ExitStatus.UNKNOWN, f"{name}: {unknown_in_words(unknown, arguments.most)}"
-    if not rows and arguments.register is None:
+    if not faulty and register is None:
         operations = counted(report.summary["operations"], "operation")
         return ExitStatus.ATOMIC, f"{name}: linearizable: {operations}, nothing to explain"
     history = labelled_history(arguments, data, progress)
-    if not rows:
-        register = quoted(arguments.register)
-        if all(row["register"] != arguments.register for row in report.rows):
-            words = f"the report, an early answer, says nothing of register {register}"
-            raise Stop(ExitStatus.REFUSED, words)
-        return ExitStatus.ATOMIC, f"{name}: register {register} is linearizable, nothing to explain"
-    progress.step(f"{name}: explaining")
-    width = max(NARROWEST, min(WIDEST, shutil.get_terminal_size((100, 24)).columns))
+    if not faulty:
+        must_be_judged(report, register)
+        words = f"register {quoted(register)} is linearizable, nothing to explain"
+        return ExitStatus.ATOMIC, f"{name}: {words}"
     if report.by_search:
         progress.step(f"{name}: making the fault small", MOST_RUNS)
-    wishes = Wishes(arguments.most, arguments.register, width, painter(arguments.color, sys.stdout),
-                    bounds_of(arguments), progress.reach)
-    why = explain(history, report, wishes)
+    else:
+        progress.step(f"{name}: explaining")
+    why = explain(history, report, settings_of(arguments, progress))
     return ExitStatus.NOT_ATOMIC, f"{name}: not linearizable: {how_many(report)}\n\n{why}"
+
+
+def must_be_judged(report: Report, register: str) -> None:
+    """Raises Stop if an early answer ended before the register."""
+    if all(row["register"] != register for row in report.rows):
+        raise Stop(ExitStatus.REFUSED,
+                   f"the report, an early answer, says nothing of register {quoted(register)}")
 
 
 def unknown_in_words(rows: list[Row], most: int) -> str:
@@ -167,7 +168,7 @@ def answer_to(arguments: argparse.Namespace) -> tuple[int, str]:
     except (NotAHistory, NotAMap, NotOfHistory) as error:
         raise Stop(ExitStatus.REFUSED, str(error)) from error
     except OSError as error:
-        raise Stop(ExitStatus.FAILED, failure(arguments.history, error)) from error
+        raise Stop(ExitStatus.FAILED, file_failure(arguments.history, error)) from error
     except NoChecker as error:
         raise Stop(ExitStatus.FAILED, str(error)) from error
 
@@ -179,7 +180,6 @@ def run(arguments: argparse.Namespace) -> int:
         status, words = answer_to(arguments)
     except Stop as stop:
         name, hint = plain(shown_name(arguments.history)), f"\n  {stop.hint}" if stop.hint else ""
-        print(f"regkit explain: {name}: {plain(str(stop))}{hint}", file=sys.stderr)
-        return stop.status
+        return complain("explain", f"{name}: {plain(str(stop))}{hint}", stop.status)
     print(words)
     return status

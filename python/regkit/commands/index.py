@@ -1,14 +1,14 @@
 """`regkit index`: a page that lists the runs of a folder, newest first, with a picture of each."""
 import argparse
 import pathlib
-import sys
-from typing import Sequence
 
 from regkit.base.statuses import ExitStatus
 from regkit.commands.options import add_bounds, bounds_of, count
 from regkit.drawing.page import shows_unknown
-from regkit.judging.judge import Judge, Wishes
-from regkit.judging.runs import PICTURES, Run, page, runs_in
+from regkit.judging.judge import judge_file
+from regkit.judging.pages import Pages
+from regkit.judging.runs import PICTURES, ListedRun, page, runs_in
+from regkit.judging.settings import CheckSettings
 from regkit.words.phrases import counted
 from regkit.words.progress import Progress
 from regkit.words.quoting import plain
@@ -45,17 +45,17 @@ def is_fresh(picture: pathlib.Path, changed: float) -> bool:
     return picture.exists() and picture.stat().st_mtime >= changed and not shows_unknown(picture)
 
 
-def judged(paths: list[pathlib.Path], pictures: pathlib.Path, bounds: Sequence[str],
-           progress: Progress) -> list[Run]:
+def judged(paths: list[pathlib.Path], pictures: pathlib.Path, settings: CheckSettings,
+           progress: Progress) -> list[ListedRun]:
     """The runs with their outcomes. A picture that isn't fresh is drawn."""
-    judge = Judge(Wishes(1, 1, 0, False, False, None, bounds=bounds), progress)
+    pages = Pages(pictures)
     runs = []
     for place, path in enumerate(paths, 1):
         picture, changed = pictures / f"{path.stem}.html", path.stat().st_mtime
-        judge.wishes = judge.wishes._replace(draw=None if is_fresh(picture, changed) else pictures)
-        outcome = judge.judge(str(path), f"{plain(path.name)} ({place} of {len(paths)})")
-        drawn = pathlib.Path(outcome.drawing) if outcome.drawing else picture
-        runs.append(Run(path, changed, outcome, drawn if outcome.evidence is not None else None))
+        drawn = settings._replace(pages=None if is_fresh(picture, changed) else pages)
+        outcome = judge_file(str(path), f"{plain(path.name)} ({place} of {len(paths)})", drawn, progress)
+        page = pathlib.Path(outcome.drawing) if outcome.drawing else picture
+        runs.append(ListedRun(path, changed, outcome, page if outcome.evidence is not None else None))
     return runs
 
 
@@ -64,8 +64,9 @@ def run(arguments: argparse.Namespace) -> int:
     output: pathlib.Path = arguments.output or folder / "index.html"
     paths = runs_in(folder)
     with Progress() as progress:
-        runs = judged(paths[:arguments.most], folder / PICTURES, bounds_of(arguments), progress)
+        settings = CheckSettings(bounds=bounds_of(arguments))
+        runs = judged(paths[:arguments.most], folder / PICTURES, settings, progress)
     output.write_text(page(runs, len(paths), folder, output), encoding="utf-8", errors="surrogateescape")
     wrong = sum(each.outcome.status == ExitStatus.NOT_ATOMIC for each in runs)
-    print(f"{plain(str(output))}: {counted(len(runs), 'run')}, {wrong:,} not linearizable", file=sys.stdout)
+    print(f"{plain(str(output))}: {counted(len(runs), 'run')}, {wrong:,} not linearizable")
     return ExitStatus.DONE

@@ -6,9 +6,11 @@ from typing import NamedTuple, Sequence
 from regkit.base.limits import MAX_EVENTS
 from regkit.base.statuses import ExitStatus
 from regkit.checker.programs import CHECK, SEARCH
+from regkit.commands.stopping import complain
+from regkit.parts.answers import (STATUSES, Answered, PartOutcome, RefusedPart, Unanswered, command_again,
+                                  outcomes, takes_search)
 from regkit.parts.folder import Manifest, NotSplit, read_manifest
-from regkit.parts.joining import (STATUSES, Answered, Outcome, RefusedPart, Unanswered, command_again,
-                                  outcomes, takes_search, verdict_of, write_report)
+from regkit.parts.joining import verdict_of, write_report
 from regkit.words.progress import Progress
 
 HELP = "join the reports of the parts of a split history into the report of the whole"
@@ -45,20 +47,21 @@ def run(arguments: argparse.Namespace) -> int:
     try:
         manifest = read_manifest(arguments.directory)
     except NotSplit as error:
-        return failed(str(error))
+        return complain("join", str(error), ExitStatus.FAILED)
     with Progress() as progress:
         progress.step("reading the answers")
         found = list(outcomes(arguments.directory, manifest))
     again = to_run_again(found)
     if again:
-        return name_them(arguments.directory, again, program_to_run(found, manifest))
+        return ask_to_run_again(arguments.directory, again, program_to_run(found, manifest))
     refused = min((each for each in found if isinstance(each, RefusedPart)),
                   key=lambda each: each.refusal.rank, default=None)
     if refused is not None:
         return refuse(arguments.directory, refused)
     if manifest.stopped is not None:
-        return failed(f"the checker accepts line {manifest.stopped}, and regkit split could not read it, so "
-                      "no later line was checked. This is a defect of regkit: please report the line")
+        words = (f"the checker accepts line {manifest.stopped}, and regkit split could not read it, so no "
+                 "later line was checked. This is a defect of regkit: please report the line")
+        return complain("join", words, ExitStatus.FAILED)
     return write([each for each in found if isinstance(each, Answered)], manifest, arguments.order)
 
 
@@ -69,7 +72,7 @@ class Again(NamedTuple):
     why: str  # as a person would go on after its name
 
 
-def to_run_again(found: Sequence[Outcome]) -> list[Again]:
+def to_run_again(found: Sequence[PartOutcome]) -> list[Again]:
     """The parts without an answer; if there are none, those of regcheck if regsearch checked others."""
     unanswered = [Again(each.part, f"has no answer: {each.why}")
                   for each in found if isinstance(each, Unanswered)]
@@ -79,11 +82,11 @@ def to_run_again(found: Sequence[Outcome]) -> list[Again]:
             if not isinstance(each, Unanswered) and each.program == CHECK]
 
 
-def programs_of(found: Sequence[Outcome]) -> list[str]:
+def programs_of(found: Sequence[PartOutcome]) -> list[str]:
     return [each.program for each in found if not isinstance(each, Unanswered) and each.program is not None]
 
 
-def program_to_run(found: Sequence[Outcome], manifest: Manifest) -> str:
+def program_to_run(found: Sequence[PartOutcome], manifest: Manifest) -> str:
     """Which program is to check the parts that lack an answer: regsearch if any other part has one of it."""
     return SEARCH if manifest.cas or SEARCH in programs_of(found) else CHECK
 
@@ -99,8 +102,8 @@ def refuse(directory: str, refused: RefusedPart) -> int:
 def write(parts: list[Answered], manifest: Manifest, order: str) -> int:
     by_search = parts[0].program == SEARCH
     if by_search and order == "always":
-        print("regkit join: a report of regsearch has no merged order: leave out --order", file=sys.stderr)
-        return ExitStatus.COMMAND_LINE
+        return complain("join", "a report of regsearch has no merged order: leave out --order",
+                        ExitStatus.COMMAND_LINE)
     with_order = order == "always" or (order == "auto" and manifest.events <= MAX_EVENTS)
     with Progress() as progress:
         progress.step("joining", len(manifest.registers))
@@ -108,13 +111,8 @@ def write(parts: list[Answered], manifest: Manifest, order: str) -> int:
     return STATUSES[verdict_of(parts)]
 
 
-def name_them(directory: str, parts: Sequence[Again], program: str) -> int:
+def ask_to_run_again(directory: str, parts: Sequence[Again], program: str) -> int:
     for each in parts:
         print(f"part-{each.part:03} {each.why}; run it again:", file=sys.stderr)
         print(f"  {command_again(directory, each.part, program)}", file=sys.stderr)
-    return ExitStatus.FAILED
-
-
-def failed(words: str) -> int:
-    print(f"regkit join: {words}", file=sys.stderr)
     return ExitStatus.FAILED

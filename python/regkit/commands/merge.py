@@ -9,6 +9,7 @@ from typing import Iterator, Sequence
 
 from regkit.base.garbage import many_objects
 from regkit.base.statuses import ExitStatus
+from regkit.commands.stopping import complain
 from regkit.convert.clock import UNITS
 from regkit.convert.summary import too_large
 from regkit.history.inputs import STANDARD_INPUT, read_input, shown_name
@@ -67,7 +68,7 @@ def add_arguments(parser: argparse.ArgumentParser) -> None:
 
 def run(arguments: argparse.Namespace) -> int:
     if arguments.files.count(STANDARD_INPUT) > 1:
-        return complain("standard input can be read once: give - once", ExitStatus.COMMAND_LINE)
+        return complain("merge", "standard input can be read once: give - once", ExitStatus.COMMAND_LINE)
     try:
         with Progress() as progress, many_objects():
             files = list(read_files(arguments.files, progress))
@@ -75,15 +76,10 @@ def run(arguments: argparse.Namespace) -> int:
             found = merged(files, arguments.clock_error)
             size = write(found.lines, arguments.output)
     except Unmergeable as error:
-        return complain(str(error), ExitStatus.REFUSED)
+        return complain("merge", plain(str(error)), ExitStatus.REFUSED)
     for line in (*told(files, found, arguments.clock_error), *too_large(len(found.lines), size)):
         print(f"regkit merge: {line}", file=sys.stderr)
     return ExitStatus.DONE
-
-
-def complain(words: str, status: int) -> int:
-    print(f"regkit merge: {plain(words)}", file=sys.stderr)
-    return status
 
 
 def read_files(names: Sequence[str], progress: Progress) -> Iterator[Recorded]:

@@ -11,9 +11,10 @@ from regkit.base.statuses import ExitStatus
 from regkit.checker.programs import (CHECK, SEARCH, Answer, NoChecker, find_program, is_for_search,
                                      run_checker, run_search)
 from regkit.checker.refusals import Refusal, read_refusal
+from regkit.commands.stopping import complain
 from regkit.history.inputs import opened
+from regkit.parts.answers import line_map
 from regkit.parts.folder import BLANK, MAP, MAX_PARTS, Manifest, file_of
-from regkit.parts.joining import line_map
 from regkit.parts.splitting import CannotSplit, Plan, split
 from regkit.words.progress import Progress
 
@@ -63,8 +64,7 @@ def run(arguments: argparse.Namespace) -> int:
     try:
         manifest = split_named(arguments)
     except CannotSplit as error:
-        print(f"regkit split: {error}", file=sys.stderr)
-        return ExitStatus.TOO_LARGE
+        return complain("split", str(error), ExitStatus.TOO_LARGE)
     if manifest.stopped is not None:
         return refuse(arguments.directory, manifest)
     print(f"{arguments.directory}: {manifest.events} events on {len(manifest.registers)} registers "
@@ -116,14 +116,13 @@ def refuse(directory: str, manifest: Manifest) -> int:
         found, why = None, str(error)
     if found is None:
         why = why or f"{program} accepts it, which is a defect of regkit: please report the line"
-        print(f"regkit split: line {manifest.stopped} can't be accepted, and no later line was read: {why}",
-              file=sys.stderr)
-        return ExitStatus.FAILED
+        words = f"line {manifest.stopped} can't be accepted, and no later line was read: {why}"
+        return complain("split", words, ExitStatus.FAILED)
     print(found.refusal, file=sys.stderr)
     return ExitStatus.REFUSED
 
 
-class RefusedPart(NamedTuple):
+class PartRefusal(NamedTuple):
     """What a program says of a part."""
 
     refusal: Refusal  # with the lines of the whole
@@ -131,14 +130,15 @@ class RefusedPart(NamedTuple):
 
 
 def first_refused(directory: str, manifest: Manifest,
-                  check: Callable[[bytes], Answer]) -> Optional[RefusedPart]:
+                  check: Callable[[bytes], Answer]) -> Optional[PartRefusal]:
     """The first refusal of a program. Raises NoChecker."""
-    found: list[RefusedPart] = []
+    found: list[PartRefusal] = []
     for part in range(manifest.parts):
         history = file_of(directory, part, "jsonl").read_bytes()
         answer = check(history)
-        if answer.status == ExitStatus.REFUSED:
-            refusal = read_refusal(answer.refusal, line_map(directory, part, manifest))
-            found += [RefusedPart(refusal, is_for_search(history, answer))] if refusal is not None else []
-    found.sort(key=lambda each: each.refusal.rank)
-    return found[0] if found else None
+        if answer.status != ExitStatus.REFUSED:
+            continue
+        refusal = read_refusal(answer.refusal, line_map(directory, part, manifest))
+        if refusal is not None:
+            found.append(PartRefusal(refusal, is_for_search(history, answer)))
+    return min(found, key=lambda each: each.refusal.rank) if found else None

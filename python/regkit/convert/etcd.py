@@ -8,13 +8,12 @@ and Exists whether a read found a value. Unknown says that nobody knows what the
 """
 from typing import Any, Optional
 
-from regkit.convert.model import CAS, KNOWN, READS, Operation, Refused
+from regkit.convert.members import Members
+from regkit.convert.model import CAS, KNOWN, READS, Refused, SourceOperation
 from regkit.convert.values import spelled
 
 _OPS = {"0": "read", "1": "write", "2": CAS}
 _TOLD = ("ok", "exists", "unknown")
-
-Members = dict[str, Any]
 
 
 def asked(word: str, given: Members, line: int) -> tuple[str, Any]:
@@ -30,7 +29,7 @@ def asked(word: str, given: Members, line: int) -> tuple[str, Any]:
     return kind, None if kind in READS else given.get("arg1")
 
 
-def ended(operation: Operation, told: Members, said: dict[bool, int],
+def ended(operation: SourceOperation, told: Members, said: dict[bool, int],
           line: int) -> tuple[Optional[str], Members]:
     """How an operation ended, and what its output says of values.
 

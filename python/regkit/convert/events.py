@@ -14,8 +14,8 @@ from regkit.base.limits import GREATEST_VALUE
 from regkit.convert import edn
 from regkit.convert.json_values import json_values
 from regkit.convert.members import Known, Outcomes
-from regkit.convert.model import (CAS, ENDINGS, READS, WRITES, Choices, Client, Operation, Refused, Source,
-                                  folded)
+from regkit.convert.model import (CAS, ENDINGS, READS, WRITES, Choices, Client, Refused, Source,
+                                  SourceOperation, folded)
 from regkit.convert.pairing import Pairing
 from regkit.convert.rows import client_of
 from regkit.convert.settle import settle
@@ -26,7 +26,7 @@ Event = dict[str, Any]
 
 
 def from_events(lines: Iterable[str], choices: Choices) -> Source:
-    log = _Log(choices)
+    log = _EventLog(choices)
     for line, event in json_values(lines):
         if not isinstance(event, dict) or event.get("process") is None:
             raise Refused('no event: an object such as {"process":1,"event":"reply"} is expected', line)
@@ -37,7 +37,7 @@ def from_events(lines: Iterable[str], choices: Choices) -> Source:
     return source
 
 
-class _Log:
+class _EventLog:
     """Pairs calls with what ended them."""
 
     def __init__(self, choices: Choices) -> None:
@@ -56,7 +56,7 @@ class _Log:
                 raise Refused("a call has the member op, read, write or cas", line)
             key = event.get("register", self.choices.register)
             kind = self.choices.kind_of(op)
-            called = Operation(line, client, kind, key,
+            called = SourceOperation(line, client, kind, key,
                                self._cas(event, line) if kind == CAS else event.get("value"))
             _say_who(called, event)
             self.pairing.call(called)
@@ -99,7 +99,7 @@ class _Log:
                           f"{edn.write(event['value'])[:40]}", line)
         return event["from"], event["to"]
 
-    def _ending(self, what: Any, called: Optional[Operation], line: int) -> Optional[str]:
+    def _ending(self, what: Any, called: Optional[SourceOperation], line: int) -> Optional[str]:
         """What an event other than a call and a crash does to its call."""
         outcome = self.choices.outcomes.get(folded(what)) if type(what) is str else None
         if outcome is not None:
@@ -112,7 +112,7 @@ class _Log:
                       f"with --outcomes {option} what it means (or ok, or fail, if it certainly had no "
                       "effect)", line)
 
-    def _agree(self, event: Event, called: Operation, line: int) -> None:
+    def _agree(self, event: Event, called: SourceOperation, line: int) -> None:
         """A reply or a failure repeats what its call has, if it has it."""
         for name, asked in zip(("from", "to"), called.value if called.kind == CAS else ()):
             if event.get(name) is not None and edn.write(event[name]) != edn.write(asked):
@@ -127,7 +127,7 @@ class _Log:
             raise Refused(f"register is {edn.write(register)}, and the call at line {called.line} has "
                           f"{edn.write(called.key)}: is it the answer to another call?", line)
 
-    def _reply(self, event: Event, called: Operation, line: int) -> Optional[str]:
+    def _reply(self, event: Event, called: SourceOperation, line: int) -> Optional[str]:
         """Gives a call its answer. Returns what ended it."""
         if called.kind == CAS:
             return self._cas_reply(event, line)
@@ -137,7 +137,6 @@ class _Log:
         told = called.kind not in WRITES or not self.choices.explains("value")
         called.answer = event.get("value") if told and not found_nothing else None
         return ending
-
 
     def _cas_reply(self, event: Event, line: int) -> Optional[str]:
         """How a cas ended that got a reply."""
@@ -155,7 +154,7 @@ class _Log:
         return "reply" if took_place else "missed"
 
 
-def _say_who(operation: Operation, event: Event) -> None:
+def _say_who(operation: SourceOperation, event: Event) -> None:
     """Keeps what a recorder says of who called, which node was asked, and when."""
     client, node = event.get("client"), event.get("node")
     operation.name = client if type(client) is str else ""

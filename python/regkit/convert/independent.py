@@ -2,7 +2,7 @@
 from typing import Any, Optional
 
 from regkit.convert import edn
-from regkit.convert.model import CAS, KNOWN, READS, Choices, Operation, Refused
+from regkit.convert.model import CAS, KNOWN, READS, Choices, Refused, SourceOperation
 
 Pair = tuple[Any, Any]
 
@@ -26,7 +26,7 @@ def nothing_for(value: Any) -> Any:
     return None if pair is None else (pair[0], None)
 
 
-def are_independent(operations: list[Operation], choices: Choices) -> bool:
+def are_independent(operations: list[SourceOperation], choices: Choices) -> bool:
     """Whether the values are keys with values: if all calls' are, or if any read's is a key with nil.
 
     A plain read is called with nil. A plain cas is called with a pair too, of the old value and the new; its
@@ -35,7 +35,7 @@ def are_independent(operations: list[Operation], choices: Choices) -> bool:
     if choices.keys != "auto":
         return choices.keys == "independent"
     pairs = others = 0
-    either: Optional[Operation] = None
+    either: Optional[SourceOperation] = None
     for call in operations:
         if call.key is None and call.kind in KNOWN:
             pair = pair_of(call.value)
@@ -53,7 +53,7 @@ def are_independent(operations: list[Operation], choices: Choices) -> bool:
     return pairs > 0 and not others
 
 
-def part(operation: Operation) -> None:
+def part(operation: SourceOperation) -> None:
     """Parts a key from the values of an operation. Raises Refused."""
     called = pair_of(operation.value)
     if called is None:

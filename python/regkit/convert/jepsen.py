@@ -21,8 +21,8 @@ from regkit.convert.independent import are_independent, nothing_for, pair_of, pa
 from regkit.convert.jepsen_lines import NO_OPERATION, line_events
 from regkit.convert.json_values import is_json, json_values
 from regkit.convert.members import Ended, Known, Outcomes, word_of
-from regkit.convert.model import (CAS, ENDINGS, KNOWN, OTHER, READS, WRITES, Choices, Operation, Refused,
-                                  Source, folded)
+from regkit.convert.model import (CAS, ENDINGS, KNOWN, OTHER, READS, WRITES, Choices, Refused, Source,
+                                  SourceOperation, folded)
 from regkit.convert.pairing import Pairing
 from regkit.convert.settle import settle
 from regkit.convert.transactions import refuse_appends, take_apart
@@ -41,7 +41,9 @@ Events = Iterable[tuple[int, Event]]
 def from_jepsen(lines: Iterable[str], choices: Choices) -> Source:
     """Tells JSON, EDN and lines for people by what they begin with."""
     found, everything = is_json(lines)
-    return _Log(choices).source(_json_events(everything)) if found else from_edn_or_log(everything, choices)
+    if not found:
+        return from_edn_or_log(everything, choices)
+    return _JepsenLog(choices).source(_json_events(everything))
 
 
 def from_edn_or_log(lines: Iterable[str], choices: Choices) -> Source:
@@ -54,7 +56,8 @@ def from_edn_or_log(lines: Iterable[str], choices: Choices) -> Source:
             break
     first = held[-1].strip() if held else ""
     everything = itertools.chain(held, rest)
-    return _Log(choices).source(_edn_events(everything) if first[:1] in "{[(#;" else line_events(everything))
+    events = _edn_events(everything) if first[:1] in "{[(#;" else line_events(everything)
+    return _JepsenLog(choices).source(events)
 
 
 def _edn_events(lines: Iterable[str]) -> Iterator[tuple[int, Event]]:
@@ -88,7 +91,7 @@ def _as_edn(value: Any) -> Any:
     return value
 
 
-class _Log:
+class _JepsenLog:
     """Pairs events first, since only all calls together tell whether their values have keys."""
 
     def __init__(self, choices: Choices) -> None:
@@ -125,7 +128,7 @@ class _Log:
         settle(source, self.choices)
         return source
 
-    def _look_at_versions(self, source: Source, operations: list[Operation]) -> None:
+    def _look_at_versions(self, source: Source, operations: list[SourceOperation]) -> None:
         """Takes versions out of the values, if there are any."""
         if not self.choices.drop_versions:
             pairs.refuse_versions(operations, self.choices)
@@ -154,7 +157,7 @@ class _Log:
         kind = spelled(event.get(":type"))
         if kind == ":invoke":
             function = self._function(event, line)
-            self.pairing.call(Operation(line, client, function, event.get(":key"), event.get(":value")))
+            self.pairing.call(SourceOperation(line, client, function, event.get(":key"), event.get(":value")))
             return
         if self.choices.outcomes and folded(kind) in self.choices.outcomes:
             ending = ENDINGS[self.choices.outcomes[folded(kind)]] or "crash"
@@ -219,7 +222,7 @@ class _Log:
                               f"{name[1:]} if that means nothing", line)
         return self.outcomes.of(event, is_read)
 
-    def _failure(self, called: Operation, event: Event) -> str:
+    def _failure(self, called: SourceOperation, event: Event) -> str:
         """What the log's own failure says: with --failed-cas missed, a cas found another value.
 
         But an error may say that it failed for another reason, and then it is no more than a failure.
@@ -235,7 +238,7 @@ class _Log:
         self.refused_cas.append(word)
         return "fail"
 
-    def _asks_for_null(self, called: Operation) -> bool:
+    def _asks_for_null(self, called: SourceOperation) -> bool:
         """Whether a cas may ask for what a key has that doesn't exist."""
         pair = pair_of(called.value) or (None, None)
         word = word_of((pair_of(pair[1]) or pair)[0])
@@ -257,7 +260,7 @@ def _error(event: Event) -> Any:
     return None
 
 
-def _place(operation: Operation, independent: bool, choices: Choices) -> None:
+def _place(operation: SourceOperation, independent: bool, choices: Choices) -> None:
     """Gives an operation its key, and takes the key out of its values."""
     if operation.kind == "txn":
         take_apart(operation)

@@ -13,8 +13,11 @@ from collections import Counter
 from typing import Any, Iterable, Iterator, Mapping, NamedTuple, Optional
 
 from regkit.convert import edn
-from regkit.convert.model import ENDINGS, Choices, Refused, counted, folded
+from regkit.convert.model import ENDINGS, Choices, Refused, folded
 from regkit.convert.values import spelled
+from regkit.words.phrases import counted
+
+Members = dict[str, Any]
 
 # By form, and for Porcupine by place, the members that its reader understands.
 UNDERSTOOD: dict[str, frozenset[str]] = {
@@ -104,7 +107,7 @@ def word_of(value: Any) -> str:
 class Ended(NamedTuple):
     """How an operation ended that the form takes for completed."""
 
-    ending: Optional[str]  # of the operation, as Operation has it
+    ending: Optional[str]  # of the operation, as SourceOperation has it
     found_nothing: bool = False  # a read of null
 
 

@@ -29,7 +29,7 @@ class WrongWords(Exception):
     """The options don't fit each other or the source."""
 
 
-class Operation:
+class SourceOperation:
     """A call with what ended it, as the source has it. `kind` is crash for a crash without an open call."""
 
     __slots__ = ("line", "end_line", "client", "kind", "key", "value", "expected", "missed", "answer",
@@ -51,11 +51,6 @@ class Operation:
         self.end_time: Optional[int] = None
         self.name = ""  # of its client, if the source has one beside `client`
         self.node = ""  # that was asked, if the source says which
-
-
-def counted(number: int, what: str) -> str:
-    """A number of things, in words."""
-    return f"{number:,} {what}" if number == 1 else f"{number:,} {what}s"
 
 
 class Choices(NamedTuple):
@@ -102,15 +97,15 @@ def folded(word: str) -> str:
 class Source:
     """The operations: each stands where it was called and, if anything ended it, again where it ended."""
 
-    def __init__(self, steps: list[Operation]) -> None:
+    def __init__(self, steps: list[SourceOperation]) -> None:
         self.steps = steps
         self.left_out: dict[str, int] = Counter()  # which lines were left out -> how many
         self.skipped = ""  # what --cas skip-key left out, in words
         self.notes: list[str] = []  # what else a person should know
 
-    def moments(self) -> Iterator[tuple[Operation, bool]]:
+    def moments(self) -> Iterator[tuple[SourceOperation, bool]]:
         """Each step, and whether it is the operation's call."""
-        called: set[Operation] = set()
+        called: set[SourceOperation] = set()
         for operation in self.steps:
             if operation in called:
                 called.remove(operation)
@@ -120,6 +115,6 @@ class Source:
                 called.add(operation)
             yield operation, True
 
-    def operations(self) -> Iterator[Operation]:
+    def operations(self) -> Iterator[SourceOperation]:
         """Each operation once, in the order of the calls. A crash without an open call is none."""
         return (step for step, is_call in self.moments() if is_call and step.kind != "crash")

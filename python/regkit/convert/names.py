@@ -7,13 +7,13 @@ text is named with its quotes.
 from typing import Iterable
 
 from regkit.base.limits import MAX_NAME
-from regkit.convert.model import Operation, Refused
+from regkit.convert.model import Refused, SourceOperation
 from regkit.convert.values import readable
 
 
-def names(operations: Iterable[Operation]) -> dict[str, str]:
+def names(operations: Iterable[SourceOperation]) -> dict[str, str]:
     """The name of each key, in the order in which the keys appear."""
-    first: dict[str, Operation] = {}
+    first: dict[str, SourceOperation] = {}
     for operation in operations:
         if operation.key not in first:
             first[operation.key] = operation

@@ -13,7 +13,7 @@ import itertools
 import json
 from typing import Any, Iterable, Iterator, NamedTuple, TextIO
 
-from regkit.convert.model import CAS, Operation, Source, Value
+from regkit.convert.model import CAS, Source, SourceOperation, Value
 from regkit.convert.values import readable
 from regkit.convert.whole import Converted
 from regkit.history.who import members
@@ -42,7 +42,7 @@ def history_lines(converted: Converted) -> Iterator[str]:
                    f'{_asked(step)}{who}}}\n')
 
 
-def _asked(step: Operation) -> str:
+def _asked(step: SourceOperation) -> str:
     """The members that say what a call asks for."""
     if step.kind == CAS:
         return f',"from":{_shown_value(step.expected)},"to":{step.value}'
@@ -53,7 +53,7 @@ def _shown_value(value: Value) -> Value:
     return "null" if value is None else value
 
 
-def _who(step: Operation, is_call: bool) -> str:
+def _who(step: SourceOperation, is_call: bool) -> str:
     """The members that say who and when: the client if it isn't the process itself, and the time if it is
     known in nanoseconds. An initial write is nobody's."""
     if not step.line:

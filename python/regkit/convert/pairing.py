@@ -1,18 +1,18 @@
 """Calls and what ended them, where the source is a log of events in the order of time."""
 from typing import Any, Hashable, Optional
 
-from regkit.convert.model import Client, Operation, Refused
+from regkit.convert.model import Client, Refused, SourceOperation
 
 
 class Pairing:
     """Pairs each ending with its call: that of its client, or of an identity that the log gives."""
 
     def __init__(self, ends_with_crash: bool = False) -> None:
-        self.steps: list[Operation] = []
-        self.open: dict[Hashable, Operation] = {}
+        self.steps: list[SourceOperation] = []
+        self.open: dict[Hashable, SourceOperation] = {}
         self.crashed: Optional[dict[Client, int]] = {} if ends_with_crash else None
 
-    def call(self, operation: Operation, identity: Optional[Hashable] = None) -> None:
+    def call(self, operation: SourceOperation, identity: Optional[Hashable] = None) -> None:
         if self.crashed:
             self.refuse_crashed(operation.client, operation.line)
         found = self.open.setdefault(operation.client if identity is None else identity, operation)
@@ -22,7 +22,7 @@ class Pairing:
                           operation.line)
         self.steps.append(operation)
 
-    def called(self, client: Client, line: int, identity: Optional[Hashable] = None) -> Operation:
+    def called(self, client: Client, line: int, identity: Optional[Hashable] = None) -> SourceOperation:
         """The open call of a client. Raises Refused if there is none."""
         if self.crashed:
             self.refuse_crashed(client, line)
@@ -41,14 +41,14 @@ class Pairing:
             operation.ending, operation.end_line, operation.answer = ending, line, answer
             self.steps.append(operation)
 
-    def crash(self, line: int, client: Client) -> Operation:
+    def crash(self, line: int, client: Client) -> SourceOperation:
         """Ends a client, with its open call if it has one. Returns that call, or the crash alone."""
         if self.crashed is not None:
             self.refuse_crashed(client, line)
             self.crashed[client] = line
         operation = self.open.pop(client, None)
         if operation is None:
-            operation = Operation(line, client, "crash", None, None)
+            operation = SourceOperation(line, client, "crash", None, None)
         else:
             operation.ending, operation.end_line = "crash", line
         self.steps.append(operation)

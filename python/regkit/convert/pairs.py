@@ -11,12 +11,12 @@ from typing import Any, Iterable
 
 from regkit.convert import edn
 from regkit.convert.independent import pair_of
-from regkit.convert.model import CAS, KNOWN, READS, Choices, Operation, Refused
+from regkit.convert.model import CAS, KNOWN, READS, Choices, Refused, SourceOperation
 
 NOTE = "each value is [version value], and the versions are left out: they aren't checked"
 
 
-def have_keys(operations: Iterable[Operation], choices: Choices) -> bool:
+def have_keys(operations: Iterable[SourceOperation], choices: Choices) -> bool:
     """Whether the values are [key [version value]], by all calls that have a value."""
     if choices.keys != "auto":
         return choices.keys == "independent"
@@ -26,12 +26,12 @@ def have_keys(operations: Iterable[Operation], choices: Choices) -> bool:
     return bool(calls) and all(pair is not None and _is_versioned(each, pair[1]) for each, pair in found)
 
 
-def _is_versioned(operation: Operation, value: Any) -> bool:
+def _is_versioned(operation: SourceOperation, value: Any) -> bool:
     pair = pair_of(value)
     return pair is not None and (operation.kind != CAS or pair_of(pair[1]) is not None)
 
 
-def drop_versions(operation: Operation) -> None:
+def drop_versions(operation: SourceOperation) -> None:
     """Leaves the version out of an operation's values. Raises Refused for a value without one."""
     if operation.kind not in KNOWN:
         return
@@ -40,7 +40,7 @@ def drop_versions(operation: Operation) -> None:
         operation.answer = _without(operation.answer, operation, operation.end_line or operation.line)
 
 
-def _without(value: Any, operation: Operation, line: int) -> Any:
+def _without(value: Any, operation: SourceOperation, line: int) -> Any:
     if value is None and operation.kind in READS:
         return None
     pair = pair_of(value)
@@ -51,7 +51,7 @@ def _without(value: Any, operation: Operation, line: int) -> Any:
     return pair[1]
 
 
-def refuse_versions(operations: Iterable[Operation], choices: Choices) -> None:
+def refuse_versions(operations: Iterable[SourceOperation], choices: Choices) -> None:
     """Raises Refused if each cas may have its two values after a version: [nil [from to]]."""
     swaps = [each for each in operations if each.kind == CAS]
     values = [pair_of(each.value) for each in swaps]

@@ -18,12 +18,12 @@ from typing import Any, Iterable, Optional
 
 from regkit.convert import etcd, jepsen, versions
 from regkit.convert.json_values import is_json, json_values
-from regkit.convert.members import Known, Outcomes, by_folded_name, ok_of
-from regkit.convert.model import CAS, READS, WRITES, Choices, Operation, Refused, Source, WrongWords
+from regkit.convert.members import Known, Members, Outcomes, by_folded_name, ok_of
+from regkit.convert.model import CAS, READS, WRITES, Choices, Refused, Source, SourceOperation, WrongWords
 from regkit.convert.pairing import Pairing
 from regkit.convert.rows import client_of
 from regkit.convert.settle import settle
-from regkit.convert.timed import Timed
+from regkit.convert.timed import TimedOperations
 from regkit.convert.values import spelled
 
 # Operations in Porcupine's models: the key-value model has numbers, the register says whether it is a read.
@@ -32,8 +32,6 @@ _READS_BY_HABIT = {"0": "0=write,1=read", "true": "true=write,false=read"}  # an
 _KINDS = {"call": True, "callevent": True, "false": True, "0": True,
           "return": False, "returnevent": False, "true": False, "1": False}
 _END_OF_TIME = 2 ** 63 - 1  # math.MaxInt64, which stands for no return
-
-Members = dict[str, Any]
 
 
 def from_porcupine(lines: Iterable[str], choices: Choices) -> Source:
@@ -49,7 +47,7 @@ class _Values:
 
     def __init__(self, choices: Choices) -> None:
         self.choices = choices
-        self.timed = Timed()
+        self.timed = TimedOperations()
         self.pairing = Pairing()
         self.outcomes = Outcomes(choices)
         self.known = {place: Known(choices, place) for place in (
@@ -57,7 +55,7 @@ class _Values:
         if choices.versions is not None:
             for place in ("input", "output"):
                 self.known[place] = Known(choices, place, [choices.versions])
-        self.etcd: set[Operation] = set()  # those of the model of etcd
+        self.etcd: set[SourceOperation] = set()  # those of the model of etcd
         self.etcd_said: dict[bool, int] = {}
 
     def source(self, lines: Iterable[str]) -> Source:
@@ -81,7 +79,7 @@ class _Values:
         settle(source, self.choices)
         return source
 
-    def _operation(self, line: int, client: Any, given: Any) -> Operation:
+    def _operation(self, line: int, client: Any, given: Any) -> SourceOperation:
         """The operation that an input describes."""
         found = by_folded_name(given) if isinstance(given, dict) else {}
         if found.get("op") is None:
@@ -92,23 +90,24 @@ class _Values:
         if "arg1" in found or "arg2" in found:
             self.known["etcd input"].check(given, line)
             kind, value = etcd.asked(kind, found, line)
-            operation = Operation(line, client, kind, found.get("key", self.choices.register), value)
+            operation = SourceOperation(line, client, kind, found.get("key", self.choices.register), value)
             self.etcd.add(operation)
             return operation
         key = found.get("key", self.choices.register)
         self.known["cas input" if kind == CAS else "input"].check(given, line)
         if kind == CAS:
-            return Operation(line, client, kind, key, _swap(found, line))
+            return SourceOperation(line, client, kind, key, _swap(found, line))
         kind = _OPS.get(word, word) if kind == word else kind
         if word in _READS_BY_HABIT and word not in self.choices.ops and not _is_zero(found.get("value")):
             raise Refused(f"Op {word} is a get in Porcupine's models, and this input has a value to write, "
                           f"{spelled(found['value'])[:40]}: say which operation each Op is, as in "
                           f"--ops {_READS_BY_HABIT[word]}", line)
         if self.choices.versions is not None and kind in WRITES:
-            return Operation(line, client, CAS, key, versions.as_cas(found, self.choices.versions, line))
-        return Operation(line, client, kind, key, found.get("value"))
+            change = versions.as_cas(found, self.choices.versions, line)
+            return SourceOperation(line, client, CAS, key, change)
+        return SourceOperation(line, client, kind, key, found.get("value"))
 
-    def _end(self, operation: Operation, output: Any, beside: Members, line: int) -> Optional[str]:
+    def _end(self, operation: SourceOperation, output: Any, beside: Members, line: int) -> Optional[str]:
         """Gives an operation its answer, the output or its member Value. Returns the operation's ending."""
         members: Members = {} if output is None else {"output": output}
         is_etcd, is_cas, version = operation in self.etcd, operation.kind == CAS, self.choices.versions

@@ -3,7 +3,7 @@ import heapq
 from typing import NamedTuple
 
 from regkit.base.limits import MAX_PROCESS
-from regkit.convert.model import Client, Operation, Source
+from regkit.convert.model import Client, Source, SourceOperation
 
 
 class Given(NamedTuple):
@@ -50,7 +50,7 @@ def give_processes(source: Source) -> Given:
     crash or an unknown outcome it never is.
     """
     clients = _Clients({step.client for step in source.steps if _is_number(step.client)})
-    places: dict[Operation, int] = {}
+    places: dict[SourceOperation, int] = {}
     split = 0
     for operation, is_call in source.moments():
         if is_call:

@@ -2,26 +2,32 @@
 import shlex
 from typing import Any, NamedTuple, Optional
 
-from regkit.convert.members import Known, Outcomes, ok_of
-from regkit.convert.model import CAS, ENDINGS, READS, Choices, Client, Operation, Refused, Source, folded
+from regkit.convert.members import Known, Members, Outcomes, ok_of
+from regkit.convert.model import (CAS, ENDINGS, READS, Choices, Client, Refused, Source, SourceOperation,
+                                  folded)
 from regkit.convert.settle import settle
-from regkit.convert.timed import Timed
+from regkit.convert.timed import TimedOperations
 from regkit.convert.values import settled, spelled
 
 OUTCOMES = {"ok": "ok", "fail": "fail", "unknown": "unknown", "info": "unknown", "missed": "missed", "": "ok"}
 ABSENT: Any = object()  # a value that isn't there
 
-_VALUE, _FROM = 5, 7  # places in Row.columns
-
-Members = dict[str, Any]
-
 
 class Row(NamedTuple):
-    """An operation as its source has it."""
+    """An operation as its source has it, its columns in order. One that isn't there is ABSENT."""
 
     line: int
-    columns: list[Any]  # process, start, end, register, op, value, outcome, from, to, ok; or ABSENT
     members: Members  # all that it has, if the options or a cas may ask for any of these
+    process: Any
+    start: Any
+    end: Any
+    register: Any
+    op: Any
+    value: Any
+    outcome: Any
+    asked: Any  # of a cas, what it asks for: the column `from`
+    written: Any  # and what it writes: the column `to`
+    ok: Any  # of a cas, whether it took place
 
 
 class Rows:
@@ -31,23 +37,19 @@ class Rows:
         self.choices = choices
         self.is_csv = choices.form == "csv"
         self.known = Known(choices, choices.form, what=what)
-        self.timed = Timed()
+        self.timed = TimedOperations()
         self.outcomes = Outcomes(choices)
         self.empty: Optional[int] = None  # the line of the first outcome that is an empty text
         self.well: Optional[int] = None  # and of the first that is ok
         self.names = (choices.columns["start"], choices.columns["end"])
 
     def take(self, row: Row) -> None:
-        process, start, end, register, op, value, outcome = (
-            None if each is ABSENT and place != _VALUE else each
-            for place, each in enumerate(row.columns[:_FROM]))
-        word = op.strip().lower() if type(op) is str else spelled(op)
-        key = self.choices.register if register is None else register
-        kind = self.choices.kind_of(word)
-        operation = Operation(row.line, client_of(process, self.is_csv), kind, key,
-                              None if value is ABSENT else value)
+        register, end = _or_none(row.register), _or_none(row.end)
+        kind = self.choices.kind_of(row.op.strip().lower() if type(row.op) is str else spelled(row.op))
+        operation = SourceOperation(row.line, client_of(row.process, self.is_csv), kind,
+                              self.choices.register if register is None else register, _or_none(row.value))
         operation.answer = operation.value
-        operation.ending = self._ending(outcome, row, kind)
+        operation.ending = self._ending(row, kind)
         if type(end) is str and not end.strip():
             end = None
         if end is None and operation.ending in ("reply", "missed"):
@@ -57,12 +59,12 @@ class Rows:
             self._take_cas(operation, row)
         else:
             self._refuse_cas_members(row)
-        if value is ABSENT and not found_nothing and operation.ending == "reply" and kind in READS:
+        if row.value is ABSENT and not found_nothing and operation.ending == "reply" and kind in READS:
             raise Refused(f"a read without {self.choices.columns['value']}: write null if it found none, or "
                           "say which member is the value with --columns value=NAME", row.line)
-        self.timed.add(operation, start, end, self.names)
+        self.timed.add(operation, row.start, end, self.names)
 
-    def _found_nothing(self, operation: Operation, members: Members) -> bool:
+    def _found_nothing(self, operation: SourceOperation, members: Members) -> bool:
         """Ends an operation as --ok-when says, and tells whether it is a read that found no value."""
         if operation.ending == "reply":
             operation.ending, found_nothing = self.outcomes.of(members, operation.kind in READS)
@@ -71,14 +73,14 @@ class Rows:
             return found_nothing
         return False
 
-    def _take_cas(self, operation: Operation, row: Row) -> None:
+    def _take_cas(self, operation: SourceOperation, row: Row) -> None:
         """Gives a cas its two values, and its ending by `ok`."""
-        line, value, (asked, written, told) = row.line, row.columns[_VALUE], row.columns[_FROM:]
-        if asked is ABSENT or written is ABSENT:
+        line, told = row.line, row.ok
+        if row.asked is ABSENT or row.written is ABSENT:
             raise Refused("a cas has from and to: say which they are with --columns from=NAME,to=NAME", line)
-        if not _is_nothing(value) and not self.choices.explains("value"):
-            raise Refused(f"a cas has from and to, and no value, but this is {spelled(value)[:40]}", line)
-        operation.value, operation.answer = (asked, written), None
+        if not _is_nothing(row.value) and not self.choices.explains("value"):
+            raise Refused(f"a cas has from and to, and no value, but this is {spelled(row.value)[:40]}", line)
+        operation.value, operation.answer = (row.asked, row.written), None
         name = self.choices.columns.get("ok", "ok")
         if operation.ending is None or self.choices.explains(folded(name)):
             told = ABSENT
@@ -96,28 +98,28 @@ class Rows:
 
     def _says_ok(self, row: Row) -> bool:
         """Whether the outcome of a row, or a member by --ok-when, says by a word that all went well."""
-        outcome = row.columns[_FROM - 1]
-        word = "" if _is_nothing(outcome) else spelled(outcome).strip()
+        word = "" if _is_nothing(row.outcome) else spelled(row.outcome).strip()
         return bool(word) or "" in self.choices.outcomes or self.outcomes.say(row.members)
 
     def _refuse_cas_members(self, row: Row) -> None:
         """A read and a write have nothing in the columns of a cas, unless the options say what it means."""
         strange = []
-        for column, value in zip(("from", "to", "ok"), row.columns[_FROM:]):
+        for column, value in (("from", row.asked), ("to", row.written), ("ok", row.ok)):
             name = self.choices.columns.get(column, column)
             if not _is_nothing(value) and not self.choices.explains(folded(name)):
                 strange.append(name)
         self.known.refuse(row.members, strange, row.line)
 
-    def _ending(self, outcome: Any, row: Row, kind: str) -> Optional[str]:
+    def _ending(self, row: Row, kind: str) -> Optional[str]:
+        """How an operation ended by its outcome; without one all went well."""
+        outcome = _or_none(row.outcome)
         word = "" if outcome is None else spelled(outcome).strip()
         if self.choices.outcomes and folded(word) in self.choices.outcomes:
             return ENDINGS[self.choices.outcomes[folded(word)]]
         if word.lower() not in OUTCOMES:
-            raise Refused(f"the outcome is {word}, and ok, fail, unknown or info is expected, or missed: "
-                          "say what it "
-                          f"means with --outcomes {shlex.quote(word + '=unknown')} (or ok, or fail, if it "
-                          "certainly had no effect), or which column is the outcome with --columns "
+            raise Refused(f"the outcome is {word}, and ok, fail, unknown or info is expected, or missed: say "
+                          f"what it means with --outcomes {shlex.quote(word + '=unknown')} (or ok, or fail, "
+                          "if it certainly had no effect), or which column is the outcome with --columns "
                           "outcome=NAME", row.line)
         if outcome is not None and not word:
             self.empty = self.empty or row.line
@@ -133,6 +135,10 @@ class Rows:
         source.notes.extend(self.outcomes.notes())
         settle(source, self.choices)
         return source
+
+
+def _or_none(value: Any) -> Any:
+    return None if value is ABSENT else value
 
 
 def _is_nothing(value: Any) -> bool:

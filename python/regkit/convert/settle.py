@@ -5,9 +5,10 @@ from typing import Any, Callable, Optional
 
 from regkit.convert import edn
 from regkit.convert.members import WRITE_ANSWERS
-from regkit.convert.model import (CAS, OTHER, READ_AND_WRITE, READS, WRITES, Choices, Operation, Refused,
-                                  Source, Value, counted)
+from regkit.convert.model import (CAS, OTHER, READS, READ_AND_WRITE, WRITES, Choices, Refused, Source,
+                                  SourceOperation, Value)
 from regkit.convert.values import ALL_TEXTS, bare, readable, settled, shown
+from regkit.words.phrases import counted
 
 _OPAQUE = frozenset({"object", "error"})  # tags of values that can't be compared by how they are written
 
@@ -35,7 +36,7 @@ def settle(source: Source, choices: Choices) -> None:
                 _settle_value(operation, read_value, choices.form)
 
 
-def _settle_key(operation: Operation, keys: dict[object, str], alike: bool) -> None:
+def _settle_key(operation: SourceOperation, keys: dict[object, str], alike: bool) -> None:
     """The key as EDN writes it. Texts and whole numbers are looked up, since a source repeats its keys."""
     key = bare(operation.key) if alike else operation.key
     if type(key) is not str and type(key) is not int:
@@ -47,7 +48,7 @@ def _settle_key(operation: Operation, keys: dict[object, str], alike: bool) -> N
     operation.key = known
 
 
-def _skip(source: Source, operations: list[Operation], skipped: set[str]) -> None:
+def _skip(source: Source, operations: list[SourceOperation], skipped: set[str]) -> None:
     """Leaves out every operation of some keys, and the crashes that ended such operations."""
     left = sum(operation.key in skipped for operation in operations)
     keys = len({operation.key for operation in operations})
@@ -59,36 +60,36 @@ def _skip(source: Source, operations: list[Operation], skipped: set[str]) -> Non
     source.notes.append(source.skipped)
 
 
-def _settle_kind(operation: Operation, keeps_cas: bool) -> None:
+def _settle_kind(operation: SourceOperation, takes_cas: bool) -> None:
     if operation.kind in READS:
         operation.kind = "read"
     elif operation.kind in WRITES:
         operation.kind = "write"
-    elif operation.kind == CAS and keeps_cas:
-        pass
-    elif operation.kind == CAS:
-        raise Refused("cas reads and writes at once, and by --cas refuse only reads and writes are taken: "
-                      "keep "
-                      "it for regsearch with --cas keep, leave it out of the workload, or leave out the keys "
-                      "that it touches with --cas skip-key", operation.line)
-    elif operation.kind in READ_AND_WRITE:
-        raise Refused(f"{operation.kind} reads and writes at once, and a register has reads, writes and cas "
-                      f"only: leave {operation.kind} out of the workload, leave out the keys that it touches "
-                      "with --cas skip-key, or check the history with Porcupine and its key-value model",
-                      operation.line)
-    elif operation.kind == OTHER:
-        raise Refused("by --ops this is neither a read nor a write nor a cas: leave out the keys that it "
-                      "touches with --cas skip-key", operation.line)
-    else:
-        option = f"--ops {shlex.quote(operation.kind + '=')}"
-        raise Refused(f"{operation.kind} is no word for a read ({', '.join(sorted(READS))}) or a write "
-                      f"({', '.join(sorted(WRITES))}) or a cas: say {option}read or {option}write or "
-                      f"{option}cas "
-                      f"if it is one, leave out the keys that it touches with {option}other --cas skip-key, "
-                      "or check queues, sets and counters with Knossos or Porcupine", operation.line)
+    elif operation.kind != CAS or not takes_cas:
+        raise Refused(_not_taken(operation.kind), operation.line)
 
 
-def _settle_ending(operation: Operation) -> None:
+def _not_taken(kind: str) -> str:
+    """What to do about an operation that is none of a register, as far as the options say."""
+    if kind == CAS:
+        return ("cas reads and writes at once, and by --cas refuse only reads and writes are taken: keep it "
+                "for regsearch with --cas keep, leave it out of the workload, or leave out the keys that it "
+                "touches with --cas skip-key")
+    if kind in READ_AND_WRITE:
+        return (f"{kind} reads and writes at once, and a register has reads, writes and cas only: leave "
+                f"{kind} out of the workload, leave out the keys that it touches with --cas skip-key, or "
+                "check the history with Porcupine and its key-value model")
+    if kind == OTHER:
+        return ("by --ops this is neither a read nor a write nor a cas: leave out the keys that it touches "
+                "with --cas skip-key")
+    option = f"--ops {shlex.quote(kind + '=')}"
+    return (f"{kind} is no word for a read ({', '.join(sorted(READS))}) or a write "
+            f"({', '.join(sorted(WRITES))}) or a cas: say {option}read or {option}write or {option}cas if it "
+            f"is one, leave out the keys that it touches with {option}other --cas skip-key, or check queues, "
+            "sets and counters with Knossos or Porcupine")
+
+
+def _settle_ending(operation: SourceOperation) -> None:
     if operation.ending != "missed":
         return
     if operation.kind != CAS:
@@ -103,7 +104,7 @@ def _refuse_opaque(value: Any, line: int) -> None:
                       "client record the value itself", line)
 
 
-def _settle_cas(operation: Operation, read_value: Callable[[Any], Value], form: str) -> None:
+def _settle_cas(operation: SourceOperation, read_value: Callable[[Any], Value], form: str) -> None:
     """Parts what a cas asks for from what it writes. Its reply has both too, or neither."""
     called = _halves(operation.value)
     if called is None:
@@ -118,10 +119,9 @@ def _settle_cas(operation: Operation, read_value: Callable[[Any], Value], form: 
     if answered is None or tuple(map(read_value, answered)) != (operation.expected, operation.value):
         name = WRITE_ANSWERS[form]
         raise Refused(f"the reply of a cas has the value {edn.write(operation.answer)[:60]}, which isn't "
-                      "that "
-                      f"of its call, at line {operation.line}: say --ok-when {name}=WORD,.. with the words "
-                      f"by which the cas took place, or --ignore-member {name} if what a cas answers means "
-                      "nothing", operation.end_line)
+                      f"that of its call, at line {operation.line}: say --ok-when {name}=WORD,.. with the "
+                      f"words by which the cas took place, or --ignore-member {name} if what a cas answers "
+                      "means nothing", operation.end_line)
 
 
 def _halves(value: Any) -> Optional[tuple[Any, Any]]:
@@ -136,7 +136,7 @@ def _differ_in_version(called: Any, answered: Any) -> bool:
     return one is not None and other is not None and edn.write(one[1]) == edn.write(other[1])
 
 
-def _settle_value(operation: Operation, read_value: Callable[[Any], Value], form: str) -> None:
+def _settle_value(operation: SourceOperation, read_value: Callable[[Any], Value], form: str) -> None:
     """A write's value is that of its call, with which its reply agrees; a read's is that of its reply."""
     for value in (operation.value, operation.answer):
         _refuse_opaque(value, operation.line)

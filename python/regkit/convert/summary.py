@@ -2,10 +2,10 @@
 from typing import Iterator
 
 from regkit.base.limits import MAX_BYTES, MAX_EVENTS
-from regkit.convert.model import CAS, counted
+from regkit.convert.model import CAS
 from regkit.convert.values import repeats
 from regkit.convert.whole import Converted
-from regkit.words.phrases import for_regsearch
+from regkit.words.phrases import counted, for_regsearch
 
 
 def told(converted: Converted, has_map: bool) -> Iterator[str]:

@@ -9,8 +9,9 @@ import shlex
 from typing import Any, Iterator, Optional
 
 from regkit.convert import edn
-from regkit.convert.model import CAS, Choices, Operation, Refused, Source, Value, counted
-from regkit.convert.values import Written, bare, initial_value, shown, spelled
+from regkit.convert.model import CAS, Choices, Refused, Source, SourceOperation, Value
+from regkit.convert.values import Written, bare, initial_value, shown, spelled, unsettled
+from regkit.words.phrases import counted
 
 SPELL_NULL = frozenset({
     "", "-", "\\n", "<nil>", "(nil)", "(null)", "absent", "empty", "key not found", "key-does-not-exist",
@@ -28,7 +29,7 @@ def look_at_reads(source: Source, written: Written, choices: Choices) -> Iterato
     it was found may be misread as well as one that is never written.
     """
     spellings = _Spellings(written, choices.form)
-    nothing: dict[Value, Operation] = {}
+    nothing: dict[Value, SourceOperation] = {}
     begun: set[tuple[str, Value]] = set()  # what was written so far, by key
     unwritten = failed = 0
     for each, is_call in source.moments():
@@ -55,7 +56,7 @@ def look_at_reads(source: Source, written: Written, choices: Choices) -> Iterato
                "no effect? Else its outcome is unknown (--outcomes WORD=unknown)")
 
 
-def _find(operation: Operation) -> Value:
+def _find(operation: SourceOperation) -> Value:
     """What a completed read, or a cas that took place, found."""
     if operation.ending != "reply" or operation.missed:
         return None
@@ -64,13 +65,8 @@ def _find(operation: Operation) -> Value:
     return operation.value if operation.kind == "read" else None
 
 
-def value_of(value: Value) -> Any:
-    """A settled value as Python has it."""
-    return next(edn.values([value]))[1] if type(value) is str else value
-
-
-def _refuse_suspect(read: Operation, found: Value, spellings: "_Spellings", choices: Choices) -> None:
-    value = value_of(found)
+def _refuse_suspect(read: SourceOperation, found: Value, spellings: "_Spellings", choices: Choices) -> None:
+    value = unsettled(found)
     why = _spells_null(value, choices)
     if why is None and choices.values == "auto":
         why = spellings.why(read.key, found)
@@ -118,14 +114,14 @@ class _Spellings:
             known: dict[str, Value] = {}
             written = self._written.get(key, {})
             for each in written if any(type(each) is str for each in written) else ():
-                twin = known.setdefault(bare(value_of(each)), each)
+                twin = known.setdefault(bare(unsettled(each)), each)
                 if twin != each:
                     twins |= {twin, each}
         return value in twins
 
     def why(self, key: str, found: Value) -> Optional[str]:
         """What to say of a value if it is like another one that is written."""
-        value = value_of(found)
+        value = unsettled(found)
         if self.has(key, found):
             alike = _ANOTHER_KIND if self.has_twin(key, found) else None
         else:
@@ -145,8 +141,8 @@ class _Spellings:
             return _ANOTHER_KIND
         if not self._keys:
             for each in self._written:
-                self._keys.setdefault(bare(value_of(each)), []).append(each)
-        for other in self._keys.get(bare(value_of(key)), []):
+                self._keys.setdefault(bare(unsettled(each)), []).append(each)
+        for other in self._keys.get(bare(unsettled(key)), []):
             if word in self._values_of(other):
                 return f"it is written to {other}, a key of another kind that is spelled alike"
         return None
@@ -155,14 +151,14 @@ class _Spellings:
         known = self._values.get(key)
         if known is None:
             values = self._written.get(key, {})
-            known = self._values[key] = {bare(value_of(value)) for value in values}
+            known = self._values[key] = {bare(unsettled(value)) for value in values}
         return known
 
     def _parts_of(self, key: str) -> set[str]:
         known = self._parts.get(key)
         if known is None:
             values = self._written.get(key, {})
-            known = self._parts[key] = {part for value in values for part in _parts(value_of(value))}
+            known = self._parts[key] = {part for value in values for part in _parts(unsettled(value))}
         return known
 
 

@@ -13,8 +13,9 @@ from typing import Any, Iterable, Iterator, Optional
 
 from regkit.convert.json_values import json_values
 from regkit.convert.members import Known
-from regkit.convert.model import Choices, Refused, Source, WrongWords, counted
+from regkit.convert.model import Choices, Refused, Source, WrongWords
 from regkit.convert.rows import ABSENT, Row, Rows
+from regkit.words.phrases import counted
 
 PLAIN_COLUMNS = ("process", "start", "end", "register", "op", "value", "outcome")
 CAS_COLUMNS = ("from", "to", "ok")  # which only a cas has
@@ -66,7 +67,7 @@ def _csv_rows(lines: Iterable[str], choices: Choices) -> Iterator[Row]:
                 members = dict(zip(header, row)) if keeps or not known.seen else {}
                 if not known.seen:  # the columns of the first row are those of all
                     known.check(members, line)
-                yield Row(line, fields, members)
+                yield Row(line, members, *fields)
             line = reader.line_num + 1
     except csv.Error as error:
         raise Refused(f"not CSV: {error}", reader.line_num) from None
@@ -120,7 +121,7 @@ def _json_rows(lines: Iterable[str], choices: Choices) -> Iterator[Row]:
                               f"which member is the {column} with --columns {column}=NAME", line)
         known.check(row, line)
         fields = [row.get(named[column], ABSENT) if column in named else ABSENT for column in COLUMNS]
-        yield Row(line, fields, row)
+        yield Row(line, row, *fields)
 
 
 def _source(rows: Iterable[Row], choices: Choices) -> Source:

@@ -11,20 +11,21 @@ say.
 from typing import Any, Optional
 
 from regkit.convert.clock import Clock, Time
-from regkit.convert.model import Choices, Operation, Refused, Source, counted
+from regkit.convert.model import Choices, Refused, Source, SourceOperation
+from regkit.words.phrases import counted
 
 
-class Timed:
+class TimedOperations:
     """Operations as they are read, with their times."""
 
     def __init__(self) -> None:
         self.clock = Clock()
-        self.operations: list[Operation] = []
+        self.operations: list[SourceOperation] = []
         self.starts: list[Time] = []
         self.ends: list[Time] = []
-        self.ended: list[Operation] = []  # the operations of `ends`
+        self.ended: list[SourceOperation] = []  # the operations of `ends`
 
-    def add(self, operation: Operation, start: Any, end: Optional[Any], names: tuple[str, str]) -> None:
+    def add(self, operation: SourceOperation, start: Any, end: Optional[Any], names: tuple[str, str]) -> None:
         """Adds an operation. One that failed at no known time ends as it starts, since it had no effect."""
         began = self.clock.read(start, operation.line, names[0])
         self.operations.append(operation)

@@ -2,10 +2,10 @@
 from typing import Any, Iterable, Optional
 
 from regkit.convert import edn
-from regkit.convert.model import Operation, Refused
+from regkit.convert.model import Refused, SourceOperation
 
 
-def refuse_appends(operations: Iterable[Operation]) -> None:
+def refuse_appends(operations: Iterable[SourceOperation]) -> None:
     """Raises Refused if any transaction appends to a list: no option makes registers of lists."""
     for operation in operations:
         if operation.kind == "txn" and "append" in map(_function, _parts(operation.value)):
@@ -14,7 +14,7 @@ def refuse_appends(operations: Iterable[Operation]) -> None:
                           "in `elle-cli --model list-append history.edn`", operation.line)
 
 
-def take_apart(operation: Operation) -> None:
+def take_apart(operation: SourceOperation) -> None:
     """Takes a transaction of one operation for that operation. Raises Refused for any other."""
     function, key, value = _single(operation.value, operation.line)
     if operation.ending == "reply":

@@ -4,7 +4,7 @@ from typing import AbstractSet, Any, Iterable
 
 from regkit.base.limits import GREATEST_VALUE, LEAST_VALUE
 from regkit.convert import edn
-from regkit.convert.model import Operation, Refused, Value
+from regkit.convert.model import Refused, SourceOperation, Value
 
 ALL_TEXTS = frozenset({"csv", "porcupine"})  # forms in which a text of a whole number is that number
 _WHOLE = re.compile(r"-?[1-9][0-9]{0,18}|0")  # a longer one has more than 64 bits
@@ -12,7 +12,8 @@ _WHOLE = re.compile(r"-?[1-9][0-9]{0,18}|0")  # a longer one has more than 64 bi
 _QUOTED = re.compile(r"""b?(["'])(.*)\1""", re.DOTALL)  # a text as JSON, EDN or Python shows it, or its bytes
 
 Table = dict[str, dict[str, int]]  # by key, the number of each text
-Written = dict[str, dict[Value, Operation]]  # by key and value, what wrote it, and didn't fail if any didn't
+# By key and value, what wrote it: a write that didn't fail, if there is one.
+Written = dict[str, dict[Value, SourceOperation]]
 
 
 def spelled(value: Any) -> str:
@@ -54,10 +55,15 @@ def initial_value(word: str, form: str, alike: bool = False) -> Value:
         return None
     value: Any = word
     if re.fullmatch(r':[^\s,"]+|"(?:[^"\\]|\\.)*"', word):
-        return settled(next(edn.values([word]))[1], frozenset(), alike=alike)
+        return settled(unsettled(word), frozenset(), alike=alike)
     if word in ("true", "false") and form not in ALL_TEXTS:
         value = word == "true"
     return settled(value, frozenset(), True, alike)
+
+
+def unsettled(value: Value) -> Any:
+    """A settled value as its source has it: a text is EDN."""
+    return next(edn.values([value]))[1] if type(value) is str else value
 
 
 def readable(texts: Iterable[str]) -> dict[str, str]:
@@ -73,7 +79,7 @@ def readable(texts: Iterable[str]) -> dict[str, str]:
 def _unquoted(text: str) -> str:
     if text[0] != '"' or text == '""':
         return text
-    return str(next(edn.values([text]))[1]) if "\\" in text else text[1:-1]
+    return str(unsettled(text)) if "\\" in text else text[1:-1]
 
 
 class _Numbers:
@@ -95,7 +101,7 @@ class _Numbers:
         return self.last
 
 
-def number_texts(operations: Iterable[Operation]) -> Table:
+def number_texts(operations: Iterable[SourceOperation]) -> Table:
     """Gives each text a number, register by register, and says which."""
     held = list(operations)
     numbers = {operation.key: _Numbers() for operation in held
@@ -113,7 +119,7 @@ def number_texts(operations: Iterable[Operation]) -> Table:
     return {key: mine.texts for key, mine in numbers.items()}
 
 
-def all_written(operations: Iterable[Operation]) -> Written:
+def all_written(operations: Iterable[SourceOperation]) -> Written:
     """What is written to each register, by writes and by each cas that didn't miss. Raises Refused."""
     written: Written = {}
     for operation in operations:
@@ -132,7 +138,7 @@ def all_written(operations: Iterable[Operation]) -> Written:
     return written
 
 
-def repeats(operations: Iterable[Operation]) -> bool:
+def repeats(operations: Iterable[SourceOperation]) -> bool:
     """Whether some register is written a value twice, be it by a write that failed."""
     seen: set[tuple[str, Value]] = set()
     for operation in operations:

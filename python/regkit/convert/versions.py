@@ -48,6 +48,5 @@ def _version(members: Mapping[str, Any], member: str, line: int, where: str) -> 
     if type(version) is not int or not 0 <= version < GREATEST_VALUE:
         said = "no version" if version is None else f"the version {spelled(version)[:40]}"
         raise Refused(f"the {where} has {said} in {member}, and by --versions a whole number from 0 is "
-                      "expected",
-                      line)
+                      "expected", line)
     return version

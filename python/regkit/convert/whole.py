@@ -2,7 +2,7 @@
 from typing import Callable, Iterable, NamedTuple
 
 from regkit.convert import events, jepsen, porcupine, tables
-from regkit.convert.model import Choices, Operation, Refused, Source, Value
+from regkit.convert.model import Choices, Refused, Source, SourceOperation, Value
 from regkit.convert.names import names
 from regkit.convert.processes import Given, give_processes
 from regkit.convert.suspects import look_at_reads
@@ -17,7 +17,7 @@ class Converted(NamedTuple):
     """A source whose operations have processes, and what its keys and values are called."""
 
     source: Source
-    operations: list[Operation]  # each once, without initial writes
+    operations: list[SourceOperation]  # each once, without initial writes
     names: dict[str, str]  # by key, the register
     numbers: Table  # by key, the number of each text; empty while the values are the source's own
     given: Given
@@ -50,20 +50,20 @@ def _nothing_left(source: Source, form: str) -> str:
                       *source.notes])
 
 
-def _begin(source: Source, operations: list[Operation], value: Value) -> None:
+def _begin(source: Source, operations: list[SourceOperation], value: Value) -> None:
     """Puts a completed write of a value to each register before all else.
 
     The process that first writes a register later writes its initial value too, so that a single writer stays
     one.
     """
-    first: dict[str, Operation] = {}
+    first: dict[str, SourceOperation] = {}
     for operation in operations:
         known = first.setdefault(operation.key, operation)
         if known.kind == "read" and operation.kind != "read":
             first[operation.key] = operation
-    steps: list[Operation] = []
+    steps: list[SourceOperation] = []
     for key, operation in first.items():
-        write = Operation(0, operation.client, "write", key, value)
+        write = SourceOperation(0, operation.client, "write", key, value)
         write.ending, write.end_line, write.process = "reply", 0, operation.process
         steps += [write, write]
     source.steps = steps + source.steps

@@ -8,8 +8,9 @@ import json
 from typing import Any, Callable, Iterator
 
 from regkit.convert import edn
-from regkit.convert.model import CAS, Operation, Source, Value
+from regkit.convert.model import CAS, Source, SourceOperation, Value
 from regkit.convert.tables import COLUMNS, PLAIN_COLUMNS
+from regkit.convert.values import unsettled
 
 _TYPES = {"reply": ":ok", "fail": ":fail", "crash": ":info"}
 _OK = {True: "true", False: "false", None: ""}
@@ -21,7 +22,7 @@ def _edn_value(value: Value) -> str:
     return "nil" if value is None else str(value)
 
 
-def _events(source: Source, shown: Callable[[Value], str]) -> Iterator[tuple[Operation, str, str, str]]:
+def _events(source: Source, shown: Callable[[Value], str]) -> Iterator[tuple[SourceOperation, str, str, str]]:
     """Each step with its type in Jepsen's words, its value and perhaps an error. Only a read's call has none.
 
     A cas that missed is a failure, as the tools write it. One that failed has an error beside that, so that
@@ -63,18 +64,13 @@ def _edn_text(value: Value) -> str:
 
 def _plain(value: Value) -> str:
     """A key or a value as a text: a text is itself."""
-    native = _native(value)
-    return native if type(native) is str else "" if native is None else edn.write(native)
-
-
-def _native(value: Value) -> Any:
-    """A key or a value as Python has it."""
-    return next(edn.values([value]))[1] if type(value) is str else value
+    found = unsettled(value)
+    return found if type(found) is str else "" if found is None else edn.write(found)
 
 
 def _rows(source: Source) -> list[list[Any]]:
     """The columns of each operation, in the order of the calls."""
-    rows: dict[Operation, list[Any]] = {}
+    rows: dict[SourceOperation, list[Any]] = {}
     for place, (step, is_call) in enumerate(source.moments()):
         if step.kind == "crash":
             continue
@@ -106,13 +102,14 @@ def to_operations(source: Source) -> Iterator[str]:
     """A JSON object an operation."""
     for row in _rows(source):
         for place in (3, 5, 7, 8):
-            row[place:place + 1] = map(_json_native, row[place:place + 1])
+            row[place:place + 1] = map(_json_value, row[place:place + 1])
         yield json.dumps(dict(zip(COLUMNS, row)), separators=(",", ":")) + "\n"
 
 
-def _json_native(value: Value) -> Any:
-    native = _native(value)
-    return native if native is None or type(native) in (int, str) else edn.write(native)
+def _json_value(value: Value) -> Any:
+    """A key or a value as JSON has it: whole numbers and texts are themselves."""
+    found = unsettled(value)
+    return found if found is None or type(found) in (int, str) else edn.write(found)
 
 
 WRITERS: dict[str, Callable[[Source], Iterator[str]]] = {

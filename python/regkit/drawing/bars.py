@@ -36,6 +36,7 @@ class Bar(NamedTuple):
         small = sum(len(text) * SMALL_LETTER + PADDING for text in (self.process, self.place) if text)
         return 2 * PADDING + len(self.label) * LETTER + small
 
+
 def shown_value(value: str) -> str:
     """A value without its middle if it is long. The last digits tell values apart best."""
     return value if len(value) <= LONGEST_VALUE else f"{value[:4]}\u2026{value[-7:]}"

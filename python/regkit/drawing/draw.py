@@ -1,8 +1,8 @@
 """A history and its report as one page that stands alone: no script, nothing loaded."""
 from regkit.base.garbage import many_objects
 from regkit.checker.report import Report, read_report
-from regkit.drawing.page import Asked, page
-from regkit.explain.shrinking import NoFault, Searcher
+from regkit.drawing.page import DrawSettings, page
+from regkit.explain.shrinking import NoFault, ShrinkSettings
 from regkit.history.operations import History, read_history
 
 
@@ -13,19 +13,19 @@ class Mismatch(ValueError):
         super().__init__("the report isn't of this history")
 
 
-def draw_page(history: bytes, report: bytes, title: str, searcher: Searcher = Searcher()) -> str:
+def draw_page(history: bytes, report: bytes, title: str, shrinking: ShrinkSettings = ShrinkSettings()) -> str:
     """The page for a history that the checker accepted. Raises ValueError if the report is of another
     history."""
     with many_objects():
-        return page_of(read_history(history), read_report(report), title, Asked(searcher=searcher))
+        return page_of(read_history(history), read_report(report), title, DrawSettings(shrinking=shrinking))
 
 
-def page_of(history: History, report: Report, title: str, asked: Asked = Asked()) -> str:
+def page_of(history: History, report: Report, title: str, settings: DrawSettings = DrawSettings()) -> str:
     """The same for a history and a report that were read already."""
     unknown = [row for row in report.rows if row["register"] not in history.registers]
     if unknown:
         raise Mismatch
     try:
-        return page(history, report, title, asked)
+        return page(history, report, title, settings)
     except (KeyError, AssertionError, NoFault) as error:
         raise Mismatch from error

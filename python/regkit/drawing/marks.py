@@ -1,14 +1,14 @@
 """What a picture points at: the two clusters that contradict each other, the precedences between them, the
 first read that can't be explained, the writes that were open beside it, and a stale read and a fresh one."""
-from typing import Any, NamedTuple, Optional
+from typing import NamedTuple, Optional
 
+from regkit.checker.report import Row
 from regkit.explain.causes import StalePair, stale_pair
 from regkit.explain.searched import contradicted, is_unwritten, value_after, without_effect
 from regkit.explain.sentences import pairs_of, value_of
 from regkit.explain.unexplained import Unexplained
 from regkit.history.operations import History, Operation
 
-Row = dict[str, Any]
 FIRST, SECOND = "first", "second"  # the two clusters, by the numbers of the arrows that leave them
 
 
@@ -83,7 +83,6 @@ class Marks:
         marks.by_search = self.by_search
         marks.named = {line: operation for line, operation in self.named.items() if line}
         return marks
-
 
     def of(self, calls: list[Operation], loose: set[int]) -> "Marks":
         """The same for a picture of a few of the calls, some of whose replies needn't count."""

@@ -11,7 +11,7 @@ from regkit.drawing.section import section
 from regkit.drawing.style import STYLE
 from regkit.drawing.svg import tag
 from regkit.drawing.text import attribute, name, words
-from regkit.explain.shrinking import Searcher
+from regkit.explain.shrinking import ShrinkSettings
 from regkit.history.operations import History
 from regkit.words.phrases import capital, counted
 from regkit.words.verdicts import VERDICTS
@@ -26,12 +26,12 @@ STRIPES = ('<svg class="defs" aria-hidden="true"><defs><pattern id="stripes" wid
            '</pattern></defs></svg>')
 
 
-class Asked(NamedTuple):
+class DrawSettings(NamedTuple):
     """What to show."""
 
     most: int = 5  # registers
     registers: Sequence[str] = ()  # these alone, if there are any
-    searcher: Searcher = Searcher()  # by which what a search found is made small
+    shrinking: ShrinkSettings = ShrinkSettings()  # by which what a search found is made small
 
 
 def policy() -> str:
@@ -41,16 +41,16 @@ def policy() -> str:
     return f"default-src 'none'; style-src 'sha256-{digest}'; base-uri 'none'; form-action 'none'"
 
 
-def chosen_rows(history: History, report: Report, asked: Asked) -> list[Row]:
+def chosen_rows(history: History, report: Report, settings: DrawSettings) -> list[Row]:
     """The registers that are shown: those asked for, else the faulty ones, else all; the first few of
     them."""
     by_name = {row["register"]: row for row in report.rows}
     rows: list[Row] = [by_name.get(register, {"register": register}) for register in history.registers]
-    if asked.registers:
-        for register in asked.registers:
+    if settings.registers:
+        for register in settings.registers:
             history.must_have(register)
-        return [row for row in rows if row["register"] in asked.registers]
-    return (report.faulty or report.unknown or rows)[:asked.most]
+        return [row for row in rows if row["register"] in settings.registers]
+    return (report.faulty or report.unknown or rows)[:settings.most]
 
 
 def is_unknown(report: Report) -> bool:
@@ -99,9 +99,9 @@ def summary(history: History, report: Report) -> str:
     return tag("p", words("; ".join(parts) + "."), class_="sub")
 
 
-def page(history: History, report: Report, title: str, asked: Asked) -> str:
-    rows = chosen_rows(history, report, asked)
-    sections = [section(history, row, asked.searcher) for row in rows]
+def page(history: History, report: Report, title: str, settings: DrawSettings) -> str:
+    rows = chosen_rows(history, report, settings)
+    sections = [section(history, row, settings.shrinking) for row in rows]
     body = [STRIPES, verdict(report, title), summary(history, report)]
     if not rows:
         body.append(tag("p", words("The history has no operation, so there is nothing to draw.")))

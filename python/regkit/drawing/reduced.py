@@ -9,7 +9,7 @@ from regkit.explain.reaching import Moment, moments
 from regkit.explain.search_explanation import answered, enough
 from regkit.explain.searched import Contradicted
 from regkit.explain.sentences import change_of, value_of
-from regkit.explain.shrinking import Searcher, asker, shrink, until
+from regkit.explain.shrinking import ShrinkSettings, asker, shrink, until
 from regkit.history.operations import Operation
 from regkit.history.who import process_of
 from regkit.words.phrases import capital
@@ -28,13 +28,13 @@ class Reduced(NamedTuple):
     moments: list[Moment]  # empty if there are too many orders
 
 
-def reduced(calls: list[Operation], told: Contradicted, searcher: Searcher) -> Optional[Reduced]:
+def reduced(calls: list[Operation], told: Contradicted, shrinking: ShrinkSettings) -> Optional[Reduced]:
     """The same of some calls; None if they are very many, or if regsearch isn't there or takes too long.
     Raises NoFault."""
     if len(until(calls, told.line)) > MOST_CALLS:
         return None
     try:
-        small = shrink(calls, told.line, asker(searcher.bounds), searcher.reach)
+        small = shrink(calls, told.line, asker(shrinking.bounds), shrinking.reach)
     except NoChecker:
         return None
     if small is None:

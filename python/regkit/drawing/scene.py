@@ -113,7 +113,7 @@ def room_of(marks: Marks, register: Register, windows: list[Window]) -> dict[int
 
 def lane_processes(operations: list[Operation], register: Register) -> list[int]:
     """The processes that have a lane each: all of the register, so that all its pictures are alike, or
-    else all that are in the picture. None if they are too many."""
+    else all that are in the picture. Empty if they are too many."""
     drawn = {call.process for call in operations if call.process is not None}
     for processes in (register.processes, drawn):
         if len(processes) <= MOST_PROCESSES:

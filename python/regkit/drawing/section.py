@@ -12,7 +12,7 @@ from regkit.drawing.text import name, with_code, words
 from regkit.explain import causes, sentences
 from regkit.explain.searched import contradicted, is_unwritten, sentences_of, what_to_do
 from regkit.explain.sentences import named
-from regkit.explain.shrinking import Searcher
+from regkit.explain.shrinking import ShrinkSettings
 from regkit.explain.unexplained import Unexplained, find_unexplained
 from regkit.history.operations import History, Operation
 from regkit.words.phrases import capital, counted
@@ -33,11 +33,11 @@ class Section(NamedTuple):
 class Author:
     """Writes the section of one register."""
 
-    def __init__(self, history: History, row: Row, searcher: Searcher,
+    def __init__(self, history: History, row: Row, shrinking: ShrinkSettings,
                  calls: Optional[list[Operation]] = None) -> None:
         self.history = history
         self.row = row
-        self.searcher = searcher
+        self.shrinking = shrinking
         self.calls = history.registers[row["register"]] if calls is None else calls
         self.register = Register(self.calls, row.get("order", []), row.get("points", []))
         self.scenes: list[Scene] = []
@@ -79,7 +79,7 @@ class Author:
         heading += reasons(said[:1], numbered=False)
         heading += "".join(tag("p", words(capital(sentence) + ".")) for sentence in said[1:])
         small = None if is_unwritten(self.row) else reduced(
-            self.calls, contradicted(self.history, self.row), self.searcher)
+            self.calls, contradicted(self.history, self.row), self.shrinking)
         pictures = self.windows(marks, "the reply that no order gives")
         if len(self.register.events) <= WHOLE and all(scene.left_out for scene in self.scenes):
             pictures += tag("h3", "The whole register") + self.whole(marks.without_arrows(), WHOLE)
@@ -91,7 +91,7 @@ class Author:
         """What is enough for the fault, before the pictures of what is around it."""
         text = tag("h3", "What is enough for it")
         text += "".join(tag("p", words(capital(sentence) + ".")) for sentence in small.sentences)
-        part = Author(self.history, self.row, self.searcher, small.calls)
+        part = Author(self.history, self.row, self.shrinking, small.calls)
         text += part.whole(marks.of(small.calls, small.loose), WHOLE)
         self.scenes += part.scenes
         text += table(small.moments)
@@ -216,5 +216,5 @@ def unexplained_words(found: Unexplained, count: int, overlapped: list[Operation
     return f"{text} It overlaps {listed(overlapped) if overlapped else 'no write'}."
 
 
-def section(history: History, row: Row, searcher: Searcher) -> Section:
-    return Author(history, row, searcher).write()
+def section(history: History, row: Row, shrinking: ShrinkSettings) -> Section:
+    return Author(history, row, shrinking).write()

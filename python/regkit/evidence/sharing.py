@@ -5,7 +5,6 @@ import threading
 from types import TracebackType
 from typing import Callable, NoReturn, Optional
 
-
 SPARE = 2.0  # processors that have nothing to do, as the load average has it
 
 

@@ -100,9 +100,6 @@ def no_object(place: Place) -> str:
 
 
 def no_process(place: Place) -> str:
-    found = misnamed(place.event, "process")
-    if found:
-        return found
     process = place.event["process"]
     if isinstance(process, str) and process.isdecimal():
         return f"the process is the text {shown(process)}: write it as a number, without quotes"
@@ -111,9 +108,6 @@ def no_process(place: Place) -> str:
 
 
 def no_event(place: Place) -> str:
-    found = misnamed(place.event, "event")
-    if found:
-        return found
     event = place.event["event"]
     if event in UNKNOWN_OUTCOMES:
         return f"the event is {shown(event)}: leave it out, as a call whose outcome is unknown stays pending"
@@ -124,9 +118,6 @@ def no_event(place: Place) -> str:
 
 
 def no_op(place: Place) -> str:
-    found = misnamed(place.event, "op")
-    if found:
-        return found
     op = place.event["op"]
     own = synonym(op, OTHER_OPS)
     if own:
@@ -137,9 +128,6 @@ def no_op(place: Place) -> str:
 
 
 def no_register(place: Place) -> str:
-    found = misnamed(place.event, "register")
-    if found:
-        return found
     register = place.event["register"]
     if isinstance(register, str):
         return "give the register a name" if not register else "shorten the name, the same way on each line"
@@ -212,6 +200,7 @@ def crashed(place: Place) -> str:
     return f"a client that comes back after a crash needs a new number: process {process} does nothing more"
 
 
+MEMBERS = {4: "process", 5: "event", 6: "op", 7: "register"}  # by refusal, the member that has to be there
 ADVICE: dict[int, Callable[[Place], str]] = {
     2: no_json, 3: no_object, 4: no_process, 5: no_event, 6: no_op, 7: no_register, 8: no_value, 9: busy,
     10: unasked, 11: disagreeing, 12: unread, 13: repeated, 19: crashed, 20: no_change, 21: unsaid}
@@ -222,7 +211,7 @@ def advice(history: bytes, refusal: str, name: str = "-") -> str:
     for beginning, words in OF_THE_RUN.items():
         if beginning in refusal:
             return words
-    found = read_refusal(refusal, lambda line: line)
+    found = read_refusal(refusal)
     if found is None:
         return ""
     if found.number <= 3:
@@ -235,4 +224,5 @@ def advice(history: bytes, refusal: str, name: str = "-") -> str:
         if looks:
             return looks
     place = Place(lines, found, object_of(lines[found.line - 1]) or {})
-    return ADVICE[found.number](place) if found.number in ADVICE else no_object(place)
+    absent = misnamed(place.event, MEMBERS[found.number]) if found.number in MEMBERS else None
+    return absent or ADVICE.get(found.number, no_object)(place)

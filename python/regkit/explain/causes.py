@@ -2,7 +2,7 @@
 from typing import NamedTuple, Optional
 
 from regkit.explain.sentences import failed_write, named
-from regkit.explain.surroundings import FOREVER, SUSPECT, end_of, find_scene
+from regkit.explain.surroundings import FOREVER, SUSPECT, end_of, find_surroundings
 from regkit.explain.unexplained import Unexplained
 from regkit.history.operations import History, Operation
 from regkit.words.phrases import counted
@@ -83,7 +83,7 @@ def find_lost(told: Unexplained, calls: list[Operation]) -> Optional[Lost]:
     surely = any(end_of(call) < following for call in later)
     if following < end_of(read) or not (surely or not (later or others)):
         return None
-    suspect = any(each.rank == SUSPECT for each in find_scene(told, calls).bystanders)
+    suspect = any(each.rank == SUSPECT for each in find_surroundings(told, calls).bystanders)
     return None if suspect and len(writes) == 1 else Lost(read, writes, surely)
 
 

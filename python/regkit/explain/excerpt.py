@@ -3,7 +3,7 @@ import io
 import re
 from collections import deque
 from itertools import islice
-from typing import Any, Iterable, Iterator, Optional
+from typing import Any, Iterable, Iterator, Optional, Sequence
 
 from regkit.checker.report import Row
 from regkit.history.lines import BLANK, Event, NotJson, json_of
@@ -26,7 +26,7 @@ def named_lines(row: Row) -> set[int]:
     return {line for line in numbers_in([row["fault"], row.get("inversion", [])]) if line}
 
 
-class Searcher:
+class EventFinder:
     """Finds events in the bytes of a history."""
 
     def __init__(self, data: bytes) -> None:
@@ -77,28 +77,28 @@ class Searcher:
                 self.add_call(number, place)
 
 
-def unwritten_value(searcher: Searcher, row: Row) -> Optional[int]:
+def unwritten_value(finder: EventFinder, row: Row) -> Optional[int]:
     """The value that a read gave and nobody wrote, if that is the fault."""
     if row["fault"]["kind"] != "unwritten":
         return None
     read = row["fault"]["read"]
-    ended = min(line for line, event in searcher.found.items()
-                if line > read and event["process"] == searcher.found[read]["process"])
-    value = searcher.found[ended]["value"]
+    ended = min(line for line, event in finder.found.items()
+                if line > read and event["process"] == finder.found[read]["process"])
+    value = finder.found[ended]["value"]
     return None if value is None else int(value)
 
 
-def excerpt(data: bytes, rows: list[Row]) -> History:
+def excerpt(data: bytes, rows: Sequence[Row]) -> History:
     """A history of what the sentences about some faults need: the operations that they name, the first one,
     from which times are counted, and the writes of values that nobody wrote to the register."""
     if b"\\" in data and DISGUISED.search(data):
         return read_history(data)
-    searcher = Searcher(data)
+    finder = EventFinder(data)
     lines = {line for row in rows for line in named_lines(row)}
     first = next(number for number, line in enumerate(io.BytesIO(data), 1) if line.strip(BLANK + b"\n"))
-    for number, begin in searcher.offsets(lines | {first}).items():
-        searcher.add_call(number, begin)
-    for value in {unwritten_value(searcher, row) for row in rows}:
+    for number, begin in finder.offsets(lines | {first}).items():
+        finder.add_call(number, begin)
+    for value in {unwritten_value(finder, row) for row in rows}:
         if value is not None:
-            searcher.add_writes(value)
-    return history_of(sorted(searcher.found.items()))
+            finder.add_writes(value)
+    return history_of(sorted(finder.found.items()))

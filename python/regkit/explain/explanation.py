@@ -1,42 +1,25 @@
 """Why a register isn't atomic: what contradicts what, where it began, and who else was there."""
-import textwrap
 from typing import Callable, NamedTuple, Optional, Sequence
 
 from regkit.checker.report import Report, Row, read_report
-from regkit.explain import timeline
 from regkit.explain.causes import StalePair, find_lost, questions, stale_pair
+from regkit.explain.page import ACTOR_SIGN, READ_SIGN, TIMELINE, NotOfHistory, Page
 from regkit.explain.sentences import (contradiction, early, failed_write, fault_of, inversion, named,
                                       pairs_of, unwritten, value_of)
-from regkit.explain.surroundings import SUSPECT, Bystander, Scene, find_scene, role_of, writes_of
+from regkit.explain.surroundings import (SUSPECT, Bystander, Surroundings, find_surroundings, role_of,
+                                         writes_of)
+from regkit.explain.timeline import Entry
 from regkit.explain.unexplained import Unexplained, find_unexplained
 from regkit.history.operations import History, Operation, read_history
 from regkit.words.colour import Painter
-from regkit.words.phrases import capital, counted
+from regkit.words.phrases import counted
 from regkit.words.quoting import quoted
 
 MOST_BYSTANDERS = 6
 MOST_LOST = 6  # writes that are named
-READ_SIGN, STALE_SIGN, FRESH_SIGN, ACTOR_SIGN, SUSPECT_SIGN = "X", "S", "F", "*", "?"
-
-
-class Page:
-    """Lines that are wrapped and indented as they are added."""
-
-    def __init__(self, width: int, paint: Painter) -> None:
-        self.width = width
-        self.paint = paint
-        self.lines: list[str] = []
-
-    def heading(self, text: str) -> None:
-        self.lines += ["", self.paint("bold", text)]
-
-    def sentence(self, text: str, style: str = "", stop: str = ".") -> None:
-        self.lines += [self.paint(style, line) for line in textwrap.wrap(
-            capital(text) + stop, self.width, initial_indent="  ", subsequent_indent="    ",
-            break_long_words=False, break_on_hyphens=False)]
-
-    def text(self) -> str:
-        return "\n".join(self.lines)
+STALE_SIGN, FRESH_SIGN, SUSPECT_SIGN = "S", "F", "?"
+SIGNS = {READ_SIGN: "can't be explained", STALE_SIGN: "stale read", FRESH_SIGN: "fresh read",
+         ACTOR_SIGN: "what it contradicts", SUSPECT_SIGN: "look here first"}
 
 
 def level(history: History, row: Row) -> str:
@@ -102,61 +85,44 @@ def how_many(count: int, reads: int) -> str:
             "next is looked at")
 
 
-def add_first(page: Page, history: History, told: Unexplained, said: bool, pair: Optional[StalePair]) -> None:
-    """The first read that can't be explained, and why, unless that was said before."""
-    read = told.read
+def add_first(page: Page, read: Operation, reasons: list[str]) -> None:
+    """The first read that can't be explained, and why, unless the fault said so."""
     assert read.end_line is not None
     page.heading("The first read that can't be explained")
     page.sentence(f"{named(read)}: the answers up to line {read.end_line - 1} fit some order in which each "
                   f"read gives the latest write, and with line {read.end_line} they fit none", "bad")
-    if not said:
-        for sentence in told_in_words(history, told, pair):
-            page.sentence(sentence)
+    for sentence in reasons:
+        page.sentence(sentence)
 
 
-def add_bystanders(page: Page, scene: Scene) -> None:
+def add_bystanders(page: Page, around: Surroundings) -> None:
     page.heading("Open at the same time")
-    for bystander in scene.bystanders[:MOST_BYSTANDERS]:
-        page.sentence(role_of(scene, bystander), "look" if bystander.rank == SUSPECT else "")
-    rest = len(scene.bystanders) - MOST_BYSTANDERS
+    for bystander in around.bystanders[:MOST_BYSTANDERS]:
+        page.sentence(role_of(around, bystander), "look" if bystander.rank == SUSPECT else "")
+    rest = len(around.bystanders) - MOST_BYSTANDERS
     if rest > 0:
         page.sentence(f"{counted(rest, 'other call')} of this register")
-    if not scene.bystanders:
+    if not around.bystanders:
         page.sentence("no other call of this register")
 
 
-def entry_of(bystander: Bystander) -> timeline.Entry:
+def entry_of(bystander: Bystander) -> Entry:
     suspect = bystander.rank == SUSPECT
-    return timeline.Entry(bystander.call, SUSPECT_SIGN if suspect else "", "look" if suspect else "")
+    return Entry(bystander.call, SUSPECT_SIGN if suspect else "", "look" if suspect else "")
 
 
-def entries(history: History, scene: Scene, pairs: list[StalePair]) -> list[timeline.Entry]:
+def entries(history: History, around: Surroundings, pairs: list[StalePair]) -> list[Entry]:
     """The calls of the time line: the contradiction, the writes of its values, and the first bystanders."""
-    shown = {bystander.call.line: entry_of(bystander) for bystander in scene.bystanders[:MOST_BYSTANDERS]}
-    failed = failed_write(history, scene.told.read)
-    for actor in scene.actors + writes_of(scene.told) + ([failed] if failed is not None else []):
-        shown[actor.line] = timeline.Entry(actor, ACTOR_SIGN, "bold")
+    shown = {bystander.call.line: entry_of(bystander) for bystander in around.bystanders[:MOST_BYSTANDERS]}
+    failed = failed_write(history, around.told.read)
+    for actor in around.actors + writes_of(around.told) + ([failed] if failed is not None else []):
+        shown[actor.line] = Entry(actor, ACTOR_SIGN, "bold")
     for pair in pairs:
         if pair.fresh.kind == "read":
-            shown[pair.fresh.line] = timeline.Entry(pair.fresh, FRESH_SIGN, "bold")
-        shown[pair.stale.line] = timeline.Entry(pair.stale, STALE_SIGN, "bad")
-    shown[scene.told.read.line] = timeline.Entry(scene.told.read, READ_SIGN, "bad")
+            shown[pair.fresh.line] = Entry(pair.fresh, FRESH_SIGN, "bold")
+        shown[pair.stale.line] = Entry(pair.stale, STALE_SIGN, "bad")
+    shown[around.told.read.line] = Entry(around.told.read, READ_SIGN, "bad")
     return list(shown.values())
-
-
-SIGNS = {READ_SIGN: "can't be explained", STALE_SIGN: "stale read", FRESH_SIGN: "fresh read",
-         ACTOR_SIGN: "what it contradicts", SUSPECT_SIGN: "look here first"}
-
-
-def add_timeline(page: Page, history: History, scene: Scene, pairs: list[StalePair]) -> None:
-    page.heading("Time line: a column for each line where one of these begins or ends")
-    shown = entries(history, scene, pairs)
-    for line in timeline.draw(shown, page.width - 2):
-        page.lines.append("  " + page.paint(line.style, line.text.rstrip()))
-    used = {entry.sign for entry in shown}
-    signs = [f"{sign} {meaning}" for sign, meaning in SIGNS.items() if sign in used]
-    page.lines += ["", page.paint("faint", "  " + "   ".join(signs)),
-                   page.paint("faint", "  " + "   ".join(timeline.legend(shown)))]
 
 
 def add_causes(page: Page, history: History, told: Unexplained, calls: list[Operation]) -> None:
@@ -190,22 +156,17 @@ def explain_register(page: Page, history: History, row: Row) -> None:
         raise NotOfHistory
     reported = as_reported(told, history, row)
     own = pair if reported else stale_pair(told.pairs, calls, told.read)
-    add_first(page, history, told, reported is not None, own if own != pair else None)
+    reasons = [] if reported else told_in_words(history, told, own if own != pair else None)
+    add_first(page, told.read, reasons)
     page.sentence(how_many(count, completed_reads(calls)))
     add_causes(page, history, told, calls)
-    scene = find_scene(reported or told, calls)
-    add_bystanders(page, scene)
-    add_timeline(page, history, scene, [each for each in (pair, own) if each is not None])
+    around = find_surroundings(reported or told, calls)
+    add_bystanders(page, around)
+    page.heading(TIMELINE)
+    page.timeline(entries(history, around, [each for each in (pair, own) if each is not None]), SIGNS)
 
 
-class NotOfHistory(ValueError):
-    """The report says what its history can't be the reason of."""
-
-    def __init__(self) -> None:
-        super().__init__("the report isn't of this history: run regcheck on it again")
-
-
-class Wishes(NamedTuple):
+class ExplainSettings(NamedTuple):
     """How much to explain, and for what kind of screen."""
 
     most: int = 3
@@ -216,22 +177,22 @@ class Wishes(NamedTuple):
     reach: Callable[[int], None] = lambda runs: None  # is told how many runs of it there were so far
 
 
-def explain(history: History, report: Report, wishes: Wishes) -> str:
+def explain(history: History, report: Report, settings: ExplainSettings) -> str:
     """The explanation of each faulty register that is asked for. Raises NotOfHistory."""
-    faulty = [row for row in report.faulty if wishes.register in (None, row["register"])]
-    page = Page(wishes.width, wishes.paint)
+    faulty = [row for row in report.faulty if settings.register in (None, row["register"])]
+    page = Page(settings.width, settings.paint)
     try:
-        for row in faulty[:wishes.most]:
+        for row in faulty[:settings.most]:
             if "cas" not in row:
                 explain_register(page, history, row)
                 continue
             from regkit.explain.search_explanation import explain_search  # only a search waits for this
-            from regkit.explain.shrinking import Searcher
+            from regkit.explain.shrinking import ShrinkSettings
 
-            explain_search(page, history, row, Searcher(wishes.bounds, wishes.reach))
+            explain_search(page, history, row, ShrinkSettings(settings.bounds, settings.reach))
     except (KeyError, TypeError, AssertionError) as error:
         raise NotOfHistory from error
-    rest = len(faulty) - wishes.most
+    rest = len(faulty) - settings.most
     if rest > 0:
         more = counted(rest, "more faulty register")
         page.lines += ["", f"And {more}: --most says how many are explained."]
@@ -240,4 +201,4 @@ def explain(history: History, report: Report, wishes: Wishes) -> str:
 
 def explain_text(history: bytes, report: bytes, bounds: Sequence[str] = ()) -> str:
     """The explanation as plain text, for a test that failed. The bounds are options of regsearch."""
-    return explain(read_history(history), read_report(report), Wishes(bounds=bounds))
+    return explain(read_history(history), read_report(report), ExplainSettings(bounds=bounds))

@@ -9,16 +9,20 @@ from regkit.history.operations import Operation
 
 MOST_STEPS = 300_000
 
-# The write or cas whose value the register has (0: none yet), the calls that took effect, those whose values
-# it had since the call in question began, and whether that call took effect.
-State = tuple[int, frozenset[int], frozenset[int], bool]
+
+class State(NamedTuple):
+    """Where an order may have come. Calls are named by their lines."""
+
+    by: int  # the write or cas whose value the register has; 0 is none yet
+    done: frozenset[int]  # the calls that took effect
+    seen: frozenset[int]  # those whose values the register had since the call in question began
+    is_taken: bool  # whether that call took effect
 
 
 class Reached(NamedTuple):
     """What may be while the call is open. Each operation is named by its line; 0 is the initial null."""
 
     values: list[int]  # whose values, in the orders that give all replies before
-    last: list[int]  # the same, just before the reply
     taken: list[int]  # on whose value it may take effect; no such order gives all the replies before
     broken: Optional[Operation]  # the call whose reply none of those orders gives
 
@@ -46,11 +50,46 @@ class Orders:
         self.by_line = {each.call.line: each.call for each in kept}
         self.call = call
         self.steps = 0
-        self.taken: set[int] = set()
+        self.taken: set[int] = set()  # on whose value the call in question may take effect
         self.opened: list[Operation] = []
+        self.states = {State(0, frozenset(), frozenset(), False)}
 
-    def value(self, line: int) -> Optional[int]:
-        return self.by_line[line].value if line else None
+    def meet(self, line: int, call: Operation) -> None:
+        """Comes to a call, or to a reply: only the states in which its call took effect give that."""
+        if line == call.line:
+            self.opened.append(call)
+            return
+        self.states = {state for state in self.states if call.line in state.done}
+        self.opened.remove(call)
+
+    def watch(self) -> None:
+        """Begins to look which values the register has: the call in question begins."""
+        self.states = {state._replace(seen=frozenset({state.by})) for state in self.states}
+
+    def go_on(self) -> None:
+        """Adds all that the open calls may do. Raises TooMany."""
+        ahead = list(self.states)
+        while ahead:
+            state = ahead.pop()
+            for call in self.opened:
+                self.steps += 1
+                if call.line in state.done or not self.suits(call, state.by):
+                    continue
+                now = self.after(state, call)
+                if now not in self.states:
+                    self.states.add(now)
+                    ahead.append(now)
+            if self.steps > MOST_STEPS:
+                raise TooMany
+
+    def after(self, state: State, call: Operation) -> State:
+        """The state after a call took effect."""
+        by, is_taken = call.line if call.writes else state.by, state.is_taken
+        if call is self.call:
+            self.taken.add(state.by)
+            is_taken = True
+        sees = self.call in self.opened and not is_taken
+        return State(by, state.done | {call.line}, state.seen | {by} if sees else state.seen, is_taken)
 
     def suits(self, call: Operation, by: int) -> bool:
         """Whether a call may take effect on the value of a write."""
@@ -59,35 +98,17 @@ class Orders:
         wanted = call.asked if call.kind == "cas" else call.value
         return (self.value(by) == wanted) != call.missed
 
-    def after(self, state: State, call: Operation) -> State:
-        by, done, seen, is_taken = state
-        now = call.line if call.writes else by
-        if call is self.call:
-            self.taken.add(by)
-            is_taken = True
-        open_now = self.call in self.opened
-        return now, done | {call.line}, seen | {now} if open_now and not is_taken else seen, is_taken
+    def value(self, line: int) -> Optional[int]:
+        return self.by_line[line].value if line else None
 
-    def closed(self, states: set[State]) -> set[State]:
-        """The same with all that the open calls may do. Raises TooMany."""
-        known, ahead = set(states), list(states)
-        while ahead:
-            state = ahead.pop()
-            for call in self.opened:
-                self.steps += 1
-                if call.line in state[1] or not self.suits(call, state[0]):
-                    continue
-                now = self.after(state, call)
-                if now not in known:
-                    known.add(now)
-                    ahead.append(now)
-            if self.steps > MOST_STEPS:
-                raise TooMany
-        return known
+    def values(self) -> list[Optional[int]]:
+        """The values that the register may have now, null first."""
+        return sorted({self.value(state.by) for state in self.states},
+                      key=lambda value: (value is not None, value or 0))
 
-
-def null_first(value: Optional[int]) -> tuple[bool, int]:
-    return value is not None, value or 0
+    def is_taken(self) -> bool:
+        """Whether the call in question may have taken effect."""
+        return any(state.is_taken for state in self.states)
 
 
 def events_of(kept: Sequence[Kept]) -> list[tuple[int, Operation]]:
@@ -100,17 +121,11 @@ def events_of(kept: Sequence[Kept]) -> list[tuple[int, Operation]]:
 def moments(kept: Sequence[Kept], call: Operation, reply: int) -> Optional[list[Moment]]:
     """What may be at each moment up to the reply of a call. None if there are too many orders."""
     orders, found = Orders(kept, call), []
-    states: set[State] = {(0, frozenset(), frozenset(), False)}
     try:
         for line, each in events_of(kept):
-            if line == each.line:
-                orders.opened.append(each)
-            else:
-                states = {state for state in states if each.line in state[1]}
-                orders.opened.remove(each)
-            states = orders.closed(states)
-            values = sorted({orders.value(state[0]) for state in states}, key=null_first)
-            found.append(Moment(line, each, values))
+            orders.meet(line, each)
+            orders.go_on()
+            found.append(Moment(line, each, orders.values()))
             if line == reply:
                 break
     except TooMany:
@@ -121,25 +136,18 @@ def moments(kept: Sequence[Kept], call: Operation, reply: int) -> Optional[list[
 def reached(kept: Sequence[Kept], call: Operation, reply: int) -> Optional[Reached]:
     """What may be before the reply of a call. None if there are too many orders."""
     orders, broken = Orders(kept, call), None
-    states: set[State] = {(0, frozenset(), frozenset(), False)}
     try:
         for line, each in events_of(kept):
-            if line == each.line:
-                states = orders.closed(states)  # what happens before the call is not seen by it
-                orders.opened.append(each)
-                if each is call:
-                    states = {(by, done, frozenset({by}), taken) for by, done, _, taken in states}
-                continue
-            states = orders.closed(states)
             if line == reply:
                 break
-            were_taken = any(state[3] for state in states)
-            states = {state for state in states if each.line in state[1]}
-            if were_taken and not any(state[3] for state in states):
+            was_taken = orders.is_taken()
+            orders.meet(line, each)
+            if line == call.line:
+                orders.watch()
+            if was_taken and not orders.is_taken():
                 broken = each
-            orders.opened.remove(each)
+            orders.go_on()
     except TooMany:
         return None
-    left = [state for state in states if not state[3]]
-    return Reached(sorted({by for state in left for by in state[2]}), sorted({state[0] for state in left}),
-                   sorted(orders.taken), broken)
+    values = {by for state in orders.states if not state.is_taken for by in state.seen}
+    return Reached(sorted(values), sorted(orders.taken), broken)

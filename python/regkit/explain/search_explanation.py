@@ -4,14 +4,14 @@ from typing import NamedTuple, Optional
 
 from regkit.checker.programs import NoChecker
 from regkit.checker.report import Row
-from regkit.explain import timeline
 from regkit.explain.causes import EMPTY
-from regkit.explain.explanation import ACTOR_SIGN, READ_SIGN, NotOfHistory, Page
+from regkit.explain.page import ACTOR_SIGN, READ_SIGN, TIMELINE, NotOfHistory, Page
 from regkit.explain.reaching import Reached, reached
 from regkit.explain.searched import (MOST_OPEN, Contradicted, contradicted, is_open, is_unwritten,
                                      sentences_of, without_effect)
 from regkit.explain.sentences import named, value_of, wanted_of
-from regkit.explain.shrinking import MOST_RUNS, Kept, NoFault, Searcher, Small, asker, shrink, until
+from regkit.explain.shrinking import MOST_RUNS, Kept, NoFault, ShrinkSettings, Small, asker, shrink, until
+from regkit.explain.timeline import Entry
 from regkit.history.operations import History, Operation
 from regkit.words.phrases import counted
 from regkit.words.quoting import quoted
@@ -29,11 +29,11 @@ class Left(NamedTuple):
     fence: Optional[Operation] = None
 
 
-def made_small(page: Page, told: Contradicted, calls: list[Operation], searcher: Searcher) -> Left:
+def made_small(page: Page, told: Contradicted, calls: list[Operation], shrinking: ShrinkSettings) -> Left:
     """What is left, and what the page says of it."""
     small: Optional[Small] = None
     try:
-        small = shrink(calls, told.line, asker(searcher.bounds), searcher.reach)
+        small = shrink(calls, told.line, asker(shrinking.bounds), shrinking.reach)
     except NoFault as error:
         raise NotOfHistory from error
     except NoChecker as error:
@@ -124,17 +124,12 @@ def nothing_gives(told: Contradicted, calls: list[Operation], left: Left) -> lis
     return lines
 
 
-def add_timeline(page: Page, entries: list[timeline.Entry]) -> None:
-    page.heading("Time line: a column for each line where one of these begins or ends")
+def add_timeline(page: Page, entries: list[Entry]) -> None:
+    page.heading(TIMELINE)
     shown = sorted(entries, key=lambda entry: entry.call.line)[-MOST_SHOWN:]
     if len(shown) < len(entries):
         page.sentence(f"the last {len(shown)} of {counted(len(entries), 'operation')}")
-    for line in timeline.draw(shown, page.width - 2):
-        page.lines.append("  " + page.paint(line.style, line.text.rstrip()))
-    used = {entry.sign for entry in shown}
-    signs = [f"{sign} {meaning}" for sign, meaning in SIGNS.items() if sign in used]
-    page.lines += ["", page.paint("faint", "  " + "   ".join(signs)),
-                   page.paint("faint", "  " + "   ".join(timeline.legend(shown)))]
+    page.timeline(shown, SIGNS)
 
 
 def explain_unwritten(page: Page, history: History, row: Row) -> None:
@@ -148,11 +143,10 @@ def explain_unwritten(page: Page, history: History, row: Row) -> None:
     beside = [each for each in history.registers[row["register"]]
               if is_open(each, end) and (each.end_line or end) >= call.line and each is not call]
     around = [*([other] if other is not None else []), *beside][:MOST_OPEN]
-    add_timeline(page, [timeline.Entry(call, READ_SIGN, "bad"),
-                        *(timeline.Entry(each, "", "") for each in set(around))])
+    add_timeline(page, [Entry(call, READ_SIGN, "bad"), *(Entry(each, "", "") for each in set(around))])
 
 
-def explain_search(page: Page, history: History, row: Row, searcher: Searcher) -> None:
+def explain_search(page: Page, history: History, row: Row, shrinking: ShrinkSettings) -> None:
     """Adds the whole explanation of a register that regsearch found not linearizable."""
     page.heading(f"Register {quoted(row['register'])} is not linearizable")
     page.sentence("values repeat, or cas is used, so regsearch looked for an order, and there is none")
@@ -164,15 +158,15 @@ def explain_search(page: Page, history: History, row: Row, searcher: Searcher) -
         return
     told, calls = contradicted(history, row), history.registers[row["register"]]
     page.heading("What is enough for it")
-    left = made_small(page, told, calls, searcher)
+    left = made_small(page, told, calls, shrinking)
     page.heading("Why no order gives the reply")
     for sentence in why_not(told, calls, left, reached(answered(left.kept, told), told.call, told.line)):
         page.sentence(sentence)
     add_timeline(page, [entry_of(each, told) for each in left.kept])
 
 
-def entry_of(each: Kept, told: Contradicted) -> timeline.Entry:
+def entry_of(each: Kept, told: Contradicted) -> Entry:
     if each.call is told.call:
-        return timeline.Entry(each.call, READ_SIGN, "bad")
-    return timeline.Entry(each.call, ACTOR_SIGN if each.replied else LOOSE_SIGN,
+        return Entry(each.call, READ_SIGN, "bad")
+    return Entry(each.call, ACTOR_SIGN if each.replied else LOOSE_SIGN,
                           "bold" if each.replied else "look")

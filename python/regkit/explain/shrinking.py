@@ -129,7 +129,7 @@ class NoFault(ValueError):
     """What was called before the reply has an order."""
 
 
-class Searcher(NamedTuple):
+class ShrinkSettings(NamedTuple):
     """How to make a no small."""
 
     bounds: Sequence[str] = ()  # options of regsearch

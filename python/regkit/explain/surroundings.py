@@ -18,7 +18,7 @@ class Bystander(NamedTuple):
     beside: Operation  # the operation of the contradiction that it overlaps
 
 
-class Scene(NamedTuple):
+class Surroundings(NamedTuple):
     """What happened around a read that can't be explained."""
 
     told: Unexplained
@@ -73,7 +73,7 @@ def rank_of(told: Unexplained, call: Operation) -> int:
     return ACROSS if any(is_across(call, write) for write in writes_of(told)) else OVERLAPS
 
 
-def find_scene(told: Unexplained, calls: list[Operation]) -> Scene:
+def find_surroundings(told: Unexplained, calls: list[Operation]) -> Surroundings:
     """Who else was there, among the calls of the register. What was called when all was over wasn't."""
     actors = actors_of(told)
     lines = {actor.line for actor in actors}
@@ -86,7 +86,7 @@ def find_scene(told: Unexplained, calls: list[Operation]) -> Scene:
         if beside is not None:
             bystanders.append(Bystander(call, rank_of(told, call), beside))
     bystanders.sort(key=lambda bystander: (bystander.rank, bystander.call.line))
-    return Scene(told, actors, bystanders)
+    return Surroundings(told, actors, bystanders)
 
 
 def acrossed(told: Unexplained, call: Operation) -> Operation:
@@ -94,15 +94,15 @@ def acrossed(told: Unexplained, call: Operation) -> Operation:
     return max((write for write in writes_of(told) if is_across(call, write)), key=lambda write: write.line)
 
 
-def role_of(scene: Scene, bystander: Bystander) -> str:
+def role_of(around: Surroundings, bystander: Bystander) -> str:
     """What a bystander may have had to do with it, in a sentence."""
     call = bystander.call
     if bystander.rank == SUSPECT:
-        write = overwriting(scene.told)
+        write = overwriting(around.told)
         assert write is not None
         gave = "was never answered" if call.pending else f"gave {value_of(call)} too"
         return (f"{named(call)} was open when the write of {value_of(write)} ended, and {gave}: "
-                f"it may have put {value_of(scene.told.read)} back")
+                f"it may have put {value_of(around.told.read)} back")
     if bystander.rank == ACROSS:
-        return f"{named(call)} was open across {named(acrossed(scene.told, call))}"
+        return f"{named(call)} was open across {named(acrossed(around.told, call))}"
     return f"{named(call)} overlaps {named(bystander.beside)}"

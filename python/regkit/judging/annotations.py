@@ -42,7 +42,7 @@ def annotations(outcome: Outcome) -> list[str]:
         return [annotation("error", outcome, line_of(fault),
                            [f"register {quoted(fault.register)}:", *fault.sentences])
                 for fault in outcome.faults]
-    refusal = read_refusal(outcome.words, lambda line: line)
+    refusal = read_refusal(outcome.words)
     level = "warning" if outcome.status == ExitStatus.TOO_LITTLE else "error"
     lines = [outcome.words, *([unknown_in_words(outcome.unknown)] if outcome.unknown else []),
              *([outcome.advice] if outcome.advice else [])]

@@ -3,7 +3,7 @@ import html
 
 from regkit.base.statuses import ExitStatus
 from regkit.history.inputs import shown_name
-from regkit.judging.outcome import NO_VERDICT, Timed, text_of
+from regkit.judging.outcome import NO_VERDICT, TimedOutcome, text_of
 from regkit.words.quoting import plain
 from regkit.words.verdicts import VERDICTS
 
@@ -16,7 +16,7 @@ def content(lines: list[str]) -> str:
     return html.escape("\n".join(map(plain, lines)), quote=False)
 
 
-def test_case(timed: Timed) -> str:
+def test_case(timed: TimedOutcome) -> str:
     """A history as a test: an error if it was refused, unknown, or the check failed; a failure unless it is a
     yes."""
     outcome = timed.outcome
@@ -30,7 +30,7 @@ def test_case(timed: Timed) -> str:
             f"{content(text_of(outcome))}</{kind}></testcase>")
 
 
-def document(told: list[Timed]) -> str:
+def document(told: list[TimedOutcome]) -> str:
     """The whole file: one suite, with a test for each history."""
     errors = sum(timed.outcome.status in NO_VERDICT for timed in told)
     failures = sum(timed.outcome.status != ExitStatus.ATOMIC for timed in told) - errors

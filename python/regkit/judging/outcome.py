@@ -1,5 +1,5 @@
 """What came out of checking one history: the exit status, and words for people and for machines."""
-from typing import Any, NamedTuple, Optional
+from typing import Any, NamedTuple, Optional, Sequence
 
 from regkit.base.statuses import ExitStatus
 from regkit.checker.programs import CHECK
@@ -36,14 +36,14 @@ class Outcome(NamedTuple):
     advice: str = ""
     evidence: Optional[Evidence] = None
     faulty: int = 0  # how many registers aren't atomic
-    faults: list[Fault] = []  # as many of them as were asked for
+    faults: Sequence[Fault] = ()  # as many of them as were asked for
     verified: bool = False
     drawing: str = ""
     program: str = CHECK  # which one decided
-    unknown: list[str] = []  # the registers that a search gave up
+    unknown: Sequence[str] = ()  # the registers that a search gave up
 
 
-class Timed(NamedTuple):
+class TimedOutcome(NamedTuple):
     """An outcome, and how long it took."""
 
     outcome: Outcome
@@ -55,14 +55,16 @@ def gravest(statuses: list[int]) -> int:
     return max(statuses, default=ExitStatus.ATOMIC, key=GRAVITY.index)
 
 
-def evidence_in_words(evidence: Evidence, at_least: bool, with_cas: bool = False) -> str:
-    """The counts. Those of the reads are exact, or there are at least this many of them."""
+def evidence_in_words(evidence: Evidence, *, at_least: bool, by_search: bool) -> str:
+    """The counts. Those of the reads are exact, or there are at least this many of them. A search counts each
+    cas that was answered among them."""
     reads, overlapping = evidence.completed_reads, evidence.overlapping_reads
     verb, least = "overlaps" if overlapping == 1 else "overlap", "at least " if at_least else ""
     found = f"{least}{overlapping:,} {verb} a write" if overlapping or not at_least else (
         f"no overlap with a write counted in the first {beginning.LINES:,} lines (--count-all counts all)")
+    or_cas, searched = (" or cas", "; by search (regsearch)") if by_search else ("", "")
     return (f"{counted(evidence.operations, 'operation')} on {counted(evidence.registers, 'register')}; "
-            f"{least}{counted(reads, 'completed read')}{' or cas' if with_cas else ''}, {found}")
+            f"{least}{counted(reads, 'completed read')}{or_cas}, {found}{searched}")
 
 
 def lacks(evidence: Evidence, least_reads: int, least_overlaps: int) -> tuple[str, str]:
@@ -76,19 +78,19 @@ def lacks(evidence: Evidence, least_reads: int, least_overlaps: int) -> tuple[st
     return "", ""
 
 
-def faults_of(history: History, rows: list[Row]) -> list[Fault]:
+def faults_of(history: History, rows: Sequence[Row]) -> list[Fault]:
     """The faults of some registers' lines of the report."""
     return [Fault(row["register"], row, fault_of(history, row) + inversion(history, row)) for row in rows]
 
 
-def faults_of_search(history: History, rows: list[Row]) -> list[Fault]:
+def faults_of_search(history: History, rows: Sequence[Row]) -> list[Fault]:
     """The same of a report of regsearch."""
     from regkit.explain.searched import sentences_of  # only a fault of a search waits for this
 
     return [Fault(row["register"], row, sentences_of(history, row)) for row in rows]
 
 
-def unknown_in_words(registers: list[str]) -> str:
+def unknown_in_words(registers: Sequence[str]) -> str:
     """The registers that a search gave up, the first few of them by name."""
     shown = ", ".join(map(quoted, registers[:MOST_NAMED]))
     rest = len(registers) - MOST_NAMED

@@ -18,7 +18,7 @@ ENDINGS = (".jsonl", ".jsonl.gz")
 PICTURES = "pictures"  # the folder of the pictures, in that of the histories
 
 
-class Run(NamedTuple):
+class ListedRun(NamedTuple):
     """A history, when its file was written, what came out, and the page with its picture if there is one."""
 
     path: pathlib.Path
@@ -38,7 +38,7 @@ def link(path: pathlib.Path, page: pathlib.Path, content: str) -> str:
     return tag("a", content, href=quote(os.fsencode(os.path.relpath(path, page.parent))))
 
 
-def row(run: Run, page: pathlib.Path) -> str:
+def row(run: ListedRun, page: pathlib.Path) -> str:
     when = datetime.fromtimestamp(run.changed, timezone.utc)
     kind = "yes" if run.outcome.status == ExitStatus.ATOMIC else "no"
     shown = name(run.path.name) if run.picture is None else link(run.picture, page, name(run.path.name))
@@ -51,7 +51,7 @@ def row(run: Run, page: pathlib.Path) -> str:
     return tag("tr", "".join(cells))
 
 
-def page(runs: list[Run], found: int, folder: pathlib.Path, output: pathlib.Path) -> str:
+def page(runs: list[ListedRun], found: int, folder: pathlib.Path, output: pathlib.Path) -> str:
     """The whole page, which will stand at `output`. There may be more runs in the folder than are listed."""
     wrong = sum(run.outcome.status == ExitStatus.NOT_ATOMIC for run in runs)
     listed = ("" if len(runs) == found else f"The newest {len(runs):,} of ") + counted(found, "run")

@@ -8,7 +8,7 @@ import heapq
 from collections import deque
 from typing import Deque, Sequence
 
-from regkit.merge.recorded import Event, Recorded
+from regkit.merge.recorded import Recorded, RecordedEvent
 
 
 class Process:
@@ -31,7 +31,7 @@ class Numbers:
         self.last = len(self.processes)
         self.moved = 0  # calls that got another number than their process's own
 
-    def number(self, file: int, event: Event) -> int:
+    def number(self, file: int, event: RecordedEvent) -> int:
         process = self.processes[file, event.process]
         if event.what == "call":
             number = heapq.heappop(process.free) if process.free else self._new()

@@ -29,7 +29,7 @@ A fail and a crash aren't answers, so no precedence begins with them, and they w
 """
 from typing import Iterator, NamedTuple, Optional, Sequence
 
-from regkit.merge.recorded import Event
+from regkit.merge.recorded import RecordedEvent
 
 NEVER = float("inf")
 
@@ -38,35 +38,45 @@ class Step(NamedTuple):
     """The next event of the merged history."""
 
     file: int
-    event: Event
+    event: RecordedEvent
     given_up: bool  # it is a call that comes before replies of its file that it should wait for
 
 
 class Track:
     """What is still to come of one file: its calls in their order, and what ends them in theirs."""
 
-    __slots__ = ("file", "events", "call", "call_time", "end", "end_time")
+    __slots__ = ("file", "events", "call", "call_time", "end", "end_time", "_calls", "_ends")
 
-    def __init__(self, file: int, events: list[Event]) -> None:
+    def __init__(self, file: int, events: list[RecordedEvent]) -> None:
         self.file = file
         self.events = events
+        self._calls = (place for place, event in enumerate(events) if event.what == "call")
+        self._ends = (place for place, event in enumerate(events) if event.what != "call")
         self.call = self.end = -1  # the places of the next call and of the next ending
         self.call_time = self.end_time = NEVER
-        self.pass_call()
-        self.pass_end()
+        self._pass_call()
+        self._pass_end()
 
-    def pass_call(self) -> None:
-        self.call = following(self.events, self.call + 1, True)
+    def _pass_call(self) -> None:
+        self.call = next(self._calls, len(self.events))
         self.call_time = self.events[self.call].time if self.call < len(self.events) else NEVER
 
-    def pass_end(self) -> None:
-        self.end = following(self.events, self.end + 1, False)
+    def _pass_end(self) -> None:
+        self.end = next(self._ends, len(self.events))
         self.end_time = self.events[self.end].time if self.end < len(self.events) else NEVER
 
-    def take(self, is_call: bool) -> Event:
-        """Its next call, or its next ending, which is then no longer to come."""
-        event = self.events[self.call if is_call else self.end]
-        self.pass_call() if is_call else self.pass_end()
+    def take_call(self) -> RecordedEvent:
+        """Its next call, which is then no longer to come."""
+        event = self.events[self.call]
+        self._pass_call()
+        return event
+
+    def take_first(self) -> RecordedEvent:
+        """Its next event, be it a call or an ending."""
+        if self.call < self.end:
+            return self.take_call()
+        event = self.events[self.end]
+        self._pass_end()
         return event
 
     def is_ready(self, other_call: float, other_end: float, error: int) -> bool:
@@ -76,13 +86,6 @@ class Track:
         if self.end == len(self.events):
             return False
         return self.end_time + error < other_call or self.events[self.end].what != "reply"
-
-
-def following(events: list[Event], place: int, is_call: bool) -> int:
-    """The next place that has a call, or that has none; after the last one if there is no such place."""
-    while place < len(events) and (events[place].what == "call") != is_call:
-        place += 1
-    return place
 
 
 def least_of_others(own: float, times: list[float]) -> float:
@@ -103,15 +106,15 @@ def first_ready(tracks: Sequence[Track], error: int) -> Optional[Track]:
     return found
 
 
-def in_order(files: Sequence[list[Event]], error: int) -> Iterator[Step]:
+def in_order(files: Sequence[list[RecordedEvent]], error: int) -> Iterator[Step]:
     """The events of all files in the order of the merged history."""
     tracks = [Track(number, events) for number, events in enumerate(files)]
     while tracks:
         track = first_ready(tracks, error)
         if track is not None:
-            yield Step(track.file, track.take(track.call < track.end), False)
+            yield Step(track.file, track.take_first(), False)
             continue
         track = min(tracks, key=lambda each: each.call_time)
         if track.call == len(track.events):
             return
-        yield Step(track.file, track.take(True), True)
+        yield Step(track.file, track.take_call(), True)

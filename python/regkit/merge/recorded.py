@@ -8,8 +8,6 @@ from regkit.words.quoting import quoted
 
 NO_TIME = ("has no `time` in whole nanoseconds: record with a clock, as in "
            "Recorder(\"history.jsonl\", clock=time.monotonic_ns)")
-
-
 _ENCODER = json.JSONEncoder(ensure_ascii=False, separators=(",", ":"))
 
 
@@ -17,7 +15,7 @@ class Unmergeable(ValueError):
     """The histories can't be merged: at which line of which one, why, and what to do."""
 
 
-class Event(NamedTuple):
+class RecordedEvent(NamedTuple):
     """An event of a history."""
 
     time: int
@@ -26,7 +24,7 @@ class Event(NamedTuple):
     rest: str  # its line after the process
 
 
-class Write(NamedTuple):
+class ValueWrite(NamedTuple):
     """Where a value is written."""
 
     file: str
@@ -34,7 +32,7 @@ class Write(NamedTuple):
     register: str
     value: int
 
-    def in_words(self, first: "Write") -> str:
+    def in_words(self, first: "ValueWrite") -> str:
         """Of the write of a value that was written already."""
         return (f"{self.file}: line {self.line} writes {self.value} to register {quoted(self.register)}, as "
                 f"line {first.line} of {first.file} does")
@@ -45,8 +43,8 @@ class Recorded:
 
     def __init__(self, name: str, data: bytes) -> None:
         self.name = name
-        self.events: list[Event] = []
-        self.writes: list[Write] = []
+        self.events: list[RecordedEvent] = []
+        self.writes: list[ValueWrite] = []
         self.has_cas = False
         history = History(FOREVER, search=True)
         try:
@@ -67,9 +65,9 @@ class Recorded:
                               f"{self.events[-1].time}: a recorder's clock must never go back, as "
                               "time.monotonic_ns doesn't; and a merged history can't be merged again")
         if event["event"] == "call" and event["op"] == "write":
-            self.writes.append(Write(self.name, number, event["register"], event["value"]))
+            self.writes.append(ValueWrite(self.name, number, event["register"], event["value"]))
         self.has_cas = self.has_cas or (event["event"] == "call" and event["op"] == "cas")
-        self.events.append(Event(time, process, event["event"], _ENCODER.encode(event)[1:]))
+        self.events.append(RecordedEvent(time, process, event["event"], _ENCODER.encode(event)[1:]))
 
     @property
     def processes(self) -> list[int]:
@@ -86,11 +84,11 @@ def refuse_twice(files: Sequence[Recorded]) -> None:
                                   "clients")
 
 
-def first_again(files: Sequence[Recorded]) -> Optional[tuple[Write, Write]]:
+def first_again(files: Sequence[Recorded]) -> Optional[tuple[ValueWrite, ValueWrite]]:
     """The first write of a value that was written to its register already, and the earlier write; of writes
     in two files, if there are any."""
-    writers: dict[tuple[str, int], tuple[int, Write]] = {}
-    within: Optional[tuple[Write, Write]] = None
+    writers: dict[tuple[str, int], tuple[int, ValueWrite]] = {}
+    within: Optional[tuple[ValueWrite, ValueWrite]] = None
     for place, file in enumerate(files):
         for write in file.writes:
             other, first = writers.setdefault((write.register, write.value), (place, write))

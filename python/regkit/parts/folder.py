@@ -71,8 +71,3 @@ class LineMap:
             return line
         start = (line - 1) * MAP_LINE
         return int(self.text[start:start + MAP_LINE])
-
-
-def same_line(line: int) -> int:
-    """The map of a part whose blank lines keep the numbers of the whole."""
-    return line

@@ -48,7 +48,7 @@ class TooManyEvents(Exception):
         self.name = name.decode("utf-8", "replace")
 
 
-class Event(NamedTuple):
+class RoutedEvent(NamedTuple):
     """What a line says of its part."""
 
     process: bytes
@@ -142,7 +142,7 @@ class Router:
             heapq.heapreplace(self._least, (self.events[part], part))
 
 
-def read_event(line: bytes) -> Optional[Event]:
+def read_event(line: bytes) -> Optional[RoutedEvent]:
     """The event of a line. None if the line is faulty by itself."""
     text = line[:-1] if line.endswith(b"\n") else line
     if len(text) > MAX_LINE:
@@ -159,8 +159,8 @@ def read_event(line: bytes) -> Optional[Event]:
     number = b"%d" % process
     if what == "call":
         name = name_of(event.get("register"))
-        return None if name is None else Event(number, b"call", name, event.get("op") == "cas")
-    return Event(number, what.encode()) if what in ("reply", "fail", "crash") else None
+        return None if name is None else RoutedEvent(number, b"call", name, event.get("op") == "cas")
+    return RoutedEvent(number, what.encode()) if what in ("reply", "fail", "crash") else None
 
 
 def name_of(member: Any) -> Optional[bytes]:

@@ -46,7 +46,10 @@ class Caller:
         return self
 
     def __exit__(self, kind: Optional[type[BaseException]], *_: object) -> None:
-        self.close() if kind is None else self.crash()
+        if kind is None:
+            self.close()
+        else:
+            self.crash()
 
     def begin(self, op: str, register: str, behind: Optional[str]) -> Optional[int]:
         """Writes the line of a call, and gives the value that the recorder chose, if it did. For Call

@@ -1,0 +1,142 @@
+"""What the runs of the parts left: of each part its report, its refusal, or why it has no answer.
+
+One program checked all parts, `regcheck` or `regsearch`."""
+import json
+import pathlib
+import resource
+import shlex
+from contextlib import suppress
+from typing import Callable, Iterator, NamedTuple, Optional, Union
+
+from regkit.base.statuses import ExitStatus
+from regkit.checker.programs import CHECK, SEARCH, Answer, find_program, is_for_search
+from regkit.checker.refusals import (BAD_OP, REPEATED, SEARCH_TEXTS, TEXTS, Refusal, read_refusal,
+                                     same_line)
+from regkit.checker.report import Row
+from regkit.parts.folder import MAP, LineMap, Manifest, file_of
+
+STATUSES = {"yes": ExitStatus.ATOMIC, "no": ExitStatus.NOT_ATOMIC, "unknown": ExitStatus.UNKNOWN}
+LineOf = Callable[[int], int]
+
+
+class Answered(NamedTuple):
+    """A part with a report: what its summary says, and where its lines are in the whole."""
+
+    part: int
+    program: str  # which wrote the report
+    report: pathlib.Path
+    line_of: LineOf
+    atomic: str  # yes, no or unknown
+    operations: int
+
+
+class RefusedPart(NamedTuple):
+    """A part that was refused."""
+
+    part: int
+    program: Optional[str]  # which refused it, if the other one would have said something else
+    refusal: Refusal
+    words: str  # the program's own, with the lines of the part
+
+
+class Unanswered(NamedTuple):
+    """A part without an answer, and why."""
+
+    part: int
+    why: str
+
+
+PartOutcome = Union[Answered, RefusedPart, Unanswered]
+
+
+def outcomes(directory: str, manifest: Manifest) -> Iterator[PartOutcome]:
+    """What came of each part, in the order of the parts."""
+    allow_open_files(2 * manifest.parts)
+    registers = [0] * manifest.parts
+    for part in manifest.registers:
+        registers[part] += 1
+    for part in range(manifest.parts):
+        try:
+            yield outcome(directory, part, registers[part], line_map(directory, part, manifest))
+        except FileNotFoundError as missing:
+            yield Unanswered(part, f"{missing.filename} is missing")
+        except ValueError as error:
+            yield Unanswered(part, str(error))
+
+
+def line_map(directory: str, part: int, manifest: Manifest) -> LineOf:
+    if manifest.lines == MAP:
+        return LineMap(file_of(directory, part, "lines"))
+    return same_line
+
+
+def allow_open_files(count: int) -> None:
+    """Up to two files of each part are open at once, and many systems allow 1,024 unless they are asked."""
+    least = count + 64
+    soft, hard = resource.getrlimit(resource.RLIMIT_NOFILE)
+    if soft < least:
+        with suppress(ValueError, OSError):
+            resource.setrlimit(resource.RLIMIT_NOFILE, (least, hard))
+
+
+def outcome(directory: str, part: int, registers: int, line_of: LineOf) -> PartOutcome:
+    """What one run left. Raises FileNotFoundError and ValueError if that isn't whole."""
+    status = file_of(directory, part, "status").read_text(encoding="utf-8", errors="replace").strip()
+    words = file_of(directory, part, "err").read_text(encoding="utf-8", errors="replace").strip()
+    if status == str(int(ExitStatus.REFUSED)):
+        refusal = read_refusal(words, line_of)
+        if refusal is None:
+            return Unanswered(part, f"unexpected refusal: {words}")
+        return RefusedPart(part, program_of_refusal(refusal), refusal, words)
+    verdicts = {str(int(number)): said for said, number in STATUSES.items()}
+    if status not in verdicts:
+        return Unanswered(part, f"status {status or 'unknown'}" + (f": {words}" if words else ""))
+    report = file_of(directory, part, "report")
+    first, summary = ends_of(report, registers)
+    if summary["atomic"] != verdicts[status]:
+        raise ValueError(f"{report} does not fit its status {status}")
+    by_search = "cas" in first if registers else "order" not in summary
+    program = SEARCH if by_search else CHECK
+    return Answered(part, program, report, line_of, verdicts[status], summary["operations"])
+
+
+def program_of_refusal(refusal: Refusal) -> Optional[str]:
+    """Which program refuses so, if the other one doesn't."""
+    if refusal.text in SEARCH_TEXTS.values():
+        return SEARCH
+    return CHECK if refusal.number == REPEATED or refusal.text == TEXTS[BAD_OP] else None
+
+
+def ends_of(report: pathlib.Path, registers: int) -> tuple[Row, Row]:
+    """The first and the last line of a report. Raises ValueError unless there is a line for each register
+    before the summary."""
+    lines, first, last = 0, b"", b""
+    with open(report, "rb") as stream:
+        for lines, last in enumerate(stream, 1):
+            first = first or last
+    if lines != registers + 1:
+        raise ValueError(f"{report} has {lines} lines; {registers} registers and the summary need one each")
+    try:
+        row, summary = dict(json.loads(first)), dict(json.loads(last))
+        whole = summary["registers"] == registers and {"atomic", "operations"} <= set(summary)
+    except (ValueError, KeyError, TypeError):
+        whole = False
+    if not whole or not last.endswith(b"\n"):
+        raise ValueError(f"{report} does not end with the summary of {registers} registers")
+    return row, summary
+
+
+def takes_search(directory: str, refused: RefusedPart) -> bool:
+    """Whether regcheck refused a part for what regsearch takes."""
+    if refused.program != CHECK:
+        return False
+    history = file_of(directory, refused.part, "jsonl").read_bytes()
+    return is_for_search(history, Answer(ExitStatus.REFUSED, b"", refused.words))
+
+
+def command_again(directory: str, part: int, program: str) -> str:
+    """The command for a shell that runs a part once more."""
+    path = find_program(program) or program
+    history, report, words, status = (shlex.quote(str(file_of(directory, part, ending)))
+                                      for ending in ("jsonl", "report", "err", "status"))
+    return f"{shlex.quote(path)} {history} > {report} 2> {words}; echo $? > {status}"
