@@ -1,10 +1,7 @@
 -- What an act that changes the register gives.
-use Rattle.std.proofs.Common.{◌≡◌, is_some, unwrap_or, true, false, Option, Some, None, refl, sym, ap}
+use Rattle.std.proofs.Common.{◌≡◌, is_some, unwrap_or, true, false, Option, Some, None, refl, sym}
 use Rattle.std.specs.Prelude.{IsSomeAnd}
 use Rattle.std.proofs.lemmas.Bool.{false≢true}
-use Rattle.std.proofs.lemmas.Bool.Decides.{Decides-int_eq}
-use Rattle.history_text.specs.Values.{value_eq}
-use Rattle.history_text.specs.declared.event.Val.TheVariants.{Null, Int}
 use Rattle.history_text.specs.declared.event.Val.{Val}
 use Rattle.cas_model.specs.Acts.{suits, asks}
 use Rattle.cas_model.specs.declared.act.Act.{Act}

@@ -1,7 +1,5 @@
 -- What the definitions make of bytes once they have been read, or refused.
-use Rattle.std.proofs.Common.{◌≡◌, List, ℕ, ◌≤◌, length, false, Some, None, Err, refl, arith}
-use Rattle.std.specs.Prelude.{nat_lt}
-use Rattle.std.proofs.lemmas.Bool.Decides.{nat_tests}
+use Rattle.std.proofs.Common.{◌≡◌, List, ℕ, ◌≤◌, length, Some, None, Err, refl, arith}
 use Rattle.serde_json.specs.Data.{Data}
 use Rattle.history_text.specs.declared.limits.TheConstants.{MAX_LINE}
 use Rattle.history_text.specs.Reading.{json_of}

@@ -1,9 +1,7 @@
 -- The test on values decides their equality.
 use Rattle.std.proofs.Common.{◌≡◌, true, Option, Some, None, ◌⊎◌, inl, inr, refl, sym, ap, subst, ◌∙◌}
 use Rattle.std.proofs.lemmas.Bool.{cases_Bool, false≢true}
-use Rattle.std.proofs.lemmas.Bool.Decides.{Decides-int_eq}
-use Rattle.history_text.specs.Values.{value_eq, same_value}
-use Rattle.history_text.specs.declared.event.Val.TheVariants.{Null, Int}
+use Rattle.history_text.specs.Values.{same_value}
 use Rattle.history_text.specs.declared.event.Val.{Val}
 use Rattle.history_model.proofs.Values.{value-true, value-refl}
 

@@ -1,14 +1,13 @@
 -- Pulls, one after the other.
-use Rattle.std.proofs.Common.{◌≡◌, ℕ, Bool, true, false, ◌+◌, ◌<◌, ◌≤◌, List, [], ◌++◌}
-use Rattle.std.proofs.Common.{length, take, drop, Option, Some, None, refl, sym, ◌∙◌}
-use Rattle.std.proofs.Common.{ap, arith, length-append, append-nil, append_assoc}
-use Rattle.std.proofs.Math.Seq.{take-append-add}
-use Rattle.std.proofs.lemmas.List.{length-drop, length-take, take-append-le, take-take}
+use Rattle.std.proofs.Common.{◌≡◌, ℕ, Bool, true, false, ◌+◌, ◌≤◌, List, [], ◌++◌}
+use Rattle.std.proofs.Common.{length, take, Option, Some, None, refl, ◌∙◌}
+use Rattle.std.proofs.Common.{ap, arith, length-append, append-nil}
+use Rattle.std.proofs.lemmas.List.{length-take, take-append-le, take-take}
 use Rattle.std.specs.Prelude.{if◌then◌else◌}
 use Rattle.std.specs.Io.KnownBytes.{Consumes, IsAtEnd}
 use Rattle.std.proofs.KnownBytes.{Consumes-nil, Consumes-trans}
 use Rattle.history_text.specs.declared.limits.TheConstants.{MAX_INPUT}
-use Rattle.reg_intake.specs.Ends.{IsAll, IsTooLong}
+use Rattle.reg_intake.specs.Ends.{IsAll}
 use Rattle.search_intake.specs.Input.{IsRefusedOf}
 use Rattle.search_intake.specs.Pulled.{Gives, StopsAt}
 use Rattle.search_intake.specs.declared.refusal.Refusal.{Refusal}

@@ -4,11 +4,9 @@ use Rattle.std.proofs.Common.{take, drop, get_or, Bool, true, false, cond, Some,
 use Rattle.std.proofs.Common.{refl, sym, ap, subst, ◌∙◌, arith, suc, append_assoc}
 use Rattle.std.specs.Prelude.{if◌then◌else◌, slice_range, not, ◌==◌, filter, All}
 use Rattle.std.specs.List.{enumerate_from}
-use Rattle.std.proofs.lemmas.Bool.{false_from_ne_true}
 use Rattle.std.proofs.lemmas.List.{take-append-drop, get_or-take, length-take-le}
 use Rattle.std.proofs.lemmas.List.{append-nil, take_all, drop-drop, length-drop}
-use Rattle.std.proofs.lemmas.List.Elements.{All-from_get_or}
-use Rattle.std.proofs.lemmas.List.Splits.{slice_split_at, slice_split_none}
+use Rattle.std.proofs.lemmas.List.Splits.{slice_split_at}
 use Rattle.std.proofs.Math.Seq.{drop-cons}
 use Rattle.memchr.specs.Find.{IsFirstByte, is_byte}
 use Rattle.history_text.specs.Lines.{lines, is_blank, numbered_from}

@@ -1,6 +1,6 @@
 -- The bytes of a report: compact JSON (RFC 8259), a line for each register and
 -- one for the summary, keys in byte order.
-use Rattle.std.specs.Prelude.{ℕ, codes, List, [], ◌∷◌, ◌++◌, length, map, Option, Some, None}
+use Rattle.std.specs.Prelude.{ℕ, codes, List, [], ◌∷◌, ◌++◌, length, map}
 use Rattle.std.specs.List.{concat}
 use Rattle.serde_json.specs.Data.{Data, string}
 use Rattle.json_fields.specs.Fields.{Field, always, shown, number_json, numbers_json}

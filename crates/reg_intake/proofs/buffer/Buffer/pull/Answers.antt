@@ -1,8 +1,7 @@
 -- The bytes that came stand after those before them, in a buffer that may have grown.
-use Rattle.std.proofs.Common.{◌≡◌, ◌+◌, ◌≤◌, ◌++◌, ℕ, List, length, take, drop}
-use Rattle.std.proofs.Common.{subst, sym, ap, ◌∙◌, arith, append_assoc}
-use Rattle.std.proofs.Math.Seq.{take-append-add}
-use Rattle.std.proofs.lemmas.List.{length-drop, length-take, length-take-le, take-append-le, take-take}
+use Rattle.std.proofs.Common.{◌≡◌, ◌+◌, ◌≤◌, ◌++◌, ℕ, List, length, take}
+use Rattle.std.proofs.Common.{subst, sym, ap, ◌∙◌, arith}
+use Rattle.std.proofs.lemmas.List.{length-take, length-take-le, take-append-le, take-take}
 use Rattle.reg_intake.specs.declared.buffer.Buffer.TheInside.{Inside}
 use Rattle.reg_intake.proofs.buffer.Buffer.pull.Goals.{then-len-self-lt-PULL+in_ok-resize}
 use Rattle.reg_intake.proofs.buffer.Buffer.pull.Goals.{else-len-self-lt-PULL}
