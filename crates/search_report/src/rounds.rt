@@ -18,7 +18,7 @@ use std::thread::Threads;
 const REGISTERS_IN_A_ROUND: u64 = 2;
 
 /// In how many parts the bounds are cut for the first round, if there are as many registers: by
-/// default that many are searched at once.
+/// default at most that many are searched at once.
 const MOST_PARTS: u64 = 4;
 
 /// How far the search of each of this many registers goes if they are searched one after another.
@@ -99,7 +99,20 @@ fn second_round(
     found_again(alloc, lines, registers, first, second)
 }
 
-/// What is found of each register, in order, by this many workers that share the registers.
+/// How many registers a worker takes at least. `map_each` halves a list for as long as each half has that
+/// many, so there are as many shares as the greatest power of two up to the workers, or fewer if there aren't
+/// twice as many registers.
+fn share_of(registers: usize, workers: u32) -> usize {
+    let shares = (1_usize << workers.max(1).ilog2()).max(1);
+    let even = registers / shares;
+    if even < 2 {
+        registers.div_ceil(shares)
+    } else {
+        even
+    }
+}
+
+/// What is found of each register, in order, by at most this many workers, which share the registers.
 fn found_by_workers(
     rt: &(impl Threads + Sync),
     alloc: Global,
@@ -111,12 +124,11 @@ fn found_by_workers(
 {
     let lines = history.lines.as_slice();
     let registers = history.registers.as_slice();
-    let share = registers.len().div_ceil((workers as usize).max(1));
     map_each(
         rt,
         alloc,
         registers,
-        share,
+        share_of(registers.len(), workers),
         |ops: &Vec<Operation>| -> Result<Finding, AllocError>
             ensures { IfOk result (IsFinding lines.entry.now ops.now.items) }
         { finding_of(alloc, lines, ops, bounds) },
