@@ -371,6 +371,36 @@ def wide_fan(register: Register, size: Size, _chance: Chance) -> None:
     wide.end()
 
 
+def beam(register: Register, size: Size, narrow: bool) -> None:
+    """As `wide_fan`, and a crashed cas calls for stages, in which beams are chosen."""
+    register.wrote(0)
+    register.cas(NEVER, NEVER + 1)
+    wide = Wide(register, size)
+    if narrow:
+        wide.reads += [register.read() for _ in range(min(7_500, size.events // 6))]
+        wide.fan = wide.fan[:600]
+    wide.fan_out()
+    values = itertools.count(wide.fan[-1] + 1)
+    for _, at in zip(size.turns(6, wide.events_of_end()), itertools.count()):
+        register.missed(register.cas(0, 2))
+        register.changed(wide.fan[0] + at, 0)
+        register.took_place(wide.calls[at])
+        wide.calls.append(register.cas(0, next(values)))
+    wide.calls = wide.calls[-len(wide.fan):]
+    wide.end()
+
+
+def owing(register: Register, size: Size, _chance: Chance) -> None:
+    """Each reply leaves six hundred configurations of different values, of which a beam is chosen by what
+    each of them owes: more than sixteen thousand calls."""
+    beam(register, size, True)
+
+
+def beam_among_wide(register: Register, size: Size, _chance: Chance) -> None:
+    """A beam is chosen among eight thousand configurations of 256 words, again and again."""
+    beam(register, size, False)
+
+
 def late_knot(register: Register, size: Size, _chance: Chance) -> None:
     """A single configuration of 256 words is copied at each of half a million writes, for which few steps are
     spent, and each stage goes over them again, since only the last reply has no explanation; and thousands of
@@ -403,6 +433,18 @@ def long_reads(register: Register, size: Size, _chance: Chance) -> None:
     register.wrote(2)
     for read in reads:
         register.gave(read, 2)
+
+
+def long_misses(register: Register, size: Size, _chance: Chance) -> None:
+    """As `long_reads`, with cas that miss: the value of all changes but the last is theirs. Reads, misses and
+    writes of other values lie among them, whose places are found at once."""
+    register.wrote(0)
+    calls = [register.cas(0, 1) for _ in range(min(WIDEST - 2, size.events // 4))]
+    for _ in size.turns(2, len(calls) + 2):
+        register.wrote(0)
+    register.wrote(2)
+    for call in calls:
+        register.missed(call)
 
 
 def long_reads_and_asked_writes(register: Register, size: Size, _chance: Chance) -> None:
@@ -465,6 +507,42 @@ def small(register: Register, size: Size, chance: Chance) -> None:
     remembered(register, size, chance)
 
 
+def alone(register: Register, _size: Size, _chance: Chance) -> None:
+    """There may be a million registers with a call each, and what is done for a register costs more than
+    that."""
+    register.read()
+
+
+def quiet_runs(register: Register, size: Size, _chance: Chance) -> None:
+    """Thousands of times 32 cas are open at once, and 32 writes let any of them take effect; then all is
+    quiet. So each run is as hard as `subsets`, and none helps another."""
+    for _ in size.turns(4 * 32):
+        calls = [register.cas(0, value) for value in range(1, 33)]
+        for _ in calls:
+            register.wrote(0)
+        register.took_place(*calls)
+
+
+# ---- lines
+
+
+def long_names(register: Register, size: Size, _chance: Chance) -> None:
+    """The names of registers have 255 bytes, and differ in the last ones alone."""
+    register.name = register.name.rjust(255, "n")
+    for turn in size.turns(2):
+        register.wrote(turn)
+
+
+def deep_lines(register: Register, size: Size, _chance: Chance) -> None:
+    """Each line has lists in lists, a hundred deep, and a long name in which each byte is written as
+    six."""
+    register.name = "".join(f"\\u{ord(letter):04x}" for letter in register.name.rjust(255, "n"))
+    for turn in size.turns(2):
+        register.wrote(turn % 2)
+    deep = ',"z":[' + ",".join(["[" * 100 + "]" * 100] * 200) + "]}\n"
+    register.lines = [line.replace("}\n", deep) for line in register.lines]
+
+
 # ---- whole histories
 
 
@@ -489,12 +567,19 @@ KINDS: Dict[str, Kind] = {
     "most-memory": Kind(most_memory),
     "wide-replies": Kind(wide_replies, 40_000),
     "wide-fan": Kind(wide_fan, 60_000),
+    "owing": Kind(owing),
+    "beam-among-wide": Kind(beam_among_wide),
     "late-knot": Kind(late_knot),
     "long-reads": Kind(long_reads),
+    "long-misses": Kind(long_misses),
     "long-reads-asked": Kind(long_reads_and_asked_writes),
     "zones": Kind(zones),
     "remembered": Kind(remembered),
     "small": Kind(small, 18),
+    "alone": Kind(alone, 1),
+    "quiet-runs": Kind(quiet_runs),
+    "long-names": Kind(long_names, 2),
+    "deep-lines": Kind(deep_lines, 1_600),
 }
 
 

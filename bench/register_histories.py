@@ -1,12 +1,13 @@
 #!/usr/bin/env python3
-"""Histories of one register with repeated values, cas and crashed calls, as docs/format.md describes them.
+"""Histories of registers with repeated values, cas and crashed calls, as docs/format.md describes them.
 
     bench/register_histories.py                                        10,000 events of 10 processes
     bench/register_histories.py --events 100000 --cas 1/3 --crashed 100 --kind stale --seed 7
+    bench/register_histories.py --keys 5 --values 100 --processes 60 --shape bursts --kind split
 
 A store is simulated whose clients call at random. A call takes effect at a random moment before its reply.
-The calls are reads and writes, as many of each, or with `--cas 1/3` reads, writes and cas. They write five
-values.
+The calls are reads and writes, as many of each, or with `--cas 1/3` reads, writes and cas. By default they
+are of one register and write five values.
 
 Crashed calls are writes and cas, spread evenly over the history. Nobody answers them, and their clients go
 on under new numbers. A third of them takes effect at once, a third some time later, and a third never.
@@ -18,9 +19,20 @@ on under new numbers. A third of them takes effect at once, a third some time la
 | `lost` | in the second half, one cas of four looks at a value of some time ago (only with `--cas 1/3`) |
 | `unwritten` | in the second half, one read gives a value that nobody writes |
 | `early` | in the second half, one read gives a value that is first written at the end |
+| `dropped` | in the second half, one write of fifty is answered and not made |
+| `twice` | in the second half, one write of fifty is made a second time, some time later |
+| `aborted` | in the second half, one write or cas of fifty is made, and its client is told that it failed |
+| `split` | for a tenth of the calls, half of the clients have a copy of their own, which is then given up |
 
-A history with stale reads or lost cas may be atomic in spite of them, above all with crashed calls, which
-may explain them. The same words give the same bytes, in each version of Python."""
+| Shape | When clients call |
+|---|---|
+| `even` | at any time |
+| `bursts` | all of them call before any is answered, and all are answered before any calls again |
+| `long` | at any time, and one call is open for a third of the run |
+
+A faulty history may be atomic in spite of its faults, above all with crashed calls, which may explain them;
+those of the kinds `unwritten` and `early` never are. The same words give the same bytes, in each version of
+Python."""
 import argparse
 import collections
 import random
@@ -30,9 +42,8 @@ from typing import Deque, Dict, Iterator, List, NamedTuple, Optional, Type
 Value = Optional[int]
 
 VALUES = 5
-NOBODYS = VALUES  # a value that none of their calls writes
 EVENTS_OF_EARLY = 2  # the write of that value at the end, for the kind early
-REGISTER = "x"
+SHAPES = ["even", "bursts", "long"]
 CAS_SHARES = {"0": ["read", "write"], "1/3": ["read", "write", "cas"]}
 # Turns of clients, on average, until one of the crashed calls that are to take effect later does.
 TURNS_UNTIL_LATE = 40
@@ -40,6 +51,9 @@ TURNS_UNTIL_LATE = 40
 STALE_BY = 8
 LOST_BY = 3
 LOST_CAS = 4  # one cas of these looks at an old value
+RARE = 50  # one call of these meets with a fault of another kind
+# How many turns of its client a long call waits on average until it takes effect.
+TURNS_OF_LONG = 50
 
 
 class Cell(NamedTuple):
@@ -50,6 +64,16 @@ class Cell(NamedTuple):
     cas: str  # the share of calls that are cas, a key of CAS_SHARES
     crashed: int
     kind: str  # a key of STORES
+    keys: int = 1
+    values: int = VALUES  # those from this one on are nobody's
+    shape: str = "even"  # of SHAPES
+
+    def is_plain(self) -> bool:
+        return self[5:] == (1, VALUES, "even")
+
+    def seeds(self) -> str:
+        """What random numbers depend on beside the seed."""
+        return " ".join(map(str, self[:5] if self.is_plain() else self))
 
 
 class Chance:
@@ -68,11 +92,14 @@ class Chance:
 class Call:
     """A call, and what it found when it took effect."""
 
-    def __init__(self, client: int, op: str, expected: int, new: int, crashes: bool) -> None:
+    def __init__(self, client: int, op: str, expected: int, new: int) -> None:
         self.client, self.op = client, op
         self.expected, self.new = expected, new  # what a cas compares with; what a write or a cas writes
-        self.crashes = crashes
+        self.key = 0
+        self.crashes = False
+        self.until = 0  # a long call isn't answered before so many calls
         self.is_done = False
+        self.is_aborted = False
         self.found: Value = None
 
     def takes_place(self) -> bool:
@@ -86,6 +113,7 @@ class Store:
         self.cell, self.chance = cell, chance
         self.value: Value = None
         self.is_second_half = False
+        self.is_split = False
 
     def seen_by(self, _call: Call) -> Value:
         return self.value
@@ -136,7 +164,56 @@ class InventingStore(Store):
         if self.has_invented or not self.is_second_half or call.op != "read":
             return self.value
         self.has_invented = True
-        return NOBODYS
+        return self.cell.values
+
+
+class DroppingStore(Store):
+    """A register that doesn't make some writes."""
+
+    def take_effect(self, call: Call) -> None:
+        before = self.value
+        super().take_effect(call)
+        if self.is_second_half and call.op == "write" and self.chance.one_in(RARE):
+            self.value = before
+
+
+class RepeatingStore(Store):
+    """A register that makes some writes once more, some time later."""
+
+    def __init__(self, cell: Cell, chance: Chance) -> None:
+        super().__init__(cell, chance)
+        self.again: List[Value] = []
+
+    def take_effect(self, call: Call) -> None:
+        if self.again and self.chance.one_in(TURNS_UNTIL_LATE):
+            self.value = self.again.pop()
+        super().take_effect(call)
+        if self.is_second_half and call.op == "write" and self.chance.one_in(RARE):
+            self.again.append(call.new)
+
+
+class AbortingStore(Store):
+    """A register that makes some changes and says that it didn't."""
+
+    def take_effect(self, call: Call) -> None:
+        super().take_effect(call)
+        call.is_aborted = self.is_second_half and call.op != "read" and self.chance.one_in(RARE)
+
+
+class SplitStore(Store):
+    """A register of which every other client has a copy of its own for a time."""
+
+    copy: Value = None
+
+    def take_effect(self, call: Call) -> None:
+        if not self.is_split:
+            self.copy = self.value
+        has_copy = self.is_split and call.client % 2
+        if has_copy:
+            self.value, self.copy = self.copy, self.value
+        super().take_effect(call)
+        if has_copy:
+            self.value, self.copy = self.copy, self.value
 
 
 STORES: Dict[str, Type[Store]] = {
@@ -145,6 +222,10 @@ STORES: Dict[str, Type[Store]] = {
     "lost": LostStore,
     "unwritten": InventingStore,
     "early": InventingStore,
+    "dropped": DroppingStore,
+    "twice": RepeatingStore,
+    "aborted": AbortingStore,
+    "split": SplitStore,
 }
 
 
@@ -155,7 +236,8 @@ class Client:
 
     def called(self, call: Call) -> str:
         self.call = call
-        start = f'{{"process":{self.process},"event":"call","op":"{call.op}","register":"{REGISTER}"'
+        name = f"x{call.key}" if call.key else "x"
+        start = f'{{"process":{self.process},"event":"call","op":"{call.op}","register":"{name}"'
         if call.op == "read":
             return start + "}\n"
         if call.op == "write":
@@ -164,6 +246,8 @@ class Client:
 
     def answered(self, call: Call) -> str:
         self.call = None
+        if call.is_aborted:
+            return f'{{"process":{self.process},"event":"fail"}}\n'
         start = f'{{"process":{self.process},"event":"reply"'
         if call.op == "read":
             return f'{start},"value":{"null" if call.found is None else call.found}}}\n'
@@ -178,12 +262,12 @@ class Client:
 
 
 class Run:
-    """Clients that call a store until there are as many events as were asked for."""
+    """Clients that call stores until there are as many events as were asked for."""
 
     def __init__(self, cell: Cell, seed: int) -> None:
         self.cell = cell
-        self.chance = Chance(f"{seed} {' '.join(map(str, cell))}")
-        self.store = STORES[cell.kind](cell, self.chance)
+        self.chance = Chance(f"{seed} {cell.seeds()}")
+        self.stores = [STORES[cell.kind](cell, self.chance) for _ in range(cell.keys)]
         self.clients = [Client(number) for number in range(cell.processes)]
         self.processes = cell.processes
         # Each call is an event, and each that doesn't crash has a reply.
@@ -192,16 +276,31 @@ class Run:
         self.called = 0
         self.open = 0
         self.late: List[Call] = []  # crashed calls that take effect some time later
+        self.is_calling = True  # and not answering, in bursts
+        self.has_long = cell.shape != "long"
 
     def lines(self) -> Iterator[str]:
         while self.called < self.calls or self.open:
             if self.late and self.chance.one_in(TURNS_UNTIL_LATE):
-                self.store.take_effect(self.late.pop(self.chance.below(len(self.late))))
-            yield from self.turn(self.chance.below(len(self.clients)))
+                self.take_effect(self.late.pop(self.chance.below(len(self.late))))
+            number = self.chance.below(len(self.clients))
+            if not self.rests(self.clients[number]):
+                yield from self.turn(number)
         if self.cell.kind == "early":
-            last = Call(0, "write", 0, NOBODYS, False)
+            last = Call(0, "write", 0, self.cell.values)
             yield self.clients[0].called(last)
             yield self.clients[0].answered(last)
+
+    def take_effect(self, call: Call) -> None:
+        self.stores[call.key].take_effect(call)
+
+    def rests(self, client: Client) -> bool:
+        """Whether a client waits for the others, in bursts."""
+        if self.open == len(self.clients) or self.called == self.calls:
+            self.is_calling = False
+        elif self.open == 0:
+            self.is_calling = True
+        return self.cell.shape == "bursts" and (client.call is None) != self.is_calling
 
     def turn(self, number: int) -> Iterator[str]:
         client = self.clients[number]
@@ -220,28 +319,40 @@ class Run:
             yield client.answered(call)
 
     def next_call(self, client: int) -> Call:
-        crashed = self.cell.crashed
+        crashed, values = self.cell.crashed, self.cell.values
         crashes = (self.called + 1) * crashed // self.calls > self.called * crashed // self.calls
         self.called += 1
-        self.store.is_second_half = 2 * self.called > self.calls
+        for store in self.stores:
+            store.is_second_half = 2 * self.called > self.calls
+            store.is_split = 5 * self.calls < 10 * self.called < 6 * self.calls
         ops = CAS_SHARES[self.cell.cas]
         changes = [op for op in ops if op != "read"]
         offered = changes if crashes else ops
         op = offered[self.chance.below(len(offered))]
-        return Call(client, op, self.chance.below(VALUES), self.chance.below(VALUES), crashes)
+        call = Call(client, op, self.chance.below(values), self.chance.below(values))
+        call.crashes = crashes
+        if self.cell.keys > 1:
+            call.key = self.chance.below(self.cell.keys)
+        if not self.has_long and not crashes and 3 * self.called > self.calls:
+            self.has_long, call.until = True, 2 * self.calls // 3
+        return call
 
     def crash(self, call: Call) -> None:
         effect = self.chance.below(3)
         if effect == 0:
-            self.store.take_effect(call)
+            self.take_effect(call)
         elif effect == 1:
             self.late.append(call)
 
     def is_answered(self, call: Call) -> bool:
         """Whether the client gets its answer in this turn. Half of the calls take effect a turn earlier."""
+        if self.called < call.until:
+            if not call.is_done and self.chance.one_in(TURNS_OF_LONG):
+                self.take_effect(call)
+            return False
         if call.is_done:
             return True
-        self.store.take_effect(call)
+        self.take_effect(call)
         return self.chance.one_in(2)
 
 
@@ -250,6 +361,8 @@ def complaint(cell: Cell) -> Optional[str]:
     least = EVENTS_OF_EARLY if cell.kind == "early" else 0
     if cell.kind == "lost" and cell.cas == "0":
         return "a history of the kind lost needs --cas 1/3"
+    if min(cell.keys, cell.values) < 1:
+        return "a history has a key and a value at least"
     if cell.processes < 1 or cell.crashed < 0 or cell.events < least + cell.crashed:
         size = f"{cell.events} events, {cell.processes} processes and {cell.crashed} crashed calls"
         return f"no history of the kind {cell.kind} has {size}"
@@ -274,9 +387,13 @@ def main() -> int:
     words.add_argument("--cas", choices=list(CAS_SHARES), default="0", help="the share of cas; default 0")
     words.add_argument("--crashed", type=int, default=0, help="calls that nobody answers; default 0")
     words.add_argument("--kind", choices=list(STORES), default="right", help="see above; default right")
+    words.add_argument("--keys", type=int, default=1, help="registers; default 1")
+    words.add_argument("--values", type=int, default=VALUES, help=f"that calls write; default {VALUES}")
+    words.add_argument("--shape", choices=SHAPES, default="even", help="see above; default even")
     words.add_argument("--seed", type=int, default=1, help="default 1")
     asked = words.parse_args()
-    cell = Cell(asked.events, asked.processes, asked.cas, asked.crashed, asked.kind)
+    cell = Cell(asked.events, asked.processes, asked.cas, asked.crashed, asked.kind,
+                asked.keys, asked.values, asked.shape)
     try:
         sys.stdout.writelines(history(cell, asked.seed))
     except ValueError as error:

@@ -5,9 +5,11 @@
     tests/search_judge.py judge HISTORY STATUS REPORT    whether an answer is right: status 0, or 1
 
 Lines are read and refused as in tests/reference.py; nothing else is shared with it. An operation's times are
-the lines of its call and its reply. Only registers of up to 12 operations are searched: those have to be
-decided, and of larger ones only what the report itself shows is looked at. A register without cas whose
-written values are distinct has to be decided in any case. `-` is standard input.
+the lines of its call and its reply. Only registers of up to 12 operations are searched, and up to 19 pending
+cas beside them: those have to be decided, and a no has to name the first hopeless reply and an order before
+it. If low bounds were given, any hopeless reply will do. Of larger registers only what the report itself
+shows is looked at. A register without cas whose written values are distinct has to be decided in any case.
+`-` is standard input.
 """
 import argparse
 import json
@@ -16,7 +18,8 @@ from typing import Any, Dict, List, NamedTuple, NoReturn, Optional, Sequence, Se
 
 import reference
 
-SEARCHED = 12  # the most operations whose orders are all searched
+SEARCHED = 12  # the most operations whose orders are all searched,
+PENDING_CAS = 19  # and the most pending cas beside them
 END = sys.maxsize  # a line after all others
 OPTIONS = reference.Options(cas=True)
 STATUSES = {"yes": 0, "no": 1, "unknown": 6}
@@ -167,7 +170,7 @@ def search_fault(operations: Sequence[Operation], reply: int) -> Row:
 
 
 def fault_of(operations: Sequence[Operation]) -> Optional[Row]:
-    """What is determined of a register's fault, if it has one."""
+    """What a register's fault has to say, if it has one, but for `before`."""
     line = first_unwritten(operations)
     if line is not None:
         return {"call": line, "kind": "unwritten"}
@@ -243,25 +246,37 @@ def judge_yes(row: Row, operations: Sequence[Operation]) -> None:
     compare("points", row["points"], points_of(row["order"]))
 
 
-def determined_fault(fault: Row, operations: Sequence[Operation]) -> Optional[Row]:
-    """What the fault has to say. Of a register that isn't searched, any reply will do."""
-    if len(operations) <= SEARCHED or first_unwritten(operations) is not None:
-        return fault_of(operations)
-    replies = [a.reply for a in operations if not a.pending()]
-    reply = next((line for line in replies if line == fault.get("reply")), None)
-    return None if reply is None else search_fault(operations, reply)
+def is_searched(operations: Sequence[Operation]) -> bool:
+    """Whether they are so few that all their orders are tried."""
+    pending_cas = sum(a.op == "cas" and a.pending() for a in operations)
+    return len(operations) - min(pending_cas, PENDING_CAS) <= SEARCHED
 
 
-def judge_fault(fault: Any, operations: Sequence[Operation]) -> None:
-    if not isinstance(fault, dict):
-        wrong("fault is", fault)
+def judge_search_fault(fault: Row, operations: Sequence[Operation], decided: bool) -> None:
+    """Of a register that isn't searched, any reply will do."""
+    reply = next((a.reply for a in operations if not a.pending() and a.reply == fault.get("reply")), None)
+    if reply is None:
+        wrong("nothing replies in line", fault.get("reply"))
     said = {key: value for key, value in fault.items() if key != "before"}
-    compare("fault, but for before,", said, determined_fault(fault, operations))
-    if "before" in fault and fault["kind"] != "search":
-        wrong("fault is", fault)
-    why = why_not_legal(operations, fault["before"], fault["reply"] - 1) if "before" in fault else None
+    compare("fault, but for before,", said, search_fault(operations, reply))
+    why = why_not_legal(operations, fault["before"], reply - 1) if "before" in fault else None
     if why:
         wrong("before:", why)
+    if decided and is_searched(operations):
+        compare("the first hopeless reply", reply, first_hopeless_reply(operations))
+        compare("that there is a before", "before" in fault, True)
+    elif is_searched(operations) and legal_order(operations, reply) is not None:
+        wrong("the reply of line", reply, "isn't hopeless")
+
+
+def judge_fault(fault: Any, operations: Sequence[Operation], decided: bool) -> None:
+    if not isinstance(fault, dict):
+        wrong("fault is", fault)
+    line = first_unwritten(operations)
+    if line is not None:
+        compare("fault", fault, {"call": line, "kind": "unwritten"})
+    else:
+        judge_search_fault(fault, operations, decided)
 
 
 def is_distinct(operations: Sequence[Operation]) -> bool:
@@ -272,7 +287,7 @@ def is_distinct(operations: Sequence[Operation]) -> bool:
 
 def judge_row(row: Row, name: str, operations: Sequence[Operation], decided: bool) -> None:
     """`decided` says that the bounds let the program decide each small register, whatever its values."""
-    wanted = counts(name, operations)
+    wanted, is_certain = counts(name, operations), decided or is_distinct(operations)
     compare("a line without its verdict", {key: row.get(key) for key in wanted}, wanted)
     atomic = row.get("atomic")
     if atomic not in MEMBERS or set(row) != {"atomic", *wanted, *MEMBERS[atomic]}:
@@ -280,12 +295,12 @@ def judge_row(row: Row, name: str, operations: Sequence[Operation], decided: boo
     if atomic == "yes":
         judge_yes(row, operations)
     elif atomic == "no":
-        judge_fault(row["fault"], operations)
+        judge_fault(row["fault"], operations, is_certain)
     elif row["gave_up"] not in [{"bound": bound} for bound in BOUNDS]:
         wrong("gave_up is", row["gave_up"])
     elif is_distinct(operations):
         wrong("not decided, with distinct values")
-    elif decided and len(operations) <= SEARCHED:
+    elif decided and is_searched(operations):
         wrong("not decided, with", len(operations), "operations")
     if atomic != "no" and first_unwritten(operations) is not None:
         wrong("nobody wrote what line", first_unwritten(operations), "found, but atomic is", atomic)

@@ -4,7 +4,7 @@ use Rattle.std.proofs.Common.{◌++◌, slice_get, Option, Some, None, inl, inr,
 use Rattle.std.specs.List.{filter}
 use Rattle.history_model.specs.Lists.{In}
 use Rattle.history_model.proofs.Lists.{slice_get-In}
-use Rattle.cas_text.specs.declared.event.CasEvent.{CasEvent}
+use Rattle.history_text.specs.declared.event.AnyEvent.{AnyEvent}
 use Rattle.cas_model.specs.declared.operation.Operation.{Operation}
 use Rattle.cas_history.specs.Events.{Called, called_by}
 use Rattle.cas_history.specs.History.{calls_from, has_failed, next_of, operation, operation_if, option_list}
@@ -60,9 +60,9 @@ ascends-filter test n (a ∷ ops) h = go (test a) (ascends-filter test (suc a.ca
     go false r = weaker n (suc a.call) (filter test ops) (omega (arith, h.0)) r
 
 -- the calls of events stand in the order of the events
-pub ascends-calls : (names : List (List ℕ)) (s : ℕ) (es : List CasEvent) → Ascends s (calls_from names s es)
+pub ascends-calls : (names : List (List ℕ)) (s : ℕ) (es : List AnyEvent) → Ascends s (calls_from names s es)
 ascends-calls names s [] = tt
-ascends-calls names s (e ∷ es) = go (called_by e.happening) (ascends-calls names (suc s) es)
+ascends-calls names s (e ∷ es) = go (called_by e.kind) (ascends-calls names (suc s) es)
   where
     one : (call : Called) (b : Bool) → Ascends (suc s) (calls_from names (suc s) es)
         → Ascends s (option_list

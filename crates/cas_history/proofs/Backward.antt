@@ -3,7 +3,7 @@ use Rattle.std.proofs.Common.{◌≡◌, ℕ, ◌+◌, zero, suc, cond, Bool, tr
 use Rattle.std.proofs.Common.{slice_get, reverse, Option, Some, None, sym, ap, ◌∙◌, arith, eqb, option_map}
 use Rattle.std.specs.Ordering.{is_eq, nat_cmp}
 use Rattle.std.proofs.lemmas.List.{reverse-append}
-use Rattle.cas_text.specs.declared.event.CasEvent.{CasEvent}
+use Rattle.history_text.specs.declared.event.AnyEvent.{AnyEvent}
 use Rattle.cas_model.specs.declared.operation.Operation.{Operation}
 use Rattle.cas_history.specs.History.{calls_from, next_of, operation_at, option_list}
 use Rattle.cas_history.specs.Kept.{event_at}
@@ -15,7 +15,7 @@ drop-at [] i x h = absurd (cc (h))
 drop-at (y ∷ xs) zero x h = let same : y ≡ x = cc (h) in ap (λ z. z ∷ xs) same
 drop-at (y ∷ xs) (suc i) x h = drop-at xs i x h
 
-module _ (names : List (List ℕ)) (events : List CasEvent) (i : ℕ) (e : CasEvent)
+module _ (names : List (List ℕ)) (events : List AnyEvent) (i : ℕ) (e : AnyEvent)
     (at : slice_get events i ≡ Some e) where
   one_less : suc i ≡ i + 1
   one_less = omega arith
@@ -56,7 +56,7 @@ module _ (names : List (List ℕ)) (events : List CasEvent) (i : ℕ) (e : CasEv
       go : (b : Bool)
           → cond b (Some (i + 2, e)) (next_of p (suc (i + 2)) (drop (suc i) events))
           ≡ event_at events (cond b (Some i) (old p))
-      go true = ap (option_map (λ (e : CasEvent). (i + 2, e))) (sym at)
+      go true = ap (option_map (λ (e : AnyEvent). (i + 2, e))) (sym at)
       go false =
           ap (λ s. next_of p s (drop (suc i) events)) later
           ∙ (ap (λ n. next_of p (i + 1 + 2) (drop n events)) one_less ∙ so_far p)

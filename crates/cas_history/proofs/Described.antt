@@ -6,22 +6,23 @@ use Rattle.std.specs.List.{position_or_len}
 use Rattle.std.proofs.lemmas.Bool.{eqb-true, eq-eqb, false≢true}
 use Rattle.history_model.specs.Lists.{In}
 use Rattle.history_model.proofs.Lists.{append-In}
-use Rattle.cas_text.specs.declared.event.CasEvent.{CasEvent}
+use Rattle.history_text.specs.declared.event.AnyEvent.{AnyEvent}
+use Rattle.history_text.specs.declared.event.ReplyParts.{ReplyParts}
 use Rattle.cas_model.specs.declared.operation.Operation.{Operation}
-use Rattle.cas_history.specs.Events.{Called, Replied, called_by, replied_by}
+use Rattle.cas_history.specs.Events.{Called, called_by, replied_by}
 use Rattle.cas_history.specs.History.{calls_from, has_failed, next_of, operation}
 use Rattle.cas_history.specs.History.{operation_if, option_list, reply_in}
 
 -- ---- the next event of a process
 
-pub record IsNextAt (p s : ℕ) (es : List CasEvent) (next : ℕ × CasEvent) : Type 0 where
+pub record IsNextAt (p s : ℕ) (es : List AnyEvent) (next : ℕ × AnyEvent) : Type 0 where
   pub place : ℕ
   pub there : slice_get es place ≡ Some next.1
   pub time : next.0 ≡ place + s
   pub process : next.1.process ≡ p
-  pub between : (k : ℕ) (g : CasEvent) → k < place → slice_get es k ≡ Some g → g.process ≡ p → ⊥
+  pub between : (k : ℕ) (g : AnyEvent) → k < place → slice_get es k ≡ Some g → g.process ≡ p → ⊥
 
-pub next-at : (p s : ℕ) (es : List CasEvent) (next : ℕ × CasEvent) → next_of p s es ≡ Some next
+pub next-at : (p s : ℕ) (es : List AnyEvent) (next : ℕ × AnyEvent) → next_of p s es ≡ Some next
     → IsNextAt p s es next
 next-at p s [] next h = absurd (cc (h))
 next-at p s (e ∷ es) next h = go (eqb e.process p) refl h (next-at p (suc s) es next)
@@ -32,9 +33,9 @@ next-at p s (e ∷ es) next h = go (eqb e.process p) refl h (next-at p (suc s) e
         let q : (s, e) ≡ next = cc (k) in
         record {
           place = zero;
-          there = ap (λ (n : ℕ × CasEvent). Some n.1) q;
-          time = ap (λ (n : ℕ × CasEvent). n.0) (sym q) ∙ omega arith;
-          process = ap (λ (n : ℕ × CasEvent). n.1.process) (sym q) ∙ eqb-true e.process p d;
+          there = ap (λ (n : ℕ × AnyEvent). Some n.1) q;
+          time = ap (λ (n : ℕ × AnyEvent). n.0) (sym q) ∙ omega arith;
+          process = ap (λ (n : ℕ × AnyEvent). n.1.process) (sym q) ∙ eqb-true e.process p d;
           between = λ k g l at same. omega (arith, l);
         }
     go false d k rest = further (rest k)
@@ -48,48 +49,48 @@ next-at p s (e ∷ es) next h = go (eqb e.process p) refl h (next-at p (suc s) e
           between = later;
         }
           where
-            later : (k : ℕ) (g : CasEvent) → k < suc r.place → slice_get (e ∷ es) k ≡ Some g
+            later : (k : ℕ) (g : AnyEvent) → k < suc r.place → slice_get (e ∷ es) k ≡ Some g
                 → g.process ≡ p → ⊥
             later zero g l at same =
                 let q : e ≡ g =
                 cc (at) in false≢true (sym d
-                ∙ eq-eqb e.process p (ap (λ (g : CasEvent). g.process) q ∙ same))
+                ∙ eq-eqb e.process p (ap (λ (g : AnyEvent). g.process) q ∙ same))
             later (suc k) g l at same = r.between k g (omega (arith, l)) at same
 
 -- ---- a call and its reply
 
 -- the event at time t is the reply to the call e at place i: the next event of its process
-pub record IsReplyAt (s : ℕ) (es : List CasEvent) (i : ℕ) (e : CasEvent) (t : ℕ) : Type 0 where
+pub record IsReplyAt (s : ℕ) (es : List AnyEvent) (i : ℕ) (e : AnyEvent) (t : ℕ) : Type 0 where
   pub place : ℕ
-  pub event : CasEvent
+  pub event : AnyEvent
   pub there : slice_get es place ≡ Some event
   pub time : t ≡ place + s
   pub order : i < place
   pub process : event.process ≡ e.process
-  pub replied : Replied
-  pub replies : replied_by event.happening ≡ Some replied
-  pub between : (k : ℕ) (g : CasEvent) → i < k → k < place → slice_get es k ≡ Some g
+  pub replied : ReplyParts
+  pub replies : replied_by event.kind ≡ Some replied
+  pub between : (k : ℕ) (g : AnyEvent) → i < k → k < place → slice_get es k ≡ Some g
       → g.process ≡ e.process → ⊥
 
 -- a is the operation of a call among the events, the first of which has time s
-pub record IsCallAt (names : List (List ℕ)) (s : ℕ) (es : List CasEvent) (a : Operation) : Type 0 where
+pub record IsCallAt (names : List (List ℕ)) (s : ℕ) (es : List AnyEvent) (a : Operation) : Type 0 where
   pub place : ℕ
-  pub event : CasEvent
+  pub event : AnyEvent
   pub there : slice_get es place ≡ Some event
   pub time : a.call ≡ place + s
   pub called : Called
-  pub calls : called_by event.happening ≡ Some called
+  pub calls : called_by event.kind ≡ Some called
   pub register : a.register.0 ≡ position_or_len (bytes_eq called.register) names
   pub reply : (t : ℕ) → a.reply ≡ Some t → IsReplyAt s es place event t
 
 -- the operation that an event begins
-record Begins (names : List (List ℕ)) (s : ℕ) (e : CasEvent) (next : Option (ℕ × CasEvent))
+record Begins (names : List (List ℕ)) (s : ℕ) (e : AnyEvent) (next : Option (ℕ × AnyEvent))
     (o : Option Called) (a : Operation) : Type 0 where
   call : Called
   calls : o ≡ Some call
   is : a ≡ operation names s e call next
 
-begins-of : (names : List (List ℕ)) (s : ℕ) (e : CasEvent) (next : Option (ℕ × CasEvent)) (o : Option Called)
+begins-of : (names : List (List ℕ)) (s : ℕ) (e : AnyEvent) (next : Option (ℕ × AnyEvent)) (o : Option Called)
     (a : Operation) → In a (option_list (operation_if o names s e next)) → Begins names s e next o a
 begins-of names s e next None a h = absurd h
 begins-of names s e next (Some call) a h = go (has_failed next) h
@@ -100,27 +101,28 @@ begins-of names s e next (Some call) a h = go (has_failed next) h
     go false (inl q) = record { call = call; calls = refl; is = q }
     go false (inr h) = absurd h
 
-record IsReplyIn (next : Option (ℕ × CasEvent)) (t : ℕ) : Type 0 where
-  found : ℕ × CasEvent
+record IsReplyIn (next : Option (ℕ × AnyEvent)) (t : ℕ) : Type 0 where
+  found : ℕ × AnyEvent
   next_is : next ≡ Some found
   time : found.0 ≡ t
-  replied : Replied
-  replies : replied_by found.1.happening ≡ Some replied
+  replied : ReplyParts
+  replies : replied_by found.1.kind ≡ Some replied
 
-reply-of : (next : Option (ℕ × CasEvent)) (t : ℕ)
-    → option_map (λ (reply : ℕ × Replied). reply.0) (reply_in next) ≡ Some t → IsReplyIn next t
+reply-of : (next : Option (ℕ × AnyEvent)) (t : ℕ)
+    → option_map (λ (reply : ℕ × ReplyParts). reply.0) (reply_in next) ≡ Some t → IsReplyIn next t
 reply-of None t h = absurd (cc (h))
-reply-of (Some n) t h = go (replied_by n.1.happening) refl h
+reply-of (Some n) t h = go (replied_by n.1.kind) refl h
   where
-    go : (o : Option Replied) → replied_by n.1.happening ≡ o
-        → option_map (λ (reply : ℕ × Replied). reply.0) (option_map (λ (reply : Replied). (n.0, reply)) o)
+    go : (o : Option ReplyParts) → replied_by n.1.kind ≡ o
+        → option_map (λ (reply : ℕ × ReplyParts). reply.0)
+        (option_map (λ (reply : ReplyParts). (n.0, reply)) o)
         ≡ Some t → IsReplyIn (Some n) t
     go None d h = absurd (cc (h))
     go (Some reply) d h = record { found = n; next_is = refl; time = cc (h); replied = reply; replies = d }
 
 -- the first event's call
-first-call : (names : List (List ℕ)) (s : ℕ) (e : CasEvent) (es : List CasEvent) (a : Operation)
-    → Begins names s e (next_of e.process (suc s) es) (called_by e.happening) a → IsCallAt names s (e ∷ es) a
+first-call : (names : List (List ℕ)) (s : ℕ) (e : AnyEvent) (es : List AnyEvent) (a : Operation)
+    → Begins names s e (next_of e.process (suc s) es) (called_by e.kind) a → IsCallAt names s (e ∷ es) a
 first-call names s e es a b = record {
   place = zero;
   event = e;
@@ -150,13 +152,13 @@ first-call names s e es a b = record {
           between = earlier;
         }
           where
-            earlier : (k : ℕ) (g : CasEvent) → 0 < k → k < suc n.place → slice_get (e ∷ es) k ≡ Some g
+            earlier : (k : ℕ) (g : AnyEvent) → 0 < k → k < suc n.place → slice_get (e ∷ es) k ≡ Some g
                 → g.process ≡ e.process → ⊥
             earlier zero g l m at same = omega (arith, l)
             earlier (suc k) g l m at same = n.between k g (omega (arith, m)) at same
 
 -- the calls of the later events stand one place further
-later-reply : (s : ℕ) (e : CasEvent) (es : List CasEvent) (i : ℕ) (c : CasEvent) (t : ℕ)
+later-reply : (s : ℕ) (e : AnyEvent) (es : List AnyEvent) (i : ℕ) (c : AnyEvent) (t : ℕ)
     → IsReplyAt (suc s) es i c t → IsReplyAt s (e ∷ es) (suc i) c t
 later-reply s e es i c t r = record {
   place = suc r.place;
@@ -170,12 +172,12 @@ later-reply s e es i c t r = record {
   between = earlier;
 }
   where
-    earlier : (k : ℕ) (g : CasEvent) → suc i < k → k < suc r.place → slice_get (e ∷ es) k ≡ Some g
+    earlier : (k : ℕ) (g : AnyEvent) → suc i < k → k < suc r.place → slice_get (e ∷ es) k ≡ Some g
         → g.process ≡ c.process → ⊥
     earlier zero g l m at same = omega (arith, l)
     earlier (suc k) g l m at same = r.between k g (omega (arith, l)) (omega (arith, m)) at same
 
-later-call : (names : List (List ℕ)) (s : ℕ) (e : CasEvent) (es : List CasEvent) (a : Operation)
+later-call : (names : List (List ℕ)) (s : ℕ) (e : AnyEvent) (es : List AnyEvent) (a : Operation)
     → IsCallAt names (suc s) es a → IsCallAt names s (e ∷ es) a
 later-call names s e es a c = record {
   place = suc c.place;
@@ -189,14 +191,14 @@ later-call names s e es a c = record {
 }
 
 -- each operation is that of a call
-pub described : (names : List (List ℕ)) (s : ℕ) (es : List CasEvent) (a : Operation)
+pub described : (names : List (List ℕ)) (s : ℕ) (es : List AnyEvent) (a : Operation)
     → In a (calls_from names s es) → IsCallAt names s es a
 described names s [] a h = absurd h
 described names s (e ∷ es) a h =
     elim (append-In a
-    (option_list (operation_if (called_by e.happening) names s e (next_of e.process (suc s) es)))
+    (option_list (operation_if (called_by e.kind) names s e (next_of e.process (suc s) es)))
     (calls_from names (suc s) es) h) [
       | inl i ↦ first-call names s e es a
-          (begins-of names s e (next_of e.process (suc s) es) (called_by e.happening) a i)
+          (begins-of names s e (next_of e.process (suc s) es) (called_by e.kind) a i)
       | inr i ↦ later-call names s e es a (described names (suc s) es a i)
     ]

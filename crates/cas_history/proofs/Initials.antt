@@ -11,7 +11,7 @@ use Rattle.history_model.specs.History.{first_names}
 use Rattle.history_model.specs.Lists.{In}
 use Rattle.history_model.proofs.Lists.{In-filter}
 use Rattle.history_model.proofs.Numbers.{place-in}
-use Rattle.cas_text.specs.declared.event.CasEvent.{CasEvent}
+use Rattle.history_text.specs.declared.event.AnyEvent.{AnyEvent}
 use Rattle.cas_model.specs.declared.operation.Operation.{Operation}
 use Rattle.cas_model.specs.Operations.{initial_write, is_of, of_register}
 use Rattle.cas_model.proofs.Filters.{filter-none}
@@ -54,34 +54,34 @@ In-first (x ∷ names) name (inr i) = go (bytes_eq name x) refl (In-first names 
     go true d rest = inl ((bytes_eq-Decides name x).0 d)
     go false d rest = inr (In-filter (λ n. not (bytes_eq n x)) name (first_names names) rest (ap not d))
 
-called-In : (events : List CasEvent) (i : ℕ) (e : CasEvent) (call : Called) → slice_get events i ≡ Some e
-    → called_by e.happening ≡ Some call
+called-In : (events : List AnyEvent) (i : ℕ) (e : AnyEvent) (call : Called) → slice_get events i ≡ Some e
+    → called_by e.kind ≡ Some call
     → In call.register
-    (filter_map (λ (e : CasEvent).
-    option_map (λ (call : Called). call.register) (called_by e.happening)) events)
+    (filter_map (λ (e : AnyEvent).
+    option_map (λ (call : Called). call.register) (called_by e.kind)) events)
 called-In [] i e call at h = absurd (cc (at))
 called-In (x ∷ events) zero e call at h =
     let same : x ≡ e = cc (at) in
     subst (λ o. In call.register
     (cons_option (option_map (λ (call : Called). call.register) o)
-    (filter_map (λ (e : CasEvent). option_map (λ (call : Called). call.register) (called_by e.happening))
+    (filter_map (λ (e : AnyEvent). option_map (λ (call : Called). call.register) (called_by e.kind))
     events)))
-    (sym (ap (λ (e : CasEvent). called_by e.happening) same ∙ h))
+    (sym (ap (λ (e : AnyEvent). called_by e.kind) same ∙ h))
     (inl refl)
-called-In (x ∷ events) (suc i) e call at h = go (called_by x.happening) (called-In events i e call at h)
+called-In (x ∷ events) (suc i) e call at h = go (called_by x.kind) (called-In events i e call at h)
   where
     go : (o : Option Called)
         → In call.register
-        (filter_map (λ (e : CasEvent).
-        option_map (λ (call : Called). call.register) (called_by e.happening)) events)
+        (filter_map (λ (e : AnyEvent).
+        option_map (λ (call : Called). call.register) (called_by e.kind)) events)
         → In call.register
         (cons_option (option_map (λ (call : Called). call.register) o)
-        (filter_map (λ (e : CasEvent).
-        option_map (λ (call : Called). call.register) (called_by e.happening)) events))
+        (filter_map (λ (e : AnyEvent).
+        option_map (λ (call : Called). call.register) (called_by e.kind)) events))
     go None k = k
     go (Some c) k = inr k
 
-call-register : (events : List CasEvent) (a : Operation) → In a (calls events)
+call-register : (events : List AnyEvent) (a : Operation) → In a (calls events)
     → a.register.0 < length (register_names events)
 call-register events a i =
     let c = described (register_names events) 2 events a i in
@@ -90,13 +90,13 @@ call-register events a i =
 
 -- ---- all operations
 
-pub named : (events : List CasEvent) (r : ℕ) → r < length (register_names events)
+pub named : (events : List AnyEvent) (r : ℕ) → r < length (register_names events)
     → of_register r (operations events) ≡ initial_write r ∷ calls_of events r
 named events r l =
     filter-append (is_of r) (initial_writes (length (register_names events))) (calls events)
     ∙ ap (λ ops. ops ++ calls_of events r) (one-initial (length (register_names events)) r l)
 
-pub none : (events : List CasEvent) (r : ℕ) → (r < length (register_names events) → ⊥)
+pub none : (events : List AnyEvent) (r : ℕ) → (r < length (register_names events) → ⊥)
     → of_register r (operations events) ≡ []
 none events r out =
     filter-append (is_of r) (initial_writes (length (register_names events))) (calls events)

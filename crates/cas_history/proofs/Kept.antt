@@ -9,7 +9,7 @@ use Rattle.std.proofs.lemmas.Bool.{eqb-true, ltb-true}
 use Rattle.history_text.specs.declared.limits.TheConstants.{MAX_EVENTS}
 use Rattle.history_model.specs.Lists.{last_with}
 use Rattle.history_model.proofs.Lists.{slice_get-push, slice_get-push_other}
-use Rattle.cas_text.specs.declared.event.CasEvent.{CasEvent}
+use Rattle.history_text.specs.declared.event.AnyEvent.{AnyEvent}
 use Rattle.cas_history.specs.Events.{is_of_process, last_event}
 use Rattle.cas_history.specs.Kept.{IsKept}
 use Rattle.cas_history.specs.Refusals.{event_reason, call_while_open, end_without_call, reply_disagrees}
@@ -41,7 +41,7 @@ last-push {X} test (x ∷ xs) y =
     go false = refl
 
 -- one more event: its process has its last event there
-pub kept-push : (events : List CasEvent) (e : CasEvent) (old new : ℕ → Option ℕ) → IsKept events old
+pub kept-push : (events : List AnyEvent) (e : AnyEvent) (old new : ℕ → Option ℕ) → IsKept events old
     → length events < MAX_EVENTS
     → ((p : ℕ) → new p ≡ cond (is_eq (nat_cmp e.process p)) (Some (length events)) (old p))
     → IsKept (events ++ e ∷ []) new
@@ -74,7 +74,7 @@ kept-push events e old new k room is = record {
     inside p i false o q h = omega (arith, k.within p i (q ∙ h), length-append events (e ∷ []))
 
 -- an event without a reason has a place
-pub room : (count : ℕ) (last : Option CasEvent) (e : CasEvent) → event_reason count last e ≡ None
+pub room : (count : ℕ) (last : Option AnyEvent) (e : AnyEvent) → event_reason count last e ≡ None
     → count < MAX_EVENTS
 room count last e h =
     let h2 = or-second (call_while_open last e) _ h in

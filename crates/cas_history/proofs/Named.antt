@@ -14,10 +14,7 @@ use Rattle.history_text.specs.declared.event.LineEvent.{LineEvent}
 use Rattle.history_model.specs.Events as plain
 use Rattle.history_model.specs.History as plain_history
 use Rattle.history_model.proofs.Numbers.{is-In, place-in, place-out, names-known, names-new}
-use Rattle.cas_text.specs.declared.event.Asked.{Asked}
-use Rattle.cas_text.specs.declared.event.CasEvent.{CasEvent}
-use Rattle.cas_text.specs.declared.event.Happening.{Happening}
-use Rattle.cas_text.specs.declared.event.Happening.TheVariants.{Call, Reply, Fail, Crash}
+use Rattle.history_text.specs.declared.event.AnyEvent.{AnyEvent}
 use Rattle.cas_history.specs.Events.{Called, called_by}
 use Rattle.cas_history.specs.History.{register_names}
 use Rattle.history_model.specs.History.{first_names}
@@ -95,33 +92,33 @@ first-push names name = elim (is-In name (plain_history.register_names (map call
         ∙ ap plain_history.register_names (map-append calling names (name ∷ []))
 
 -- a call's name is one more
-pub names-call : (events : List CasEvent) (e : CasEvent) (call : Called) → called_by e.happening ≡ Some call
+pub names-call : (events : List AnyEvent) (e : AnyEvent) (call : Called) → called_by e.kind ≡ Some call
     → register_names (events ++ e ∷ []) ≡ with_name (register_names events) call.register
 names-call events e call h =
     ap first_names
-    (filter_map-append (λ (e : CasEvent).
-    option_map (λ (call : Called). call.register) (called_by e.happening)) events (e ∷ []))
+    (filter_map-append (λ (e : AnyEvent).
+    option_map (λ (call : Called). call.register) (called_by e.kind)) events (e ∷ []))
     ∙ (ap (λ (o : Option Called).
-    first_names (filter_map (λ (e : CasEvent).
-    option_map (λ (call : Called). call.register) (called_by e.happening)) events
+    first_names (filter_map (λ (e : AnyEvent).
+    option_map (λ (call : Called). call.register) (called_by e.kind)) events
     ++ filter_map (λ (o : Option Name). o) (option_map (λ (call : Called). call.register) o ∷ []))) h
-    ∙ first-push (filter_map (λ (e : CasEvent).
-    option_map (λ (call : Called). call.register) (called_by e.happening)) events) call.register)
+    ∙ first-push (filter_map (λ (e : AnyEvent).
+    option_map (λ (call : Called). call.register) (called_by e.kind)) events) call.register)
 
 -- any other event adds none
-pub names-other : (events : List CasEvent) (e : CasEvent) → called_by e.happening ≡ None
+pub names-other : (events : List AnyEvent) (e : AnyEvent) → called_by e.kind ≡ None
     → register_names (events ++ e ∷ []) ≡ register_names events
 names-other events e h =
     ap first_names
-    (filter_map-append (λ (e : CasEvent).
-    option_map (λ (call : Called). call.register) (called_by e.happening)) events (e ∷ []))
+    (filter_map-append (λ (e : AnyEvent).
+    option_map (λ (call : Called). call.register) (called_by e.kind)) events (e ∷ []))
     ∙ (ap (λ (o : Option Called).
-    first_names (filter_map (λ (e : CasEvent).
-    option_map (λ (call : Called). call.register) (called_by e.happening)) events
+    first_names (filter_map (λ (e : AnyEvent).
+    option_map (λ (call : Called). call.register) (called_by e.kind)) events
     ++ filter_map (λ (o : Option Name). o) (option_map (λ (call : Called). call.register) o ∷ []))) h
     ∙ ap first_names
-    (append-nil (filter_map (λ (e : CasEvent).
-    option_map (λ (call : Called). call.register) (called_by e.happening)) events)))
+    (append-nil (filter_map (λ (e : AnyEvent).
+    option_map (λ (call : Called). call.register) (called_by e.kind)) events)))
 
 -- ---- their numbers
 
@@ -217,11 +214,3 @@ with-found names number a name h = go (number name) refl h
 pub none-found : (o : Option ℕ) → is_some o ≡ false → o ≡ None
 none-found None h = refl
 none-found (Some n) h = absurd (false≢true (sym h))
-
--- what isn't a call calls none
-pub calls-none : (happening : Happening) → ((name : Name) (asked : Asked) → happening ≡ Call name asked → ⊥)
-    → called_by happening ≡ None
-calls-none (Call name asked) h = absurd (h name asked refl)
-calls-none (Reply parts ok) h = refl
-calls-none (Fail parts) h = refl
-calls-none Crash h = refl

@@ -1,14 +1,12 @@
 -- Worked histories with cas, computed: why an event is refused, and the operations of a small history.
-use Rattle.std.proofs.Common.{◌≡◌, ℕ, pos, codes, List, [], ◌∷◌, Option, Some, None, refl}
+use Rattle.std.proofs.Common.{◌≡◌, ℕ, pos, codes, List, [], ◌∷◌, Bool, true, false, Option, Some, None, refl}
 use Rattle.history_text.specs.declared.event.Val.{Val}
 use Rattle.history_text.specs.declared.event.Val.TheVariants.{Null, Int}
-use Rattle.cas_text.specs.declared.event.Asked.TheVariants as asked
-use Rattle.cas_text.specs.declared.event.CasEvent.{CasEvent}
-use Rattle.cas_text.specs.declared.event.Happening.{Happening}
-use Rattle.cas_text.specs.declared.event.Happening.TheVariants.{Call, Reply, Fail, Crash}
-use Rattle.cas_text.specs.declared.event.OkMember.{OkMember}
-use Rattle.cas_text.specs.declared.event.OkMember.TheVariants as ok
-use Rattle.cas_text.specs.declared.event.OpWord.TheVariants as word
+use Rattle.history_text.specs.declared.event.AnyEvent.{AnyEvent}
+use Rattle.history_text.specs.declared.event.AnyKind.{AnyKind}
+use Rattle.history_text.specs.declared.event.AnyKind.TheVariants.{Plain, CallCas}
+use Rattle.history_text.specs.declared.event.Kind.TheVariants.{CallRead, CallWrite, Reply, Fail, Crash}
+use Rattle.history_text.specs.declared.event.OpWord.TheVariants as word
 use Rattle.cas_model.specs.declared.act.Act.{Act}
 use Rattle.cas_model.specs.declared.act.Act.TheVariants.{Read, Cas, Miss}
 use Rattle.cas_model.specs.declared.operation.Operation.{Operation}
@@ -17,40 +15,37 @@ use Rattle.cas_history.specs.Refusals.{event_reason, event_refusal}
 use Rattle.cas_history.specs.declared.refusal.Reason.TheVariants.{OpenCall, NoOpenCall, Disagreement}
 use Rattle.cas_history.specs.declared.refusal.Reason.TheVariants.{NoValue, TooMany, AfterCrash, NoOk}
 
-abbrev event : ℕ → ℕ → Happening → CasEvent
-event line process happening = record { line = line; process = process; happening = happening }
+abbrev event : ℕ → ℕ → AnyKind → AnyEvent
+event line process kind = record { line = line; process = process; kind = kind }
 
-abbrev swap : List ℕ → Val → ℕ → Happening
-swap name from to = Call name (asked.Cas from (pos to))
+abbrev swap : List ℕ → Val → ℕ → AnyKind
+swap name from to = CallCas name from (pos to)
 
-abbrev read : List ℕ → Happening
-read name = Call name asked.Read
+abbrev read : List ℕ → AnyKind
+read name = Plain (CallRead name)
 
 -- replies that say nothing but `ok`, or nothing but a value
-abbrev said : OkMember → Happening
-said ok = Reply (record { op = None; register = None; value = None }) ok
+abbrev said : Option Bool → AnyKind
+said ok = Plain (Reply (record { op = None; register = None; value = None; ok = ok }))
 
-abbrev gave : Val → Happening
-gave value = Reply (record { op = None; register = None; value = Some value }) ok.Absent
+abbrev gave : Val → AnyKind
+gave value = Plain (Reply (record { op = None; register = None; value = Some value; ok = None }))
 
-abbrev failed : Happening
-failed = Fail (record { op = None; register = None; value = None })
+abbrev failed : AnyKind
+failed = Plain (Fail (record { op = None; register = None; value = None; ok = None }))
 
 -- ---- reasons
 
--- a cas's reply without `ok`, or with another than true and false; behind a
--- write's or a read's call `ok` doesn't count
-no_ok : event_reason 1 (Some (event 1 1 (swap (codes "x") Null 1))) (event 2 1 (said ok.Absent)) ≡ Some NoOk
+-- a cas's reply that doesn't say whether the cas took place; behind a write's or a read's call `ok` doesn't
+-- count
+no_ok : event_reason 1 (Some (event 1 1 (swap (codes "x") Null 1))) (event 2 1 (said None)) ≡ Some NoOk
 no_ok = refl
 
-other_ok : event_reason 1 (Some (event 1 1 (swap (codes "x") Null 1))) (event 2 1 (said ok.Other)) ≡ Some NoOk
-other_ok = refl
-
-missed : event_reason 1 (Some (event 1 1 (swap (codes "x") Null 1))) (event 2 1 (said ok.False)) ≡ None
+missed : event_reason 1 (Some (event 1 1 (swap (codes "x") Null 1))) (event 2 1 (said (Some false))) ≡ None
 missed = refl
 
-write_without_ok : event_reason 1 (Some (event 1 1 (Call (codes "x") (asked.Write (pos 1)))))
-    (event 2 1 (said ok.Other)) ≡ None
+write_without_ok : event_reason 1 (Some (event 1 1 (Plain (CallWrite (codes "x") (pos 1)))))
+    (event 2 1 (said None)) ≡ None
 write_without_ok = refl
 
 -- of two reasons the least number: the value 7 disagrees with a cas, and there is no `ok`
@@ -60,29 +55,35 @@ value_before_ok = refl
 
 -- a reply to a cas may give the value null, and name its operation and its register
 null_and_names : event_reason 1 (Some (event 1 1 (swap (codes "x") Null 1)))
-    (event 2 1 (Reply (record { op = Some word.Cas; register = Some (codes "x"); value = Some Null })
-    ok.True)) ≡ None
+    (event 2 1 (Plain (Reply (record {
+      op = Some word.Cas;
+      register = Some (codes "x");
+      value = Some Null;
+      ok = Some true;
+    })))) ≡ None
 null_and_names = refl
 
 other_word : event_reason 1 (Some (event 1 1 (swap (codes "x") Null 1)))
-    (event 2 1 (Fail (record { op = Some word.Write; register = None; value = None }))) ≡ Some Disagreement
+    (event 2 1 (Plain (Fail (record { op = Some word.Write; register = None; value = None; ok = None }))))
+    ≡ Some Disagreement
 other_word = refl
 
-no_value : event_reason 1 (Some (event 1 1 (read (codes "x")))) (event 2 1 (said ok.True)) ≡ Some NoValue
+no_value : event_reason 1 (Some (event 1 1 (read (codes "x")))) (event 2 1 (said (Some true))) ≡ Some NoValue
 no_value = refl
 
 twice_open : event_reason 1 (Some (event 1 1 (read (codes "x")))) (event 2 1 (swap (codes "x") Null 1))
     ≡ Some (OpenCall 1)
 twice_open = refl
 
-not_open : event_reason 2 (Some (event 2 1 (said ok.True))) (event 3 1 failed) ≡ Some NoOpenCall
+not_open : event_reason 2 (Some (event 2 1 (said (Some true)))) (event 3 1 failed) ≡ Some NoOpenCall
 not_open = refl
 
 -- a reply behind a crash lacks no open call; past the limit the lesser number stands
-crashed : event_reason 2 (Some (event 2 1 Crash)) (event 3 1 (said ok.True)) ≡ Some (AfterCrash 2)
+crashed : event_reason 2 (Some (event 2 1 (Plain Crash))) (event 3 1 (said (Some true))) ≡ Some (AfterCrash 2)
 crashed = refl
 
-past_the_limit : event_reason 1048576 (Some (event 2 1 Crash)) (event 3 1 (read (codes "x"))) ≡ Some TooMany
+past_the_limit : event_reason 1048576 (Some (event 2 1 (Plain Crash)))
+    (event 3 1 (read (codes "x"))) ≡ Some TooMany
 past_the_limit = refl
 
 -- the events of other processes don't count
@@ -93,10 +94,10 @@ another_process = refl
 
 -- a cas that took place, one that missed, one that failed, and one
 -- without a reply; a read of what the first gave
-abbrev small : List CasEvent
+abbrev small : List AnyEvent
 small =
-    event 1 1 (swap (codes "y") Null 1) ∷ event 2 2 (swap (codes "y") Null 2) ∷ event 3 1 (said ok.True)
-    ∷ event 4 3 (swap (codes "x") Null 3) ∷ event 5 2 (said ok.False) ∷ event 6 3 failed
+    event 1 1 (swap (codes "y") Null 1) ∷ event 2 2 (swap (codes "y") Null 2) ∷ event 3 1 (said (Some true))
+    ∷ event 4 3 (swap (codes "x") Null 3) ∷ event 5 2 (said (Some false)) ∷ event 6 3 failed
     ∷ event 7 2 (swap (codes "y") (Int (pos 1)) 4) ∷ event 8 1 (read (codes "y"))
     ∷ event 9 1 (gave (Int (pos 1))) ∷ []
 

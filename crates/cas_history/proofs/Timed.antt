@@ -2,31 +2,35 @@
 use Rattle.std.proofs.Common.{◌≡◌, ℕ, ◌<◌, List, slice_get, Some, inl, inr, sym, ap, ◌∙◌, arith}
 use Rattle.std.proofs.lemmas.Bool.{cases_order}
 use Rattle.history_model.specs.Lists.{In}
-use Rattle.cas_text.specs.declared.event.CasEvent.{CasEvent}
-use Rattle.cas_text.specs.declared.event.Happening.{Happening}
-use Rattle.cas_text.specs.declared.event.Happening.TheVariants.{Call, Reply, Fail, Crash}
+use Rattle.history_text.specs.declared.event.AnyEvent.{AnyEvent}
+use Rattle.history_text.specs.declared.event.AnyKind.{AnyKind}
+use Rattle.history_text.specs.declared.event.AnyKind.TheVariants.{Plain, CallCas}
+use Rattle.history_text.specs.declared.event.Kind.TheVariants.{CallRead, CallWrite, Reply, Fail, Crash}
+use Rattle.history_text.specs.declared.event.ReplyParts.{ReplyParts}
 use Rattle.cas_model.specs.declared.operation.Operation.{Operation}
 use Rattle.cas_model.specs.Operations.{is_of}
 use Rattle.cas_model.proofs.Operations.{of_register-In}
-use Rattle.cas_history.specs.Events.{Called, Replied, called_by, replied_by}
+use Rattle.cas_history.specs.Events.{Called, called_by, replied_by}
 use Rattle.cas_history.specs.History.{calls, calls_of, register_names}
 use Rattle.cas_history.specs.Timed.{AreTimedCalls}
 use Rattle.cas_history.proofs.Ascending.{Ascends, ascends-calls, ascends-filter}
 use Rattle.cas_history.proofs.Ascending.{in_order, not_before, same-call}
 use Rattle.cas_history.proofs.Described.{IsCallAt, described}
 
-call-or-reply : (h : Happening) (call : Called) (reply : Replied) → called_by h ≡ Some call
-    → replied_by h ≡ Some reply → ⊥
-call-or-reply (Call name asked) call reply c r = cc (r)
-call-or-reply (Reply parts ok) call reply c r = cc (c)
-call-or-reply (Fail parts) call reply c r = cc (c)
-call-or-reply Crash call reply c r = cc (c)
+call-or-reply : (k : AnyKind) (call : Called) (reply : ReplyParts) → called_by k ≡ Some call
+    → replied_by k ≡ Some reply → ⊥
+call-or-reply (Plain (CallRead name)) call reply c r = cc (r)
+call-or-reply (Plain (CallWrite name n)) call reply c r = cc (r)
+call-or-reply (Plain (Reply parts)) call reply c r = cc (c)
+call-or-reply (Plain (Fail parts)) call reply c r = cc (c)
+call-or-reply (Plain Crash) call reply c r = cc (c)
+call-or-reply (CallCas name from to) call reply c r = cc (r)
 
-one-event : (es : List CasEvent) (i j : ℕ) (e f : CasEvent) → slice_get es i ≡ Some e
+one-event : (es : List AnyEvent) (i j : ℕ) (e f : AnyEvent) → slice_get es i ≡ Some e
     → slice_get es j ≡ Some f → i ≡ j → e ≡ f
 one-event es i j e f p q same = let h : Some e ≡ Some f = sym p ∙ (ap (slice_get es) same ∙ q) in cc (h)
 
-module _ (events : List CasEvent) where
+module _ (events : List AnyEvent) where
   all : (a : Operation) → In a (calls events) → IsCallAt (register_names events) 2 events a
   all a i = described (register_names events) 2 events a i
 
@@ -48,8 +52,8 @@ module _ (events : List CasEvent) where
         d.time,
         same,
       )) in
-      call-or-reply d.event.happening d.called r.replied d.calls
-      (sym (ap (λ (e : CasEvent). replied_by e.happening) q) ∙ r.replies)
+      call-or-reply d.event.kind d.called r.replied d.calls
+      (sym (ap (λ (e : AnyEvent). replied_by e.kind) q) ∙ r.replies)
 
   -- no call of the process stands between a call and its reply
   not-later : (a b : Operation) (t : ℕ) → In a (calls events) → In b (calls events) → a.reply ≡ Some t
@@ -61,7 +65,7 @@ module _ (events : List CasEvent) where
       let u = d.reply t k in
       let q =
       one-event events r.place u.place r.event u.event r.there u.there (omega (arith, r.time, u.time)) in
-      let process = sym u.process ∙ (sym (ap (λ (e : CasEvent). e.process) q) ∙ r.process) in
+      let process = sym u.process ∙ (sym (ap (λ (e : AnyEvent). e.process) q) ∙ r.process) in
       r.between d.place d.event (omega (arith, c.time, d.time, l)) (omega (
         arith,
         r.time,

@@ -1,99 +1,82 @@
 -- What an event says, and how the end of a call agrees with it (this project's profile). Of what went before,
 -- only the last event of the event's process counts here.
-use Rattle.std.specs.Prelude.{ℕ, ℤ, ◌==◌, ◌&&◌, List, Bool, true, false, cond, bytes_eq}
-use Rattle.std.specs.Prelude.{is_some, Option, Some, None, option_and_then}
+use Rattle.std.specs.Prelude.{ℕ, ℤ, ◌==◌, ◌&&◌, ◌||◌, List, Bool, true, false, cond, bytes_eq}
+use Rattle.std.specs.Prelude.{is_some, is_none, Option, Some, None, option_and_then}
 use Rattle.std.specs.Ordering.{int_eq}
 use Rattle.history_text.specs.declared.event.Val.{Val}
 use Rattle.history_text.specs.declared.event.Val.TheVariants.{Null, Int}
+use Rattle.history_text.specs.Values.{word_eq}
+use Rattle.history_text.specs.declared.event.Kind.{Kind}
+use Rattle.history_text.specs.declared.event.Kind.TheVariants as plain_kind
+use Rattle.history_text.specs.declared.event.AnyKind.{AnyKind}
+use Rattle.history_text.specs.declared.event.AnyKind.TheVariants.{Plain, CallCas}
+use Rattle.history_text.specs.declared.event.AnyEvent.{AnyEvent}
+use Rattle.history_text.specs.declared.event.ReplyParts.{ReplyParts}
+use Rattle.history_text.specs.declared.event.OpWord.{OpWord}
+use Rattle.history_text.specs.declared.event.OpWord.TheVariants as word
+use Rattle.history_model.specs.Events as plain
 use Rattle.history_model.specs.Events.{agrees}
 use Rattle.history_model.specs.Lists.{last_with}
-use Rattle.cas_text.specs.declared.event.Asked.{Asked}
-use Rattle.cas_text.specs.declared.event.Asked.TheVariants as asked
-use Rattle.cas_text.specs.declared.event.CasEvent.{CasEvent}
-use Rattle.cas_text.specs.declared.event.EndParts.{EndParts}
-use Rattle.cas_text.specs.declared.event.Happening.{Happening}
-use Rattle.cas_text.specs.declared.event.Happening.TheVariants.{Call, Reply, Fail, Crash}
-use Rattle.cas_text.specs.declared.event.OkMember.{OkMember}
-use Rattle.cas_text.specs.declared.event.OkMember.TheVariants as ok
-use Rattle.cas_text.specs.declared.event.OpWord.{OpWord}
-use Rattle.cas_text.specs.declared.event.OpWord.TheVariants as word
+use Rattle.cas_history.specs.declared.said.Asked.{Asked}
+use Rattle.cas_history.specs.declared.said.Asked.TheVariants as asked
 
 -- a call: its register, by name, and what it asks of it
 pub record Called : Type 0 where
   pub register : List ℕ
   pub asked : Asked
 
--- a reply: what it says of its call, and of a cas
-pub record Replied : Type 0 where
-  pub parts : EndParts
-  pub ok : OkMember
+-- the call of a read or of a write
+abbrev pub plain_call : Kind → Option Called
+plain_call (plain_kind.CallRead name) = Some (record { register = name; asked = asked.Read })
+plain_call (plain_kind.CallWrite name n) = Some (record { register = name; asked = asked.Write n })
+plain_call (plain_kind.Reply parts) = None
+plain_call (plain_kind.Fail parts) = None
+plain_call plain_kind.Crash = None
 
-abbrev pub called_by : Happening → Option Called
-called_by (Call name asked) = Some (record { register = name; asked = asked })
-called_by (Reply parts ok) = None
-called_by (Fail parts) = None
-called_by Crash = None
+abbrev pub called_by : AnyKind → Option Called
+called_by (Plain kind) = plain_call kind
+called_by (CallCas name from to) = Some (record { register = name; asked = asked.Cas from to })
 
-abbrev pub replied_by : Happening → Option Replied
-replied_by (Call name asked) = None
-replied_by (Reply parts ok) = Some (record { parts = parts; ok = ok })
-replied_by (Fail parts) = None
-replied_by Crash = None
+abbrev pub replied_by : AnyKind → Option ReplyParts
+replied_by (Plain kind) = plain.replied_by kind
+replied_by (CallCas name from to) = None
 
-abbrev pub failed_by : Happening → Option EndParts
-failed_by (Call name asked) = None
-failed_by (Reply parts ok) = None
-failed_by (Fail parts) = Some parts
-failed_by Crash = None
+abbrev pub failed_by : AnyKind → Option ReplyParts
+failed_by (Plain kind) = plain.failed_by kind
+failed_by (CallCas name from to) = None
 
 -- whether it is a reply or a fail
-abbrev pub is_end : Happening → Bool
-is_end (Call name asked) = false
-is_end (Reply parts ok) = true
-is_end (Fail parts) = true
-is_end Crash = false
+abbrev pub is_end : AnyKind → Bool
+is_end kind = is_some (replied_by kind) || is_some (failed_by kind)
 
-abbrev pub is_crash : Happening → Bool
-is_crash (Call name asked) = false
-is_crash (Reply parts ok) = false
-is_crash (Fail parts) = false
-is_crash Crash = true
+abbrev pub is_crash : AnyKind → Bool
+is_crash (Plain kind) = plain.is_crash_kind kind
+is_crash (CallCas name from to) = false
 
-abbrev pub is_of_process : ℕ → CasEvent → Bool
+abbrev pub is_of_process : ℕ → AnyEvent → Bool
 is_of_process p e = e.process == p
 
 -- the last event of process p among some events
-abbrev pub last_event : List CasEvent → ℕ → Option CasEvent
+abbrev pub last_event : List AnyEvent → ℕ → Option AnyEvent
 last_event before p = last_with (is_of_process p) before
 
 -- the event, if it is a call: then it is open while it is the last one of its process
-abbrev pub open_call : Option CasEvent → Option CasEvent
-open_call last = option_and_then (λ e. cond (is_some (called_by e.happening)) (Some e) None) last
+abbrev pub open_call : Option AnyEvent → Option AnyEvent
+open_call last = option_and_then (λ e. cond (is_some (called_by e.kind)) (Some e) None) last
 
 -- what the open call asks
-abbrev pub open_asked : Option CasEvent → Option Called
-open_asked last = option_and_then (λ e. called_by e.happening) last
+abbrev pub open_asked : Option AnyEvent → Option Called
+open_asked last = option_and_then (λ e. called_by e.kind) last
 
 -- the event, if it is a crash
-abbrev pub crash_in : Option CasEvent → Option CasEvent
-crash_in last = option_and_then (λ e. cond (is_crash e.happening) (Some e) None) last
+abbrev pub crash_in : Option AnyEvent → Option AnyEvent
+crash_in last = option_and_then (λ e. cond (is_crash e.kind) (Some e) None) last
 
 -- the word for what a call asks
-abbrev pub word_of : Asked → OpWord
-word_of asked.Read = word.Read
-word_of (asked.Write n) = word.Write
-word_of (asked.Cas from to) = word.Cas
-
-abbrev pub same_word : OpWord → OpWord → Bool
-same_word word.Read word.Read = true
-same_word word.Read word.Write = false
-same_word word.Read word.Cas = false
-same_word word.Write word.Read = false
-same_word word.Write word.Write = true
-same_word word.Write word.Cas = false
-same_word word.Cas word.Read = false
-same_word word.Cas word.Write = false
-same_word word.Cas word.Cas = true
+abbrev pub word_asked : Asked → OpWord
+word_asked asked.Read = word.Read
+word_asked (asked.Write n) = word.Write
+word_asked (asked.Cas from to) = word.Cas
 
 -- no value, or null
 abbrev pub is_no_value : Option Val → Bool
@@ -120,14 +103,14 @@ value_agrees (asked.Write n) value = failed_value_agrees (asked.Write n) value
 value_agrees (asked.Cas from to) value = failed_value_agrees (asked.Cas from to) value
 
 -- the operation and the register, where they are named, are the call's
-abbrev pub parts_agree : Called → EndParts → Bool
+abbrev pub parts_agree : Called → ReplyParts → Bool
 parts_agree call parts =
-    agrees same_word parts.op (word_of call.asked) && agrees bytes_eq parts.register call.register
+    agrees word_eq parts.op (word_asked call.asked) && agrees bytes_eq parts.register call.register
 
-abbrev pub reply_agrees : Called → Replied → Bool
-reply_agrees call reply = parts_agree call reply.parts && value_agrees call.asked reply.parts.value
+abbrev pub reply_agrees : Called → ReplyParts → Bool
+reply_agrees call reply = parts_agree call reply && value_agrees call.asked reply.value
 
-abbrev pub fail_agrees : Called → EndParts → Bool
+abbrev pub fail_agrees : Called → ReplyParts → Bool
 fail_agrees call parts = parts_agree call parts && failed_value_agrees call.asked parts.value
 
 -- the reply to a read gives no value
@@ -138,10 +121,7 @@ is_without_value (asked.Write n) value = false
 is_without_value (asked.Cas from to) value = false
 
 -- the reply to a cas doesn't say whether it took place
-abbrev pub is_without_ok : Asked → OkMember → Bool
+abbrev pub is_without_ok : Asked → Option Bool → Bool
 is_without_ok asked.Read ok = false
 is_without_ok (asked.Write n) ok = false
-is_without_ok (asked.Cas from to) ok.Absent = true
-is_without_ok (asked.Cas from to) ok.True = false
-is_without_ok (asked.Cas from to) ok.False = false
-is_without_ok (asked.Cas from to) ok.Other = true
+is_without_ok (asked.Cas from to) ok = is_none ok

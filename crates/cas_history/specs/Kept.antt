@@ -4,19 +4,19 @@ use Rattle.std.specs.Prelude.{bytes_eq, unwrap_or, Vec, Option, Some, option_map
 use Rattle.std.specs.Global.{Global}
 use Rattle.std.specs.List.{position_or_len}
 use Rattle.history_text.specs.declared.limits.TheConstants.{MAX_EVENTS}
-use Rattle.cas_text.specs.declared.event.CasEvent.{CasEvent}
+use Rattle.history_text.specs.declared.event.AnyEvent.{AnyEvent}
 use Rattle.cas_model.specs.declared.operation.Operation.{Operation}
 use Rattle.cas_model.specs.Operations.{of_register}
 use Rattle.cas_history.specs.Events.{last_event}
 
 -- The place of each process's last event; the events are no more than a history may have.
-pub record IsKept (events : List CasEvent) (place : ℕ → Option ℕ) : Type 0 where
+pub record IsKept (events : List AnyEvent) (place : ℕ → Option ℕ) : Type 0 where
   pub few : length events ≤ MAX_EVENTS
   pub last : (p : ℕ) → last_event events p ≡ option_and_then (slice_get events) (place p)
   pub within : (p i : ℕ) → place p ≡ Some i → i < length events
 
 -- the event at a place, if there is one, with its time
-abbrev pub event_at : List CasEvent → Option ℕ → Option (ℕ × CasEvent)
+abbrev pub event_at : List AnyEvent → Option ℕ → Option (ℕ × AnyEvent)
 event_at events place = option_and_then (λ i. option_map (λ e. (i + 2, e)) (slice_get events i)) place
 
 -- The place of each name, if it is among them.

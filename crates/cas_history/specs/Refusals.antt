@@ -6,10 +6,11 @@ use Rattle.std.specs.Prelude.{None, option_map, option_and_then, Result, Ok, Err
 use Rattle.std.specs.Result.{result_ok}
 use Rattle.history_text.specs.declared.limits.TheConstants.{MAX_EVENTS}
 use Rattle.history_model.specs.Refusals.{first_some}
-use Rattle.cas_text.specs.Faults.{fault_number}
-use Rattle.cas_text.specs.declared.event.CasEvent.{CasEvent}
-use Rattle.cas_text.specs.declared.fault.EventFault.{EventFault}
-use Rattle.cas_history.specs.Events.{Called, Replied, called_by, replied_by, failed_by, is_end}
+use Rattle.history_text.specs.Faults.{fault_number}
+use Rattle.history_text.specs.declared.event.AnyEvent.{AnyEvent}
+use Rattle.history_text.specs.declared.event.ReplyParts.{ReplyParts}
+use Rattle.history_text.specs.declared.fault.LineFault.{LineFault}
+use Rattle.cas_history.specs.Events.{Called, called_by, replied_by, failed_by, is_end}
 use Rattle.cas_history.specs.Events.{last_event, open_call, open_asked, crash_in, reply_agrees}
 use Rattle.cas_history.specs.Events.{fail_agrees, is_without_value, is_without_ok}
 use Rattle.cas_history.specs.declared.refusal.LineRefusal.{LineRefusal}
@@ -21,9 +22,9 @@ use Rattle.cas_history.specs.declared.refusal.BuildError.TheVariants.{Refused, M
 
 -- a line that isn't blank: its event, or its own fault
 abbrev pub Line : Type 0
-Line = Result CasEvent EventFault
+Line = Result AnyEvent LineFault
 
-abbrev pub events_of : List Line → List CasEvent
+abbrev pub events_of : List Line → List AnyEvent
 events_of lines = filter_map result_ok lines
 
 -- the number of a reason
@@ -54,61 +55,61 @@ abbrev pub refused_if : Bool → Reason → Option Reason
 refused_if applies reason = cond applies (Some reason) None
 
 -- 9: a call while its process has an open call
-abbrev pub call_while_open : Option CasEvent → CasEvent → Option Reason
+abbrev pub call_while_open : Option AnyEvent → AnyEvent → Option Reason
 call_while_open last e =
-    option_and_then (λ _. option_map (λ call. OpenCall call.line) (open_call last)) (called_by e.happening)
+    option_and_then (λ _. option_map (λ call. OpenCall call.line) (open_call last)) (called_by e.kind)
 
 -- 10: a reply or a fail without an open call; after a crash there is another reason
-abbrev pub end_without_call : Option CasEvent → CasEvent → Option Reason
+abbrev pub end_without_call : Option AnyEvent → AnyEvent → Option Reason
 end_without_call last e =
-    refused_if (is_end e.happening && (is_none (open_call last) && is_none (crash_in last))) NoOpenCall
+    refused_if (is_end e.kind && (is_none (open_call last) && is_none (crash_in last))) NoOpenCall
 
 -- what a reply says of the open call fails a test
-abbrev pub reply_failing : (Called → Replied → Bool) → Reason → Option CasEvent → CasEvent → Option Reason
+abbrev pub reply_failing : (Called → ReplyParts → Bool) → Reason → Option AnyEvent → AnyEvent → Option Reason
 reply_failing fails reason last e =
     option_and_then (λ reply.
     option_and_then (λ call. refused_if (fails call reply) reason) (open_asked last))
-    (replied_by e.happening)
+    (replied_by e.kind)
 
 -- 11: a reply that doesn't agree with its call
-abbrev pub reply_disagrees : Option CasEvent → CasEvent → Option Reason
+abbrev pub reply_disagrees : Option AnyEvent → AnyEvent → Option Reason
 reply_disagrees last e = reply_failing (λ call reply. not (reply_agrees call reply)) Disagreement last e
 
 -- 11: a fail that doesn't
-abbrev pub fail_disagrees : Option CasEvent → CasEvent → Option Reason
+abbrev pub fail_disagrees : Option AnyEvent → AnyEvent → Option Reason
 fail_disagrees last e =
     option_and_then (λ parts. option_and_then (λ call. refused_if (not (fail_agrees call parts)) Disagreement)
-    (open_asked last)) (failed_by e.happening)
+    (open_asked last)) (failed_by e.kind)
 
 -- 12: a read's reply without a value
-abbrev pub reply_without_value : Option CasEvent → CasEvent → Option Reason
+abbrev pub reply_without_value : Option AnyEvent → AnyEvent → Option Reason
 reply_without_value last e =
-    reply_failing (λ call reply. is_without_value call.asked reply.parts.value) NoValue last e
+    reply_failing (λ call reply. is_without_value call.asked reply.value) NoValue last e
 
 -- 14: too many events before it
 abbrev pub too_many : ℕ → Option Reason
 too_many count = refused_if (nat_le MAX_EVENTS count) TooMany
 
 -- 19: an event of a process that crashed
-abbrev pub after_crash : Option CasEvent → Option Reason
+abbrev pub after_crash : Option AnyEvent → Option Reason
 after_crash last = option_map (λ crash. AfterCrash crash.line) (crash_in last)
 
 -- 21: a cas's reply that doesn't say whether it took place
-abbrev pub reply_without_ok : Option CasEvent → CasEvent → Option Reason
+abbrev pub reply_without_ok : Option AnyEvent → AnyEvent → Option Reason
 reply_without_ok last e = reply_failing (λ call reply. is_without_ok call.asked reply.ok) NoOk last e
 
 -- ---- the refusal of a line, and of a history
 
 -- the lowest-numbered reason that applies to an event after this many
 -- others, of which this is its process's last
-abbrev pub event_reason : ℕ → Option CasEvent → CasEvent → Option Reason
+abbrev pub event_reason : ℕ → Option AnyEvent → AnyEvent → Option Reason
 event_reason count last e =
     first_some (call_while_open last e ∷ end_without_call last e ∷ reply_disagrees last e
     ∷ fail_disagrees last e ∷ reply_without_value last e ∷ too_many count ∷ after_crash last
     ∷ reply_without_ok last e ∷ [])
 
 -- the refusal of an event after others
-abbrev pub event_refusal : List CasEvent → CasEvent → Option LineRefusal
+abbrev pub event_refusal : List AnyEvent → AnyEvent → Option LineRefusal
 event_refusal before e =
     option_map (λ reason. record { line = e.line; reason = reason })
     (event_reason (length before) (last_event before e.process) e)
@@ -134,6 +135,6 @@ IsWellFormed lines = (i : ℕ) → refusal_at lines i ≡ None
 -- ---- what the calls of this crate answer
 
 -- why an event isn't taken in after others
-abbrev pub IsTakeError : List CasEvent → CasEvent → BuildError → Type 0
+abbrev pub IsTakeError : List AnyEvent → AnyEvent → BuildError → Type 0
 IsTakeError before e (Refused r) = event_refusal before e ≡ Some r
 IsTakeError before e Memory = Unit {0}

@@ -2,8 +2,8 @@
 ghost use Rattle.std.specs.Prelude.{◌≡◌};
 ghost use Rattle.cas_history.specs.History as defined;
 
+use crate::said::Asked;
 use cas_model::Act;
-use cas_text::{Asked, OkMember};
 use history_text::Val;
 
 /// What a call without a reply does, if it takes effect.
@@ -18,7 +18,7 @@ pub(crate) fn pending_act(asked: Asked) -> Act
 }
 
 /// What a call did by its reply, which says this value and this `ok`.
-pub(crate) fn replied_act(asked: Asked, value: Option<Val>, ok: OkMember) -> Act
+pub(crate) fn replied_act(asked: Asked, value: Option<Val>, ok: Option<bool>) -> Act
     ensures { result ≡ defined.replied_act asked value ok }
 {
     match asked {
@@ -29,11 +29,11 @@ pub(crate) fn replied_act(asked: Asked, value: Option<Val>, ok: OkMember) -> Act
 }
 
 /// What a cas did. Of an accepted event `ok` is `true` or `false`.
-fn cas_act(from: Val, to: i64, ok: OkMember) -> Act
+fn cas_act(from: Val, to: i64, ok: Option<bool>) -> Act
     ensures { result ≡ defined.cas_act from to ok }
 {
     match ok {
-        OkMember::False => Act::Miss { from },
-        OkMember::True | OkMember::Absent | OkMember::Other => Act::Cas { from, to },
+        Some(false) => Act::Miss { from },
+        Some(true) | None => Act::Cas { from, to },
     }
 }

@@ -1,13 +1,14 @@
 //! Whether the end of a call agrees with the call.
 ghost use Rattle.std.specs.Prelude.{◌≡◌, bytes_eq};
+ghost use Rattle.history_text.specs.Values.{word_eq};
 ghost use Rattle.history_model.specs.Events.{agrees};
 ghost use Rattle.cas_history.specs.Events as defined;
 
-use cas_text::{Asked, EndParts, OkMember, OpWord};
-use history_text::{Name, OptionalName, Val};
+use crate::said::Asked;
+use history_text::{Name, OpWord, OptionalName, ReplyParts, Val};
 
 /// Whether the operation and the register, where they are named, are those of the call.
-pub(crate) fn parts_agree(register: &Name, asked: Asked, parts: &EndParts) -> bool
+pub(crate) fn parts_agree(register: &Name, asked: Asked, parts: &ReplyParts) -> bool
     ensures { result ≡ defined.parts_agree (record { register = register.now; asked = asked }) parts.now }
 {
     op_agrees(parts.op, asked) && register_agrees(&parts.register, register)
@@ -44,24 +45,21 @@ pub(crate) fn is_without_value(asked: Asked, value: Option<Val>) -> bool
 }
 
 /// Whether it is a cas's reply that doesn't say whether the cas took place.
-pub(crate) fn is_without_ok(asked: Asked, ok: OkMember) -> bool
+pub(crate) fn is_without_ok(asked: Asked, ok: Option<bool>) -> bool
     ensures { result ≡ defined.is_without_ok asked ok }
 {
     match asked {
         Asked::Read | Asked::Write(_) => false,
-        Asked::Cas { .. } => match ok {
-            OkMember::Absent | OkMember::Other => true,
-            OkMember::True | OkMember::False => false,
-        },
+        Asked::Cas { .. } => ok.is_none(),
     }
 }
 
 fn op_agrees(said: Option<OpWord>, asked: Asked) -> bool
-    ensures { result ≡ agrees defined.same_word said (defined.word_of asked) }
+    ensures { result ≡ agrees word_eq said (defined.word_asked asked) }
 {
     match said {
         None => true,
-        Some(word) => word == word_of(asked),
+        Some(word) => word == word_asked(asked),
     }
 }
 
@@ -74,8 +72,8 @@ fn register_agrees(said: &OptionalName, register: &Name) -> bool
     }
 }
 
-fn word_of(asked: Asked) -> OpWord
-    ensures { result ≡ defined.word_of asked }
+fn word_asked(asked: Asked) -> OpWord
+    ensures { result ≡ defined.word_asked asked }
 {
     match asked {
         Asked::Read => OpWord::Read,

@@ -7,9 +7,9 @@ ghost use Rattle.cas_history.specs.Kept.{event_at};
 
 use crate::act::{pending_act, replied_act};
 use crate::naming::Naming;
+use crate::said::{Asked, called, failed, replied};
 use cas_model::{Act, Operation};
-use cas_text::{Asked, CasEvent, Happening};
-use history_text::MAX_EVENTS;
+use history_text::{AnyEvent, MAX_EVENTS};
 use std::alloc::{AllocError, Global};
 use std::collections::BTreeMap;
 
@@ -17,7 +17,7 @@ use std::collections::BTreeMap;
 /// next event of each process is known.
 pub(crate) fn calls_backward(
     alloc: Global,
-    events: &[CasEvent],
+    events: &[AnyEvent],
     naming: &Naming,
 ) -> Result<Vec<Operation>, AllocError>
     requires events_few { length events.now ≤ MAX_EVENTS }
@@ -39,10 +39,10 @@ pub(crate) fn calls_backward(
 
 /// The next event of a process, with its time, where these are the places of the next events.
 fn next_event<'a>(
-    events: &'a [CasEvent],
+    events: &'a [AnyEvent],
     next_places: &BTreeMap<u32, usize>,
     process: u32,
-) -> Option<(u32, &'a CasEvent)>
+) -> Option<(u32, &'a AnyEvent)>
     requires { length events.now ≤ MAX_EVENTS }
     ensures { option_map (λ next. (next.0, next.1.now)) result
         ≡ event_at events.now (get nat_cmp next_places.now process) }
@@ -57,16 +57,14 @@ fn next_event<'a>(
 fn operation_at(
     naming: &Naming,
     time: u32,
-    event: &CasEvent,
-    next: Option<(u32, &CasEvent)>,
+    event: &AnyEvent,
+    next: Option<(u32, &AnyEvent)>,
 ) -> Option<Operation>
     requires { length naming.now ≤ MAX_EVENTS }
     ensures { result ≡ defined.operation_at naming.now time event.now
         (option_map (λ next. (next.0, next.1.now)) next.entry) }
 {
-    let Happening::Call(name, asked) = &event.happening else {
-        return None;
-    };
+    let (name, asked) = called(&event.kind)?;
     if has_failed(next) {
         return None;
     }
@@ -76,42 +74,37 @@ fn operation_at(
         reply: reply_time(next),
         process: Some(event.process),
         register: naming.register(name),
-        act: act_of(*asked, next),
+        act: act_of(asked, next),
     })
 }
 
-fn has_failed(next: Option<(u32, &CasEvent)>) -> bool
+fn has_failed(next: Option<(u32, &AnyEvent)>) -> bool
     ensures { result ≡ defined.has_failed (option_map (λ next. (next.0, next.1.now)) next.entry) }
 {
     match next {
         None => false,
-        Some((_, event)) => match &event.happening {
-            Happening::Fail(_) => true,
-            Happening::Call(_, _) | Happening::Reply(_, _) | Happening::Crash => false,
-        },
+        Some((_, event)) => failed(&event.kind).is_some(),
     }
 }
 
-fn reply_time(next: Option<(u32, &CasEvent)>) -> Option<u32>
+fn reply_time(next: Option<(u32, &AnyEvent)>) -> Option<u32>
     ensures { result ≡ option_map (λ reply. reply.0)
         (defined.reply_in (option_map (λ next. (next.0, next.1.now)) next.entry)) }
 {
     let (time, event) = next?;
-    match &event.happening {
-        Happening::Reply(_, _) => Some(time),
-        Happening::Call(_, _) | Happening::Fail(_) | Happening::Crash => None,
-    }
+    let _reply = replied(&event.kind)?;
+    Some(time)
 }
 
-fn act_of(asked: Asked, next: Option<(u32, &CasEvent)>) -> Act
+fn act_of(asked: Asked, next: Option<(u32, &AnyEvent)>) -> Act
     ensures { result ≡ defined.act_of asked
         (defined.reply_in (option_map (λ next. (next.0, next.1.now)) next.entry)) }
 {
     match next {
         None => pending_act(asked),
-        Some((_, event)) => match &event.happening {
-            Happening::Reply(parts, ok) => replied_act(asked, parts.value, *ok),
-            Happening::Call(_, _) | Happening::Fail(_) | Happening::Crash => pending_act(asked),
+        Some((_, event)) => match replied(&event.kind) {
+            None => pending_act(asked),
+            Some(reply) => replied_act(asked, reply.value, reply.ok),
         },
     }
 }

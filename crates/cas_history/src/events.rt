@@ -11,7 +11,7 @@ use crate::naming::Naming;
 use crate::reason::event_reason;
 use crate::refusal::{BuildError, LineRefusal};
 use crate::registers::by_register;
-use cas_text::CasEvent;
+use history_text::AnyEvent;
 use std::alloc::{AllocError, Global};
 use std::collections::BTreeMap;
 use std::marker::Model;
@@ -19,7 +19,7 @@ use std::marker::Model;
 /// Events that were taken in, one after another. Contracts see them as a list.
 #[derive(Drop)]
 pub struct Events {
-    events: Vec<CasEvent>,
+    events: Vec<AnyEvent>,
     /// The place of each process's last event.
     last: BTreeMap<u32, usize>,
 }
@@ -28,7 +28,7 @@ impl Model for Events {
     ghost use Rattle.std.specs.Prelude.{List};
     ghost use Rattle.std.specs.Ordering.{nat_cmp};
     ghost use Rattle.std.specs.BTreeMap.{get};
-    ghost use Rattle.cas_text.specs.declared.event.CasEvent.{CasEvent as AnEvent};
+    ghost use Rattle.history_text.specs.declared.event.AnyEvent.{AnyEvent as AnEvent};
     ghost use Rattle.cas_history.specs.Kept.{IsKept};
 
     ghost Value = { List AnEvent };
@@ -53,7 +53,7 @@ impl Events {
     ///
     /// # Errors
     /// `Refused` if the event is refused after the others, and `Memory`. The events are as they were then.
-    pub fn take(&mut self, event: CasEvent) -> Result<(), BuildError>
+    pub fn take(&mut self, event: AnyEvent) -> Result<(), BuildError>
         ensures ok { OnOk result (self.new ≡ self.old ++ event ∷ []) }
         ensures accepted { OnOk result (event_refusal self.old event ≡ None) }
         ensures err { IfErr result (IsTakeError self.old event) }
@@ -79,7 +79,7 @@ impl Events {
     }
 
     /// The last event of a process.
-    fn last_of(&self, process: u32) -> Option<&CasEvent>
+    fn last_of(&self, process: u32) -> Option<&AnyEvent>
         ensures { option_copied result ≡ last_event self.now process }
     {
         let place = *self.last.get(&process)?;

@@ -8,9 +8,9 @@
 //!
 //! The definitions, in the order to read them: `Events`, what an event says; `Refusals`, which history is
 //! refused and why; `History`, the operations of an accepted one; `Timed`, what holds of them. In the code:
-//! `refusal`; `agrees` and `reason`, why an event is refused; `naming`, which numbers the registers; `act`
-//! and `calls`, which make the operations; `registers`, which parts them; `history`; and `events`, which
-//! takes events in and makes their history. `Kept` defines what the code keeps beside its lists.
+//! `refusal`; `said`, `agrees` and `reason`, why an event is refused; `naming`, which numbers the registers;
+//! `act` and `calls`, which make the operations; `registers`, which parts them; `history`; and `events`,
+//! which takes events in and makes their history. `Kept` defines what the code keeps beside its lists.
 #![tactic(auto)]
 
 mod act;
@@ -23,7 +23,9 @@ mod naming;
 mod reason;
 mod refusal;
 mod registers;
+mod said;
 
 pub use events::Events;
 pub use history::History;
 pub use refusal::{BuildError, LineRefusal, Reason};
+pub use said::Asked;

@@ -4,9 +4,9 @@ ghost use Rattle.std.specs.List.{position_or_len};
 ghost use Rattle.cas_history.specs.History.{register_names};
 ghost use Rattle.cas_history.specs.Kept.{with_name};
 
-use cas_text::{CasEvent, Happening};
+use crate::said::called;
 use history_model::RegId;
-use history_text::{MAX_EVENTS, Name};
+use history_text::{AnyEvent, MAX_EVENTS, Name};
 use std::alloc::{AllocError, Global};
 use std::collections::BTreeMap;
 use std::marker::Model;
@@ -32,14 +32,14 @@ impl Model for Naming {
 
 impl Naming {
     /// The names of the registers that these events call.
-    pub(crate) fn of(alloc: Global, events: &[CasEvent]) -> Result<Self, AllocError>
+    pub(crate) fn of(alloc: Global, events: &[AnyEvent]) -> Result<Self, AllocError>
         requires { length events.now ≤ MAX_EVENTS }
         ensures names { IfOk result (λ naming. naming ≡ register_names events.now) }
         ensures few { IfOk result (λ naming. length naming ≤ length events.now) }
     {
         let mut naming = Naming::none(alloc);
         for event in events {
-            if let Happening::Call(name, _) = &event.happening {
+            if let Some((name, _)) = called(&event.kind) {
                 naming.add(alloc, name)?;
             }
         }

@@ -8,15 +8,15 @@ use crate::agrees::{
     failed_value_agrees, is_without_ok, is_without_value, parts_agree, value_agrees,
 };
 use crate::refusal::Reason;
-use cas_text::{CasEvent, Happening};
-use history_text::MAX_EVENTS;
+use crate::said::{Asked, called, failed, is_crash, replied};
+use history_text::{AnyEvent, MAX_EVENTS, Name};
 
 /// The lowest-numbered reason that applies to an event after `count` others, of which `last` is the last of
 /// its process.
 pub(crate) fn event_reason(
     count: usize,
-    last: Option<&CasEvent>,
-    event: &CasEvent,
+    last: Option<&AnyEvent>,
+    event: &AnyEvent,
 ) -> Option<Reason>
     ensures { result ≡ refused.event_reason count (option_map (λ e. e.now) last.entry) event.now }
 {
@@ -27,77 +27,63 @@ pub(crate) fn event_reason(
     ).or(ended)))
 }
 
-fn call_while_open(last: Option<&CasEvent>, event: &CasEvent) -> Option<Reason>
+/// The register of the open call, and what it asks.
+fn open_asked(last: Option<&AnyEvent>) -> Option<(&Name, Asked)>
+    ensures { option_map (λ call. record { register = call.0.now; asked = call.1 }) result
+        ≡ defined.open_asked (option_map (λ e. e.now) last.entry) }
+{
+    called(&last?.kind)
+}
+
+fn call_while_open(last: Option<&AnyEvent>, event: &AnyEvent) -> Option<Reason>
     ensures { result ≡ refused.call_while_open (option_map (λ e. e.now) last.entry) event.now }
 {
     let before = last?;
-    match (&event.happening, &before.happening) {
-        (Happening::Call(_, _), Happening::Call(_, _)) => Some(Reason::OpenCall(before.line)),
+    match (called(&event.kind), called(&before.kind)) {
+        (Some(_), Some(_)) => Some(Reason::OpenCall(before.line)),
         _ => None,
     }
 }
 
-fn end_without_call(last: Option<&CasEvent>, event: &CasEvent) -> Option<Reason>
+fn end_without_call(last: Option<&AnyEvent>, event: &AnyEvent) -> Option<Reason>
     ensures { result ≡ refused.end_without_call (option_map (λ e. e.now) last.entry) event.now }
 {
-    if !is_end(&event.happening) {
+    if replied(&event.kind).is_none() && failed(&event.kind).is_none() {
         return None;
     }
     match last {
         None => Some(Reason::NoOpenCall),
-        Some(before) => match &before.happening {
-            Happening::Call(_, _) | Happening::Crash => None,
-            Happening::Reply(_, _) | Happening::Fail(_) => Some(Reason::NoOpenCall),
-        },
+        Some(before) => {
+            let is_closed = called(&before.kind).is_none() && !is_crash(&before.kind);
+            refused_if(is_closed, Reason::NoOpenCall)
+        }
     }
 }
 
-fn is_end(happening: &Happening) -> bool
-    ensures { result ≡ defined.is_end happening.now }
-{
-    match happening {
-        Happening::Reply(_, _) | Happening::Fail(_) => true,
-        Happening::Call(_, _) | Happening::Crash => false,
-    }
-}
-
-fn reply_disagrees(last: Option<&CasEvent>, event: &CasEvent) -> Option<Reason>
+fn reply_disagrees(last: Option<&AnyEvent>, event: &AnyEvent) -> Option<Reason>
     ensures { result ≡ refused.reply_disagrees (option_map (λ e. e.now) last.entry) event.now }
 {
-    let before = last?;
-    match (&event.happening, &before.happening) {
-        (Happening::Reply(parts, _), Happening::Call(register, asked)) => {
-            let agrees = parts_agree(register, *asked, parts) && value_agrees(*asked, parts.value);
-            refused_if(!agrees, Reason::Disagreement)
-        }
-        _ => None,
-    }
+    let reply = replied(&event.kind)?;
+    let (register, asked) = open_asked(last)?;
+    let agrees = parts_agree(register, asked, reply) && value_agrees(asked, reply.value);
+    refused_if(!agrees, Reason::Disagreement)
 }
 
-fn fail_disagrees(last: Option<&CasEvent>, event: &CasEvent) -> Option<Reason>
+fn fail_disagrees(last: Option<&AnyEvent>, event: &AnyEvent) -> Option<Reason>
     ensures { result ≡ refused.fail_disagrees (option_map (λ e. e.now) last.entry) event.now }
 {
-    let before = last?;
-    match (&event.happening, &before.happening) {
-        (Happening::Fail(parts), Happening::Call(register, asked)) => {
-            let agrees = parts_agree(register, *asked, parts)
-                && failed_value_agrees(*asked, parts.value);
-            refused_if(!agrees, Reason::Disagreement)
-        }
-        _ => None,
-    }
+    let fail = failed(&event.kind)?;
+    let (register, asked) = open_asked(last)?;
+    let agrees = parts_agree(register, asked, fail) && failed_value_agrees(asked, fail.value);
+    refused_if(!agrees, Reason::Disagreement)
 }
 
-fn reply_without_value(last: Option<&CasEvent>, event: &CasEvent) -> Option<Reason>
+fn reply_without_value(last: Option<&AnyEvent>, event: &AnyEvent) -> Option<Reason>
     ensures { result ≡ refused.reply_without_value (option_map (λ e. e.now) last.entry) event.now }
 {
-    let before = last?;
-    match (&event.happening, &before.happening) {
-        (Happening::Reply(parts, _), Happening::Call(_, asked)) => {
-            refused_if(is_without_value(*asked, parts.value), Reason::NoValue)
-        }
-        _ => None,
-    }
+    let reply = replied(&event.kind)?;
+    let (_, asked) = open_asked(last)?;
+    refused_if(is_without_value(asked, reply.value), Reason::NoValue)
 }
 
 fn too_many(count: usize) -> Option<Reason>
@@ -106,26 +92,19 @@ fn too_many(count: usize) -> Option<Reason>
     refused_if(count >= MAX_EVENTS, Reason::TooMany)
 }
 
-fn after_crash(last: Option<&CasEvent>) -> Option<Reason>
+fn after_crash(last: Option<&AnyEvent>) -> Option<Reason>
     ensures { result ≡ refused.after_crash (option_map (λ e. e.now) last.entry) }
 {
     let before = last?;
-    match &before.happening {
-        Happening::Crash => Some(Reason::AfterCrash(before.line)),
-        Happening::Call(_, _) | Happening::Reply(_, _) | Happening::Fail(_) => None,
-    }
+    refused_if(is_crash(&before.kind), Reason::AfterCrash(before.line))
 }
 
-fn reply_without_ok(last: Option<&CasEvent>, event: &CasEvent) -> Option<Reason>
+fn reply_without_ok(last: Option<&AnyEvent>, event: &AnyEvent) -> Option<Reason>
     ensures { result ≡ refused.reply_without_ok (option_map (λ e. e.now) last.entry) event.now }
 {
-    let before = last?;
-    match (&event.happening, &before.happening) {
-        (Happening::Reply(_, ok), Happening::Call(_, asked)) => {
-            refused_if(is_without_ok(*asked, *ok), Reason::NoOk)
-        }
-        _ => None,
-    }
+    let reply = replied(&event.kind)?;
+    let (_, asked) = open_asked(last)?;
+    refused_if(is_without_ok(asked, reply.ok), Reason::NoOk)
 }
 
 /// The reason, if it applies.

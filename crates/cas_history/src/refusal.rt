@@ -3,8 +3,8 @@ ghost use Rattle.std.specs.Prelude.{◌≡◌};
 ghost use Rattle.cas_history.specs.declared.refusal.BuildError.TheVariants.{Memory};
 ghost use Rattle.cas_history.specs.Refusals.{reason_number, reason_other};
 
-use cas_text::FaultKind;
 use history_model::Reason as PlainReason;
+use history_text::LineKind;
 use std::alloc::AllocError;
 use thiserror::Error;
 
@@ -15,7 +15,7 @@ use thiserror::Error;
 pub enum Reason {
     /// 1 to 8, or 20: the fault of the line by itself.
     #[error(transparent)]
-    Faulty(FaultKind),
+    Faulty(LineKind),
     /// 9: a call, while its process has an open call, at this line.
     #[error("{same}", same = PlainReason::OpenCall(*.0))]
     OpenCall(u32),

@@ -1,3 +1,4 @@
 mod DefaultReads
+pub mod Statuses
 pub mod Found
 pub mod Numbers

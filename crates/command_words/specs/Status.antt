@@ -10,3 +10,11 @@ status_of NotAtomic = 1
 status_of Unknown = 6
 status_of (Refused number) = if nat_le 16 number && nat_le number 18 then 4 else 2
 status_of BadWords = 3
+
+-- the run ended without a report
+abbrev pub HasNoReport : Ended → Type 0
+HasNoReport Atomic = ⊥
+HasNoReport NotAtomic = ⊥
+HasNoReport Unknown = ⊥
+HasNoReport (Refused number) = Unit {0}
+HasNoReport BadWords = Unit {0}

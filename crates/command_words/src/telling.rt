@@ -1,4 +1,6 @@
 //! What goes to standard error if there is no report.
+ghost use Rattle.command_words.specs.Status.{HasNoReport};
+
 use crate::ending::Ended;
 use crate::fault::WordsFault;
 use std::alloc::AllocError;
@@ -9,13 +11,17 @@ use std::io;
 const NO_ROOM: u8 = 17;
 
 /// Says that memory ran out.
-fn tell_no_room(rt: &impl Eprint) -> Ended {
+fn tell_no_room(rt: &impl Eprint) -> Ended
+    ensures { HasNoReport result }
+{
     let _ = eprintln!(rt; "no memory or no thread");
     Ended::Refused(NO_ROOM)
 }
 
 /// Says why there is no report, by a refusal and its number.
-pub fn tell<R: Display>(rt: &(impl Eprint + AllocGlobal), refusal: &R, number: u8) -> Ended {
+pub fn tell<R: Display>(rt: &(impl Eprint + AllocGlobal), refusal: &R, number: u8) -> Ended
+    ensures { HasNoReport result }
+{
     match format!(in rt.alloc(); "{refusal}") {
         Ok(text) => {
             let _ = eprintln!(rt; "{text}");
@@ -33,7 +39,9 @@ pub fn tell_unopened<R: Display>(
     number: u8,
     path: &str,
     error: &io::Error,
-) -> Ended {
+) -> Ended
+    ensures { HasNoReport result }
+{
     match format!(in rt.alloc(); "{refusal}") {
         Ok(text) => {
             let _ = eprintln!(rt; "{text}: {path}: {error}");
@@ -44,7 +52,9 @@ pub fn tell_unopened<R: Display>(
 }
 
 /// Says why there are no words.
-pub fn tell_no_words(rt: &impl Eprint, fault: &WordsFault) -> Ended {
+pub fn tell_no_words(rt: &impl Eprint, fault: &WordsFault) -> Ended
+    ensures { HasNoReport result }
+{
     match fault {
         WordsFault::Bad(text) => {
             let _ = eprint!(rt; "{text}");

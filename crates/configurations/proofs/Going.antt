@@ -18,7 +18,7 @@ use Rattle.configurations.proofs.Members.{slot_of_member}
 use Rattle.configurations.proofs.AsFree.{as_free}
 
 -- a beginning is in order, too
-in_order-take : (ops : List Op) (opened : List ℕ) (n : ℕ) (es : List Moment) → AreInOrder ops opened es
+pub in_order-take : (ops : List Op) (opened : List ℕ) (n : ℕ) (es : List Moment) → AreInOrder ops opened es
     → AreInOrder ops opened (take n es)
 in_order-take ops opened zero es o = tt
 in_order-take ops opened (suc n) [] o = tt

@@ -19,9 +19,10 @@ pub enum Bound {
 /// operations give the same answer anywhere.
 #[derive(Clone, Copy, Debug, PartialEq, Eq)]
 pub struct Bounds {
-    /// How often two configurations may be compared, or a call be tried in one; each counts once for each 64
-    /// calls that are open at a time, their number rounded up to a power of two. That two calls are compared
-    /// counts as one more, and that a change takes effect as 256, since it is remembered.
+    /// How often two configurations may be compared, a call be tried in one, or one go over an event; each
+    /// counts once for each 64 calls that are open at a time, their number rounded up to a power of two. That
+    /// two calls are compared counts as four more, that a configuration finds its place among the best as
+    /// eight more, and that a change takes effect as 256, since it is remembered.
     pub steps: u64,
     /// How many configurations one list may hold.
     pub configurations: usize,

@@ -25,6 +25,13 @@ pub(crate) struct Lists<const W: usize> {
     pub spent: Work,
 }
 
+impl<const W: usize> Lists<W> {
+    /// How many configurations it has.
+    pub(crate) fn held(&self) -> usize {
+        self.work.list.len().saturating_add(self.next.list.len())
+    }
+}
+
 /// Whether an open call that is no write may take effect at this value.
 #[inline(always)]
 fn is_asked<const W: usize>(table: &Table<W>, config: &Config<W>, value: u32) -> bool
@@ -87,6 +94,9 @@ fn has_elder<const W: usize>(table: &Table<W>, config: &Config<W>, slot: u32) ->
 /// How many calls that change alike are looked at for one that goes first.
 const MOST_RIVALS: usize = 1_024;
 
+/// How many steps it spends to look at one of them, or to find the one that goes first if neither replies.
+const STEPS_PER_RIVAL: u64 = 4;
+
 /// Whether the call of another slot goes first: it changes alike and replies sooner, and
 /// must take effect or needn't as this one. Some of those that reply are looked at.
 #[inline(always)]
@@ -113,7 +123,7 @@ fn is_led<const W: usize>(
         let Some(rival) = rivals.first_from(at) else {
             break
         };
-        spent.spend(1)?;
+        spent.spend(STEPS_PER_RIVAL)?;
         if table.goes_before(rival, slot) {
             return Ok(true);
         }
@@ -231,9 +241,11 @@ fn try_slot<const W: usize>(
     ensures goes { IfOk result (λ _. IsTried table.now config.now slot reply lists.new.work lists.new.next) }
 {
     if has_elder(table, config, slot) {
-        return Ok(());
+        return lists.spent.spend(STEPS_PER_RIVAL);
     }
+    lists.spent.spend(W as u64)?;
     if is_of_use(table, config, slot, reply) {
+        lists.spent.spend(W as u64 / 2)?;
         if is_led(table, config, slot, &mut lists.spent)? {
             return Ok(());
         }
@@ -266,7 +278,6 @@ fn try_each<const W: usize>(
 {
     let mut at = 0;
     while let Some(slot) = slots.first_from(at) {
-        lists.spent.spend(W as u64)?;
         try_slot(table, lists, config, slot, reply)?;
         at = slot + 1;
     }

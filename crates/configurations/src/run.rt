@@ -187,7 +187,7 @@ fn begin<const W: usize>(
     }
 }
 
-/// Puts down the best, as many as the beam holds.
+/// Puts down the best, as many as the beam holds: those that others stand for don't count.
 fn put_down_best<const W: usize>(
     table: &Table<W>,
     now: &Configs<W>,
@@ -200,8 +200,12 @@ fn put_down_best<const W: usize>(
     requires empty { (lists.old.work.list.items ≡ []) × (lists.old.next.list.items ≡ []) }
     ensures { IfOk result (λ _. AreApart table.now reply lists.new.work lists.new.next) }
 {
-    let best = best_of(lists.spent.alloc(), &now.list, lists.spent.beam())?;
-    for at in &best {
+    lists.spent.spend_on_order(now.list.len(), W)?;
+    let ranked = ranked(lists.spent.alloc(), &now.list)?;
+    for at in &ranked {
+        if lists.held() >= lists.spent.beam() {
+            break;
+        }
         put_down_at(table, now, lists, *at, reply)?;
     }
     Ok(())
@@ -229,36 +233,20 @@ fn put_down_at<const W: usize>(
     }
 }
 
-/// The places of the `count` configurations with the least burden; of equal ones, the first.
-fn best_of<const W: usize>(
-    alloc: Global,
-    configs: &[Config<W>],
-    count: usize,
-) -> Result<Vec<usize>, AllocError> {
+/// The places of configurations, those with the least burden first; of equal ones, the first.
+fn ranked<const W: usize>(alloc: Global, configs: &[Config<W>]) -> Result<Vec<usize>, AllocError> {
     let mut ranked = Vec::new(alloc);
     for (at, config) in configs.iter().enumerate() {
         ranked.push((burden(config), at))?;
     }
     ranked.sort_unstable();
-    ranked.truncate(count);
     ranked.iter().map(|one| one.1).collect(alloc)
 }
 
 /// What speaks against a configuration: what it cost that calls took effect which never reply, and how many
 /// calls must still take effect.
 fn burden<const W: usize>(config: &Config<W>) -> u32 {
-    config.cost.saturating_add(count(&config.owed))
-}
-
-/// How many slots are in a set.
-fn count<const W: usize>(slots: &Slots<W>) -> u32 {
-    let mut count: u32 = 0;
-    let mut at = 0;
-    while let Some(slot) = slots.first_from(at) {
-        count = count.saturating_add(1);
-        at = slot + 1;
-    }
-    count
+    config.cost.saturating_add(config.owed.count())
 }
 
 /// Puts all down, the last one first.

@@ -68,8 +68,19 @@ const STAGES: [Stage; 12] = [
     stage!(Exact, MOST, MOST),
 ];
 
-/// The only stage if each change has a reply: few configurations are left anyway.
-const WIDEST: Stage = stage!(Exact, MOST, MOST);
+/// The stages if each change has a reply.
+const ANSWERED: [Stage; 4] = [
+    stage!(Exact, 256, 256),
+    stage!(Exact, 32, MOST),
+    stage!(Exact, 64, MOST),
+    stage!(Exact, MOST, MOST),
+];
+
+/// The stages that look for a reply that is hopeless before the one that eased operations show.
+const EARLIER: [Stage; 2] = [stage!(Exact, 1_024, 1_024), stage!(Exact, MOST, MOST)];
+
+/// How many steps they may take beside as many as were taken before.
+const STEPS_OF_EARLIER: u64 = 1 << 24;
 
 /// Goes through the stages until one answers.
 pub(crate) fn in_stages<const W: usize>(
@@ -82,17 +93,70 @@ pub(crate) fn in_stages<const W: usize>(
     ensures { IfOk result (λ found. AreInOrder ops.now [] events.now → IsReached ops.now events.now found) }
 {
     let mut limits = limits;
-    if !has_unanswered_changes(ops) {
-        return run_stage::<W>(alloc, ops, events, WIDEST, &mut limits);
-    }
     let mut bound = Bound::Steps;
-    for stage in STAGES {
-        match run_stage::<W>(alloc, ops, events, stage, &mut limits)? {
+    let stages: &[Stage] = if has_unanswered_changes(ops) {
+        &STAGES
+    } else {
+        &ANSWERED
+    };
+    let given = limits.steps;
+    for stage in stages {
+        match run_stage::<W>(alloc, ops, events, *stage, &mut limits)? {
             Reached::Stopped(met) => bound = met,
-            found => return Ok(found),
+            found => {
+                if stage.form != Form::Eased {
+                    return Ok(found);
+                }
+                let again = given.saturating_sub(limits.steps);
+                limits.steps = limits.steps.min(again.saturating_add(STEPS_OF_EARLIER));
+                return earlier::<W>(alloc, ops, events, found, limits);
+            }
         }
     }
     Ok(Reached::Stopped(bound))
+}
+
+/// The first hopeless reply, if exact stages find it among the events up to the one that was found over
+/// eased operations; or else that one.
+fn earlier<const W: usize>(
+    alloc: Global,
+    ops: &[Op],
+    events: &[Moment],
+    found: Reached,
+    limits: Limits,
+) -> Result<Reached, AllocError>
+    requires room { 64 * W < 2 ^ 32 }
+    requires found { AreInOrder ops.now [] events.now → IsReached ops.now events.now found }
+    ensures { IfOk result (λ found. AreInOrder ops.now [] events.now → IsReached ops.now events.now found) }
+{
+    let place = place_of(&found);
+    if place >= events.len() {
+        return Ok(found);
+    }
+    let mut limits = limits;
+    for stage in EARLIER {
+        if let Reached::Hopeless {
+            place: first,
+            before,
+        } = run_stage::<W>(alloc, ops, &events[..place + 1], stage, &mut limits)?
+        {
+            if first <= place {
+                return Ok(Reached::Hopeless {
+                    place: first,
+                    before,
+                });
+            }
+        }
+    }
+    Ok(found)
+}
+
+/// The place of a hopeless reply; none is so far if there is none.
+fn place_of(found: &Reached) -> usize {
+    match found {
+        Reached::Hopeless { place, .. } => *place,
+        _ => usize::MAX,
+    }
 }
 
 /// Whether some changes have no reply.

@@ -48,9 +48,17 @@ fn pass_thriftily<const W: usize>(
     ensures apart { IfOk result (λ _. AreApart table.now reply lists.new.work lists.new.next) }
     ensures kept { IfOk result (λ _. AreStill lists.old.next lists.new.next) }
 {
-    pass(table, lists, &table.unanswered, reply)?;
+    pass(table, lists, &spared(table, reply), reply)?;
     if lists.next.list.is_empty() {
         pass(table, lists, &Slots::none(), reply)?;
     }
     Ok(())
+}
+
+/// The calls that never reply, but for those that write or look for the value that the call at a slot asks
+/// for.
+fn spared<const W: usize>(table: &Table<W>, reply: u32) -> Slots<W>
+    requires { IsTable table.now }
+{
+    table.unanswered.minus(&table.alike(reply))
 }

@@ -8,6 +8,9 @@ use thiserror::Error;
 /// million are remembered, in 50 MB.
 const STEPS_PER_MOVE: u64 = 256;
 
+/// How many steps it spends to find the place of a configuration among the best, beside one for each word.
+const STEPS_PER_PLACE: u64 = 8;
+
 /// How many configurations are gone over at a reply, and how many are left after it, for each one that the
 /// beam holds, until the beam may stop there.
 const OVER_PER_BEAM: usize = 16;
@@ -143,10 +146,20 @@ impl Work {
     }
 
     /// Spends the steps of an event that is gone over in so many configurations, with sets of so many
-    /// words. A single one costs none: there are no more events than an input may have.
+    /// words. A single one of one word costs none: there are no more events than an input may have.
     pub(crate) fn spend_on(&mut self, configurations: usize, words: usize) -> Result<(), Stop> {
-        let others = configurations.saturating_sub(1) as u64;
-        self.spend(others.saturating_mul(words as u64))
+        let all = (configurations as u64).saturating_mul(words as u64);
+        self.spend(all.saturating_sub(1))
+    }
+
+    /// Spends the steps of putting so many configurations in order.
+    pub(crate) fn spend_on_order(
+        &mut self,
+        configurations: usize,
+        words: usize,
+    ) -> Result<(), Stop> {
+        let each = STEPS_PER_PLACE.saturating_add(words as u64);
+        self.spend((configurations as u64).saturating_mul(each))
     }
 
     /// A call takes effect after others, the last of which has the place

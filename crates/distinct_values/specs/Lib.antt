@@ -1,2 +1,3 @@
 pub mod SomeOperations
 pub mod Hopeless
+pub mod WrittenOnce

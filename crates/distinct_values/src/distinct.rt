@@ -1,15 +1,22 @@
 //! Which registers zones can decide.
-ghost use Rattle.std.specs.Prelude.{◌≡◌, ℕ, slice_get, IfOk, IsTrue, Some, true};
+ghost use Rattle.std.specs.Prelude.{◌≡◌, ◌∷◌, ◌++◌, [], if◌then◌else◌, ℕ, ℤ, List};
+ghost use Rattle.std.specs.Prelude.{slice_get, IfOk, IsTrue, Some, false, true};
+ghost use Rattle.std.specs.BTreeSet.{contains};
+ghost use Rattle.std.specs.Ordering.{int_cmp, int_eq};
+ghost use Rattle.cas_model.specs.declared.act.Act.TheVariants.{Write};
 ghost use Rattle.cas_model.specs.declared.operation.Operation.{Operation as AnOperation};
 ghost use Rattle.distinct_values.specs.SomeOperations.{ArePlain, is_plain};
+ghost use Rattle.distinct_values.specs.WrittenOnce.{AreWrittenOnce, HasWritten};
 
 use cas_model::{Act, Operation};
 use history_text::Val;
 use std::alloc::{AllocError, Global};
+use std::collections::BTreeSet;
 
 /// Whether the operations are reads and writes, and no value is written twice, nor null.
 pub(crate) fn has_distinct_values(alloc: Global, ops: &[Operation]) -> Result<bool, AllocError>
-    ensures { IfOk result (λ is. IsTrue is → ArePlain ops.now) }
+    ensures plain { IfOk result (λ is. IsTrue is → ArePlain ops.now) }
+    ensures once { IfOk result (λ is. IsTrue is → AreWrittenOnce ops.now) }
 {
     if are_plain(ops) {
         are_written_once(alloc, ops)
@@ -44,27 +51,50 @@ fn is_read_or_write(act: Act) -> bool
 }
 
 /// Whether no value is written twice, nor null, which the register has at first.
-fn are_written_once(alloc: Global, ops: &[Operation]) -> Result<bool, AllocError> {
-    let mut written = Vec::new(alloc);
+fn are_written_once(alloc: Global, ops: &[Operation]) -> Result<bool, AllocError>
+    ensures { IfOk result (λ is. IsTrue is → AreWrittenOnce ops.now) }
+{
+    let mut written = BTreeSet::new(alloc);
     for op in ops {
-        match op.act {
-            Act::Write(Val::Int(number)) => written.push(number)?,
-            Act::Write(Val::Null) => return Ok(false),
-            _ => {}
+        let is_new = add_written(&mut written, op)?;
+        if !is_new {
+            return Ok(false);
         }
     }
-    written.sort_unstable();
-    Ok(!has_repeats(&written))
+    Ok(true)
 }
 
-/// Whether two neighbours are equal.
-fn has_repeats(sorted: &[i64]) -> bool {
-    let mut last = None;
-    for number in sorted {
-        if last == Some(*number) {
-            return true;
-        }
-        last = Some(*number);
+/// Adds what one more operation writes; false if that is there, or null.
+fn add_written(written: &mut BTreeSet<i64>, op: &Operation) -> Result<bool, AllocError>
+    ensures { IfOk result (λ is. IsTrue is → (ops : List AnOperation) → HasWritten ops written.old
+        → HasWritten (ops ++ (op.now ∷ [])) written.new) }
+{
+    match op.act {
+        Act::Write(value) => add_value(written, value),
+        Act::Read(_) => Ok(true),
+        Act::Cas { .. } => Ok(true),
+        Act::Miss { .. } => Ok(true),
     }
-    false
+}
+
+/// Adds a written value; false if it is there, or null.
+fn add_value(written: &mut BTreeSet<i64>, value: Val) -> Result<bool, AllocError>
+    ensures { IfOk result (λ is. IsTrue is → (ops : List AnOperation) (a : AnOperation) → a.act ≡ Write value
+        → HasWritten ops written.old → HasWritten (ops ++ (a ∷ [])) written.new) }
+{
+    match value {
+        Val::Int(number) => add_number(written, number),
+        Val::Null => Ok(false),
+    }
+}
+
+/// Adds a number; whether it is new.
+fn add_number(written: &mut BTreeSet<i64>, number: i64) -> Result<bool, AllocError>
+    ensures new { IfOk result (λ is. IsTrue is → contains int_cmp written.old number ≡ false) }
+    ensures all { IfOk result (λ _. (q : ℤ)
+        → contains int_cmp written.new q
+        ≡ (if int_eq number q then true else contains int_cmp written.old q)) }
+{
+    let is_new = written.insert(number)?;
+    Ok(is_new)
 }

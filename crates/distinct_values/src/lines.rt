@@ -70,5 +70,6 @@ fn replied(act: Act) -> Kind {
         op: None,
         register: OptionalName::none(),
         value,
+        ok: None,
     })
 }

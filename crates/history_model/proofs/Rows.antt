@@ -4,6 +4,7 @@ use Rattle.std.proofs.Common.{Option, Some, None, Ok, Err, true, false, refl, ar
 use Rattle.history_text.specs.declared.event.Val.{Val}
 use Rattle.history_text.specs.declared.event.Val.TheVariants.{Null, Int}
 use Rattle.history_text.specs.declared.event.OpKind.TheVariants.{ReadOp, WriteOp}
+use Rattle.history_text.specs.declared.event.OpWord.TheVariants as word
 use Rattle.history_text.specs.declared.event.Kind.{Kind}
 use Rattle.history_text.specs.declared.event.Kind.TheVariants.{CallRead, CallWrite, Reply}
 use Rattle.history_text.specs.declared.event.LineEvent.{LineEvent}
@@ -22,10 +23,10 @@ wrote name n = CallWrite name (pos n)
 
 -- a reply that says nothing, and one that gives a value
 abbrev done : Kind
-done = Reply (record { op = None; register = None; value = None })
+done = Reply (record { op = None; register = None; value = None; ok = None })
 
 abbrev gave : Option Val → Kind
-gave v = Reply (record { op = None; register = None; value = v })
+gave v = Reply (record { op = None; register = None; value = v; ok = None })
 
 -- ---- refusals
 
@@ -60,14 +61,16 @@ other_value = refl
 
 other_op : refusal_at
     (Ok (event 1 1 (wrote (codes "x") 5))
-    ∷ Ok (event 2 1 (Reply (record { op = Some ReadOp; register = None; value = None }))) ∷ []) 1
+    ∷ Ok (event 2 1
+    (Reply (record { op = Some word.Read; register = None; value = None; ok = None }))) ∷ []) 1
     ≡ Some (record { line = 2; reason = Disagreement })
 other_op = refl
 
 -- that a read's reply has no value is the greater number
 other_register : refusal_at
     (Ok (event 1 1 (CallRead (codes "x")))
-    ∷ Ok (event 2 1 (Reply (record { op = None; register = Some (codes "y"); value = None }))) ∷ []) 1
+    ∷ Ok (event 2 1
+    (Reply (record { op = None; register = Some (codes "y"); value = None; ok = None }))) ∷ []) 1
     ≡ Some (record { line = 2; reason = Disagreement })
 other_register = refl
 

@@ -2,7 +2,7 @@
 use Rattle.std.specs.Prelude.{ℕ, ◌==◌, ◌&&◌, List, Bool, true, false, cond, bytes_eq}
 use Rattle.std.specs.Prelude.{is_some, Option, Some, None, option_and_then}
 use Rattle.std.specs.Option.{option_or}
-use Rattle.history_text.specs.Values.{value_eq, kind_eq}
+use Rattle.history_text.specs.Values.{value_eq, word_of, word_eq}
 use Rattle.history_text.specs.declared.event.Val.{Val}
 use Rattle.history_text.specs.declared.event.Val.TheVariants.{Null, Int}
 use Rattle.history_text.specs.declared.event.OpKind.{OpKind}
@@ -98,11 +98,11 @@ failed_value_agrees None (Some (Int n)) = false
 -- a reply agrees with its call: each thing that it says is as in the call, the register's name by its text
 abbrev pub reply_agrees : Asked → ReplyParts → Bool
 reply_agrees call reply =
-    agrees kind_eq reply.op call.kind && agrees bytes_eq reply.register call.register
+    agrees word_eq reply.op (word_of call.kind) && agrees bytes_eq reply.register call.register
     && value_agrees call.value reply.value
 
 -- the same of a fail
 abbrev pub fail_agrees : Asked → ReplyParts → Bool
 fail_agrees call fail =
-    agrees kind_eq fail.op call.kind && agrees bytes_eq fail.register call.register
+    agrees word_eq fail.op (word_of call.kind) && agrees bytes_eq fail.register call.register
     && failed_value_agrees call.value fail.value

@@ -7,6 +7,7 @@ use Rattle.std.specs.Str.{IsUtf8, is_utf8}
 use Rattle.std.proofs.lemmas.Str.{IsUtf8-from_is_utf8, is_utf8-from_IsUtf8}
 use Rattle.serde_json.specs.Data.{Data}
 use Rattle.serde_json.specs.Read.{read}
+use Rattle.history_text.specs.declared.event.Operations.{Operations}
 use Rattle.history_text.specs.declared.fault.LineKind.TheVariants.{NotJson}
 use Rattle.history_text.specs.Limits.{MAX_LINE}
 use Rattle.history_text.specs.Reading.{json_of, event_of, line_form}
@@ -28,10 +29,10 @@ json_of-refused bytes h = none_either (is_utf8 bytes) (read bytes) (λ e. h (IsU
 pub short : (bytes : List ℕ) → length bytes ≤ MAX_LINE → nat_lt MAX_LINE (length bytes) ≡ false
 short bytes le = grind (arith, nat_tests)
 
-pub line_form-read : (n : ℕ) (bytes : List ℕ) (d : Data) → length bytes ≤ MAX_LINE → json_of bytes ≡ Some d
-    → line_form n bytes ≡ event_of n d
-line_form-read n bytes d le e = rw (short bytes le, e) refl
+pub line_form-read : (taken : Operations) (n : ℕ) (bytes : List ℕ) (d : Data) → length bytes ≤ MAX_LINE
+    → json_of bytes ≡ Some d → line_form taken n bytes ≡ event_of taken n d
+line_form-read taken n bytes d le e = rw (short bytes le, e) refl
 
-pub line_form-refused : (n : ℕ) (bytes : List ℕ) → length bytes ≤ MAX_LINE → json_of bytes ≡ None
-    → line_form n bytes ≡ Err NotJson
-line_form-refused n bytes le e = rw (short bytes le, e) refl
+pub line_form-refused : (taken : Operations) (n : ℕ) (bytes : List ℕ) → length bytes ≤ MAX_LINE
+    → json_of bytes ≡ None → line_form taken n bytes ≡ Err NotJson
+line_form-refused taken n bytes le e = rw (short bytes le, e) refl

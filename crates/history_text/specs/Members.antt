@@ -4,12 +4,14 @@
 use Rattle.std.specs.Prelude.{ℕ, ◌&&◌, ℤ, List, length, codes, Bool, true, false, nat_lt, nat_le}
 use Rattle.std.specs.Prelude.{bytes_eq, if◌then◌else◌, Option, Some, None, option_map, option_and_then}
 use Rattle.serde_json.specs.Data.{Data, null, boolean, number, string, array, object}
-use Rattle.serde_json.specs.Find.{as_number, as_u64, as_i64, as_str}
+use Rattle.serde_json.specs.Find.{as_bool, as_number, as_u64, as_i64, as_str}
 use Rattle.history_text.specs.Limits.{MAX_NAME, MAX_PROCESS}
 use Rattle.history_text.specs.declared.event.Val.{Val}
 use Rattle.history_text.specs.declared.event.Val.TheVariants.{Null, Int}
-use Rattle.history_text.specs.declared.event.OpKind.{OpKind}
-use Rattle.history_text.specs.declared.event.OpKind.TheVariants.{ReadOp, WriteOp}
+use Rattle.history_text.specs.declared.event.Operations.{Operations}
+use Rattle.history_text.specs.declared.event.Operations.TheVariants.{ReadsAndWrites, WithCas}
+use Rattle.history_text.specs.declared.event.OpWord.{OpWord}
+use Rattle.history_text.specs.declared.event.OpWord.TheVariants.{Read, Write, Cas}
 use Rattle.history_text.specs.declared.event.EventWord.{EventWord}
 use Rattle.history_text.specs.declared.event.EventWord.TheVariants as word
 
@@ -36,11 +38,28 @@ event_form m =
     else (if bytes_eq s (codes "reply") then Some word.Reply else other_word s))
     (option_and_then as_str m)
 
--- the word for a read or the word for a write
-abbrev pub op_form : Member → Option OpKind
-op_form m =
-    option_and_then (λ s. if bytes_eq s (codes "read") then Some ReadOp
-    else (if bytes_eq s (codes "write") then Some WriteOp else None)) (option_and_then as_str m)
+-- the word for a read, for a write or for a cas
+abbrev pub word_form : Member → Option OpWord
+word_form m =
+    option_and_then (λ s. if bytes_eq s (codes "read") then Some Read
+    else (if bytes_eq s (codes "write") then Some Write
+    else (if bytes_eq s (codes "cas") then Some Cas else None))) (option_and_then as_str m)
+
+-- the operations of this word are taken
+abbrev pub takes : Operations → OpWord → Bool
+takes taken Read = true
+takes taken Write = true
+takes ReadsAndWrites Cas = false
+takes WithCas Cas = true
+
+-- the word for an operation that is taken
+abbrev pub op_form : Operations → Member → Option OpWord
+op_form taken m = option_and_then (λ op. if takes taken op then Some op else None) (word_form m)
+
+-- whether a cas took place: true or false; where none is taken, nothing is looked at
+abbrev pub ok_form : Operations → Member → Option Bool
+ok_form ReadsAndWrites m = None
+ok_form WithCas m = option_and_then as_bool m
 
 -- a register's name: a text of at least one byte and at most the limit
 abbrev pub name_form : Member → Option (List ℕ)

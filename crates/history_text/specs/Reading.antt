@@ -1,6 +1,8 @@
--- The one event of a line, or the least fault that applies to it; this project's profile.
-use Rattle.std.specs.Prelude.{◌≡◌, ℕ, ◌<◌, ◌≤◌, ◌++◌, Bool, List, drop, length, map, codes, nat_lt}
-use Rattle.std.specs.Prelude.{slice_range, if◌then◌else◌, Option, Some, None, is_some, Result, Ok, Err}
+-- The one event of a line, or the least fault that applies to it; this project's profile. Which operations
+-- are taken is an argument: `line_reading` is where reads and writes are, and no other.
+use Rattle.std.specs.Prelude.{◌≡◌, ◌≢◌, ℕ, ◌<◌, ◌≤◌, ◌++◌, Bool, List, drop, length, map, codes, nat_lt}
+use Rattle.std.specs.Prelude.{slice_range, if◌then◌else◌, Option, Some, None, is_some, IfSome, true}
+use Rattle.std.specs.Prelude.{Result, Ok, Err}
 use Rattle.std.specs.List.{All, AllPairs}
 use Rattle.std.specs.Str.{is_utf8}
 use Rattle.serde_json.specs.Data.{Data}
@@ -9,12 +11,17 @@ use Rattle.serde_json.specs.Find.{get, as_object}
 use Rattle.history_text.specs.Limits.{MAX_LINE}
 use Rattle.history_text.specs.Lines.{MayCome, numbered_from, numbered_lines}
 use Rattle.history_text.specs.Members.{process_form, event_form, op_form, name_form}
-use Rattle.history_text.specs.Members.{written_form, value_form, has_no_value, optional}
+use Rattle.history_text.specs.Members.{written_form, value_form, has_no_value, ok_form, optional, takes}
 use Rattle.history_text.specs.declared.lines.Span.{Span}
 use Rattle.history_text.specs.declared.lines.WholeLines.{WholeLines}
-use Rattle.history_text.specs.declared.event.OpKind.{OpKind}
-use Rattle.history_text.specs.declared.event.OpKind.TheVariants.{ReadOp, WriteOp}
+use Rattle.history_text.specs.declared.event.Operations.{Operations}
+use Rattle.history_text.specs.declared.event.Operations.TheVariants.{ReadsAndWrites, WithCas}
+use Rattle.history_text.specs.declared.event.OpWord.{OpWord}
+use Rattle.history_text.specs.declared.event.OpWord.TheVariants as op
 use Rattle.history_text.specs.declared.event.Kind.{Kind}
+use Rattle.history_text.specs.declared.event.AnyKind.{AnyKind}
+use Rattle.history_text.specs.declared.event.AnyKind.TheVariants.{Plain, CallCas}
+use Rattle.history_text.specs.declared.event.AnyEvent.{AnyEvent}
 use Rattle.history_text.specs.declared.event.EventWord.{EventWord}
 use Rattle.history_text.specs.declared.event.EventWord.TheVariants as word
 use Rattle.history_text.specs.declared.event.ReplyParts.{ReplyParts}
@@ -24,6 +31,7 @@ use Rattle.history_text.specs.declared.fault.LineFault.{LineFault}
 use Rattle.history_text.specs.declared.fault.LineKind.{LineKind}
 use Rattle.history_text.specs.declared.fault.LineKind.TheVariants.{TooLong, NotJson, NotObject, BadProcess}
 use Rattle.history_text.specs.declared.fault.LineKind.TheVariants.{BadEvent, BadOp, BadRegister, BadValue}
+use Rattle.history_text.specs.declared.fault.LineKind.TheVariants.{BadFromOrTo}
 
 -- goes on with what has its form, or stops at the fault; faults are looked for by ascending
 -- number, so the one at which a reading stops is the least that applies
@@ -31,68 +39,106 @@ abbrev pub or_fault : {A B : Type 0} → Option A → LineKind → (A → Result
 or_fault None fault next = Err fault
 or_fault (Some x) fault next = next x
 
--- a call of a register: a read names no value, and a write names the value that it writes
-abbrev pub call_of : Data → OpKind → List ℕ → Result Kind LineKind
-call_of d ReadOp name = if has_no_value (get (codes "value") d) then Ok (CallRead name) else Err BadValue
-call_of d WriteOp name = or_fault (written_form (get (codes "value") d)) BadValue (λ v. Ok (CallWrite name v))
+-- the call of a cas on a register: it names no value, and has the value `from` at which it takes place and
+-- the number `to` that it writes
+abbrev pub cas_call : Data → List ℕ → Result AnyKind LineKind
+cas_call d name = if has_no_value (get (codes "value") d)
+    then or_fault (value_form (get (codes "from") d)) BadFromOrTo (λ from.
+    or_fault (written_form (get (codes "to") d)) BadFromOrTo (λ to. Ok (CallCas name from to)))
+    else Err BadValue
+
+-- a call on a register: a read names no value, and a write names the value that it writes
+abbrev pub call_of : Data → OpWord → List ℕ → Result AnyKind LineKind
+call_of d op.Read name =
+    if has_no_value (get (codes "value") d) then Ok (Plain (CallRead name)) else Err BadValue
+call_of d op.Write name =
+    or_fault (written_form (get (codes "value") d)) BadValue (λ v. Ok (Plain (CallWrite name v)))
+call_of d op.Cas name = cas_call d name
 
 -- a call of the object: its operation and its register are there
-abbrev pub call_kind : Data → Result Kind LineKind
-call_kind d = or_fault (op_form (get (codes "op") d)) BadOp (λ op.
+abbrev pub call_kind : Operations → Data → Result AnyKind LineKind
+call_kind taken d = or_fault (op_form taken (get (codes "op") d)) (BadOp taken) (λ op.
     or_fault (name_form (get (codes "register") d)) BadRegister (λ name. call_of d op name))
 
 -- what a reply or a fail of the object says: it may leave out its operation, its register and its value
-abbrev pub parts_form : Data → Result ReplyParts LineKind
-parts_form d = or_fault (optional op_form (get (codes "op") d)) BadOp (λ op.
+abbrev pub parts_form : Operations → Data → Result ReplyParts LineKind
+parts_form taken d = or_fault (optional (op_form taken) (get (codes "op") d)) (BadOp taken) (λ op.
     or_fault (optional name_form (get (codes "register") d)) BadRegister (λ name.
     or_fault (optional value_form (get (codes "value") d)) BadValue (λ value.
-    Ok (record { op = op; register = name; value = value }))))
+    Ok (record { op = op; register = name; value = value; ok = ok_form taken (get (codes "ok") d) }))))
 
 -- the end of a call, a reply or a fail, with what it says
-abbrev pub with_parts : (ReplyParts → Kind) → Result ReplyParts LineKind → Result Kind LineKind
-with_parts end (Ok parts) = Ok (end parts)
+abbrev pub with_parts : (ReplyParts → Kind) → Result ReplyParts LineKind → Result AnyKind LineKind
+with_parts end (Ok parts) = Ok (Plain (end parts))
 with_parts end (Err fault) = Err fault
 
 -- what happened, by the word of the event; of a crash no other member is read
-abbrev pub kind_of : Data → EventWord → Result Kind LineKind
-kind_of d word.Call = call_kind d
-kind_of d word.Reply = with_parts (λ parts. Reply parts) (parts_form d)
-kind_of d word.Fail = with_parts (λ parts. Fail parts) (parts_form d)
-kind_of d word.Crash = Ok Crash
+abbrev pub kind_of : Operations → Data → EventWord → Result AnyKind LineKind
+kind_of taken d word.Call = call_kind taken d
+kind_of taken d word.Reply = with_parts (λ parts. Reply parts) (parts_form taken d)
+kind_of taken d word.Fail = with_parts (λ parts. Fail parts) (parts_form taken d)
+kind_of taken d word.Crash = Ok (Plain Crash)
 
 -- the event of a process at line `n`
-abbrev pub with_kind : ℕ → ℕ → Result Kind LineKind → Result LineEvent LineKind
+abbrev pub with_kind : ℕ → ℕ → Result AnyKind LineKind → Result AnyEvent LineKind
 with_kind n process (Ok kind) = Ok (record { line = n; process = process; kind = kind })
 with_kind n process (Err fault) = Err fault
 
 -- the event of a JSON value at line `n`, which has to be an object; its other members are ignored
-abbrev pub event_of : ℕ → Data → Result LineEvent LineKind
-event_of n d = if is_some (as_object d)
+abbrev pub event_of : Operations → ℕ → Data → Result AnyEvent LineKind
+event_of taken n d = if is_some (as_object d)
     then or_fault (process_form (get (codes "process") d)) BadProcess (λ process.
-    or_fault (event_form (get (codes "event") d)) BadEvent (λ event. with_kind n process (kind_of d event)))
+    or_fault (event_form (get (codes "event") d)) BadEvent (λ event.
+    with_kind n process (kind_of taken d event)))
     else Err NotObject
 
 -- the JSON value of the bytes, where `serde_json` reads one (RFC 8259; text in UTF-8)
 unfoldable pub json_of : List ℕ → Option Data
 json_of bytes = if is_utf8 bytes then read bytes else None
 
--- the bytes are the JSON value of an object without a member of this name
-abbrev pub Lacks : List ℕ → List ℕ → Type 0
-Lacks name bytes = (d : Data) × (json_of bytes ≡ Some d) × (get name d ≡ None)
-
 -- the event of the bytes at line `n`, or the least fault that applies
-abbrev pub line_form : ℕ → List ℕ → Result LineEvent LineKind
-line_form n bytes =
-    if nat_lt MAX_LINE (length bytes) then Err TooLong else or_fault (json_of bytes) NotJson (event_of n)
+abbrev pub line_form : Operations → ℕ → List ℕ → Result AnyEvent LineKind
+line_form taken n bytes =
+    if nat_lt MAX_LINE (length bytes) then Err TooLong
+    else or_fault (json_of bytes) NotJson (event_of taken n)
 
 -- a fault, with the number of its line
-abbrev pub at_line : ℕ → Result LineEvent LineKind → Result LineEvent LineFault
+abbrev pub at_line : ℕ → Result AnyEvent LineKind → Result AnyEvent LineFault
 at_line n (Ok event) = Ok event
 at_line n (Err fault) = Err (record { line = n; kind = fault })
 
--- what line `n` means: its one event, or its least fault
+-- what line `n` means where these operations are taken: its one event, or its least fault
+abbrev pub event_reading : Operations → ℕ → List ℕ → Result AnyEvent LineFault
+event_reading taken n bytes = at_line n (line_form taken n bytes)
+
+-- the event, where operations are reads and writes
+abbrev pub plain_event : ℕ → ℕ → AnyKind → Result LineEvent LineFault
+plain_event n process (Plain kind) = Ok (record { line = n; process = process; kind = kind })
+plain_event n process (CallCas name from to) = Err (record { line = n; kind = BadOp ReadsAndWrites })
+
+abbrev pub plain_reading : Result AnyEvent LineFault → Result LineEvent LineFault
+plain_reading (Ok event) = plain_event event.line event.process event.kind
+plain_reading (Err fault) = Err fault
+
+-- what line `n` means where operations are reads and writes
 abbrev pub line_reading : ℕ → List ℕ → Result LineEvent LineFault
-line_reading n bytes = at_line n (line_form n bytes)
+line_reading n bytes = plain_reading (event_reading ReadsAndWrites n bytes)
+
+-- a reply or a fail that says nothing of a cas
+abbrev pub NamesNoCas : ReplyParts → Type 0
+NamesNoCas parts = IfSome parts.op (λ op. takes ReadsAndWrites op ≡ true) × (parts.ok ≡ None)
+
+abbrev pub SaysNoCas : Kind → Type 0
+SaysNoCas (CallRead name) = Unit {0}
+SaysNoCas (CallWrite name v) = Unit {0}
+SaysNoCas (Reply parts) = NamesNoCas parts
+SaysNoCas (Fail parts) = NamesNoCas parts
+SaysNoCas Crash = Unit {0}
+
+-- neither the event nor the fault is one that only cas has
+abbrev pub IsWithoutCas : Result LineEvent LineFault → Type 0
+IsWithoutCas (Ok event) = SaysNoCas event.kind
+IsWithoutCas (Err fault) = (fault.kind ≢ BadFromOrTo) × (fault.kind ≢ BadOp WithCas)
 
 -- what the line at a span of the input means
 abbrev pub reading_of : List ℕ → Span → Result LineEvent LineFault

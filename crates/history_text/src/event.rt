@@ -1,4 +1,7 @@
 //! What a line of a history says: one event, or why it has none.
+ghost use Rattle.std.specs.Prelude.{◌≡◌};
+ghost use Rattle.history_text.specs.Values.{word_of};
+
 use crate::fault::LineFault;
 use crate::name::Name;
 use crate::optional_name::OptionalName;
@@ -12,6 +15,15 @@ pub enum Val {
     Int(i64),
 }
 
+/// Which operations a program takes.
+#[derive(Clone, Copy, Debug, PartialEq, Eq)]
+pub enum Operations {
+    /// Reads and writes. To such a program `"cas"` is no word for an operation, and it looks at no `ok`.
+    ReadsAndWrites,
+    /// Compare-and-swap (cas) besides.
+    WithCas,
+}
+
 /// What an operation does to its register.
 #[derive(Clone, Copy, Debug, PartialEq, Eq)]
 pub enum OpKind {
@@ -19,6 +31,29 @@ pub enum OpKind {
     ReadOp,
     /// A write of one number.
     WriteOp,
+}
+
+impl OpKind {
+    /// Its word.
+    pub fn word(self) -> OpWord
+        ensures { result ≡ word_of self }
+    {
+        match self {
+            OpKind::ReadOp => OpWord::Read,
+            OpKind::WriteOp => OpWord::Write,
+        }
+    }
+}
+
+/// The word by which a line says what its operation is.
+#[derive(Clone, Copy, Debug, PartialEq, Eq)]
+pub enum OpWord {
+    /// A read.
+    Read,
+    /// A write.
+    Write,
+    /// A cas, which writes one number if its register holds the value that it names.
+    Cas,
 }
 
 /// The word by which a line says what happened.
@@ -37,15 +72,18 @@ pub(crate) enum EventWord {
 /// What a reply or a fail says of the call that it ends. A part that it leaves out is `None`.
 #[derive(Debug, Drop, PartialEq)]
 pub struct ReplyParts {
-    /// The kind of the operation.
-    pub op: Option<OpKind>,
+    /// The word for the operation.
+    pub op: Option<OpWord>,
     /// The register of the operation.
     pub register: OptionalName,
     /// The value of the operation. A `null` in the line is `Some(Null)`.
     pub value: Option<Val>,
+    /// Whether a cas took place, as a member `ok` that is true or false says. It counts only in the reply to
+    /// a cas.
+    pub ok: Option<bool>,
 }
 
-/// What happened.
+/// What happened, where operations are reads and writes.
 #[derive(Debug, Drop, PartialEq)]
 pub enum Kind {
     /// The call of a read of the register.
@@ -60,7 +98,17 @@ pub enum Kind {
     Crash,
 }
 
-/// The event of one line.
+/// What happened, whatever the operation is.
+#[derive(Debug, Drop, PartialEq)]
+pub enum AnyKind {
+    /// What may happen to a read or a write; a reply or a fail may be that of a cas.
+    Plain(Kind),
+    /// The call of a cas on the register: if that holds the value, the cas writes the number, and else it
+    /// changes nothing.
+    CallCas(Name, Val, i64),
+}
+
+/// The event of one line, where operations are reads and writes.
 #[derive(Debug, Drop, PartialEq)]
 pub struct LineEvent {
     /// The line's number, from 1.
@@ -69,6 +117,17 @@ pub struct LineEvent {
     pub process: u32,
     /// What happened.
     pub kind: Kind,
+}
+
+/// The event of one line, whatever its operation is.
+#[derive(Debug, Drop, PartialEq)]
+pub struct AnyEvent {
+    /// The line's number, from 1.
+    pub line: u32,
+    /// The process of the event; any number of 32 bits.
+    pub process: u32,
+    /// What happened.
+    pub kind: AnyKind,
 }
 
 /// What one line says: its event, or its lowest-numbered fault.

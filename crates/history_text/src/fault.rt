@@ -2,8 +2,19 @@
 ghost use Rattle.std.specs.Prelude.{◌≡◌};
 ghost use Rattle.history_text.specs.Faults.{fault_number};
 
+use crate::event::Operations;
 use crate::limits::{MAX_LINE, MAX_NAME};
+use std::fmt;
 use thiserror::Error;
+
+impl fmt::Display for Operations {
+    fn fmt<W: fmt::Write>(&self, f: &mut fmt::Formatter<W>) -> fmt::Result {
+        f.write_str(match self {
+            Operations::ReadsAndWrites => "read nor write",
+            Operations::WithCas => "read, write nor cas",
+        })
+    }
+}
 
 /// The faults of a line by itself, by ascending number.
 #[derive(Clone, Copy, Debug, PartialEq, Eq, Error)]
@@ -23,19 +34,23 @@ pub enum LineKind {
     /// `event` is absent, or none of `"call"`, `"reply"`, `"fail"` and `"crash"`.
     #[error("event is not call, reply, fail or crash")]
     BadEvent,
-    /// `op` is neither `"read"` nor `"write"`; a reply or a fail may leave it out.
-    #[error("op is neither read nor write")]
-    BadOp,
+    /// `op` is no word for an operation that is taken; a reply or a fail may leave it out.
+    #[error("op is neither {0}")]
+    BadOp(Operations),
     /// `register` is not a text of 1 to 255 bytes; a reply or a fail may leave it out.
     #[error("register is not a text of 1 to {most} bytes", most = MAX_NAME)]
     BadRegister,
     /// `value` does not fit the event.
     #[error("value does not fit the event")]
     BadValue,
+    /// In the call of a cas, `from` is absent, or neither `null` nor a whole number of 64 bits; or `to` is
+    /// absent, or not a whole number of 64 bits.
+    #[error("from or to does not fit the event")]
+    BadFromOrTo,
 }
 
 impl LineKind {
-    /// The number of the refusal, 1 to 8.
+    /// The number of the refusal, 1 to 8, or 20.
     pub fn number(&self) -> u8
         ensures { result ≡ fault_number self.now }
     {
@@ -45,9 +60,10 @@ impl LineKind {
             LineKind::NotObject => 3,
             LineKind::BadProcess => 4,
             LineKind::BadEvent => 5,
-            LineKind::BadOp => 6,
+            LineKind::BadOp(_) => 6,
             LineKind::BadRegister => 7,
             LineKind::BadValue => 8,
+            LineKind::BadFromOrTo => 20,
         }
     }
 }
@@ -63,7 +79,7 @@ pub struct LineFault {
 }
 
 impl LineFault {
-    /// The number of the refusal, 1 to 8.
+    /// The number of the refusal, 1 to 8, or 20.
     pub fn number(&self) -> u8
         ensures { result ≡ fault_number self.now.kind }
     {

@@ -1,33 +1,40 @@
 //! The event of a flat line, read with no tree. Flat is the common form of a line: one object of up to
 //! eight members, each of a known name and with a plain value, as `flat_members` reads them.
 //!
-//! The contract of `read_line` says what it would say without this module: [`flat_event`] gives an event
+//! The contract of `read_event` says what it would say without this module: [`flat_event`] gives an event
 //! only if `line_form` gives it, which is defined over the JSON that `serde_json` reads. A line that is
 //! not flat, or has a fault, gives `None`, and `line` reads it as JSON. So faults are judged there alone.
 ghost use Rattle.std.specs.Prelude.{◌≡◌, ◌≤◌, length, codes, IfSome, IfOk, Ok, ⊤};
 ghost use Rattle.std.specs.Bool.{MatchBool};
 ghost use Rattle.serde_json.specs.Data.{Members, object};
+ghost use Rattle.serde_json.specs.Find.{get_member};
 ghost use Rattle.history_text.specs.Limits.{IsName, MAX_LINE};
-ghost use Rattle.history_text.specs.Reading.{call_kind, parts_form, kind_of, line_form, Lacks};
+ghost use Rattle.history_text.specs.Members.{ok_form};
+ghost use Rattle.history_text.specs.Reading.{cas_call, call_kind, parts_form, kind_of, line_form};
 ghost use Rattle.history_text.specs.Flat.{Holds};
+ghost use Rattle.history_text.specs.declared.event.Operations.{Operations as Taken};
 
-use crate::event::{EventWord, Kind, LineEvent, OpKind, ReplyParts, Val};
+use crate::event::{AnyEvent, AnyKind, EventWord, Kind, OpWord, Operations, ReplyParts, Val};
 use crate::flat_members::{FlatMembers, flat_object};
 use crate::limits::MAX_NAME;
 use crate::name::Name;
 use crate::optional_name::OptionalName;
 use std::alloc::{AllocError, Global};
 
-/// The event of a line of the common form, which has no member `ok`. `None` tells nothing of the line.
+/// The event of a line of the common form. `None` tells nothing of the line.
 ///
 /// # Errors
 /// Out of memory; nothing is kept.
-pub fn flat_event(alloc: Global, bytes: &[u8], line: u32) -> Result<Option<LineEvent>, AllocError>
+pub(crate) fn flat_event(
+    alloc: Global,
+    bytes: &[u8],
+    line: u32,
+    operations: Operations,
+) -> Result<Option<AnyEvent>, AllocError>
     requires { length bytes.now ≤ MAX_LINE }
-    ensures event { IfOk result (λ o. IfSome o (λ event. line_form line bytes.now ≡ Ok event)) }
-    ensures no_ok { IfOk result (λ o. IfSome o (λ event. Lacks (codes "ok") bytes.now)) }
+    ensures { IfOk result (λ o. IfSome o (λ event. line_form operations line bytes.now ≡ Ok event)) }
 {
-    let Some(found) = flat_object(bytes) else {
+    let Some(found) = flat_object(bytes, operations) else {
         return Ok(None);
     };
     let Some(process) = found.process else {
@@ -36,10 +43,10 @@ pub fn flat_event(alloc: Global, bytes: &[u8], line: u32) -> Result<Option<LineE
     let Some(event) = found.event else {
         return Ok(None);
     };
-    let Some(kind) = kind(alloc, found, event)? else {
+    let Some(kind) = kind(alloc, found, event, operations)? else {
         return Ok(None);
     };
-    Ok(Some(LineEvent {
+    Ok(Some(AnyEvent {
         line,
         process,
         kind,
@@ -48,30 +55,39 @@ pub fn flat_event(alloc: Global, bytes: &[u8], line: u32) -> Result<Option<LineE
 
 /// What happened, as the word of the event says it.
 #[inline(always)]
-fn kind(alloc: Global, found: FlatMembers<'_>, event: EventWord) -> Result<Option<Kind>, AllocError>
-    ensures { IfOk result (λ o. IfSome o (λ kind. (ms : Members) → Holds ms found.entry
-        → kind_of (object ms) event ≡ Ok kind)) }
+fn kind(
+    alloc: Global,
+    found: FlatMembers<'_>,
+    event: EventWord,
+    operations: Operations,
+) -> Result<Option<AnyKind>, AllocError>
+    ensures { IfOk result (λ o. IfSome o (λ kind. (ms : Members) → Holds operations ms found.entry
+        → kind_of operations (object ms) event ≡ Ok kind)) }
 {
     if let EventWord::Call = event {
-        return call(alloc, found);
+        return call(alloc, found, operations);
     }
     if let EventWord::Crash = event {
-        return Ok(Some(Kind::Crash));
+        return Ok(Some(AnyKind::Plain(Kind::Crash)));
     }
     // The only call of `parts`: a second one would cost 1 % of a run, since neither would be inlined.
-    let Some(parts) = parts(alloc, found)? else {
+    let Some(parts) = parts(alloc, found, operations)? else {
         return Ok(None);
     };
     if let EventWord::Fail = event {
-        return Ok(Some(Kind::Fail(parts)));
+        return Ok(Some(AnyKind::Plain(Kind::Fail(parts))));
     }
-    Ok(Some(Kind::Reply(parts)))
+    Ok(Some(AnyKind::Plain(Kind::Reply(parts))))
 }
 
 /// The call of an operation on a register.
-fn call(alloc: Global, found: FlatMembers<'_>) -> Result<Option<Kind>, AllocError>
-    ensures { IfOk result (λ o. IfSome o (λ kind. (ms : Members) → Holds ms found.entry
-        → call_kind (object ms) ≡ Ok kind)) }
+fn call(
+    alloc: Global,
+    found: FlatMembers<'_>,
+    operations: Operations,
+) -> Result<Option<AnyKind>, AllocError>
+    ensures { IfOk result (λ o. IfSome o (λ kind. (ms : Members) → Holds operations ms found.entry
+        → call_kind operations (object ms) ≡ Ok kind)) }
 {
     let Some(op) = found.op else {
         return Ok(None);
@@ -83,25 +99,48 @@ fn call(alloc: Global, found: FlatMembers<'_>) -> Result<Option<Kind>, AllocErro
         return Ok(None);
     }
     match op {
-        OpKind::ReadOp => {
+        OpWord::Read => {
             if let Some(Val::Int(_)) = found.value {
                 return Ok(None);
             }
-            Ok(Some(Kind::CallRead(Name::new(alloc, text)?)))
+            Ok(Some(AnyKind::Plain(Kind::CallRead(Name::new(alloc, text)?))))
         }
-        OpKind::WriteOp => {
+        OpWord::Write => {
             let Some(Val::Int(number)) = found.value else {
                 return Ok(None);
             };
-            Ok(Some(Kind::CallWrite(Name::new(alloc, text)?, number)))
+            Ok(Some(AnyKind::Plain(Kind::CallWrite(Name::new(alloc, text)?, number))))
         }
+        OpWord::Cas => cas(alloc, found, text),
     }
 }
 
+/// The call of a cas on the register of this name.
+fn cas(alloc: Global, found: FlatMembers<'_>, text: &str) -> Result<Option<AnyKind>, AllocError>
+    requires { IsName text.now }
+    ensures { IfOk result (λ o. IfSome o (λ kind. (taken : Taken) (ms : Members)
+        → Holds taken ms found.entry → cas_call (object ms) text.now ≡ Ok kind)) }
+{
+    if let Some(Val::Int(_)) = found.value {
+        return Ok(None);
+    }
+    let Some(from) = found.from else {
+        return Ok(None);
+    };
+    let Some(Val::Int(to)) = found.to else {
+        return Ok(None);
+    };
+    Ok(Some(AnyKind::CallCas(Name::new(alloc, text)?, from, to)))
+}
+
 /// What a reply or a fail says of its call.
-fn parts(alloc: Global, found: FlatMembers<'_>) -> Result<Option<ReplyParts>, AllocError>
-    ensures { IfOk result (λ o. IfSome o (λ parts. (ms : Members) → Holds ms found.entry
-        → parts_form (object ms) ≡ Ok parts)) }
+fn parts(
+    alloc: Global,
+    found: FlatMembers<'_>,
+    operations: Operations,
+) -> Result<Option<ReplyParts>, AllocError>
+    ensures { IfOk result (λ o. IfSome o (λ parts. (ms : Members) → Holds operations ms found.entry
+        → parts_form operations (object ms) ≡ Ok parts)) }
 {
     let mut register = OptionalName::none();
     if let Some(text) = found.register {
@@ -114,7 +153,20 @@ fn parts(alloc: Global, found: FlatMembers<'_>) -> Result<Option<ReplyParts>, Al
         op: found.op,
         register,
         value: found.value,
+        ok: ok(found, operations),
     }))
+}
+
+/// Whether a cas took place, if cas are taken.
+#[inline(always)]
+fn ok(found: FlatMembers<'_>, operations: Operations) -> Option<bool>
+    ensures { (ms : Members) → Holds operations ms found.entry
+        → result ≡ ok_form operations (get_member (codes "ok") ms) }
+{
+    match operations {
+        Operations::ReadsAndWrites => None,
+        Operations::WithCas => found.ok,
+    }
 }
 
 /// Whether the text may name a register.

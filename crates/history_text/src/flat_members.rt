@@ -1,19 +1,22 @@
 //! The members of a flat object, one after another, read from its text with no tree.
 //!
-//! An object is flat here if it has one to eight members, in any order, each with a name that the
+//! An object is flat here if it has one to eleven members, in any order, each with a name that the
 //! format knows and with a plain value of that member: a number, a word, a string or null. The members
-//! `client`, `node` and `time`, which say who called and when, are passed over. Spaces may stand wherever
+//! `client`, `node` and `time`, which say who called and when, are passed over. Those of a cas are known only
+//! where cas are taken. Spaces may stand wherever
 //! JSON allows them, except before a colon: hardly any writer puts them there, and looking for them would
 //! cost time on every line. As in `members`, the last of equal names counts.
 //!
 //! Each function gives what it read and the text after it. `None` tells nothing of the text.
-ghost use Rattle.std.specs.Prelude.{◌≤◌, IfSome};
-ghost use Rattle.serde_json.specs.Data.{string};
+ghost use Rattle.std.specs.Prelude.{◌≡◌, ◌≤◌, true, IfSome};
+ghost use Rattle.serde_json.specs.Data.{boolean, string};
 ghost use Rattle.history_text.specs.Limits.{MAX_PROCESS};
+ghost use Rattle.history_text.specs.Members.{takes};
 ghost use Rattle.history_text.specs.Flat.{Scalar, Named, Adds, Passes, IsFlat};
 ghost use Rattle.history_text.specs.Flat.{whole_data, event_data, op_data, value_data};
+ghost use Rattle.history_text.specs.declared.event.Operations.TheVariants.{WithCas};
 
-use crate::event::{EventWord, OpKind, Val};
+use crate::event::{EventWord, OpWord, Operations, Val};
 use crate::scan::{after, next_byte, plain_string, signed, skip_spaces, unsigned};
 
 /// What was found of the members, each as it is read. What is absent is `None`.
@@ -21,9 +24,12 @@ use crate::scan::{after, next_byte, plain_string, signed, skip_spaces, unsigned}
 pub(crate) struct FlatMembers<'a> {
     pub(crate) process: Option<u32>,
     pub(crate) event: Option<EventWord>,
-    pub(crate) op: Option<OpKind>,
+    pub(crate) op: Option<OpWord>,
     pub(crate) register: Option<&'a str>,
     pub(crate) value: Option<Val>,
+    pub(crate) from: Option<Val>,
+    pub(crate) to: Option<Val>,
+    pub(crate) ok: Option<bool>,
 }
 
 const NOTHING: FlatMembers<'static> = FlatMembers {
@@ -32,10 +38,13 @@ const NOTHING: FlatMembers<'static> = FlatMembers {
     op: None,
     register: None,
     value: None,
+    from: None,
+    to: None,
+    ok: None,
 };
 
 // One for each name that the format knows, and one for each that is passed over.
-const MOST_MEMBERS: usize = 8;
+const MOST_MEMBERS: usize = 11;
 
 /// The process, a whole number within its limit.
 #[inline(always)]
@@ -68,16 +77,25 @@ fn event(text: &[u8]) -> Option<(EventWord, &[u8])>
     Some((EventWord::Crash, rest))
 }
 
-/// Whether the operation reads or writes.
+/// The word for an operation that is taken.
 #[inline(always)]
-fn op(text: &[u8]) -> Option<(OpKind, &[u8])>
-    ensures { IfSome result (λ r. Scalar text.now (op_data r.0) r.1.now) }
+fn op(text: &[u8], operations: Operations) -> Option<(OpWord, &[u8])>
+    ensures text { IfSome result (λ r. Scalar text.now (op_data r.0) r.1.now) }
+    ensures takes { IfSome result (λ r. takes operations r.0 ≡ true) }
 {
     if let Some(rest) = after(text, b"\"read\"") {
-        return Some((OpKind::ReadOp, rest));
+        return Some((OpWord::Read, rest));
     }
-    let rest = after(text, b"\"write\"")?;
-    Some((OpKind::WriteOp, rest))
+    if let Some(rest) = after(text, b"\"write\"") {
+        return Some((OpWord::Write, rest));
+    }
+    match operations {
+        Operations::ReadsAndWrites => None,
+        Operations::WithCas => {
+            let rest = after(text, b"\"cas\"")?;
+            Some((OpWord::Cas, rest))
+        }
+    }
 }
 
 /// A text: the name of the register, whose length is not judged here, or of a client or a node.
@@ -100,6 +118,18 @@ fn value(text: &[u8]) -> Option<(Val, &[u8])>
     Some((Val::Int(number), rest))
 }
 
+/// Whether a cas took place.
+#[inline(always)]
+fn ok(text: &[u8]) -> Option<(bool, &[u8])>
+    ensures { IfSome result (λ r. Scalar text.now (boolean r.0) r.1.now) }
+{
+    if let Some(rest) = after(text, b"true") {
+        return Some((true, rest));
+    }
+    let rest = after(text, b"false")?;
+    Some((false, rest))
+}
+
 /// The text of a member's value, if `name` is the member's name, in its quotes and with its colon.
 #[inline(always)]
 fn named<'a>(text: &'a [u8], name: &[u8]) -> Option<&'a [u8]>
@@ -118,8 +148,8 @@ fn time(text: &[u8]) -> Option<(u64, &[u8])>
 }
 
 /// The text after a member that says who called or when, and nothing of what happened.
-fn passed(text: &[u8]) -> Option<&[u8]>
-    ensures { IfSome result (λ rest. Passes text.now rest.now) }
+fn passed(text: &[u8], operations: Operations) -> Option<&[u8]>
+    ensures { IfSome result (λ rest. Passes operations text.now rest.now) }
 {
     if let Some(behind) = named(text, b"\"client\":") {
         let (_client, rest) = name(behind)?;
@@ -134,10 +164,38 @@ fn passed(text: &[u8]) -> Option<&[u8]>
     Some(rest)
 }
 
+/// One more member that only a cas has.
+fn cas_member<'a>(text: &'a [u8], found: FlatMembers<'a>) -> Option<(FlatMembers<'a>, &'a [u8])>
+    ensures { IfSome result (λ r. Adds WithCas text.now found.entry r.0 r.1.now) }
+{
+    let mut found = found;
+    if let Some(behind) = named(text, b"\"ok\":") {
+        let (ok, rest) = ok(behind)?;
+        found.ok = Some(ok);
+        return Some((found, rest));
+    }
+    if let Some(behind) = named(text, b"\"from\":") {
+        let (from, rest) = value(behind)?;
+        found.from = Some(from);
+        return Some((found, rest));
+    }
+    if let Some(behind) = named(text, b"\"to\":") {
+        let (to, rest) = value(behind)?;
+        found.to = Some(to);
+        return Some((found, rest));
+    }
+    let rest = passed(text, Operations::WithCas)?;
+    Some((found, rest))
+}
+
 /// One more member; it replaces an earlier one of the same name.
 #[inline(always)]
-fn member<'a>(text: &'a [u8], found: FlatMembers<'a>) -> Option<(FlatMembers<'a>, &'a [u8])>
-    ensures { IfSome result (λ r. Adds text.now found.entry r.0 r.1.now) }
+fn member<'a>(
+    text: &'a [u8],
+    found: FlatMembers<'a>,
+    operations: Operations,
+) -> Option<(FlatMembers<'a>, &'a [u8])>
+    ensures { IfSome result (λ r. Adds operations text.now found.entry r.0 r.1.now) }
 {
     let mut found = found;
     if let Some(behind) = named(text, b"\"process\":") {
@@ -151,7 +209,7 @@ fn member<'a>(text: &'a [u8], found: FlatMembers<'a>) -> Option<(FlatMembers<'a>
         return Some((found, rest));
     }
     if let Some(behind) = named(text, b"\"op\":") {
-        let (op, rest) = op(behind)?;
+        let (op, rest) = op(behind, operations)?;
         found.op = Some(op);
         return Some((found, rest));
     }
@@ -165,19 +223,24 @@ fn member<'a>(text: &'a [u8], found: FlatMembers<'a>) -> Option<(FlatMembers<'a>
         found.value = Some(value);
         return Some((found, rest));
     }
-    let rest = passed(text)?;
-    Some((found, rest))
+    match operations {
+        Operations::ReadsAndWrites => {
+            let rest = passed(text, operations)?;
+            Some((found, rest))
+        }
+        Operations::WithCas => cas_member(text, found),
+    }
 }
 
 /// The members, if the text is one flat object with nothing but spaces around it.
 #[inline(always)]
-pub(crate) fn flat_object(text: &[u8]) -> Option<FlatMembers<'_>>
-    ensures { IfSome result (λ found. IsFlat text.now found) }
+pub(crate) fn flat_object(text: &[u8], operations: Operations) -> Option<FlatMembers<'_>>
+    ensures { IfSome result (λ found. IsFlat operations text.now found) }
 {
     let mut rest = skip_spaces(after(skip_spaces(text), b"{")?);
     let mut found = NOTHING;
     for _ in 0..MOST_MEMBERS {
-        let (more, next) = member(rest, found)?;
+        let (more, next) = member(rest, found, operations)?;
         found = more;
         let (mark, behind) = next_byte(skip_spaces(next))?;
         if mark == b'}' {

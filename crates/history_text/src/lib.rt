@@ -28,11 +28,12 @@ mod read;
 mod refused;
 mod scan;
 
-pub use event::{Kind, Line, LineEvent, OpKind, ReplyParts, Val};
+pub use event::{
+    AnyEvent, AnyKind, Kind, Line, LineEvent, OpKind, OpWord, Operations, ReplyParts, Val,
+};
 pub use fault::{LineFault, LineKind};
-pub use flat_line::flat_event;
 pub use limits::{MAX_EVENTS, MAX_INPUT, MAX_LINE, MAX_NAME};
-pub use line::{LineError, read_line};
+pub use line::{LineError, read_event, read_line};
 pub use lines::{Span, WholeLines, lines_of, whole_lines};
 pub use name::Name;
 pub use optional_name::OptionalName;

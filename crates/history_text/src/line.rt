@@ -4,11 +4,13 @@
 //! is read as a JSON value here, if it isn't too long. Faults are looked for by ascending number, so the
 //! first that is found is the lowest-numbered.
 ghost use Rattle.serde_json.specs.View.{view};
-ghost use Rattle.history_text.specs.Reading.{call_kind, parts_form, kind_of};
-ghost use Rattle.history_text.specs.Reading.{event_of, line_form, line_reading};
+ghost use Rattle.history_text.specs.Reading.{cas_call, call_kind, call_of, parts_form, kind_of, event_of};
+ghost use Rattle.history_text.specs.Reading.{line_form, event_reading, line_reading, plain_event};
+ghost use Rattle.history_text.specs.Reading.{IsWithoutCas};
+ghost use Rattle.history_text.specs.Limits.{IsName};
 ghost use Rattle.history_text.specs.Memory.{Gives, GivesLine};
 
-use crate::event::{EventWord, Kind, LineEvent, OpKind, ReplyParts};
+use crate::event::{AnyEvent, AnyKind, EventWord, Kind, LineEvent, OpWord, Operations, ReplyParts};
 use crate::fault::{LineFault, LineKind};
 use crate::flat_line::flat_event;
 use crate::limits::MAX_LINE;
@@ -31,32 +33,74 @@ pub enum LineError {
     Memory,
 }
 
-/// The event of line `line`, given without its line feed, or its lowest-numbered fault.
-/// [`lines_of`](crate::lines_of) leaves out blank lines; here one would be `NotJson`.
+/// The event of line `line` of a history of reads and writes, as [`read_event`] gives it.
+pub fn read_line(alloc: Global, bytes: &[u8], line: u32) -> Result<LineEvent, LineError>
+    ensures meaning { GivesLine (line_reading line bytes.now) result }
+    ensures no_cas { IsWithoutCas (line_reading line bytes.now) }
+{
+    plain(read_event(alloc, bytes, line, Operations::ReadsAndWrites)?)
+}
+
+/// The event, where operations are reads and writes.
+#[inline(always)]
+fn plain(event: AnyEvent) -> Result<LineEvent, LineError>
+    ensures { GivesLine (plain_event event.line event.process event.kind) result }
+{
+    let AnyEvent {
+        line,
+        process,
+        kind,
+    } = event;
+    match kind {
+        AnyKind::Plain(kind) => Ok(LineEvent {
+            line,
+            process,
+            kind,
+        }),
+        AnyKind::CallCas(_, _, _) => Err(LineError::Fault(LineFault {
+            line,
+            kind: LineKind::BadOp(Operations::ReadsAndWrites),
+        })),
+    }
+}
+
+/// The event of line `line`, given without its line feed, or its lowest-numbered fault, where these
+/// operations are taken. [`lines_of`](crate::lines_of) leaves out blank lines; here one would be `NotJson`.
 ///
 /// JSON is read as `serde_json`'s `Value::from_slice` reads it; of equal names in one object the
 /// last counts, and names that the format doesn't know are ignored.
-pub fn read_line(alloc: Global, bytes: &[u8], line: u32) -> Result<LineEvent, LineError>
-    ensures { GivesLine (line_reading line bytes.now) result }
+#[inline(always)]
+pub fn read_event(
+    alloc: Global,
+    bytes: &[u8],
+    line: u32,
+    operations: Operations,
+) -> Result<AnyEvent, LineError>
+    ensures { GivesLine (event_reading operations line bytes.now) result }
 {
-    match event_in(alloc, bytes, line) {
+    match event_in(alloc, bytes, line, operations) {
         Ok(event) => Ok(event),
         Err(Refused::Fault(kind)) => Err(LineError::Fault(LineFault { line, kind })),
         Err(Refused::Memory) => Err(LineError::Memory),
     }
 }
 
-fn event_in(alloc: Global, bytes: &[u8], line: u32) -> Result<LineEvent, Refused>
-    ensures { Gives (line_form line bytes.now) result }
+fn event_in(
+    alloc: Global,
+    bytes: &[u8],
+    line: u32,
+    operations: Operations,
+) -> Result<AnyEvent, Refused>
+    ensures { Gives (line_form operations line bytes.now) result }
 {
     if bytes.len() > MAX_LINE {
         return Err(Refused::Fault(LineKind::TooLong));
     }
-    if let Some(event) = flat_event(alloc, bytes, line)? {
+    if let Some(event) = flat_event(alloc, bytes, line, operations)? {
         return Ok(event);
     }
     match Value::from_slice(alloc, bytes) {
-        Ok(value) => event(alloc, &value, line),
+        Ok(value) => event(alloc, &value, line, operations),
         Err(error) => {
             if error.is_memory() {
                 Err(Refused::Memory)
@@ -67,57 +111,88 @@ fn event_in(alloc: Global, bytes: &[u8], line: u32) -> Result<LineEvent, Refused
     }
 }
 
-fn event(alloc: Global, value: &Value, line: u32) -> Result<LineEvent, Refused>
-    ensures { Gives (event_of line (view value.now)) result }
+fn event(
+    alloc: Global,
+    value: &Value,
+    line: u32,
+    operations: Operations,
+) -> Result<AnyEvent, Refused>
+    ensures { Gives (event_of operations line (view value.now)) result }
 {
     if !value.is_object() {
         return Err(Refused::Fault(LineKind::NotObject));
     }
     let process = members::process(value).ok_or(LineKind::BadProcess)?;
     let event = members::event(value).ok_or(LineKind::BadEvent)?;
-    let kind = kind(alloc, value, event)?;
-    Ok(LineEvent {
+    let kind = kind(alloc, value, event, operations)?;
+    Ok(AnyEvent {
         line,
         process,
         kind,
     })
 }
 
-fn kind(alloc: Global, value: &Value, event: EventWord) -> Result<Kind, Refused>
-    ensures { Gives (kind_of (view value.now) event) result }
+fn kind(
+    alloc: Global,
+    value: &Value,
+    event: EventWord,
+    operations: Operations,
+) -> Result<AnyKind, Refused>
+    ensures { Gives (kind_of operations (view value.now) event) result }
 {
     match event {
-        EventWord::Call => call(alloc, value),
-        EventWord::Reply => Ok(Kind::Reply(parts(alloc, value)?)),
-        EventWord::Fail => Ok(Kind::Fail(parts(alloc, value)?)),
-        EventWord::Crash => Ok(Kind::Crash),
+        EventWord::Call => call(alloc, value, operations),
+        EventWord::Reply => Ok(AnyKind::Plain(Kind::Reply(parts(alloc, value, operations)?))),
+        EventWord::Fail => Ok(AnyKind::Plain(Kind::Fail(parts(alloc, value, operations)?))),
+        EventWord::Crash => Ok(AnyKind::Plain(Kind::Crash)),
     }
 }
 
-fn call(alloc: Global, value: &Value) -> Result<Kind, Refused>
-    ensures { Gives (call_kind (view value.now)) result }
+fn call(alloc: Global, value: &Value, operations: Operations) -> Result<AnyKind, Refused>
+    ensures { Gives (call_kind operations (view value.now)) result }
 {
-    let op = members::call_op(value).ok_or(LineKind::BadOp)?;
+    let op = members::call_op(value, operations).ok_or(LineKind::BadOp(operations))?;
     let register = members::call_register(value).ok_or(LineKind::BadRegister)?;
+    called(alloc, value, op, register)
+}
+
+/// What is called on the register of this name.
+fn called(alloc: Global, value: &Value, op: OpWord, register: &str) -> Result<AnyKind, Refused>
+    requires { IsName register.now }
+    ensures { Gives (call_of (view value.now) op register.now) result }
+{
     match op {
-        OpKind::ReadOp => {
-            if !members::reads_nothing(value) {
+        OpWord::Read => {
+            if !members::names_no_value(value) {
                 return Err(Refused::Fault(LineKind::BadValue));
             }
-            Ok(Kind::CallRead(Name::new(alloc, register)?))
+            Ok(AnyKind::Plain(Kind::CallRead(Name::new(alloc, register)?)))
         }
-        OpKind::WriteOp => {
+        OpWord::Write => {
             let written = members::written(value).ok_or(LineKind::BadValue)?;
-            Ok(Kind::CallWrite(Name::new(alloc, register)?, written))
+            Ok(AnyKind::Plain(Kind::CallWrite(Name::new(alloc, register)?, written)))
         }
+        OpWord::Cas => cas_called(alloc, value, register),
     }
+}
+
+fn cas_called(alloc: Global, value: &Value, register: &str) -> Result<AnyKind, Refused>
+    requires { IsName register.now }
+    ensures { Gives (cas_call (view value.now) register.now) result }
+{
+    if !members::names_no_value(value) {
+        return Err(Refused::Fault(LineKind::BadValue));
+    }
+    let from = members::from(value).ok_or(LineKind::BadFromOrTo)?;
+    let to = members::to(value).ok_or(LineKind::BadFromOrTo)?;
+    Ok(AnyKind::CallCas(Name::new(alloc, register)?, from, to))
 }
 
 /// What a reply or a fail says of its call.
-fn parts(alloc: Global, value: &Value) -> Result<ReplyParts, Refused>
-    ensures { Gives (parts_form (view value.now)) result }
+fn parts(alloc: Global, value: &Value, operations: Operations) -> Result<ReplyParts, Refused>
+    ensures { Gives (parts_form operations (view value.now)) result }
 {
-    let op = members::reply_op(value).ok_or(LineKind::BadOp)?;
+    let op = members::reply_op(value, operations).ok_or(LineKind::BadOp(operations))?;
     let text = members::reply_register(value).ok_or(LineKind::BadRegister)?;
     let replied = members::reply_value(value).ok_or(LineKind::BadValue)?;
     let register = match text {
@@ -128,5 +203,6 @@ fn parts(alloc: Global, value: &Value) -> Result<ReplyParts, Refused>
         op,
         register,
         value: replied,
+        ok: members::ok(value, operations),
     })
 }

@@ -4,10 +4,10 @@ ghost use Rattle.std.specs.Prelude.{◌≡◌, option_map, codes, Some};
 ghost use Rattle.serde_json.specs.View.{view};
 ghost use Rattle.serde_json.specs.Find.{get};
 ghost use Rattle.history_text.specs.Members.{process_form, event_form, other_word as other_word_form};
-ghost use Rattle.history_text.specs.Members.{op_form, name_form, written_form, value_form};
-ghost use Rattle.history_text.specs.Members.{has_no_value, optional};
+ghost use Rattle.history_text.specs.Members.{word_form, takes as takes_of, op_form, name_form, written_form};
+ghost use Rattle.history_text.specs.Members.{value_form, has_no_value, ok_form, optional};
 
-use crate::event::{EventWord, OpKind, Val};
+use crate::event::{EventWord, OpWord, Operations, Val};
 use crate::limits::MAX_NAME;
 use serde_json::Value;
 
@@ -45,31 +45,55 @@ fn other_word(word: &str) -> Option<EventWord>
     }
 }
 
-fn op(member: &Value) -> Option<OpKind>
-    ensures { result ≡ op_form (Some (view member.now)) }
+/// The word for an operation.
+fn word(member: &Value) -> Option<OpWord>
+    ensures { result ≡ word_form (Some (view member.now)) }
 {
     let word = member.as_str()?;
     if word == "read" {
-        Some(OpKind::ReadOp)
+        Some(OpWord::Read)
     } else if word == "write" {
-        Some(OpKind::WriteOp)
+        Some(OpWord::Write)
+    } else if word == "cas" {
+        Some(OpWord::Cas)
     } else {
         None
     }
 }
 
-pub(crate) fn call_op(object: &Value) -> Option<OpKind>
-    ensures { result ≡ op_form (get (codes "op") (view object.now)) }
+/// Whether operations of this word are taken.
+fn takes(operations: Operations, word: OpWord) -> bool
+    ensures { result ≡ takes_of operations word }
 {
-    op(object.get("op")?)
+    match (operations, word) {
+        (Operations::ReadsAndWrites, OpWord::Cas) => false,
+        _ => true,
+    }
 }
 
-pub(crate) fn reply_op(object: &Value) -> Option<Option<OpKind>>
-    ensures { result ≡ optional op_form (get (codes "op") (view object.now)) }
+fn op(member: &Value, operations: Operations) -> Option<OpWord>
+    ensures { result ≡ op_form operations (Some (view member.now)) }
+{
+    let word = word(member)?;
+    if takes(operations, word) {
+        Some(word)
+    } else {
+        None
+    }
+}
+
+pub(crate) fn call_op(object: &Value, operations: Operations) -> Option<OpWord>
+    ensures { result ≡ op_form operations (get (codes "op") (view object.now)) }
+{
+    op(object.get("op")?, operations)
+}
+
+pub(crate) fn reply_op(object: &Value, operations: Operations) -> Option<Option<OpWord>>
+    ensures { result ≡ optional (op_form operations) (get (codes "op") (view object.now)) }
 {
     match object.get("op") {
         None => Some(None),
-        Some(member) => Some(Some(op(member)?)),
+        Some(member) => Some(Some(op(member, operations)?)),
     }
 }
 
@@ -105,8 +129,22 @@ pub(crate) fn written(object: &Value) -> Option<i64>
     object.get("value")?.as_i64()
 }
 
+/// The number that a cas writes.
+pub(crate) fn to(object: &Value) -> Option<i64>
+    ensures { result ≡ written_form (get (codes "to") (view object.now)) }
+{
+    object.get("to")?.as_i64()
+}
+
+/// The value at which a cas takes place.
+pub(crate) fn from(object: &Value) -> Option<Val>
+    ensures { result ≡ value_form (get (codes "from") (view object.now)) }
+{
+    value(object.get("from")?)
+}
+
 /// Whether the value is absent or null.
-pub(crate) fn reads_nothing(object: &Value) -> bool
+pub(crate) fn names_no_value(object: &Value) -> bool
     ensures { result ≡ has_no_value (get (codes "value") (view object.now)) }
 {
     match object.get("value") {
@@ -130,5 +168,15 @@ pub(crate) fn reply_value(object: &Value) -> Option<Option<Val>>
     match object.get("value") {
         None => Some(None),
         Some(member) => Some(Some(value(member)?)),
+    }
+}
+
+/// Whether a cas took place, if its reply says so.
+pub(crate) fn ok(object: &Value, operations: Operations) -> Option<bool>
+    ensures { result ≡ ok_form operations (get (codes "ok") (view object.now)) }
+{
+    match operations {
+        Operations::ReadsAndWrites => None,
+        Operations::WithCas => object.get("ok")?.as_bool(),
     }
 }

@@ -1,13 +1,13 @@
 //! Whether a reply or a fail agrees with its call.
 ghost use Rattle.std.specs.Prelude.{◌≡◌, ◌<◌, ℕ, List, Some, bytes_eq, length, slice_get};
-ghost use Rattle.history_text.specs.Values.{kind_eq};
+ghost use Rattle.history_text.specs.Values.{word_eq, word_of};
 ghost use Rattle.history_model.specs.Events.{agrees, fail_agrees, failed_value_agrees};
 ghost use Rattle.history_model.specs.Events.{reply_agrees, value_agrees};
 
 use crate::names::Names;
 use crate::process_standing::Open;
 use history_model::RegId;
-use history_text::{OpKind, ReplyParts, Val};
+use history_text::{OpKind, OpWord, ReplyParts, Val};
 
 /// Whether each thing that a reply says is as in its call.
 pub(crate) fn reply_agrees(parts: &ReplyParts, names: &Names, opened: Open) -> bool
@@ -33,10 +33,11 @@ pub(crate) fn fail_agrees(parts: &ReplyParts, names: &Names, opened: Open) -> bo
         && failed_value_agrees(opened.value, parts.value)
 }
 
-fn op_agrees(said: Option<OpKind>, kind: OpKind) -> bool
-    ensures { result ≡ agrees kind_eq said kind }
+fn op_agrees(said: Option<OpWord>, kind: OpKind) -> bool
+    ensures { result ≡ agrees word_eq said (word_of kind) }
 {
-    said.is_none_or(|said| said == kind)
+    let word = kind.word();
+    said.is_none_or(|said| said == word)
 }
 
 /// Whether a reply or a fail names no register, or that of its call. The register's name may lie far

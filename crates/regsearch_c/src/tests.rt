@@ -21,12 +21,57 @@ const ATOMIC_REPORT: &str =
 {"atomic":"yes","operations":3,"registers":1}
 "#;
 
-// A history, the steps that it may take, and the status, number, line, other line and report of its answer.
-const ANSWERS: [(&str, u64, u32, u32, u32, u32, &str); 6] = [
-    (ATOMIC_HISTORY, 0, ATOMIC, 0, 0, 0, ATOMIC_REPORT),
+// Two cas from null. When the write is answered, neither has taken effect, or one: three configurations.
+const TWO_CAS: &str = r#"{"process":1,"event":"call","op":"cas","register":"x","from":null,"to":1}
+{"process":2,"event":"call","op":"cas","register":"x","from":null,"to":2}
+{"process":3,"event":"call","op":"write","register":"x","value":5}
+{"process":3,"event":"reply"}
+{"process":1,"event":"reply","ok":true}
+{"process":2,"event":"reply","ok":true}
+"#;
+
+// The bounds of a search: steps and configurations.
+type Asked = (u64, usize);
+
+// A history, the bounds of its search, and the status, number, line, other line and report of its answer.
+const ANSWERS: [(&str, Asked, u32, u32, u32, u32, &str); 9] = [
+    (ATOMIC_HISTORY, (0, 0), ATOMIC, 0, 0, 0, ATOMIC_REPORT),
+    (
+        TWO_CAS,
+        (0, 3),
+        NOT_ATOMIC,
+        0,
+        0,
+        0,
+        r#"{"atomic":"no","cas":2,"fault":{"asks":[2],"before":[1,3],"kind":"search","reply":6},"pending":0,"reads":0,"register":"x","writes":1}
+{"atomic":"no","operations":3,"registers":1}
+"#,
+    ),
+    (
+        TWO_CAS,
+        (0, 2),
+        UNKNOWN,
+        0,
+        0,
+        0,
+        r#"{"atomic":"unknown","cas":2,"gave_up":{"bound":"configurations"},"pending":0,"reads":0,"register":"x","writes":1}
+{"atomic":"unknown","operations":3,"registers":1}
+"#,
+    ),
+    (
+        TWO_CAS,
+        (2, 0),
+        UNKNOWN,
+        0,
+        0,
+        0,
+        r#"{"atomic":"unknown","cas":2,"gave_up":{"bound":"steps"},"pending":0,"reads":0,"register":"x","writes":1}
+{"atomic":"unknown","operations":3,"registers":1}
+"#,
+    ),
     (
         "",
-        1,
+        (1, 0),
         ATOMIC,
         0,
         0,
@@ -37,7 +82,7 @@ const ANSWERS: [(&str, u64, u32, u32, u32, u32, &str); 6] = [
         r#"{"process":2,"event":"call","op":"read","register":"x"}
 {"process":2,"event":"reply","value":9}
 "#,
-        0,
+        (0, 0),
         NOT_ATOMIC,
         0,
         0,
@@ -48,7 +93,7 @@ const ANSWERS: [(&str, u64, u32, u32, u32, u32, &str); 6] = [
     ),
     (
         ATOMIC_HISTORY,
-        1,
+        (1, 0),
         UNKNOWN,
         0,
         0,
@@ -57,12 +102,12 @@ const ANSWERS: [(&str, u64, u32, u32, u32, u32, &str); 6] = [
 {"atomic":"unknown","operations":3,"registers":1}
 "#,
     ),
-    ("\n[]\n", 0, REFUSED, 3, 2, 0, ""),
+    ("\n[]\n", (0, 0), REFUSED, 3, 2, 0, ""),
     (
         r#"{"process":1,"event":"call","op":"read","register":"x"}
 {"process":1,"event":"call","op":"read","register":"y"}
 "#,
-        0,
+        (0, 0),
         REFUSED,
         9,
         2,
@@ -83,14 +128,14 @@ const UNSAID: Answer = Answer {
 // Each call says what is expected, and puts the report and nothing else into the place.
 #[test]
 fn answers(rt: HostRuntime) -> Result<(), Fail> {
-    for (history, steps, status, number, line, other, report) in ANSWERS {
+    for (history, (steps, configurations), status, number, line, other, report) in ANSWERS {
         let mut out = [BEFORE; ROOM];
         let mut answer = UNSAID;
         regsearch_report(
             rt.alloc(),
             history.as_bytes(),
             steps,
-            0,
+            configurations,
             &mut out,
             &mut answer,
         );

@@ -2,7 +2,7 @@
 ghost use Rattle.std.specs.Prelude.{◌<◌};
 
 use history_model::{LineRefusal, Reason};
-use history_text::LineKind;
+use history_text::{LineKind, Operations};
 use reg_report::{Refusal, message};
 use std::alloc::{AllocError, Global};
 use std::process::Abort;
@@ -40,7 +40,7 @@ const ALONE: [Reason; 12] = [
     Reason::Faulty(LineKind::NotObject),
     Reason::Faulty(LineKind::BadProcess),
     Reason::Faulty(LineKind::BadEvent),
-    Reason::Faulty(LineKind::BadOp),
+    Reason::Faulty(LineKind::BadOp(Operations::ReadsAndWrites)),
     Reason::Faulty(LineKind::BadRegister),
     Reason::Faulty(LineKind::BadValue),
     Reason::NoOpenCall,

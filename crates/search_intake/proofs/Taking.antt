@@ -11,11 +11,12 @@ use Rattle.std.proofs.lemmas.List.Elements.{filter_map-append}
 use Rattle.std.proofs.lemmas.Option.{slice_get_past}
 use Rattle.history_text.specs.Lines.{is_blank}
 use Rattle.history_model.proofs.Lists.{slice_get-append, slice_get-behind}
-use Rattle.cas_text.specs.Reading.{event_reading}
-use Rattle.cas_text.specs.declared.event.CasEvent.{CasEvent}
-use Rattle.cas_text.specs.Memory.{GivesEvent}
-use Rattle.cas_text.specs.declared.line.EventError.{EventError}
-use Rattle.cas_text.specs.declared.line.EventError.TheVariants as event_error
+use Rattle.history_text.specs.Reading.{event_reading}
+use Rattle.history_text.specs.declared.event.AnyEvent.{AnyEvent}
+use Rattle.history_text.specs.Memory.{GivesLine}
+use Rattle.history_text.specs.declared.event.Operations.TheVariants.{WithCas}
+use Rattle.history_text.specs.declared.line.LineError.{LineError}
+use Rattle.history_text.specs.declared.line.LineError.TheVariants as line_error
 use Rattle.cas_history.specs.Refusals.{Line, IsRefusal, IsTakeError, event_refusal, line_refusal, refusal_at}
 use Rattle.cas_history.specs.declared.refusal.LineRefusal.{LineRefusal}
 use Rattle.cas_history.specs.declared.refusal.BuildError.{BuildError}
@@ -28,7 +29,7 @@ read-blank n bytes e = rw e refl
 
 -- and any other is
 pub read-other : (n : ℕ) (bytes : List ℕ) → is_blank bytes ≡ false
-    → read_line n bytes ≡ event_reading n bytes ∷ []
+    → read_line n bytes ≡ event_reading WithCas n bytes ∷ []
 read-other n bytes e = rw e refl
 
 -- the refusal at a place depends on nothing behind it
@@ -52,24 +53,24 @@ refusal-past : (lines : List Line) (i : ℕ) → length lines ≤ i → refusal_
 refusal-past lines i l = ap (option_and_then (line_refusal (take i lines))) (slice_get_past lines i l)
 
 -- no lines
-pub none-taken : (events : List CasEvent) → events ≡ [] → AreTaken [] events
+pub none-taken : (events : List AnyEvent) → events ≡ [] → AreTaken [] events
 none-taken events none = record {
   well_formed = λ i. refusal-past [] i (omega arith);
   are = none;
 }
 
-module _ (done : List Line) (events : List CasEvent) (taken : AreTaken done events) where
+module _ (done : List Line) (events : List AnyEvent) (taken : AreTaken done events) where
   -- none of the lines is faulty, whatever stands behind them
   free-before : (more : List Line) (i : ℕ) → i < length done → refusal_at (done ++ more) i ≡ None
   free-before more i l = refusal-front done more i l ∙ taken.well_formed i
 
   -- the refusal of an event behind those of the lines
-  of-event : (e : CasEvent) (r : Option LineRefusal) → event_refusal events e ≡ r
+  of-event : (e : AnyEvent) (r : Option LineRefusal) → event_refusal events e ≡ r
       → line_refusal done (Ok e) ≡ r
   of-event e r is = ap (λ before. event_refusal before e) (sym taken.are) ∙ is
 
   -- a line more that has an event
-  pub taken-more : (e : CasEvent) → event_refusal events e ≡ None
+  pub taken-more : (e : AnyEvent) → event_refusal events e ≡ None
       → AreTaken (done ++ Ok e ∷ []) (events ++ e ∷ [])
   taken-more e accepted = record {
     well_formed = λ i. elim (cases_order i (length done)) [
@@ -96,25 +97,25 @@ module _ (done : List Line) (events : List CasEvent) (taken : AreTaken done even
   }
 
   -- so does a refused event
-  pub refused-event : (e : CasEvent) (r : LineRefusal) (after : List Line) → event_refusal events e ≡ Some r
+  pub refused-event : (e : AnyEvent) (r : LineRefusal) (after : List Line) → event_refusal events e ≡ Some r
       → IsRefusal (done ++ Ok e ∷ after) r
   refused-event e r after is = refused-line (Ok e) r after (of-event e (Some r) is)
 
 -- nothing is taken in for a blank line
 pub blank-taken : (n : ℕ) (bytes : List ℕ) → is_blank bytes ≡ true
-    → (events : List CasEvent) (done : List Line) → AreTaken done events
+    → (events : List AnyEvent) (done : List Line) → AreTaken done events
     → AreTaken (done ++ read_line n bytes) events
 blank-taken n bytes blank events done taken =
     subst (λ ls. AreTaken ls events) (sym (append-nil done)
     ∙ ap (λ ls. done ++ ls) (sym (read-blank n bytes blank))) taken
 
 module _ (n : ℕ) (bytes : List ℕ) (other : is_blank bytes ≡ false) where
-  module _ (e : CasEvent) (reading : event_reading n bytes ≡ Ok e) where
+  module _ (e : AnyEvent) (reading : event_reading WithCas n bytes ≡ Ok e) where
     read-is : read_line n bytes ≡ Ok e ∷ []
     read-is = read-other n bytes other ∙ ap (λ l. l ∷ []) reading
 
     -- the event of the line was taken in
-    pub event-taken : {T : Type 0} (events now : List CasEvent) (r : Result T BuildError)
+    pub event-taken : {T : Type 0} (events now : List AnyEvent) (r : Result T BuildError)
         → OnOk r (now ≡ events ++ e ∷ []) → OnOk r (event_refusal events e ≡ None)
         → OnOk r ((done : List Line) → AreTaken done events → AreTaken (done ++ read_line n bytes) now)
     event-taken events now (Ok x) is accepted = λ done taken.
@@ -124,7 +125,7 @@ module _ (n : ℕ) (bytes : List ℕ) (other : is_blank bytes ≡ false) where
     event-taken events now (Err x) is accepted = tt
 
     -- or why it wasn't
-    pub event-refused : {T : Type 0} (events : List CasEvent) (r : Result T BuildError)
+    pub event-refused : {T : Type 0} (events : List AnyEvent) (r : Result T BuildError)
         → IfErr r (IsTakeError events e)
         → IfErr r (λ error. (done after : List Line) → AreTaken done events
         → IsNoHistory (done ++ (read_line n bytes ++ after)) error)
@@ -136,14 +137,15 @@ module _ (n : ℕ) (bytes : List ℕ) (other : is_blank bytes ≡ false) where
     event-refused events (Err Memory) h = λ done after taken. tt
 
   -- the line has no event
-  pub no-event : (error : EventError) → GivesEvent (event_reading n bytes) (Err error) → (stop : BuildError)
+  pub no-event : (error : LineError) → GivesLine (event_reading WithCas n bytes) (Err error)
+      → (stop : BuildError)
       → stop ≡ of_event error
-      → (events : List CasEvent) (done after : List Line) → AreTaken done events
+      → (events : List AnyEvent) (done after : List Line) → AreTaken done events
       → IsNoHistory (done ++ (read_line n bytes ++ after)) stop
-  no-event (event_error.Fault fault) meant stop is events done after taken =
+  no-event (line_error.Fault fault) meant stop is events done after taken =
       subst (IsNoHistory (done ++ (read_line n bytes ++ after))) (sym is)
-      (subst (λ ls. IsNoHistory (done ++ (ls ++ after)) (of_event (event_error.Fault fault)))
+      (subst (λ ls. IsNoHistory (done ++ (ls ++ after)) (of_event (line_error.Fault fault)))
       (sym (read-other n bytes other ∙ ap (λ l. l ∷ []) meant))
       (refused-line done events taken (Err fault) _ after refl))
-  no-event event_error.Memory meant stop is events done after taken =
+  no-event line_error.Memory meant stop is events done after taken =
       subst (IsNoHistory (done ++ (read_line n bytes ++ after))) (sym is) tt

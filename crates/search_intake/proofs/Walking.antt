@@ -10,8 +10,9 @@ use Rattle.std.proofs.lemmas.List.Splits.{slice_split_at}
 use Rattle.std.proofs.Math.Seq.{drop-cons}
 use Rattle.memchr.specs.Find.{IsFirstByte, is_byte}
 use Rattle.history_text.specs.Lines.{lines, is_blank, numbered_from}
-use Rattle.cas_text.specs.Reading.{event_reading}
-use Rattle.cas_text.specs.declared.event.CasEvent.{CasEvent}
+use Rattle.history_text.specs.Reading.{event_reading}
+use Rattle.history_text.specs.declared.event.Operations.TheVariants.{WithCas}
+use Rattle.history_text.specs.declared.event.AnyEvent.{AnyEvent}
 use Rattle.cas_history.specs.Refusals.{Line}
 use Rattle.cas_history.specs.declared.refusal.BuildError.{BuildError}
 use Rattle.search_intake.specs.Input.{history_lines}
@@ -38,7 +39,7 @@ lines-first xs k h =
 
 -- what a numbered line means
 abbrev meant : (ℕ × List ℕ) → Line
-meant l = event_reading l.0 l.1
+meant l = event_reading WithCas l.0 l.1
 
 -- what those lines of some bytes mean that are not blank, where the first line has number `n`
 abbrev pub read_from : ℕ → List ℕ → List Line
@@ -66,14 +67,14 @@ read-last n xs h =
     ∙ append-nil (read_line n xs)
 
 -- the lines before `from` were taken in, and `from` is where line `line` begins
-pub record IsReadTo (bytes : List ℕ) (line from : ℕ) (events : List CasEvent) : Type 0 where
+pub record IsReadTo (bytes : List ℕ) (line from : ℕ) (events : List AnyEvent) : Type 0 where
   pub done : List Line
   pub taken : AreTaken done events
   pub all : done ++ read_from line (drop from bytes) ≡ history_lines bytes
   pub within : from ≤ length bytes
   pub few : line ≤ from + 1
 
-module _ (bytes : List ℕ) (line from : ℕ) (events : List CasEvent)
+module _ (bytes : List ℕ) (line from : ℕ) (events : List AnyEvent)
     (so_far : IsReadTo bytes line from events) where
   -- the bytes from `from` on, as the code slices them
   abbrev rest_of : List ℕ
@@ -103,7 +104,7 @@ module _ (bytes : List ℕ) (line from : ℕ) (events : List CasEvent)
       ∙ ap (read_line line) (sym rest_is)
 
   -- a line more was taken in
-  pub read-more : (k : ℕ) (events_now : List CasEvent) → IsFirstByte (is_byte 10) rest_of (Some k)
+  pub read-more : (k : ℕ) (events_now : List AnyEvent) → IsFirstByte (is_byte 10) rest_of (Some k)
       → ((done : List Line) → AreTaken done events
       → AreTaken (done ++ read_line line (slice_range bytes from (from + k))) events_now)
       → IsReadTo bytes (line + 1) (from + k + 1) events_now
@@ -131,7 +132,7 @@ module _ (bytes : List ℕ) (line from : ℕ) (events : List CasEvent)
       ∙ so_far.all) (stops so_far.done _ so_far.taken)
 
   -- the last line was
-  pub all-read : (events_now : List CasEvent) → IsFirstByte (is_byte 10) rest_of None
+  pub all-read : (events_now : List AnyEvent) → IsFirstByte (is_byte 10) rest_of None
       → ((done : List Line) → AreTaken done events → AreTaken (done ++ read_line line rest_of) events_now)
       → AreTaken (history_lines bytes) events_now
   all-read events_now none takes =
@@ -148,7 +149,7 @@ module _ (bytes : List ℕ) (line from : ℕ) (events : List CasEvent)
       ∙ sym (cut_last none)) ∙ so_far.all) (stops so_far.done [] so_far.taken)
 
 -- none was taken in yet
-pub none-read : (bytes : List ℕ) (events : List CasEvent) → AreTaken [] events → IsReadTo bytes 1 0 events
+pub none-read : (bytes : List ℕ) (events : List AnyEvent) → AreTaken [] events → IsReadTo bytes 1 0 events
 none-read bytes events taken = record {
   done = [];
   taken = taken;

@@ -3,7 +3,8 @@ use Rattle.std.specs.Prelude.{◌≡◌, ◌<◌, ◌≤◌, ℕ, List, length, 
 use Rattle.history_text.specs.declared.limits.TheConstants.{MAX_INPUT}
 use Rattle.history_text.specs.Lines.{numbered_lines}
 use Rattle.reg_intake.specs.Ends.{IsAll, IsTooLong, IsWithinLimit}
-use Rattle.cas_text.specs.Reading.{event_reading}
+use Rattle.history_text.specs.Reading.{event_reading}
+use Rattle.history_text.specs.declared.event.Operations.TheVariants.{WithCas}
 use Rattle.cas_history.specs.History.{IsHistoryOf}
 use Rattle.cas_history.specs.Refusals.{Line, IsRefusal, IsWellFormed, events_of}
 use Rattle.cas_history.specs.declared.history.History.{History}
@@ -13,7 +14,7 @@ use Rattle.search_intake.specs.declared.refusal.Refusal.TheVariants.{NoRoom, Out
 
 -- what an input means: of each line that isn't blank its event or its least fault
 abbrev pub history_lines : List ℕ → List Line
-history_lines input = map (λ l. event_reading l.0 l.1) (numbered_lines input)
+history_lines input = map (λ l. event_reading WithCas l.0 l.1) (numbered_lines input)
 
 -- the history of an input that is within its limit and well formed
 pub record IsHistoryOfInput (input : List ℕ) (history : History) : Type 0 where

@@ -1,10 +1,11 @@
 -- Lines that are read and taken in one after another.
 use Rattle.std.specs.Prelude.{◌≡◌, ℕ, List, [], ◌∷◌, if◌then◌else◌}
 use Rattle.history_text.specs.Lines.{is_blank}
-use Rattle.cas_text.specs.Reading.{event_reading}
-use Rattle.cas_text.specs.declared.event.CasEvent.{CasEvent}
-use Rattle.cas_text.specs.declared.line.EventError.{EventError}
-use Rattle.cas_text.specs.declared.line.EventError.TheVariants as event_error
+use Rattle.history_text.specs.Reading.{event_reading}
+use Rattle.history_text.specs.declared.event.AnyEvent.{AnyEvent}
+use Rattle.history_text.specs.declared.event.Operations.TheVariants.{WithCas}
+use Rattle.history_text.specs.declared.line.LineError.{LineError}
+use Rattle.history_text.specs.declared.line.LineError.TheVariants as line_error
 use Rattle.cas_history.specs.Refusals.{Line, IsRefusal, IsWellFormed, events_of}
 use Rattle.cas_history.specs.declared.refusal.BuildError.{BuildError}
 use Rattle.cas_history.specs.declared.refusal.BuildError.TheVariants.{Refused, Memory}
@@ -12,10 +13,10 @@ use Rattle.cas_history.specs.declared.refusal.Reason.TheVariants.{Faulty}
 
 -- what line `n` means, unless it is blank
 abbrev pub read_line : ℕ → List ℕ → List Line
-read_line n bytes = if is_blank bytes then [] else event_reading n bytes ∷ []
+read_line n bytes = if is_blank bytes then [] else event_reading WithCas n bytes ∷ []
 
 -- none of the lines is faulty, and these are their events
-pub record AreTaken (lines : List Line) (events : List CasEvent) : Type 0 where
+pub record AreTaken (lines : List Line) (events : List AnyEvent) : Type 0 where
   pub well_formed : IsWellFormed lines
   pub are : events ≡ events_of lines
 
@@ -25,6 +26,6 @@ IsNoHistory lines (Refused r) = IsRefusal lines r
 IsNoHistory lines Memory = Unit {0}
 
 -- why there is no history of lines of which one has no event
-abbrev pub of_event : EventError → BuildError
-of_event (event_error.Fault fault) = Refused (record { line = fault.line; reason = Faulty fault.kind })
-of_event event_error.Memory = Memory
+abbrev pub of_event : LineError → BuildError
+of_event (line_error.Fault fault) = Refused (record { line = fault.line; reason = Faulty fault.kind })
+of_event line_error.Memory = Memory

@@ -8,7 +8,7 @@ ghost use Rattle.search_intake.specs.Input.{IsHistoryOfInput, history_lines};
 ghost use Rattle.search_intake.specs.Taken.{AreTaken, IsNoHistory, of_event, read_line};
 
 use cas_history::{BuildError, Events, History, LineRefusal, Reason};
-use cas_text::{EventError, read_event};
+use history_text::{LineError, Operations, read_event};
 use memchr::memchr;
 use std::alloc::Global;
 
@@ -47,22 +47,22 @@ fn take_line(alloc: Global, events: &mut Events, bytes: &[u8], line: u32) -> Res
     if is_blank(bytes) {
         return Ok(());
     }
-    match read_event(alloc, bytes, line) {
+    match read_event(alloc, bytes, line, Operations::WithCas) {
         Ok(event) => events.take(event),
         Err(error) => Err(no_event(error)),
     }
 }
 
 /// Why the event of a line can't be taken in, if there is none.
-fn no_event(error: EventError) -> BuildError
+fn no_event(error: LineError) -> BuildError
     ensures { result ≡ of_event error }
 {
     match error {
-        EventError::Fault(fault) => BuildError::Refused(LineRefusal {
+        LineError::Fault(fault) => BuildError::Refused(LineRefusal {
             line: fault.line,
             reason: Reason::Faulty(fault.kind),
         }),
-        EventError::Memory => BuildError::Memory,
+        LineError::Memory => BuildError::Memory,
     }
 }
 

@@ -6,7 +6,7 @@ use Rattle.std.proofs.lemmas.Option.{same_Some, slice_get_within}
 use Rattle.std.specs.List.{list_any}
 use Rattle.history_model.proofs.Lists.{slice_get_inside}
 use Rattle.history_model.specs.Lists.{In}
-use Rattle.cas_text.specs.declared.event.CasEvent.{CasEvent}
+use Rattle.history_text.specs.declared.event.AnyEvent.{AnyEvent}
 use Rattle.cas_model.specs.declared.operation.Operation.{Operation}
 use Rattle.cas_model.specs.Legal.{IsAtomic}
 use Rattle.cas_model.specs.Operations.{AreTimed, initial_write, of_register}
@@ -138,7 +138,7 @@ nothing_is_atomic = (
   },
 )
 
-module _ (events : List CasEvent) where
+module _ (events : List AnyEvent) where
   -- register r is atomic
   abbrev IsRegisterAtomic : ℕ → Type 0
   IsRegisterAtomic r = IsAtomic (initial_write r ∷ calls_of events r)

@@ -5,7 +5,7 @@ use Rattle.std.specs.Prelude.{◌≡◌, ◌<◌, ◌-◌, ◌&&◌, nat_lt, nat
 use Rattle.std.specs.Prelude.{if◌then◌else◌, List, ◌∷◌, length, map, get_or, count_by}
 use Rattle.std.specs.Prelude.{slice_get, Bool, true, false, is_none, Some, None, IfSome}
 use Rattle.history_model.specs.Lists.{In}
-use Rattle.cas_text.specs.declared.event.CasEvent.{CasEvent}
+use Rattle.history_text.specs.declared.event.AnyEvent.{AnyEvent}
 use Rattle.cas_model.specs.declared.act.Act.{Act}
 use Rattle.cas_model.specs.declared.act.Act.TheVariants.{Read, Write, Cas, Miss}
 use Rattle.cas_model.specs.declared.operation.Operation.{Operation}
@@ -138,11 +138,11 @@ IsAtomicity lines r ops (No fault) = (IsAtomic (initial_write r ∷ ops) → ⊥
 IsAtomicity lines r ops (Unknown bound) = IsFirstUnwritten ops None
 
 -- the lines of events
-abbrev pub event_lines : List CasEvent → List ℕ
+abbrev pub event_lines : List AnyEvent → List ℕ
 event_lines events = map (λ e. e.line) events
 
 -- the line of register r
-pub record IsRegisterReport (events : List CasEvent) (r : ℕ) (report : RegisterReport) : Type 0 where
+pub record IsRegisterReport (events : List AnyEvent) (r : ℕ) (report : RegisterReport) : Type 0 where
   pub name : slice_get (register_names events) r ≡ Some report.register
   pub cas : report.cas ≡ count_by is_cas (calls_of events r)
   pub pending : report.pending ≡ count_by is_pending (calls_of events r)
@@ -169,13 +169,13 @@ outcome_of reports =
     else (if list_any (λ reg. is_unknown reg.atomicity) reports then outcome.Unknown else outcome.Yes)
 
 -- a yes says that the whole history is atomic, and a no that it isn't (Herlihy and Wing, 1990)
-abbrev pub IsWholeOutcome : List CasEvent → Outcome → Type 0
+abbrev pub IsWholeOutcome : List AnyEvent → Outcome → Type 0
 IsWholeOutcome events outcome.Yes = IsAtomic (operations events)
 IsWholeOutcome events outcome.No = IsAtomic (operations events) → ⊥
 IsWholeOutcome events outcome.Unknown = Unit {0}
 
 -- the report of a history: the line of each register in the order of the first calls, and the summary
-pub record IsReport (events : List CasEvent) (report : Report) : Type 0 where
+pub record IsReport (events : List AnyEvent) (report : Report) : Type 0 where
   pub count : length report.registers.items ≡ length (register_names events)
   pub each : (r : ℕ) (reg : RegisterReport) → slice_get report.registers.items r ≡ Some reg
       → IsRegisterReport events r reg

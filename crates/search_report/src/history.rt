@@ -1,7 +1,7 @@
 //! The report of a whole history.
 ghost use Rattle.std.specs.Prelude.{◌≡◌, length, List, IfOk};
 ghost use Rattle.std.specs.List.{list_any};
-ghost use Rattle.cas_text.specs.declared.event.CasEvent.{CasEvent as AnEvent};
+ghost use Rattle.history_text.specs.declared.event.AnyEvent.{AnyEvent as AnEvent};
 ghost use Rattle.cas_history.specs.History.{IsHistoryOf};
 ghost use Rattle.search_report.specs.Meaning.{IsReport, is_no as is_no_of, outcome_of};
 ghost use Rattle.search_report.specs.Meaning.{is_unknown as is_unknown_of};

@@ -2,7 +2,7 @@
 //! of them, or one thread does; in the second, those on which the search gave up are searched again, one
 //! after another. So a history takes at most four times the steps of one register, and four workers hold
 //! about as much memory as one.
-ghost use Rattle.std.specs.Prelude.{IfOk};
+ghost use Rattle.std.specs.Prelude.{◌≡◌, ◌≤◌, ◌*◌, min, IfOk};
 ghost use Rattle.search_report.specs.Registers.{AreFindings, AreFindingsOf, IsFinding};
 
 use crate::register::{Finding, finding_of, is_unknown};
@@ -22,7 +22,11 @@ const REGISTERS_IN_A_ROUND: u64 = 2;
 const MOST_PARTS: u64 = 4;
 
 /// How far the search of each of this many registers goes if they are searched one after another.
-fn in_turn(bounds: Bounds, registers: usize) -> Bounds {
+fn in_turn(bounds: Bounds, registers: usize) -> Bounds
+    ensures each { result.steps ≤ bounds.steps }
+    ensures all { result.steps * registers ≤ 2 * bounds.steps }
+    ensures configurations { result.configurations ≡ bounds.configurations }
+{
     let steps = bounds.steps.saturating_mul(REGISTERS_IN_A_ROUND) / (registers as u64).max(1);
     Bounds {
         steps: bounds.steps.min(steps),
@@ -30,8 +34,12 @@ fn in_turn(bounds: Bounds, registers: usize) -> Bounds {
     }
 }
 
-/// How far it goes if several of them are searched at once.
-fn at_once(bounds: Bounds, registers: usize) -> Bounds {
+/// How far it goes if several of them are searched at once: those that are hold no more than one alone.
+fn at_once(bounds: Bounds, registers: usize) -> Bounds
+    ensures all { result.steps * registers ≤ 2 * bounds.steps }
+    ensures steps { result.steps * min registers 4 ≤ bounds.steps }
+    ensures configurations { result.configurations * min registers 4 ≤ bounds.configurations }
+{
     let parts = (registers as u64).clamp(1, MOST_PARTS);
     Bounds {
         steps: in_turn(bounds, registers).steps.min(bounds.steps / parts),

@@ -6,8 +6,8 @@ use cas_search::Bounds;
 /// The most workers that share the registers.
 pub const MAX_WORKERS: u32 = 16;
 
-/// How many workers share the registers, and how far the search for an order of each may go.
-/// The number of workers changes no report.
+/// How many workers share the registers, rounded down to a power of two, and how far the search for an order
+/// of each may go. The number of workers changes no report.
 #[derive(Clone, Copy, Debug)]
 pub struct Settings {
     workers: u32,

@@ -163,6 +163,15 @@ impl<const W: usize> Slots<W> {
         Some(at as u32 * 64 + word.trailing_zeros())
     }
 
+    /// How many slots are in the set.
+    pub fn count(&self) -> u32 {
+        let mut count: u32 = 0;
+        for at in 0..W {
+            count = count.saturating_add(self.words[at].count_ones());
+        }
+        count
+    }
+
     /// The least slot below `64 * W` that the set hasn't.
     #[inline(always)]
     pub fn first_missing(&self) -> Option<u32>

@@ -64,6 +64,7 @@ fn slots_put_in(rt: HostRuntime) -> Result<(), Fail> {
         (&[191, 5, u32::MAX], &[5]),
     ] {
         let set = set_of::<1>(put);
+        assert_eq!(rt; set.count() as usize, want.len(), "how many, of {put:?}");
         assert_eq!(rt;
             asked(rt.alloc(), &set)?.as_slice(),
             want,
@@ -84,6 +85,7 @@ fn slots_put_in(rt: HostRuntime) -> Result<(), Fail> {
         (&[64, 192, u32::MAX], &[64]),
     ] {
         let set = set_of::<3>(put);
+        assert_eq!(rt; set.count() as usize, want.len(), "how many, of {put:?}");
         assert_eq!(rt;
             asked(rt.alloc(), &set)?.as_slice(),
             want,

@@ -3,4 +3,4 @@ use Rattle.history_text.proofs.Joined.{Open}
 use Rattle.history_text.proofs.flat_members.flat_object.Given as goal
 
 abbrev pub invariant-loop : goal.invariant-loop
-invariant-loop l = Open l.text l.rest l.found
+invariant-loop l = Open l.fn.operations l.text l.rest l.found

@@ -1,6 +1,6 @@
 -- Each line feed ends a line, and the last line ends with the bytes.
 use Rattle.std.proofs.Common.{List, subst}
-use Rattle.cas_text.specs.declared.event.CasEvent.{CasEvent}
+use Rattle.history_text.specs.declared.event.AnyEvent.{AnyEvent}
 use Rattle.cas_history.specs.History.{IsHistoryOf}
 use Rattle.search_intake.specs.Input.{history_lines}
 use Rattle.search_intake.specs.Taken.{IsNoHistory}
@@ -39,6 +39,6 @@ returns-clause-ok c =
       within = c.requires;
       well_formed = read.well_formed;
       is =
-          subst (λ (events : List CasEvent). IsHistoryOf events c.in_ok-history.field-0) read.are
+          subst (λ (events : List AnyEvent). IsHistoryOf events c.in_ok-history.field-0) read.are
           c.in_ok-history.ensures;
     }

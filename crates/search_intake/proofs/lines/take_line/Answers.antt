@@ -6,17 +6,17 @@ use Rattle.search_intake.proofs.lines.take_line.Goals as goal
 pub returns-in-Ok-clause-ok : goal.returns-in-Ok-clause-ok
 returns-in-Ok-clause-ok c =
     event-taken c.args.line c.args.bytes.now (sym c.is_blank.ensures
-    ∙ c.if-is_blank.false) c.in-Ok.event c.in-Ok.ensures.meaning
+    ∙ c.if-is_blank.false) c.in-Ok.event c.in-Ok.ensures
     c.args.events.now c.take.new.self c.take.result c.take.ensures.ok c.take.ensures.accepted
 
 pub returns-in-Ok-clause-err : goal.returns-in-Ok-clause-err
 returns-in-Ok-clause-err c =
     event-refused c.args.line c.args.bytes.now (sym c.is_blank.ensures
-    ∙ c.if-is_blank.false) c.in-Ok.event c.in-Ok.ensures.meaning
+    ∙ c.if-is_blank.false) c.in-Ok.event c.in-Ok.ensures
     c.args.events.now c.take.result c.take.ensures.err
 
 pub returns-in-Err-clause-err : goal.returns-in-Err-clause-err
 returns-in-Err-clause-err c =
     no-event c.args.line c.args.bytes.now (sym c.is_blank.ensures
-    ∙ c.if-is_blank.false) c.in-Err.error c.in-Err.ensures.meaning c.no_event.result c.no_event.ensures
+    ∙ c.if-is_blank.false) c.in-Err.error c.in-Err.ensures c.no_event.result c.no_event.ensures
     c.args.events.now

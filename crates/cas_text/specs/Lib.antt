@@ -1,5 +1,0 @@
-pub mod Members
-pub mod Reading
-pub mod WithoutCas
-pub mod Faults
-pub mod Memory
