@@ -3,7 +3,7 @@
  * Records what the clients of a store call and get, and asks the programs `regcheck` and `regsearch` whether
  * it is linearizable.
  *
- *     const { Recorder } = require("./regcheck.cjs");
+ *     const { Recorder } = require("regcheck");
  *
  *     const recorder = new Recorder();
  *     const client = recorder.client("worker-1", "replica-1");
@@ -177,7 +177,7 @@ class Client {
  * - `valuesAfter`: what the values come after, by default 0. Where several processes or worker threads record
  *   one run, give each a number of its own, far from the others;
  * - `folder`: where assertLinearizable leaves what it found; by default regcheck-failures;
- * - `bounds`: of the search that cas and repeated values need: `steps`, by default 10,000,000,000, and
+ * - `bounds`: of the search that cas and repeated values need: `steps`, by default 1,000,000,000, and
  *   `configurations`, by default 65,536.
  */
 class Recorder {
@@ -214,14 +214,14 @@ class Recorder {
   /**
    * Throws unless the history is linearizable, a read was completed, and the recorder was used rightly. A cas
    * that was answered counts as a read. It says why in words, and leaves the history, its report and a page
-   * that shows the fault in the folder, named after the test. If the search for an order gave up, nobody
-   * knows: it throws NotChecked, which says what to do. The words and the page are made by `regkit`: where it
-   * isn't there, the report stands in their place.
+   * that shows the fault in the folder, named after the test; a pass deletes what an earlier run left there.
+   * If the search for an order gave up, nobody knows: it throws NotChecked, which says what to do. The words
+   * and the page are made by `regkit`: where it isn't there, the report stands in their place.
    */
   assertLinearizable(test) {
     if (this.mistakes.length > 0) throw this.mistakes[0];
     const begin = path.join(this.folder, test.replace(/[^A-Za-z0-9._-]+/g, "_").slice(-200));
-    assertLinearizable(this, { history: `${begin}.jsonl`, report: `${begin}.report`, page: `${begin}.html` });
+    assertLinearizable(this, begin);
   }
 
   /**
@@ -257,10 +257,12 @@ class Recorder {
   }
 }
 
+const isFile = (place) => fs.statSync(place, { throwIfNoEntry: false })?.isFile() ?? false;
+
 /** The path in the variable, or that of the program on PATH; else undefined. */
 function find(variable, name) {
   const places = (process.env.PATH ?? "").split(path.delimiter).map((folder) => path.join(folder, name));
-  return process.env[variable] || places.find((place) => fs.existsSync(place));
+  return process.env[variable] || places.find(isFile);
 }
 
 /**
@@ -268,7 +270,7 @@ function find(variable, name) {
  */
 function mustFind(variable, name) {
   const beside = path.join(path.dirname(find("REGCHECK", "regcheck") ?? ""), name);
-  const found = !process.env[variable] && fs.existsSync(beside) ? beside : find(variable, name);
+  const found = !process.env[variable] && isFile(beside) ? beside : find(variable, name);
   if (found !== undefined) return found;
   throw new NotChecked(`${name} was not found: put it on PATH, or set ${variable} to its path`);
 }
@@ -310,23 +312,50 @@ function check(history, bounds = {}) {
   throw new NotChecked(status === REFUSED ? words : `${program} ended with status ${status}: ${words}`);
 }
 
+const owners = new Map(); // by how the files begin that failed tests of this process left
+
+/** The files whose names begin so. */
+const filesOf = (begin) => ({
+  history: `${begin}.jsonl`, report: `${begin}.report`, page: `${begin}.html` });
+
+/** The files of a failed test; with a number behind their name, if another recorder has left some. */
+function filesFor(recorder, begin) {
+  let free = begin;
+  for (let number = 2; (owners.get(free) ?? recorder) !== recorder; number++) free = `${begin}-${number}`;
+  owners.set(free, recorder);
+  return filesOf(free);
+}
+
+/** Deletes what an earlier run left of a test that passed now. */
+function clear(begin) {
+  if (owners.has(begin)) return;
+  for (const file of Object.values(filesOf(begin))) fs.rmSync(file, { force: true });
+}
+
 function keep(file, text) {
   fs.mkdirSync(path.dirname(file), { recursive: true });
   fs.writeFileSync(file, text);
 }
 
-function assertLinearizable(recorder, files) {
+function assertLinearizable(recorder, begin) {
   const { bounds, reads } = recorder;
   const history = recorder.history();
+  const kept = () => {
+    const files = filesFor(recorder, begin);
+    keep(files.history, history);
+    return files;
+  };
   let checked;
   try {
     checked = check(history, bounds);
   } catch (error) {
-    keep(files.history, history);
-    throw new NotChecked(`no verdict: ${error.message}\n\nhistory: ${files.history}`, { cause: error });
+    throw new NotChecked(`no verdict: ${error.message}\n\nhistory: ${kept().history}`, { cause: error });
   }
-  if (checked.verdict === "yes" && reads > 0) return;
-  keep(files.history, history);
+  if (checked.verdict === "yes" && reads > 0) {
+    clear(begin);
+    return;
+  }
+  const files = kept();
   keep(files.report, checked.report);
   if (checked.verdict === "yes") {
     throw new NotLinearizable("too little evidence: the history is linearizable, but no read was "

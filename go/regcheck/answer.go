@@ -4,6 +4,7 @@ import (
 	"errors"
 	"fmt"
 	"os"
+	"path/filepath"
 	"strconv"
 	"strings"
 )
@@ -107,7 +108,7 @@ func (answer Answer) Words() (string, error) {
 		return "", err
 	}
 	defer os.RemoveAll(folder)
-	files := filesOf(folder, "history")
+	files := filesOf(filepath.Join(folder, "history"))
 	if err := files.keep(answer.History, answer.Report); err != nil {
 		return "", err
 	}

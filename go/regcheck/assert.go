@@ -6,6 +6,7 @@ import (
 	"path/filepath"
 	"regexp"
 	"strings"
+	"sync"
 )
 
 // TB is what is asked of a *testing.T, *testing.B or *testing.F.
@@ -32,10 +33,10 @@ func Record(test TB) *Recorder {
 // Assert fails the test unless the history is linearizable, a read was completed, and the recorder was used
 // rightly. A compare-and-swap that was answered counts as a read. It says whether the test may go on.
 //
-// It says why in words, and leaves the history, its report and a page that shows the fault in Folder. If
-// the search for an order gave up, nobody knows: that fails the test too, and the words say what to do.
-// The words and the page are made by regkit: where it isn't there, Assert says so, and gives the lines of
-// the report instead.
+// It says why in words, and leaves the history, its report and a page that shows the fault in Folder, named
+// after the test; a pass deletes what an earlier run left there. If the search for an order gave up, nobody
+// knows: that fails the test too, and the words say what to do. The words and the page are made by regkit:
+// where it isn't there, Assert says so, and gives the lines of the report instead.
 func (recorder *Recorder) Assert(test TB) bool {
 	test.Helper()
 	if err := recorder.Err(); err != nil {
@@ -49,7 +50,7 @@ func (recorder *Recorder) Assert(test TB) bool {
 		folder = failuresFolder
 	}
 	answer, err := CheckHistory(recorder.History(), bounds...)
-	return assert(test, filesOf(folder, test.Name()), answer, err, reads)
+	return assert(test, keeper{folder, recorder}, answer, err, reads)
 }
 
 // AssertOperations is CheckOperations for a test: it fails the test as Assert does.
@@ -67,14 +68,16 @@ func AssertOperations[O any](test TB, operations []O, as func(O) Operation, boun
 		return false
 	}
 	answer, err := CheckHistory(history, bounds...)
-	return assert(test, filesOf(failuresFolder, test.Name()), answer, err, reads)
+	return assert(test, keeper{failuresFolder, &answer}, answer, err, reads)
 }
 
-func assert(test TB, files files, answer Answer, err error, reads int) bool {
+func assert(test TB, keeper keeper, answer Answer, err error, reads int) bool {
 	test.Helper()
 	if err == nil && answer.Verdict == Yes && reads > 0 {
+		keeper.clear(test.Name())
 		return true
 	}
+	files := keeper.files(test.Name())
 	if unkept := files.keep(answer.History, answer.Report); unkept != nil {
 		test.Errorf("what the test recorded can't be kept: %v", unkept)
 	}
@@ -93,15 +96,49 @@ func assert(test TB, files files, answer Answer, err error, reads int) bool {
 // files are what a failed test leaves behind.
 type files struct{ history, report, page string }
 
-var unfit = regexp.MustCompile(`[^A-Za-z0-9._-]+`)
+func filesOf(begin string) files { return files{begin + ".jsonl", begin + ".report", begin + ".html"} }
 
-func filesOf(folder, test string) files {
+var (
+	unfit = regexp.MustCompile(`[^A-Za-z0-9._-]+`)
+	taken sync.Map // how the files begin that failed tests of this process left, each with its owner
+)
+
+// A keeper is who leaves files of failed tests, and where.
+type keeper struct {
+	folder string
+	owner  any
+}
+
+func (keeper keeper) begin(test string) string {
 	name := unfit.ReplaceAllString(test, "_")
 	if len(name) > 200 {
 		name = name[len(name)-200:]
 	}
-	begin := filepath.Join(folder, name)
-	return files{begin + ".jsonl", begin + ".report", begin + ".html"}
+	return filepath.Join(keeper.folder, name)
+}
+
+// files gives those that are named after the test; with a number behind it if another owner has them.
+func (keeper keeper) files(test string) files {
+	begin := keeper.begin(test)
+	free := begin
+	for number := 2; ; number++ {
+		if owner, _ := taken.LoadOrStore(free, keeper.owner); owner == keeper.owner {
+			return filesOf(free)
+		}
+		free = fmt.Sprintf("%s-%d", begin, number)
+	}
+}
+
+// clear deletes what an earlier run left of a test that passed now.
+func (keeper keeper) clear(test string) {
+	begin := keeper.begin(test)
+	if _, kept := taken.Load(begin); kept {
+		return
+	}
+	files := filesOf(begin)
+	for _, file := range []string{files.history, files.report, files.page} {
+		_ = os.Remove(file) // mostly there is none
+	}
 }
 
 // keep writes the history, and its report if there is one.

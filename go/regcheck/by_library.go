@@ -2,12 +2,20 @@
 
 package regcheck
 
-// The archive stands in lib in a release, and in bin in the repository; else where the C compiler looks.
+// The header and the archive stand beside this file in a release, where `go mod vendor` takes them along, and
+// in bin in the repository; else where the C compiler looks.
 
 /*
-#cgo CFLAGS: -I${SRCDIR}/../../include -I${SRCDIR}/../../library
-#cgo LDFLAGS: -L${SRCDIR}/../../lib -L${SRCDIR}/../../bin -l:libregcheck.a
+#cgo CFLAGS: -I${SRCDIR} -I${SRCDIR}/../../bin
+#cgo LDFLAGS: -L${SRCDIR} -L${SRCDIR}/../../bin -l:libregcheck.a
+#if !__has_include(<regcheck.h>)
+#error "there is no libregcheck: to run the programs, build with -tags regcheck_program or CGO_ENABLED=0"
+#else
 #include <regcheck.h>
+#ifndef REGCHECK_VERSION
+#error "libregcheck is too old for this package: install that of the same release"
+#endif
+#endif
 */
 import "C"
 

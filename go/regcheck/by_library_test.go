@@ -5,7 +5,7 @@ package regcheck_test
 import (
 	"testing"
 
-	"regcheck"
+	"example.org/regcheck"
 )
 
 // The library has the verdicts, and the words of refusals: no program is run.

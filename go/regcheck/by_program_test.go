@@ -10,7 +10,7 @@ import (
 	"strings"
 	"testing"
 
-	"regcheck"
+	"example.org/regcheck"
 )
 
 // Without regsearch, what regcheck refuses has no answer.
@@ -32,6 +32,21 @@ func TestSearchNotFound(t *testing.T) {
 	var refusal *regcheck.Refusal
 	if !errors.As(err, &refusal) || refusal.Line != 9 ||
 		!strings.Contains(err.Error(), "; repeated values and cas need regsearch, but ") {
+		t.Errorf("%v", err)
+	}
+}
+
+// A folder that has the name of a program isn't taken for it.
+func TestFolder(t *testing.T) {
+	path := alone(t)
+	if err := os.Mkdir(filepath.Join(filepath.Dir(path), "regsearch"), 0o777); err != nil {
+		t.Fatal(err)
+	}
+	t.Setenv("REGSEARCH", "")
+	t.Setenv("REGCHECK", path)
+	t.Setenv("PATH", "")
+	_, err := regcheck.Check(valueTwice())
+	if err == nil || !strings.Contains(err.Error(), "regsearch was not found") {
 		t.Errorf("%v", err)
 	}
 }

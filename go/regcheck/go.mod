@@ -1,3 +1,3 @@
-module regcheck
+module example.org/regcheck
 
 go 1.18

@@ -45,7 +45,8 @@ func (missing notFound) Error() string { return missing.words }
 func companion(variable, name string) (string, error) {
 	checker, err := checker()
 	beside := filepath.Join(filepath.Dir(checker), name)
-	if _, missing := os.Stat(beside); err == nil && missing == nil && os.Getenv(variable) == "" {
+	if about, missing := os.Stat(beside); err == nil && missing == nil && about.Mode().IsRegular() &&
+		os.Getenv(variable) == "" {
 		return beside, nil
 	}
 	return program(variable, name)

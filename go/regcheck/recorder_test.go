@@ -10,7 +10,7 @@ import (
 	"sync"
 	"testing"
 
-	"regcheck"
+	"example.org/regcheck"
 )
 
 var errTime, errRefused = errors.New("no answer in time"), errors.New("connection refused")
@@ -276,6 +276,41 @@ func TestUnknown(t *testing.T) {
 				t.Errorf("%q isn't in %q", want, said)
 			}
 		}
+	}
+}
+
+// Failed tests of one name have files of their own; a pass deletes only those of an earlier run.
+func TestFiles(t *testing.T) {
+	folder := t.TempDir()
+	named := func(name string) string { return filepath.Join(folder, name) }
+	passes := func() {
+		right := &regcheck.Recorder{Folder: folder}
+		_, _ = right.Client("one").Read("x", gives(nil, nil))
+		if said := asserted(right); said != "" {
+			t.Error(said)
+		}
+	}
+	if err := os.WriteFile(named("TestTold_a_b.report"), nil, 0o666); err != nil {
+		t.Fatal(err)
+	}
+	passes()
+	if _, err := os.Stat(named("TestTold_a_b.report")); !errors.Is(err, os.ErrNotExist) {
+		t.Errorf("a pass deletes what an earlier run left: %v", err)
+	}
+	t.Setenv("REGKIT", "/nowhere/regkit")
+	for place, file := range []string{"TestTold_a_b.jsonl", "TestTold_a_b-2.jsonl"} {
+		recorder := &regcheck.Recorder{Folder: folder}
+		_, _ = recorder.Client("one").Read("x", gives(regcheck.Value(int64(7+place)), nil))
+		for time := 0; time < 2; time++ {
+			_ = asserted(recorder)
+		}
+		passes()
+		if have, err := os.ReadFile(named(file)); err != nil || string(have) != string(recorder.History()) {
+			t.Errorf("%s: %v\n%s", file, err, have)
+		}
+	}
+	if _, err := os.Stat(named("TestTold_a_b-3.jsonl")); err == nil {
+		t.Error("a recorder has one name")
 	}
 }
 

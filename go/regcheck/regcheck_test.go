@@ -10,7 +10,7 @@ import (
 	"sync"
 	"testing"
 
-	"regcheck"
+	"example.org/regcheck"
 )
 
 // A write of 1, then a write of 2 that is open while two reads begin and end: the first gives 2, the

@@ -14,7 +14,7 @@ import java.util.HashMap;
 import java.util.List;
 import java.util.Map;
 import java.util.Optional;
-import java.util.TreeMap;
+import java.util.concurrent.ConcurrentHashMap;
 import java.util.function.Function;
 import java.util.function.LongSupplier;
 import java.util.stream.Collectors;
@@ -49,7 +49,7 @@ public final class Recorder {
     private long valuesAfter;
     private Path folder = Path.of("regcheck-failures");
     private long processes;
-    private final Map<String, Long> bounds = new TreeMap<>(); // of regsearch, by its options
+    private Bounds bounds = Bounds.DEFAULT;
     private long reads; // completed ones, and cas that were answered
 
     /** Keeps the history in memory, with the times of the machine's monotonic clock. */
@@ -82,13 +82,13 @@ public final class Recorder {
      * Says how many steps the search that cas and repeated values need may take, in place of 1,000,000,000.
      */
     public Recorder steps(long most) {
-        bounds.put("--steps", most);
+        bounds = new Bounds(most, bounds.configurations());
         return this;
     }
 
     /** Says how many configurations that search may hold in one list, in place of 65,536. */
     public Recorder configurations(long most) {
-        bounds.put("--configurations", most);
+        bounds = new Bounds(bounds.steps(), most);
         return this;
     }
 
@@ -115,50 +115,73 @@ public final class Recorder {
     /**
      * Throws unless the history is linearizable, a read was completed, and the recorder was used rightly. A
      * cas that was answered counts as a read. It says why in words, and leaves the history, its report and a
-     * page that shows the fault in the folder, named after the test. If the search for an order gave up,
-     * nobody knows: it throws NotChecked, which says what to do. The words and the page are made by
-     * {@code regkit}: where it isn't there, the report stands in their place.
+     * page that shows the fault in the folder, named after the test; a pass deletes what an earlier run left
+     * there. Name the class with the test, so that a pass deletes no other test's files. If the search for an
+     * order gave up, nobody knows: it throws NotChecked, which says what to do. The words and the page are
+     * made by {@code regkit}: where it isn't there, the report stands in their place.
      */
     public void assertLinearizable(String test) {
         for (Mistake mistake : mistakes()) {
             throw mistake;
         }
         String name = test.replaceAll("[^A-Za-z0-9._-]+", "_");
-        Kept kept = new Kept(folder.resolve(name.substring(Math.max(0, name.length() - 200))).toString());
+        Path begin = folder.resolve(name.substring(Math.max(0, name.length() - 200)));
         Answer answer;
         try {
-            answer = check(history(), options());
+            answer = check(history(), bounds);
         } catch (NotChecked none) {
-            kept.keep(kept.history(), history());
+            Kept kept = keep(begin);
             throw new NotChecked("no verdict: " + none.getMessage() + "\n\nhistory: " + kept.history());
         }
         if (answer.verdict() == Verdict.YES && hasRead()) {
+            Kept.delete(begin);
             return;
         }
+        fail(keep(begin), answer);
+    }
+
+    private Kept keep(Path begin) {
+        Kept kept = Kept.of(this, begin);
         kept.keep(kept.history(), history());
+        return kept;
+    }
+
+    private static void fail(Kept kept, Answer answer) {
         kept.keep(kept.report(), answer.report());
         switch (answer.verdict()) {
             case YES -> throw new NotLinearizable("too little evidence: the history is linearizable, but no "
                     + "read was completed\n\nhistory: " + kept.history());
-            case NO -> throw new NotLinearizable(kept.explain(answer, options()));
-            case UNKNOWN -> throw new NotChecked(kept.explain(answer, options())
-                    + "\nbounds: give the recorder more steps or configurations");
+            case NO -> throw new NotLinearizable(kept.explain(answer));
+            case UNKNOWN -> throw new NotChecked(
+                    kept.explain(answer) + "\nbounds: give the recorder more steps or configurations");
         }
-    }
-
-    private List<String> options() {
-        return bounds.entrySet().stream()
-                .flatMap(bound -> Stream.of(bound.getKey(), bound.getValue().toString())).toList();
     }
 
     /** Whether a history is linearizable. Of UNKNOWN the search for an order gave up at a bound. */
     public enum Verdict { YES, NO, UNKNOWN }
 
     /**
-     * The verdict on a history, and the report of regcheck, or of regsearch where regcheck
-     * refuses the history.
+     * Where the search gives up that cas and repeated values need: the steps that it takes for a register,
+     * and the configurations that it holds in one list. Null stands for its default, 1,000,000,000 and
+     * 65,536. Bounds count work and never time.
      */
-    public record Answer(Verdict verdict, byte[] report) {
+    public record Bounds(Long steps, Long configurations) {
+        private static final Bounds DEFAULT = new Bounds(null, null);
+
+        private List<String> options() {
+            return concat(option("--steps", steps), option("--configurations", configurations));
+        }
+
+        private static List<String> option(String name, Long most) {
+            return most == null ? List.of() : List.of(name, most.toString());
+        }
+    }
+
+    /**
+     * The verdict on a history, the report of regcheck, or of regsearch where regcheck refuses the history,
+     * and the bounds within which regsearch was asked.
+     */
+    public record Answer(Verdict verdict, byte[] report, Bounds bounds) {
         /**
          * Why the history isn't linearizable, or what to do if nobody knows, as {@code regkit explain} says
          * it; of YES, nothing. Throws NotChecked if there are no words.
@@ -169,14 +192,13 @@ public final class Recorder {
             }
             try {
                 Path folder = Files.createTempDirectory("regcheck-");
-                Kept kept = new Kept(folder.resolve("history").toString());
+                Kept kept = new Kept(folder.resolve("history"));
                 try {
                     kept.keep(kept.history(), history);
                     kept.keep(kept.report(), report);
-                    return kept.told(List.of()).substring((kept.history() + ": ").length());
+                    return kept.told(bounds).substring((kept.history() + ": ").length());
                 } finally {
-                    Files.deleteIfExists(Path.of(kept.history()));
-                    Files.deleteIfExists(Path.of(kept.report()));
+                    Kept.delete(kept.begin());
                     Files.delete(folder);
                 }
             } catch (IOException error) {
@@ -190,10 +212,11 @@ public final class Recorder {
      * in the words of the program, if there is no verdict.
      */
     public static Answer check(byte[] history) {
-        return check(history, List.of());
+        return check(history, Bounds.DEFAULT);
     }
 
-    private static Answer check(byte[] history, List<String> bounds) {
+    /** The same within these bounds of regsearch. */
+    public static Answer check(byte[] history, Bounds bounds) {
         String program = Programs.regcheck();
         Ran ran = Ran.run(history, List.of(program));
         if (ran.status() == REFUSED) {
@@ -203,12 +226,12 @@ public final class Recorder {
                 throw new NotChecked(
                         ran.words() + "; repeated values and cas need regsearch, but " + none.getMessage());
             }
-            ran = Ran.run(history, concat(List.of(program), bounds));
+            ran = Ran.run(history, concat(List.of(program), bounds.options()));
         }
         return switch (ran.status()) {
-            case ATOMIC -> new Answer(Verdict.YES, ran.output());
-            case NOT_ATOMIC -> new Answer(Verdict.NO, ran.output());
-            case GAVE_UP -> new Answer(Verdict.UNKNOWN, ran.output());
+            case ATOMIC -> new Answer(Verdict.YES, ran.output(), bounds);
+            case NOT_ATOMIC -> new Answer(Verdict.NO, ran.output(), bounds);
+            case GAVE_UP -> new Answer(Verdict.UNKNOWN, ran.output(), bounds);
             case REFUSED -> throw new NotChecked(ran.words());
             default -> throw new NotChecked(
                     program + " ended with status " + ran.status() + ": " + ran.words());
@@ -459,14 +482,18 @@ public final class Recorder {
             return named(variable)
                     .or(() -> find("REGCHECK", "regcheck")
                             .map(checker -> Path.of(checker).resolveSibling(name))
-                            .filter(Files::isExecutable).map(Path::toString))
+                            .filter(Programs::isProgram).map(Path::toString))
                     .or(() -> find(variable, name)).orElseThrow(() -> missing(variable, name));
         }
 
         private static Optional<String> find(String variable, String name) {
             return named(variable).or(() -> Stream.of(System.getenv().getOrDefault("PATH", "").split(":"))
-                    .map(folder -> Path.of(folder, name)).filter(Files::isExecutable)
+                    .map(folder -> Path.of(folder, name)).filter(Programs::isProgram)
                     .map(Path::toString).findFirst());
+        }
+
+        private static boolean isProgram(Path path) {
+            return Files.isRegularFile(path) && Files.isExecutable(path);
         }
 
         /** The path in the system property or the variable of this name. */
@@ -507,7 +534,37 @@ public final class Recorder {
     }
 
     /** What a failed test leaves behind, as files whose names begin alike. */
-    private record Kept(String begin) {
+    private record Kept(Path begin) {
+        // Of failed tests of this process.
+        private static final Map<Path, Recorder> OWNERS = new ConcurrentHashMap<>();
+
+        /** The files of this name; or with a number behind it, if another recorder has left some. */
+        static Kept of(Recorder owner, Path begin) {
+            Path free = begin;
+            for (int number = 2; owner != ownerOf(free, owner); number++) {
+                free = begin.resolveSibling(begin.getFileName() + "-" + number);
+            }
+            return new Kept(free);
+        }
+
+        private static Recorder ownerOf(Path begin, Recorder otherwise) {
+            return OWNERS.computeIfAbsent(begin.toAbsolutePath(), free -> otherwise);
+        }
+
+        /** Deletes the files of this name, unless a failed test of this process has them. */
+        static void delete(Path begin) {
+            if (OWNERS.containsKey(begin.toAbsolutePath())) {
+                return;
+            }
+            try {
+                for (String end : List.of(".jsonl", ".report", ".html")) {
+                    Files.deleteIfExists(Path.of(begin + end));
+                }
+            } catch (IOException error) {
+                throw new UncheckedIOException(error);
+            }
+        }
+
         String history() {
             return begin + ".jsonl";
         }
@@ -527,10 +584,10 @@ public final class Recorder {
         }
 
         /** Why the kept history isn't linearizable, or what to do if nobody knows, in the words of regkit. */
-        String told(List<String> bounds) {
+        String told(Bounds bounds) {
             List<String> command =
                     List.of(Programs.regkit(), "explain", "--color", "never", history(), report());
-            Ran told = Ran.run(new byte[0], concat(command, bounds));
+            Ran told = Ran.run(new byte[0], concat(command, bounds.options()));
             if (told.status() != NOT_ATOMIC && told.status() != GAVE_UP) {
                 throw new NotChecked(told.words());
             }
@@ -538,11 +595,11 @@ public final class Recorder {
         }
 
         /** The words, and where the files are; it has the page drawn too. */
-        String explain(Answer answer, List<String> bounds) {
+        String explain(Answer answer) {
             String kept = "history: " + history() + "\nreport: " + report();
             String page = begin + ".html";
             try {
-                String told = told(bounds);
+                String told = told(answer.bounds());
                 Ran drawn = Ran.run(
                         new byte[0], List.of(Programs.regkit(), "draw", history(), report(), "-o", page));
                 return told + "\n\n" + kept + "\n"

@@ -221,10 +221,45 @@ final class RecorderTest {
         System.clearProperty("regkit");
         expect(told.matches("explain --color never \\S+history.jsonl \\S+history.report"), told);
         expect(none.contains("/nowhere/regkit could not be run"), none);
+        // A search of one step gives up, and regkit is told so.
+        Recorder.Answer unknown = Recorder.check(recorder.history(), new Recorder.Bounds(1L, null));
+        System.setProperty("regkit", regkit.toString());
+        String bounded = unknown.words(recorder.history());
+        System.clearProperty("regkit");
+        expect(unknown.verdict() == Recorder.Verdict.UNKNOWN, unknown.toString());
+        expect(bounded.matches("explain .* --steps 1"), bounded);
         expect(Recorder.check(new byte[0]).words(new byte[0]).isEmpty(), "of a yes there is nothing to say");
     }
 
-    static void noVerdict() {
+    /** Failed tests of one name have files of their own; a pass deletes only those of an earlier run. */
+    static void files() throws Exception {
+        Path earlier = folder.resolve("earlier.report");
+        Files.writeString(earlier, "");
+        for (Row row : List.of(new Row("same", "same.jsonl", recorder -> read(recorder, 7)),
+                new Row("same", "same-2.jsonl", recorder -> read(recorder, 8)))) {
+            Recorder recorder = new Recorder().keepIn(folder);
+            row.use().accept(recorder);
+            for (int time = 0; time < 2; time++) {
+                thrown(Recorder.NotLinearizable.class, () -> recorder.assertLinearizable(row.name()));
+            }
+            String kept = Files.readString(folder.resolve(row.words()));
+            expect(kept.equals(text(recorder.history())), row.words() + ": " + kept);
+        }
+        expect(!Files.exists(folder.resolve("same-3.jsonl")), "a recorder has one name");
+        for (String test : List.of("earlier", "same")) {
+            Recorder right = new Recorder().keepIn(folder);
+            read(right, null);
+            right.assertLinearizable(test);
+        }
+        expect(!Files.exists(earlier), "a pass deletes what an earlier run left");
+        expect(Files.exists(folder.resolve("same.report")), "a pass deletes no other test's files");
+    }
+
+    private static void read(Recorder recorder, Object value) {
+        recorder.client("one").read("x", () -> value);
+    }
+
+    static void noVerdict() throws Exception {
         byte[] none = "[]\n".getBytes(StandardCharsets.UTF_8);
         String first = thrown(Recorder.NotChecked.class, () -> Recorder.check(none)).getMessage();
         expect(first.startsWith("line 1: "), "refused");
@@ -236,6 +271,14 @@ final class RecorderTest {
         String words = thrown(Recorder.NotChecked.class, () -> Recorder.check(none)).getMessage();
         System.clearProperty("regcheck");
         expect(words.contains("/nowhere/regcheck could not be run"), words);
+        Path beside = Files.createDirectories(folder.resolve("beside/regsearch"));
+        Path refusing = beside.resolveSibling("regcheck");
+        Files.writeString(refusing, "#!/bin/sh\nexit 2\n");
+        expect(refusing.toFile().setExecutable(true), "it can be run");
+        System.setProperty("regcheck", refusing.toString());
+        String notFound = thrown(Recorder.NotChecked.class, () -> Recorder.check(none)).getMessage();
+        System.clearProperty("regcheck");
+        expect(!notFound.contains("could not be run"), "a folder is taken for regsearch: " + notFound);
     }
 
     private interface Action {
@@ -268,6 +311,7 @@ final class RecorderTest {
                 "threads", RecorderTest::threads, "evidence", RecorderTest::evidence,
                 "unknown", RecorderTest::unknown, "valuesAfter", RecorderTest::valuesAfter,
                 "faultWithoutRegkit", RecorderTest::faultWithoutRegkit, "words", RecorderTest::words,
+                "files", RecorderTest::files,
                 "noVerdict", RecorderTest::noVerdict);
         int failed = 0;
         for (Map.Entry<String, Action> test : tests.entrySet()) {

@@ -179,6 +179,38 @@ test("a fault is told without regkit too", async () => {
   assert.strictEqual(fs.readFileSync(path.join(folder, "a_fault_1.jsonl"), "utf8"), recorder.history());
 });
 
+test("failed tests of one name have files of their own, and a pass deletes earlier ones", async () => {
+  const named = (name) => path.join(folder, name);
+  fs.writeFileSync(named("earlier.report"), "");
+  for (const [value, file] of [[7, "same.jsonl"], [8, "same-2.jsonl"]]) {
+    const recorder = new Recorder({ folder });
+    await recorder.client().read("x", () => value);
+    for (let time = 0; time < 2; time++) {
+      assert.throws(() => recorder.assertLinearizable("same"), NotLinearizable);
+    }
+    assert.strictEqual(fs.readFileSync(named(file), "utf8"), recorder.history());
+  }
+  for (const test of ["earlier", "same"]) {
+    const recorder = new Recorder({ folder });
+    await recorder.client().read("x", () => null);
+    recorder.assertLinearizable(test);
+  }
+  const left = ["same-3.jsonl", "earlier.report", "same.report"].map((name) => fs.existsSync(named(name)));
+  assert.deepStrictEqual(left, [false, false, true]);
+});
+
+test("a folder isn't taken for a program of its name", () => {
+  const beside = path.join(folder, "beside");
+  fs.mkdirSync(path.join(beside, "regsearch"), { recursive: true });
+  fs.writeFileSync(path.join(beside, "regcheck"), "#!/bin/sh\nexit 2\n", { mode: 0o755 });
+  withProgram("REGCHECK", path.join(beside, "regcheck"), () => assert.throws(() => check("[]\n"),
+    (error) => !error.message.includes("could not be run")));
+  withProgram("REGCHECK", "", () => withProgram("PATH", `${folder}:${beside}/..`, () => {
+    fs.mkdirSync(path.join(folder, "regcheck"));
+    assert.throws(() => check(""), /regcheck was not found/);
+  }));
+});
+
 test("the checker's own words say why there is no verdict", () => {
   assert.throws(() => check("[]\n"),
     (error) => error instanceof NotChecked && error.message.startsWith("line 1: "));

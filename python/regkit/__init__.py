@@ -6,6 +6,7 @@ Its packages are floors, the lowest first. A module imports from its own floor a
     words       how things are said to a person
     history     a recorded history, and how it is read
     recording   a history in the making
+    convert     histories of other tools
     checker     the checkers, and what they answer
     verify      each claim of a report, checked by the definitions alone
     evidence    what a yes rests on
@@ -14,7 +15,6 @@ Its packages are floors, the lowest first. A module imports from its own floor a
     judging     what came out of checking a history, and how it is told
     parts       a history of any size in parts
     merge       one history of what several recorders wrote
-    convert     histories of other tools
     commands    the commands, a module each
 
 Above them are the modules that a test imports: `record`, `testing`, `pytest_plugin` and `library`. `cli` is

@@ -29,10 +29,19 @@ such a history, and `assert_atomic` chooses it:
         cas.ok = store.compare_and_set("lock", 0, 1)  # False only if the store found another value
 
 Threads and asyncio tasks share one recorder, and each takes a client of its own. No lock is held inside a
-block, so a block may await. A program that forks needs a recorder in each of its processes, each with values
-of its own, and a clock: `regkit merge` then makes one history of theirs.
+block, so a block may await; `async with` does the same as `with`.
+
+A client of your store can be wrapped in place of blocks. It may be an async one, and tasks may share it:
+
+    store = recorder.wrap(redis.Redis(), Methods(read="get", write="set", others=("ping",)))
+    store.set("x", 1)
+
+A program that forks needs a recorder in each of its processes, each with values of its own, and a clock:
+`regkit merge` then makes one history of theirs. One that was carried over a fork refuses each call.
 
     Recorder(f"history-{number}.jsonl", clock=time.monotonic_ns, values_after=number * 1_000_000)
+
+`recorder.counts` says how many calls there are, and `Recorder(progress=True)` shows it on the terminal.
 
 A store that isn't empty gives values that this run never wrote. Empty it, or let the run use keys of its own:
 
@@ -44,8 +53,10 @@ A client's name and its node stand on its lines, so that `regkit explain` and `r
 """
 from regkit.recording.calls import Call, Cas, Read, Write
 from regkit.recording.client import Client
-from regkit.recording.journal import RecordingError
+from regkit.recording.journal import Counts, RecordingError
 from regkit.recording.recorder import Recorder
 from regkit.recording.values import number_of
+from regkit.recording.wrapped import Methods, Wrapped
 
-__all__ = ["Call", "Cas", "Client", "Read", "Recorder", "RecordingError", "Write", "number_of"]
+__all__ = ["Call", "Cas", "Client", "Counts", "Methods", "Read", "Recorder", "RecordingError", "Wrapped",
+           "Write", "number_of"]

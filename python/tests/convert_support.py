@@ -59,7 +59,7 @@ def choices(form: str, *options: str) -> Choices:
     """What options say."""
     parser = argparse.ArgumentParser()
     convert.add_arguments(parser)
-    return choices_of(parser.parse_args(["--from", form, *options]))
+    return choices_of(parser.parse_args(options), form)
 
 
 def history_of(source: str, form: str, *options: str) -> str:

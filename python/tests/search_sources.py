@@ -121,7 +121,7 @@ def verdicts(histories: Iterable[str], program: str) -> List[bool]:
         for event in map(json.loads, history.splitlines()):
             event["process"] += first
             most = max(most, event["process"])
-            if event["event"] == "call":
+            if "register" in event:
                 event["register"] = f"{place}/{event['register']}"
             lines.append(json.dumps(event))
         first = most + 1

@@ -10,9 +10,9 @@ import tempfile
 from contextlib import redirect_stderr, redirect_stdout
 from typing import Any, Callable, Dict, List, NamedTuple, Optional, Tuple
 
-from regkit.checker.programs import (SEARCH, Answer, find_program, is_for_search, run_checker, run_search,
-                                     searched)
+from regkit.checker.programs import CHECK, SEARCH, Answer, find_program, run_checker, run_search
 from regkit.commands import join, split
+from regkit.history.lines import NotJson, json_of, numbered_lines
 from regkit.parts.folder import file_of, read_manifest
 
 Check = Callable[[bytes], Answer]
@@ -27,7 +27,6 @@ ODD_LINES = ["", " \t", "\r", "[]", "null", "7", "{}", "not json", "\ufeff{}", '
              '{"process":1,"event":"call","op":"read","register":""}',
              '{"process":1,"event":"call","op":"write","register":"a","value":1.0}']
 WHO: List[Tuple[str, Any]] = [("client", "w-3"), ("node", "\u00e9"), ("time", 12031000000)]
-FOR_SEARCH = "regsearch takes repeated values and cas: check each part with it in place of regcheck\n"
 
 
 class Ran(NamedTuple):
@@ -68,18 +67,9 @@ def check_parts(directory: str, check: Check = run_checker) -> None:
 
 
 def whole(history: bytes, check: Check = run_checker) -> Ran:
-    """What one run over the whole history answers, and what join adds where another program takes more."""
+    """What one run over the whole history answers."""
     answer = check(history)
-    words = answer.refusal + "\n" if answer.refusal else ""
-    return Ran(answer.status, answer.report, words + (FOR_SEARCH if is_for_search(history, answer) else ""))
-
-
-def refused(history: bytes, check: Check) -> Ran:
-    """What split says of a history that is certain to be refused. It asks regcheck, and then regsearch where
-    that takes more."""
-    answer = check(history)
-    answer = searched(history, run_checker(history) if answer.by_search else answer)
-    return Ran(answer.status, b"", answer.refusal + "\n")
+    return Ran(answer.status, answer.report, answer.refusal + "\n" if answer.refusal else "")
 
 
 def search(history: bytes) -> Answer:
@@ -89,14 +79,24 @@ def search(history: bytes) -> Answer:
     return run_search(history, (), program)
 
 
-def by_parts(history: bytes, parts: int, lines: str, check: Check = run_checker) -> Tuple[Ran, Ran]:
-    """What split says, and what join says once the parts are checked."""
-    with tempfile.TemporaryDirectory() as folder:
-        path, directory = pathlib.Path(folder) / "history.jsonl", str(pathlib.Path(folder) / "parts")
-        path.write_bytes(history)
-        first = run_command(split, str(path), directory, "--parts", str(parts), "--lines", lines)
-        check_parts(directory, check)
-        return first, run_command(join, directory)
+def program_for(history: bytes, stopped: Optional[int]) -> str:
+    """Which program takes a history up to the line that is certain to be refused: by a set of its writes."""
+    written = set()
+    for number, line in numbered_lines(history):
+        if stopped is not None and number > stopped:
+            break
+        try:
+            event = json_of(line)
+        except NotJson:
+            break
+        if not isinstance(event, dict) or event.get("event") != "call":
+            continue
+        write = (str(event.get("register")), event.get("value"))
+        if event.get("op") == "cas" or write in written:
+            return SEARCH
+        if event.get("op") == "write" and type(write[1]) is int:
+            written.add(write)
+    return CHECK
 
 
 # ---- what the tests of the engines need
@@ -354,14 +354,25 @@ def random_search_history(seed: int) -> bytes:
     return SearchMaker(seed, random.Random(-seed - 1).choice([0, 0.1, 0.3])).history()
 
 
-def differences(parts: int, lines: str, history: bytes, check: Check = run_checker) -> List[str]:
+def differences(parts: int, lines: str, history: bytes, by_check: Check = run_checker,
+                by_search: Check = search) -> List[str]:
     """How the answers by parts differ from that of one run, in words; empty if they don't."""
+    with tempfile.TemporaryDirectory() as folder:
+        path, directory = pathlib.Path(folder) / "history.jsonl", str(pathlib.Path(folder) / "parts")
+        path.write_bytes(history)
+        said = run_command(split, str(path), directory, "--parts", str(parts), "--lines", lines)
+        manifest = read_manifest(directory)
+        program = program_for(history, manifest.stopped)
+        check = by_search if program == SEARCH else by_check
+        check_parts(directory, check)
+        joined = run_command(join, directory)
     expected = whole(history, check)
-    said, joined = by_parts(history, parts, lines, check)
     found = []
+    if manifest.program != program:
+        found.append(f"split: for {manifest.program}, in place of {program}")
     if joined != expected:
         found.append(f"join: {joined}")
-    if said.status and said != refused(history, check):
+    if said.status and said != Ran(expected.status, b"", expected.words):
         found.append(f"split: {said}")
     if found:
         found.append(f"one run: {expected}")

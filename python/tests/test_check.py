@@ -162,7 +162,8 @@ class Json(Files):
         fine, wrong, empty, csv, none = self.objects(*names)
         self.assertEqual(fine, {"file": names[0], "status": 0, "verdict": "linearizable", "operations": 3,
                                 "registers": 1, "completed_reads": 2, "overlapping_reads": 1,
-                                "faulty_registers": 0, "faults": [], "verified": False, "program": "regcheck",
+                                "at_least": False, "faulty_registers": 0, "faults": [],
+                                "verified": False, "program": "regcheck",
                                 "reason": "3 operations on 1 register; 2 completed reads, 1 overlaps a "
                                           "write"})
         self.assertEqual((wrong["file"], wrong["status"], wrong["verdict"], wrong["faulty_registers"]),
@@ -174,7 +175,7 @@ class Json(Files):
         self.assertEqual((empty["status"], empty["completed_reads"]), (5, 0))
         self.assertEqual(empty["verdict"], "too little evidence")
         self.assertEqual((csv["status"], csv["reason"]), (2, "line 1: not JSON"))
-        self.assertIn("CSV", csv["advice"])
+        self.assertIn("a table", csv["advice"])
         self.assertEqual(none, {"file": names[4], "status": 4, "verdict": "failed",
                                 "reason": "No such file or directory"})
 
@@ -193,30 +194,15 @@ class Refusals(unittest.TestCase):
         return advice(history, answer.refusal, name)
 
     def test_other_forms(self) -> None:
-        jepsen = b'{:process 0, :type :invoke, :f :write, :value 1}\n'
         table = [
-            (jepsen, "EDN, as Jepsen writes it: `regkit convert --from jepsen h.x`"),
             (b"#{" * 30_000, "the last line is cut short"),
-            (b"[" + jepsen + b"]", "--from jepsen"),
-            (b"#jepsen.history.Op{:index 0, :time 1, :type :invoke}\n", "--from jepsen"),
-            (b'{:process 0, :type :invoke, :f :get, :key "0", :value nil}\n', "--from porcupine h.x"),
-            (b"INFO [2026] jepsen.util - 0\t:invoke\t:read\tnil\n", "log: `regkit convert --from jepsen"),
-            (b"process,op,value,start,end\n1,write,1,0,1\n", "CSV: `regkit convert --from csv h.x`"),
-            (b"process;op;value;start;end\n1;write;1;0;1\n", "CSV: `regkit convert --from csv h.x`"),
-            (b'"client";"op"\n1;read\n', "CSV, and `regkit convert` needs columns for"),
-            (b"client\top\n1\tread\n", "CSV, and `regkit convert` needs columns for"),
+            (b'"who";"did"\n1;read\n', "a table: `regkit convert --from csv` says what its columns have"),
+            (b"who\tdid\n1\tread\n", "a table: `regkit convert --from csv` says what its columns have to be"),
             (b'[{"who":1,"did":"read"}]', "a JSON array: write each event on one line, as `jq -c "),
             (b"\x1f\x8b\x08\x00abc", "gzip: unpack it, as in `gzip -dc h.x | regkit check`"),
             (b"\x28\xb5\x2f\xfdabc", "zstd -dc"), (b"BZh9abc", "bzip2 -dc"), (b"\xfd7zXZ\x00a", "xz -dc"),
             (b"PK\x03\x04abc", "zip"),
-            (b"\xef\xbb\xbf" + text(*FINE), "byte order mark: leave it out, as in `tail -c +4 h.x |"),
             (b"\xff\xfe{\x00", "UTF-16"), (b"\xfe\xff\x00{", "UTF-16"),
-            (json.dumps(FINE).encode(), "a JSON array: `regkit convert --from jsonl h.x`"),
-            (json.dumps(FINE, indent=1).encode(), "a JSON array"),
-            (b'[{"process":1,"op":"read","start":1,"end":2}]', "--from operations h.x"),
-            (b'[{"ClientId":0,"Call":1,"Return":2}]', "--from porcupine h.x"),
-            (b'{"process":1,"op":"read","start":1}\n', "times: `regkit convert --from operations h.x`"),
-            (b'{"ClientId":0,"Call":1,"Return":2}\n', "--from porcupine h.x"),
             (b'{\n  "process": 1\n}\n', "over several lines"),
             (text(*FINE).replace(b"}\n", b"},\n"), "ends with a comma"),
             (b"{'process': 1, 'event': 'reply'}\n", "single quotes"),
@@ -237,47 +223,6 @@ class Refusals(unittest.TestCase):
                      b"\x1b[31mred\x1b[0m and so on, for a line\n"):
             self.assertNotIn("binary", self.told(data))
 
-    def test_the_advice_does_it(self) -> None:
-        """The command that is named makes a history that is accepted."""
-        operation = b'{"process":1,"op":"write","register":"x","value":1,"start":1,"end":2}'
-        go = b'{"ClientId":0,"Input":{"Op":"get","Key":"x"},"Call":1,"Output":{"Value":""},"Return":2}'
-        event = b'{"process":0,"type":"invoke","f":"read","value":null}'
-        table = [
-            (json.dumps(FINE).encode(), "jsonl"),
-            (b"[" + operation + b"]", "operations"), (operation, "operations"),
-            (b"{:process 0, :type :invoke, :f :write, :value 1}\n", "jepsen"), (go, "porcupine"),
-            (b'{:process 0, :type :invoke, :f :get, :key "0", :value nil}\n', "porcupine"),
-            (b"INFO jepsen.util - 0\t:invoke\t:read\tnil\n", "jepsen"),
-            (b"0\t:invoke\t:read\tnil\n", "jepsen"),
-            (event, "jepsen"), (b"[" + event + b"]", "jepsen"),
-            (b"[\n {:process 0, :type :invoke, :f :write, :value 1}\n]\n", "jepsen"),
-            (b"process,op,register,value,start,end\n1,write,x,1,0,1\n", "csv"),
-            (b"process;op;value;start;end\n1;write;1;0;1\n", "csv"),
-            (b"process\top\tvalue\tstart\tend\n1\twrite\t1\t0\t1\n", "csv"),
-        ]
-        with tempfile.TemporaryDirectory() as folder:
-            path, made = pathlib.Path(folder) / "source", pathlib.Path(folder) / "made"
-            for source, form in table:
-                path.write_bytes(source)
-                words = self.told(source, str(path))
-                self.assertIn(f"`regkit convert --from {form} {path}`", words)
-                ran = run("convert", "--from", form, str(path), "-o", str(made))
-                self.assertEqual(ran.status, 0, ran.err)
-                self.assertEqual(run_checker(made.read_bytes()).status, 0)
-
-    def test_the_advice_to_number_does_it(self) -> None:
-        call: Line = {"process": 1, "event": "call", "op": "write", "register": "x", "value": 5}
-        with tempfile.TemporaryDirectory() as folder:
-            path, made = pathlib.Path(folder) / "source", pathlib.Path(folder) / "made"
-            odd: List[Line] = [{"process": "alice"}, {"value": "v1"}, {"value": [1, 2]}, {"value": True}]
-            for said in odd:
-                path.write_bytes(json.dumps({**call, **said}).encode() + b"\n")
-                with self.subTest(said):
-                    self.assertIn("`regkit convert --from jsonl`", self.told(path.read_bytes(), str(path)))
-                    ran = run("convert", "--from", "jsonl", str(path), "-o", str(made))
-                    self.assertEqual(ran.status, 0, ran.err)
-                    self.assertEqual(run_checker(made.read_bytes()).status, 0)
-
     def test_what_gzip_packed_is_read(self) -> None:
         """Its verdict is that of the same history unpacked, and so is its advice."""
         with tempfile.TemporaryDirectory() as folder:
@@ -285,8 +230,8 @@ class Refusals(unittest.TestCase):
             path.write_bytes(gzip.compress(text(*FINE)))
             self.assertEqual(run("check", "--quiet", str(path)).status, 0)
             path.write_bytes(gzip.compress(b"{:process 0, :type :invoke, :f :write, :value 1}\n"))
-            self.assertIn(f"`regkit convert --from jepsen {path}`", run("check", str(path)).err)
-            self.assertEqual(run("convert", "--from", "jepsen", str(path), "-o", str(made)).status, 0)
+            self.assertIn("taken for Jepsen's history as EDN (--from jepsen)\n", run("check", str(path)).out)
+            self.assertEqual(run("convert", str(path), "-o", str(made)).status, 0)
             path.write_bytes(gzip.compress(text(*FINE))[:-9])
             ran = run("check", str(path))
             self.assertEqual((ran.status, "gzip can't unpack it" in ran.err), (4, True), ran.err)
@@ -317,6 +262,7 @@ class Refusals(unittest.TestCase):
             (but(op="put"), 'the op is "put": write `write`'), (but(op="get"), "write `read`"),
             (but(op="cas"), 'the op is "cas": regcheck takes reads and writes alone'),
             (but(op="append"), 'the op is "append": only reads, writes and cas can be checked'),
+            (but(op="incr"), "take it for what it is: incr adds to a value, which is a cas from the old"),
             (but(register="none", key="x"), "has `key` where `register` is meant: rename it"),
             (but(register=7), "the register is 7: write its name as a text, in quotes"),
             (but(register=""), "give the register a name"), (but(register="x" * 256), "shorten the name"),

@@ -99,7 +99,7 @@ class Samples(unittest.TestCase):
                     "put calls before replies at 2 time stamps that both have: those operations overlap",
                     "numbered 4 clients that had no process number",
                     "gave 1 operation another process, since a call of the same client was still open",
-                    "numbered 4 values of 1 register; --map FILE writes which number is which",
+                    "numbered 4 values of 1 register; the history says what each number stands for",
                 ],
             ),
         ]:
@@ -209,7 +209,7 @@ class Jepsen(unittest.TestCase):
     def test_plain_cas_isnt_taken_for_keys(self) -> None:
         ran = run(jepsen("0 invoke cas [1 2]", "0 ok cas [1 2]"), "jepsen", "--cas", "skip-key")
         self.assertEqual(ran.status, 2)
-        self.assertIn("nothing is left to check: --cas skip-key left out 1 of 1 operation, since", ran.told)
+        self.assertIn("nothing is left to check: left out 1 of 1 operation, since", ran.told)
 
     def test_cas_skip_key_may_leave_too_little(self) -> None:
         """What is left is no yes: `regkit check` wants a completed read."""
@@ -219,7 +219,8 @@ class Jepsen(unittest.TestCase):
         self.assertEqual(short(ran.history), ["0 w 1 5", "0 ."], ran.told)
         self.assertIn("left out 2 of 3 operations, since something else than reads and writes touches 1 ",
                       ran.told)
-        self.assertIn("there is no completed read, so a yes would say nothing: regkit check will", ran.told)
+        self.assertIn("there is no completed read or cas, so a yes would say nothing: regkit check will",
+                      ran.told)
         with tempfile.TemporaryDirectory() as folder:
             path = pathlib.Path(folder) / "left.jsonl"
             path.write_text(ran.history, encoding="utf-8")
@@ -507,11 +508,20 @@ class Suspects(unittest.TestCase):
         apart = jepsen("0 invoke write [7 3]", "0 ok write nil", "1 invoke read nil", "1 ok read [8 4]")
         self.assertEqual(run(apart, "jepsen").status, 0)
 
+    def test_a_pair_that_finds_nothing(self) -> None:
+        """[7 nil] is key 7 with nothing in it, or a value that nobody wrote: one is right, one isn't."""
+        source = jepsen("0 invoke write [7 3]", "0 info write [7 3]", "1 invoke read nil",
+                        "1 ok read [7 nil]")
+        ran = run(source, "jepsen")
+        self.assertEqual(ran.status, 2, ran.history)
+        self.assertIn("[7 nil] may be a key with its value", ran.told)
+
     def test_keys_that_are_spelled_alike(self) -> None:
         source = jepsen("0 invoke write [5 1]", "0 ok write [5 1]", '1 invoke read ["5" nil]',
                         '1 ok read ["5" 1]')
         told = run(source, "jepsen").told
-        self.assertIn("it is written to 5, a key of another kind that is spelled alike; say --values", told)
+        self.assertIn('line 3: the key "5" is spelled like 5, the key of line 1, and of another kind: say '
+                      "--values alike", told)
         ran = run(source, "jepsen", "--values", "alike")
         self.assertEqual(short(ran.history), ["0 w 5 1", "0 .", "1 r 5", "1 = 1"], ran.told)
         ran = run(source, "jepsen", "--values", "exact")
@@ -551,7 +561,7 @@ class Suspects(unittest.TestCase):
 class Names(unittest.TestCase):
     def names(self, *keys: str) -> List[str]:
         source = jepsen(*(f"{place} invoke write [{key} 1]" for place, key in enumerate(keys)))
-        return [event["register"] for event in run(source, "jepsen").events]
+        return [event["register"] for event in run(source, "jepsen", "--values", "exact").events]
 
     def test_forms(self) -> None:
         for keys, expected in [
@@ -621,7 +631,7 @@ REFUSALS: List[Tuple[str, str, Sequence[str], str]] = [
      "line 2: by --outcomes it missed, and it is a read, not a cas: say what the word means of all"),
     ("porcupine", '{:process 0, :type :invoke, :f :append, :key "5", :value "a"}', (),
      "line 1: append reads and writes at once, and a register has reads, writes and cas only: leave append "
-     "out of the workload, leave out the keys that it touches with --cas skip-key, or check the history with "
+     "out of the workload, leave out the keys that it touches with --skip-key, or check the history with "
      "Porcupine and its key-value model"),
     ("porcupine", '{"Call":1,"Input":{"Op":"cas","From":1},"Output":{"Ok":true},"Return":2}', (),
      "line 1: the input of a cas has From and To, and no Value"),
@@ -671,7 +681,7 @@ REFUSALS: List[Tuple[str, str, Sequence[str], str]] = [
     ("jepsen", jepsen("0 invoke read nil", "1 invoke enqueue 1"), (),
      "line 2: enqueue is no word for a read (get, r, read) or a write (put, set, w, write) or a cas: say "
      "--ops enqueue=read or --ops enqueue=write or --ops enqueue=cas if it is one, leave out the keys that "
-     "it touches with --ops enqueue=other --cas skip-key, or check queues, sets and counters with Knossos "
+     "it touches with --ops enqueue=other --skip-key, or check queues, sets and counters with Knossos "
      "or Porcupine"),
     ("jepsen", jepsen("0 invoke read nil", "0 invoke read nil"), (),
      "line 2: client 0 calls while its call of line 1 is open"),
@@ -793,7 +803,8 @@ WRONG_WORDS: List[Tuple[str, Sequence[str], str]] = [
     ("csv", ("--clock-error", "5ms"), "--clock-error 5ms needs --clock-unit ns, us, ms or s"),
     ("jsonl", ("--delimiter", ";"), "--delimiter is for csv, not for jsonl"),
     ("csv", ("--delimiter", "::"), "--delimiter ::: one character is expected, or comma, semicolon or tab"),
-    ("csv", ("--ops", "get"), "--ops get: WORD=MEANING,.. is expected, with one of read, write, cas, other"),
+    ("csv", ("--ops", "get"),
+     "--ops get: WORD=MEANING,.. is expected, with one of read, write, cas, create, swap, add"),
     ("csv", ("--ops", "get=fetch"), "--ops get=fetch: WORD=MEANING,.. is expected"),
     ("csv", ("--ops", "a=read,a=write"), "--ops: a is given two meanings"),
     ("csv", ("--ops", "CAS=write"), "--ops CAS=write: CAS reads and writes at once, so it is cas or other"),

@@ -26,12 +26,12 @@ def _written(value: str, read: str) -> str:
 WAYS_OUT: List[Tuple[str, str, Dict[str, str], Dict[Words, Optional[bool]]]] = [
     ("jepsen", _JEPSEN % ("invoke", "fetch", "[1 nil]") + _JEPSEN % ("ok", "fetch", "[1 nil]")
      + "{:process 1, :type :invoke, :f :write, :value [2 5]}\n", {},
-     {("--ops", "fetch=read"): True, ("--ops", "fetch=other", "--cas", "skip-key"): True}),
+     {("--ops", "fetch=read"): True, ("--ops", "fetch=other", "--skip-key"): True}),
     ("jepsen", _JEPSEN % ("invoke", "store", "[1 4]") + _JEPSEN % ("ok", "store", "[1 4]")
      + _READ % ("[2 nil]", "[2 nil]"), {},
-     {("--ops", "store=write"): True, ("--ops", "store=other", "--cas", "skip-key"): True}),
+     {("--ops", "store=write"): True, ("--ops", "store=other", "--skip-key"): True}),
     ("jepsen", _JEPSEN % ("invoke", "append", "[1 [4 5]]") + _READ % ("[2 nil]", "[2 nil]"), {},
-     {("--cas", "skip-key"): True}),
+     {("--skip-key",): True}),
     ("jepsen", _written("1", "1").replace(":ok, :f :write", ':ok, :err "late", :f :write'), {"WORD": "late"},
      {("--ok-when", "err=late"): True, ("--ignore-member", "err"): True}),
     ("jepsen", _written("1", "1").replace(":ok, :f :write", ":done, :f :write"), {},
@@ -49,7 +49,8 @@ WAYS_OUT: List[Tuple[str, str, Dict[str, str], Dict[Words, Optional[bool]]]] = [
      {('--initial="0"',): True, ("--null=0",): True, ("--initial=null",): False}),
     ("jepsen", _written("1", '"1"'), {}, {("--values", "alike"): True, ("--values", "exact"): False}),
     ("jepsen", _written(":a", '"a"'), {}, {("--values", "alike"): True, ("--values", "exact"): False}),
-    ("jepsen", _READ % ("[1 nil]", "[2 nil]"), {}, {("--keys", "none"): False}),
+    ("jepsen", _JEPSEN % ("invoke", "write", "[1 2]") + _JEPSEN % ("ok", "write", "nil"), {},
+     {("--keys", "none"): True}),
     ("porcupine", '{"Input":{"Op":0,"Key":"x","Value":"5"},"Call":1,"Output":{},"Return":2}\n'
      '{"Input":{"Op":1,"Key":"x"},"Call":3,"Output":{"Value":"5"},"Return":4}', {},
      {("--ops", "0=write,1=read"): True}),
@@ -65,8 +66,9 @@ WAYS_OUT: List[Tuple[str, str, Dict[str, str], Dict[Words, Optional[bool]]]] = [
     ("csv", f"{_HEADER},time taken\n0,1,2,x,write,1,7\n", {"WORD": "7"},
      {("--columns", "outcome=time taken"): None, ("--ok-when", "time taken=7"): True,
       ("--ignore-member", "time taken"): True}),
-    ("csv", f"{_HEADER}\n0,1,2,x,write,1\n0,3,4,y,write,2\n0,5,6,x,read,1\n".replace("register", "key"), {},
-     {("--columns", "register=key"): True, ("--ignore-member", "key"): False}),
+    ("csv",
+     f"{_HEADER}\n0,1,2,x,write,1\n0,3,4,y,write,2\n0,5,6,x,read,1\n".replace("register", "object"), {},
+     {("--columns", "register=object"): True, ("--ignore-member", "object"): False}),
     ("csv", f"{_HEADER},outcome\n0,1,2,x,write,1,it's late\n", {},
      {("--outcomes", "it's late=unknown"): True}),
     ("csv", f"{_HEADER},outcome\n0,1,2,x,write,1,ok\n0,3,4,x,write,2,\n", {},
@@ -81,8 +83,8 @@ WAYS_OUT: List[Tuple[str, str, Dict[str, str], Dict[Words, Optional[bool]]]] = [
     ("operations", '{"process":0,"start":1,"end":2,"op":"read","result":7}\n'
      '{"process":0,"start":0,"end":2,"op":"write","result":7}', {"WORD": "7"},
      {("--ok-when", "result=7"): None, ("--ignore-member", "result"): None}),
-    ("operations", '{"process":0,"start":1,"end":2,"key":"x","op":"write","value":1}', {},
-     {("--columns", "register=key"): True}),
+    ("operations", '{"process":0,"start":1,"end":2,"object":"x","op":"write","value":1}', {},
+     {("--columns", "register=object"): True}),
     ("jsonl", '{"process":0,"event":"call","op":"write","register":"x","value":1}\n'
      '{"process":0,"event":"lost"}', {},
      {("--outcomes", "lost=unknown"): True}),

@@ -250,7 +250,8 @@ class Words(unittest.TestCase):
                         "1 ok cas [:j [nil 2]]")
         self.check("jepsen", source, ["0 c :k 1 2", "0 False", "1 c :j None 2", "1 True"], "--failed-cas",
                    "missed")
-        self.check("jepsen", jepsen("0 invoke cas [1 2]", "1 invoke write [1 2]"), ["0 c x 1 2", "1 w x 3"])
+        self.check("jepsen", jepsen("0 invoke cas [1 2]", "1 invoke write [1 2]"), ["0 c x 1 2", "1 w x 3"],
+                   "--values", "exact")
         self.check("jepsen", jepsen("0 invoke cas [[1 2] [3 4]]"), ["0 c x 1 2"], "--keys", "none")
         self.check("jepsen", jepsen("0 invoke cas [[1 2] [3 4]]"), ["0 c [1 2] 3 4"], "--keys", "independent")
 

@@ -266,7 +266,7 @@ class Layout(unittest.TestCase):
                  reply(1), write(4, 4), fail(4), gave(2, 1), write(5, 5), reply(5), crash(3)]
         calls = read_history(data(lines)).registers["x"]
         stale_read = next(call for call in calls if call.kind == "read")
-        self.assertEqual([call.value for call in overlapped_writes(stale_read, calls)], [2, 6, 7, 3])
+        self.assertEqual([call.value for call in overlapped_writes(stale_read, calls)], [2, 3, 7, 6])
 
 
 class Signs(unittest.TestCase):
@@ -282,8 +282,8 @@ class Signs(unittest.TestCase):
         page = self.page(INVERSION, zones([1, 4], [4, 6], [1, 3]))
         words = self.words(page)
         for sentence in ["Not linearizable: ", "4 operations on 1 register.",
-                         "The write of 1 by process 1 (lines 1 to 2) ended before the read of 2 by process 2 "
-                         "(lines 4 to 5) began, so 1 comes before 2.",
+                         "The write of 1 by process 1 (lines 1 to 2) ended before the write of 2 by process 1 "
+                         "(lines 3 to 8) began, so 1 comes before 2.",
                          "The read of 2 by process 2 (lines 4 to 5) ended before the read of 1 by process 2 "
                          "(lines 6 to 7) began, so 2 comes before 1.",
                          "new-old inversion", "linearizable  no ",
@@ -291,13 +291,37 @@ class Signs(unittest.TestCase):
                          "process 2 (lines 6 to 7) the stale one.",
                          "The first read that can't be explained is the read of 1 by process 2 (lines 6 to "
                          "7). It overlaps the write of 2 by process 1 (lines 3 to 8).",
-                         "zone of 1", "zone of 2", "1 \u2192 2", "2 \u2192 1"]:
+                         "zone of 1", "zone of 2", "1 \u2192 2", "2 \u2192 1",
+                         "The zone of 2 lies within the other one, so no moment is left for it."]:
             self.assertIn(sentence, words)
         # In the picture and in the legend. The numbers stand before their sentences too. Four bars are
         # strong, and their eight lines.
         for word, count in [("zone", 2 + 1), ("badge", 2 + 2 + 1), ("alarm", 1 + 1), ("fine", 1 + 1),
-                            ("parallel", 1 + 1), ("strong", 4 + 8)]:
+                            ("stale-ring", 1 + 1), ("parallel", 1 + 1), ("strong", 4 + 8)]:
             self.assertEqual(page.count(word), count, word)
+
+    def test_two_forward_zones(self) -> None:
+        """Both values are read after a read of the other one."""
+        lines = [write(1, 1), reply(1), write(1, 2), reply(1), read(2), gave(2, 1), read(2), gave(2, 2)]
+        page = self.page(lines, zones([1, 3], [3, 5], [1, 3]))
+        words = self.words(page)
+        for sentence in ["The zone of 1 is forward: from its first reply at line 2 to its last call at line "
+                         "5, the register has to hold this value.",
+                         "The zone of 2 is forward: from its first reply at line 4 to its last call at line 7, ",
+                         "Both overlap, and the register can't hold two values at once.",
+                         "zone of a value, explained below the picture"]:
+            self.assertIn(sentence, words)
+
+    def test_the_stale_read_has_a_mark_of_its_own(self) -> None:
+        """The first wrong reply is to the read of line 6; the read of line 5 is as stale."""
+        lines = [write(1, 1), reply(1), write(1, 2), reply(1), read(2), read(3), gave(3, 1), gave(2, 1)]
+        page = self.page(lines, zones([1, 3], [3, 5], [1, 3]))
+        titles = [words for tag, words in page.texts if tag == "title"]
+        for title in ["The read of 1 by process 2 (lines 5 to 8); the stale read: it gave the older value.",
+                      "The read of 1 by process 3 (lines 6 to 7); the first read that can't be explained."]:
+            self.assertIn(title, titles)
+        self.assertEqual((page.count("alarm"), page.count("stale-ring")), (1 + 1, 1 + 1))
+        self.assertIn("first unexplained read stale read", self.words(page))
 
     def test_numbers_and_colours(self) -> None:
         """The first arrow leaves the cluster that has to come first, and so on."""
@@ -313,7 +337,8 @@ class Signs(unittest.TestCase):
     def test_titles(self) -> None:
         page = self.page(INVERSION, zones([1, 4], [4, 6], [1, 3]))
         titles = [words for tag, words in page.texts if tag == "title"]
-        for title in ["The read of 1 by process 2 (lines 6 to 7); the first read that can't be explained.",
+        for title in ["The read of 1 by process 2 (lines 6 to 7); the first read that can't be explained; "
+                      "the stale read: it gave the older value.",
                       "The zone of 1 is forward: from its first reply at line 2 to its last call at line 6, "
                       "the register has to hold this value.",
                       "The zone of 2 is backward: all its operations were open together from line 4 to line "
@@ -370,25 +395,25 @@ class Signs(unittest.TestCase):
 
     def test_far(self) -> None:
         """The first read that can't be explained is shown too, if the report names another one."""
-        lines = [write(1, 1), reply(1), write(1, 2), reply(1), read(2), gave(2, 1)]
-        for value in range(3, 400):
+        lines = [write(1, 1), reply(1), write(1, 2), reply(1), write(1, 3), reply(1), read(2), gave(2, 2)]
+        for value in range(4, 400):
             lines += [write(1, value), reply(1)]
         lines += [read(2), gave(2, 1)]
         page = self.page(lines, zones([1, 3], [3, len(lines) - 1], [1, 3]))
         words = self.words(page)
-        self.assertIn("The first read that can't be explained is the read of 1 by process 2 (lines 5 to 6). "
+        self.assertIn("The first read that can't be explained is the read of 2 by process 2 (lines 7 to 8). "
                       "2 reads in all can't be explained. It overlaps no write.", words)
         self.assertEqual(page.count("left-out"), 2, "a number and two words, over one gap")
         self.assertIn("all lines", words)
-        self.assertEqual(page.count("alarm"), 2 + 2, "the stale read of the fault has the mark too")
+        self.assertEqual((page.count("alarm"), page.count("stale-ring")), (1 + 1, 1 + 1))
 
     def test_read_of_its_own(self) -> None:
         lines = [write(1, 1), reply(1), write(1, 2), reply(1), read(2), gave(2, 1)]
         for value in range(3, 900):
             lines += [write(1, value), reply(1)]
-        last = len(lines)
-        lines += [read(2), gave(2, 7), read(2), gave(2, 899)]
-        row = zones([last - 1, last + 3], [last + 3, last + 1], [15, last - 1])
+        last, middle = len(lines), 7 + 2 * (450 - 3)  # the lines of the last write, and of that of 450
+        lines += [read(2), gave(2, 450), read(2), gave(2, 899)]
+        row = zones([middle, last - 1], [last - 1, last + 1], [middle, last - 1])
         page = self.page(lines, row)
         self.assertEqual([tag for tag, _ in page.found].count("figure"), 2)
         self.assertIn(("h3", "The first read that can't be explained"), page.texts)

@@ -5,17 +5,17 @@ import pathlib
 import subprocess
 import tempfile
 import unittest
-from typing import List, Optional, Sequence, Tuple
+from typing import Callable, List, Optional, Sequence, Tuple
 from unittest import mock
 
-from regkit.checker.programs import SEARCH, Answer, find_program, run_search
+from regkit.checker.programs import CHECK, SEARCH, Answer, find_program, run_checker, run_search
 from regkit.checker.refusals import NUMBERS, SEARCH_TEXTS
 from regkit.checker.report import Row
 from regkit.commands import join as command
 from regkit.parts.folder import BLANK, MAP, MAP_LINE, Manifest, file_of, write_manifest
 from tests import split_support
-from tests.split_support import (FOR_SEARCH, check_parts, differences, random_history, random_search_history,
-                                 run_command, search, whole)
+from tests.split_support import (check_parts, differences, random_history, random_search_history, run_command,
+                                 search, whole)
 from tests.test_split import Folder, call, cas, end, has_checker, history_of
 
 YES = {"pending": 0, "reads": 0, "regular": "yes", "safe": "yes", "writes": 1}
@@ -44,8 +44,9 @@ class HandMade(unittest.TestCase):
         self.addCleanup(folder.cleanup)
         self.directory = folder.name
 
-    def manifest(self, parts: int, registers: List[int], lines: str = BLANK, stopped: int = 0) -> None:
-        manifest = Manifest("history", lines, parts, 100, 100, stopped or None, registers)
+    def manifest(self, parts: int, registers: List[int], lines: str = BLANK, stopped: int = 0,
+                 program: str = CHECK) -> None:
+        manifest = Manifest("history", lines, parts, program, 100, 100, stopped or None, registers)
         write_manifest(self.directory, manifest)
 
     def part(self, part: int, status: str, rows: Sequence[Row] = (), words: str = "") -> None:
@@ -186,9 +187,19 @@ class Searched(HandMade):
                 ran = self.join()
                 self.assertEqual((4, b""), ran[:2])
                 lines = ran.words.splitlines()
-                self.assertEqual([f"part-{part:03} was checked by regcheck, and other parts by regsearch; "
+                self.assertEqual([f"part-{part:03} was checked by regcheck, and all parts need regsearch; "
                                   "run it again:" for part in named], lines[::2])
                 self.assertRegex(lines[1], "regsearch'? .*part-000.jsonl > .*part-000.report")
+
+    def test_parts_of_the_other_program(self) -> None:
+        """What regcheck said of a history for regsearch doesn't count."""
+        self.manifest(2, [0, 1], program=SEARCH)
+        self.part(0, "2", words="line 5: value already written to this register at line 1")
+        self.part(1, "0", [row("y", [3], [3]), summary("yes", 1, 1, [3])])
+        ran = self.join()
+        self.assertEqual((4, b""), ran[:2])
+        for part in range(2):
+            self.assertIn(f"part-00{part} was checked by regcheck, and all parts need regsearch", ran.words)
 
     def test_refusals(self) -> None:
         """Those that both programs have fit both; the first one counts."""
@@ -199,11 +210,10 @@ class Searched(HandMade):
             self.assertEqual((2, b"", f"{words}\n"), self.join())
 
     def test_which_program_runs_a_part_again(self) -> None:
-        """That of the other parts, or regsearch if there is a cas."""
-        for has_cas, answered, expected in [(False, False, "regcheck"), (True, False, "regsearch"),
-                                            (False, True, "regsearch")]:
-            manifest = Manifest("history", BLANK, 2, 100, 100, None, [0, 1], has_cas)
-            write_manifest(self.directory, manifest)
+        """That of the manifest, or regsearch if another part has an answer of it."""
+        for program, answered, expected in [(CHECK, False, "regcheck"), (SEARCH, False, "regsearch"),
+                                            (CHECK, True, "regsearch")]:
+            self.manifest(2, [0, 1], program=program)
             self.part(0, "4", words="no memory or no thread")
             self.part(1, "6" if answered else "4", [GAVE_UP, summary("unknown", 1, 1)] if answered else [])
             with mock.patch("regkit.parts.answers.find_program", lambda name: None):
@@ -230,17 +240,7 @@ class RefusedParts(HandMade):
                 self.manifest(3, [], stopped=11)
                 for part, word in enumerate(words):
                     self.part(part, "2" if word else "0", [] if word else [summary("yes", 0, 0, [])], word)
-                advice = FOR_SEARCH if expected == again else ""
-                self.assertEqual((2, b"", expected + "\n" + advice), self.join())
-
-    def test_advice_where_regsearch_takes_the_line(self) -> None:
-        """Of a refused op only if it is a cas."""
-        refusal = "line 1: op is neither read nor write"
-        self.manifest(1, [])
-        for history, advice in [(cas(1, "x"), FOR_SEARCH), (cas(1, "x").replace("cas", "add"), "")]:
-            self.part(0, "2", words=refusal)
-            file_of(self.directory, 0, "jsonl").write_text(history)
-            self.assertEqual((2, b"", f"{refusal}\n{advice}"), self.join())
+                self.assertEqual((2, b"", expected + "\n"), self.join())
 
     def test_lines_of_the_whole(self) -> None:
         self.manifest(1, [], MAP)
@@ -336,7 +336,8 @@ class Unanswered(HandMade):
 
     def test_folder_without_a_manifest(self) -> None:
         for text, why in [(None, "did not finish"), ("{", "damaged"), ("[]", "damaged"),
-                          ('{"format":"x"}', "another version"), ('{"format":"regkit split 1"}', "damaged")]:
+                          ('{"format":"regkit split 1"}', "another version"),
+                          ('{"format":"regkit split 2"}', "damaged")]:
             with self.subTest(text):
                 path = pathlib.Path(self.directory, "split.json")
                 path.unlink(missing_ok=True)
@@ -347,45 +348,40 @@ class Unanswered(HandMade):
                 self.assertIn(why, ran.words)
 
 
-@unittest.skipUnless(has_checker(), "regcheck is not built")
+BOTH = has_checker() and find_program(SEARCH)
+
+
+@unittest.skipUnless(BOTH, "regcheck or regsearch is not built")
 class WholeRuns(Folder):
-    """Split, check and join answer as one run does."""
+    """Split, check by the program that the manifest names, and join: what one run of it answers."""
 
     def test_random_histories(self) -> None:
         """tests/scale_test runs thousands more."""
-        for seed in range(10_000, 10_040):
-            with self.subTest(seed):
-                history = random_history(seed)
-                self.assertEqual([], differences(seed % 7 + 1, (BLANK, MAP)[seed // 7 % 2], history))
-
-    def test_the_command_that_runs_a_part_again(self) -> None:
-        self.split(history_of(call(1, "x", 5), end(1), call(2, "y"), end(2, value=None)), 2)
-        check_parts(self.directory)
-        whole = run_command(command, self.directory)
-        file_of(self.directory, 1, "status").unlink()
-        words = run_command(command, self.directory).words
-        subprocess.run(["sh", "-c", words.splitlines()[1]], check=True, env={**os.environ})
-        self.assertEqual(whole, run_command(command, self.directory))
-
-
-@unittest.skipUnless(find_program(SEARCH), "regsearch is not built")
-class WholeRunsOfSearch(Folder):
-    """The same with cas and repeated values, by regsearch."""
-
-    def test_random_histories(self) -> None:
         statuses = set()
-        for seed in range(20_000, 20_150):
-            with self.subTest(seed):
-                history = random_search_history(seed)
-                self.assertEqual([], differences(seed % 7 + 1, (BLANK, MAP)[seed // 7 % 2], history, search))
-                statuses.add(search(history).status)
+        for make, first, count in [(random_history, 10_000, 40), (random_search_history, 20_000, 150)]:
+            for seed in range(first, first + count):
+                with self.subTest(seed):
+                    history = make(seed)
+                    self.assertEqual([], differences(seed % 7 + 1, (BLANK, MAP)[seed // 7 % 2], history))
+                    statuses.add(search(history).status)
         self.assertEqual(statuses, {0, 1, 2})
 
-    def test_the_parts_by_regcheck(self) -> None:
-        """A history that only regsearch takes is refused as regcheck refuses it, with what to do about it."""
-        for seed in range(20_000, 20_030):
-            with self.subTest(seed):
-                self.assertEqual([], differences(3, MAP, random_search_history(seed)))
+    def test_the_command_that_runs_a_part_again(self) -> None:
+        for value in (None, 5):
+            history = history_of(call(1, "x", 5), end(1), call(2, "y"), end(2, value=None),
+                                 call(1, "x", value or 6))
+            check: Callable[[bytes], Answer] = run_checker
+            if value is not None:
+                check = search
+            with self.subTest(value), tempfile.TemporaryDirectory() as self.directory:
+                self.split(history, 2)
+                check_parts(self.directory, check)
+                whole = run_command(command, self.directory)
+                self.assertEqual(0, whole.status)
+                file_of(self.directory, 1, "status").unlink()
+                words = run_command(command, self.directory).words
+                subprocess.run(["sh", "-c", words.splitlines()[1]], check=True, env={**os.environ})
+                self.assertEqual(whole, run_command(command, self.directory))
 
     def test_unknown(self) -> None:
         history = history_of(cas(1, "x"), cas(2, "x", None, 2), call(3, "x", 7), end(3), end(1, ok=True),
@@ -397,7 +393,7 @@ class WholeRunsOfSearch(Folder):
         for parts in (1, 2):
             with self.subTest(parts):
                 self.assertEqual(whole(history, bounded).status, 6)
-                self.assertEqual([], differences(parts, MAP, history, bounded))
+                self.assertEqual([], differences(parts, MAP, history, by_search=bounded))
 
 
 if __name__ == "__main__":

@@ -81,6 +81,13 @@ class Choice(unittest.TestCase):
                 with self.assertRaisesRegex(NoChecker, "Is REGCHECK_LIBRARY right"):
                     judge(FINE)
 
+    def test_an_old_library_is_named(self) -> None:
+        """The first one had a single function."""
+        old = mock.Mock(spec=["regcheck_report"])
+        with mock.patch("ctypes.CDLL", return_value=old):
+            with self.assertRaisesRegex(NoLibrary, r"^old.so is too old .*: it has no regcheck_refusal"):
+                Library("old.so")
+
     def asked(self, history: bytes, *options: str) -> List[bytes]:
         """What a library was asked, where the program says nothing."""
         library = mock.Mock()

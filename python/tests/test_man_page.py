@@ -35,7 +35,7 @@ class ManPage(unittest.TestCase):
         table: List[Tuple[str, str, str]] = [
             ("the synopsis", "[\\fB\\-\\-joined\\fR] ", "synopsis"),
             ("an option", ".TP\n\\fB\\-\\-joined\\fR\n", "options of verify"),
-            ("the value of an option", "\\fB\\-\\-map\\fR \\fIFILE\\fR\n", "options of explain"),
+            ("the value of an option", "\\fB\\-\\-map\\fR \\fIFILE\\fR\n", "options of convert"),
             ("a help text", "merged history", "options of merge"),
         ]
         for name, old, part in table:

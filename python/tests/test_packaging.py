@@ -17,6 +17,8 @@ from regkit.checker.library import FILE
 ROOT = pathlib.Path(__file__).resolve().parents[2]
 NAME = f"regkit-{__version__}"
 PROGRAMS = ("regcheck", "regsearch")
+BILL = "regkit.spdx.json"
+HEAD = b"\x7fELF" + bytes(14) + b"\x3e\0"  # of a program for x86-64
 FOUND = ("from regkit.checker import library, programs; print(programs.find_checker()); "
          "print(next(library._places()))")
 
@@ -31,14 +33,14 @@ class Wheel(unittest.TestCase):
         folder = tempfile.TemporaryDirectory()
         self.addCleanup(folder.cleanup)
         self.folder = pathlib.Path(folder.name)
-        for name in (*PROGRAMS, FILE):  # pip asks nothing of them
-            (self.folder / name).write_text(f"stands in for {name}")
+        for name in (*PROGRAMS, FILE, BILL):  # pip asks nothing of them, and the wheel for which processor
+            (self.folder / name).write_bytes(HEAD + f"stands in for {name}".encode())
         self.wheel = self.made("first")
 
     def made(self, name: str) -> pathlib.Path:
         """The wheel, made in a folder of that name."""
-        packed("make_wheel", *(self.folder / program for program in PROGRAMS), self.folder / FILE,
-               self.folder / name)
+        given = (*PROGRAMS, FILE, BILL, name)
+        packed("make_wheel", *(self.folder / it for it in given))
         wheel, = (self.folder / name).iterdir()
         return wheel
 
@@ -76,6 +78,7 @@ class Wheel(unittest.TestCase):
         sources = {path.relative_to(python).as_posix() for path in python.glob("regkit/**/*.py")}
         self.assertEqual({name for name in names if name.endswith(".py")}, sources)
         self.assertIn("regkit/py.typed", names)
+        self.assertIn(f"{NAME}.dist-info/sboms/{BILL}", names)
 
     def test_what_it_says_of_itself(self) -> None:
         with zipfile.ZipFile(self.wheel) as archive:

@@ -9,7 +9,7 @@ from typing import List, Optional
 
 from regkit.checker.programs import SEARCH, find_program, run_checker
 from regkit.commands import convert
-from regkit.convert.words import choices_of
+from regkit.convert.words import AUTO, choices_of
 from regkit.record import Recorder
 from tests.convert_support import run
 from tests.events import run as command
@@ -45,7 +45,9 @@ class Recipes(unittest.TestCase):
             self.assertGreater(len(found), 5)
             for words in found:
                 with self.subTest(words):
-                    choices_of(parser.parse_args(words))
+                    parsed = parser.parse_args(words)
+                    if parsed.form != AUTO:
+                        choices_of(parsed, parsed.form)
 
     def test_machines(self) -> None:
         """By the time stamps a read is stale; with clocks that may be wrong by 3 ms it may not be."""
@@ -54,9 +56,18 @@ class Recipes(unittest.TestCase):
         statuses = []
         for words in runs:
             words.remove("machines.csv")
-            ran = run(machines, words[words.index("--from") + 1], *words[2:])
+            ran = run(machines, AUTO, *words)
             statuses.append(run_checker(ran.history.encode()).status)
         self.assertEqual(statuses, [1, 0])
+
+    def test_requests_and_events(self) -> None:
+        """Both tables need no option, and are right unless their read is one of null."""
+        for name, end in [("requests.csv", ",,1\n"), ("events.csv", ",1\n")]:
+            table = block(name)
+            self.assertTrue(table.endswith(end))
+            for source, status in [(table, 0), (table[:-2] + "\n", 1)]:
+                with self.subTest(name, source=source):
+                    self.assertEqual(command("check", given=source.encode()).status, status)
 
     @unittest.skipUnless(find_program(SEARCH), "regsearch isn't built")
     def test_lock(self) -> None:
@@ -65,7 +76,7 @@ class Recipes(unittest.TestCase):
         words, = [words for words in commands() if "lock.csv" in words]
         words.remove("lock.csv")
         for source, status in [(lock, 0), (lock.replace("2,false", "2,true"), 1)]:
-            ran = run(source, words[words.index("--from") + 1], *words[2:])
+            ran = run(source, AUTO, *words)
             checked = command("check", given=ran.history.encode())
             self.assertEqual(checked.status, status)
             self.assertEqual(checked.out in RECIPES.read_text(encoding="utf-8"), status == 0)

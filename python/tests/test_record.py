@@ -5,6 +5,7 @@ import io
 import json
 import os
 import pathlib
+import pickle
 import random
 import signal
 import subprocess
@@ -14,9 +15,10 @@ import threading
 import time
 import unittest
 from typing import Any, Callable, Dict, List, Optional, Set, Tuple, Type
+from unittest import mock
 
 from regkit.checker.programs import run_checker
-from regkit.record import Recorder, RecordingError
+from regkit.record import Methods, Recorder, RecordingError
 from regkit.recording.journal import Failures
 
 PYTHON = pathlib.Path(__file__).resolve().parents[1]
@@ -252,17 +254,28 @@ class Processes(unittest.TestCase):
             with client.read("x") as call:
                 call.value = None
 
-        with recorder.client() as first, recorder.client() as second:
+        with recorder.client("ann") as first, recorder.client("bob") as second:
             for client in (first, second, recorder, first, second):
                 read(client)
-        for client in (recorder.client(), recorder.client()):
+        for client in (recorder.client("bob"), recorder.client("ann"), recorder.client("ann")):
             read(client)
-        self.assertEqual(self.processes(recorder), [1, 2, 3, 1, 2, 1, 2])
+        self.assertEqual(self.processes(recorder), [1, 2, 3, 1, 2, 2, 1, 4])
+
+    def test_a_number_is_given_to_no_other_client(self) -> None:
+        """A picture has one lane for a number. Calls of their own are nobody's, so they share theirs."""
+        recorder = Recorder()
+        for name in ("ann", "bob", "", "", "ann", "bob"):
+            with recorder.client(name) as client, client.read("x") as call:
+                call.value = None
+        for _ in range(2):
+            with recorder.read("x") as call:
+                call.value = None
+        self.assertEqual(self.processes(recorder), [1, 2, 3, 4, 1, 2, 5, 5])
 
     def test_a_pending_number_is_never_given_out_again(self) -> None:
         recorder = Recorder(failures=Refused)
         for exception in (Lost, None, Refused, Lost, Refused, None):
-            with contextlib.suppress(Lost, Refused), recorder.client() as client:
+            with contextlib.suppress(Lost, Refused), recorder.client("ann") as client:
                 with contextlib.suppress(Lost, Refused), client.write("x") as write:
                     self.assertGreater(write.value, 0)
                     if exception:
@@ -719,6 +732,269 @@ class Threads(unittest.TestCase):
         self.assertEqual((answer.status, answer.refusal), (1, ""))
 
 
+class Forked(unittest.TestCase):
+    """A child shares the file of its parent, and no number and no lock."""
+
+    @unittest.skipUnless(hasattr(os, "fork"), "there is no fork")
+    def in_child(self, work: Callable[[], object]) -> str:
+        """What some work of a child says, or raises."""
+        reading, writing = os.pipe()
+        child = os.fork()
+        if child == 0:
+            try:
+                work()
+                said = "fine"
+            except BaseException as error:
+                said = f"{type(error).__name__}: {error}"
+            os.write(writing, said.encode())
+            os._exit(0)
+        os.close(writing)
+        with open(reading, "rb") as pipe:
+            said = pipe.read().decode()
+        os.waitpid(child, 0)
+        return said
+
+    def test_a_call_in_a_child_says_so_and_writes_nothing(self) -> None:
+        with tempfile.TemporaryDirectory() as folder:
+            recorder = Recorder(pathlib.Path(folder) / "h.jsonl")
+            self.addCleanup(recorder.close)
+            client = recorder.client()
+
+            def call() -> None:
+                with client.read("x"):
+                    pass
+
+            self.assertIn("RecordingError: a recorder stays in the process that made it", self.in_child(call))
+            with client.read("x") as read:
+                read.value = None
+            self.assertEqual(len(lines(recorder)), 2)
+            self.assertEqual(recorder.mistakes, [])
+
+    def test_a_block_that_a_child_leaves_is_still_open_in_its_parent(self) -> None:
+        for raised in (None, Lost, Refused):
+            with self.subTest(raised=raised):
+                recorder = Recorder(failures=Refused)
+
+                def leave() -> None:
+                    with recorder, client:
+                        read.value = None
+                        read.__exit__(raised, None, None)
+                        if raised:
+                            raise raised
+
+                with recorder.client("ann") as client, client.read("x") as read:
+                    said = self.in_child(leave)
+                    self.assertEqual(len(lines(recorder)), 1)
+                    read.value = None
+                self.assertEqual(lines(recorder)[1:], [
+                    '{"process":1,"event":"reply","register":"x","value":null,"client":"ann"}'])
+                self.assertIn("stays in the process" if raised is None else raised.__name__, said)
+
+    def test_a_lock_that_a_thread_held_stops_no_child(self) -> None:
+        recorder = Recorder()
+        with recorder._journal._lock:
+            works: List[Callable[[], object]] = [
+                recorder.close, recorder.history, recorder.read("x").__enter__]
+            for work in works:
+                self.assertNotEqual(self.in_child(work), "")
+
+    def test_it_is_not_sent_to_another_process(self) -> None:
+        with self.assertRaisesRegex(RecordingError, "make a Recorder in each process"):
+            pickle.dumps(Recorder())
+
+
+class Counting(unittest.TestCase):
+    def test_calls_by_kind_and_how_they_ended(self) -> None:
+        recorder = Recorder()
+        self.assertEqual(str(recorder.counts), "0 calls: 0 reads, 0 writes; 0 answered, 0 failed, "
+                                               "0 open or unknown")
+        with recorder.write("x") as write:
+            self.assertEqual(recorder.counts.unanswered, write.value)
+        with recorder.read("x") as read:
+            read.failed()
+        with contextlib.suppress(Lost), recorder.cas("x", 1, 2):
+            raise Lost
+        with recorder.client() as client:
+            client.crash()
+        counts = recorder.counts
+        self.assertEqual(counts, (1, 1, 1, 1, 1))
+        self.assertEqual((counts.calls, counts.unanswered), (3, 1))
+        self.assertEqual(str(counts), "3 calls: 1 read, 1 write, 1 cas; 1 answered, 1 failed, 1 open or "
+                                      "unknown")
+
+    def test_a_call_that_is_refused_is_not_counted(self) -> None:
+        recorder = Recorder()
+        with self.assertRaises(RecordingError):
+            with recorder.read(""):
+                pass
+        self.assertEqual(recorder.counts.calls, 0)
+
+    def test_a_line_on_a_terminal(self) -> None:
+        screen = io.StringIO()
+        with mock.patch.object(screen, "isatty", lambda: True), mock.patch("sys.stderr", screen), \
+                mock.patch.multiple("regkit.words.progress", PATIENCE=0.0, PAUSE=0.01):
+            with Recorder(progress=True) as recorder, recorder.write("x") as write:
+                self.assertEqual(write.value, 1)
+                for _ in range(500):
+                    if "recording 1 call" in screen.getvalue():
+                        break
+                    time.sleep(0.01)
+        self.assertRegex(screen.getvalue(), r"recording 1 call: 0 reads, 1 write; 0 answered, 0 failed, "
+                                            r"1 open or unknown, \d+ s")
+        self.assertTrue(screen.getvalue().endswith("\r\x1b[K"))
+
+    def test_no_line_elsewhere(self) -> None:
+        screen = io.StringIO()
+        with mock.patch("sys.stderr", screen), Recorder(progress=True):
+            pass
+        self.assertEqual(screen.getvalue(), "")
+
+
+class Shop:
+    """A client of a store, as many are made."""
+
+    address = "10.0.0.1"
+
+    def __init__(self) -> None:
+        self.held: Dict[Any, Any] = {}
+
+    def get(self, key: str) -> Any:
+        return self.held.get(key)
+
+    def set(self, key: str, value: Any, only: bool = False) -> Any:
+        self.held[key] = str(value).encode()
+        return True
+
+    def swap(self, key: str, asked: Any, value: Any) -> Any:
+        found = self.held.get(key) == (None if asked is None else str(asked).encode())
+        if found:
+            self.set(key, value)
+        return found
+
+    def delete(self, key: str) -> None:
+        del self.held[key]
+
+    def ping(self) -> str:
+        return "pong"
+
+
+class AsyncShop(Shop):
+    """The same, whose answers are awaited."""
+
+    async def later(self, answer: Any) -> Any:
+        await asyncio.sleep(0.001)
+        return answer
+
+    def get(self, key: str) -> Any:  # a plain method that gives a coroutine
+        return self.later(self.held.get(key))
+
+    async def set(self, key: str, value: Any, only: bool = False) -> Any:
+        await asyncio.sleep(0.001)
+        self.held[key] = str(value).encode()
+        return await self.later(None)
+
+
+class WrappedClients(unittest.TestCase):
+    METHODS = Methods(cas="swap", others=("ping",))
+
+    def test_each_call_is_recorded(self) -> None:
+        recorder = Recorder(prefix="run/")
+        store = Shop()
+        shop = recorder.wrap(store, self.METHODS, name="ann", node="n1")
+        self.assertEqual([shop.get("x"), shop.set("x", 1), shop.get("x"), shop.swap("x", 1, 2),
+                          shop.swap("x", None, 3)], [None, True, b"1", True, False])
+        self.assertEqual(store.held, {"run/x": b"2"})
+        own = '"register":"run/x"'
+        who = '"client":"ann","node":"n1"}'
+        self.assertEqual(lines(recorder), [f'{{"process":1,"event":{line},{who}' for line in [
+            f'"call","op":"read",{own}', f'"reply",{own},"value":null',
+            f'"call","op":"write",{own},"value":1', f'"reply",{own}',
+            f'"call","op":"read",{own}', f'"reply",{own},"value":1',
+            f'"call","op":"cas",{own},"from":1,"to":2', f'"reply",{own},"ok":true',
+            f'"call","op":"cas",{own},"from":null,"to":3', f'"reply",{own},"ok":false']])
+
+    def test_what_is_not_understood_is_a_mistake_and_asks_nothing_of_the_store(self) -> None:
+        recorder = Recorder()
+        store = Shop()
+        shop = recorder.wrap(store, self.METHODS)
+        shop.set("x", 1)
+        table: List[Tuple[Callable[[], Any], str]] = [
+            (lambda: shop.delete("x"), "delete isn't recorded"),
+            (lambda: shop.set("x", 2, True), r"set\('x', 2, True\) isn't understood"),
+            (lambda: shop.set("x", 2, only=True), r"set\('x', 2, only=True\) isn't understood"),
+            (lambda: shop.get(key="x"), r"get\(key='x'\) isn't understood"),
+            (lambda: shop.set("x", "red"), "set was given 'red'"),
+            (lambda: shop.set("x", None), "set writes None"),
+            (lambda: shop.swap("x", 1.5, 2), "swap was given 1.5")]
+        for call, why in table:
+            with self.assertRaisesRegex(RecordingError, why):
+                call()
+        self.assertEqual((len(recorder.mistakes), len(lines(recorder)), store.held), (7, 2, {"x": b"1"}))
+
+    def test_answers_that_are_not_understood_leave_the_call_pending(self) -> None:
+        for odd in (False, "OK", 0):
+            recorder, store = Recorder(), Shop()
+            with mock.patch.object(store, "set", mock.Mock(return_value=odd)):
+                with self.assertRaisesRegex(RecordingError, "let Methods.is_written"):
+                    recorder.wrap(store).set("x", 1)
+                self.assertEqual((len(lines(recorder)), recorder.counts.unanswered), (1, 1))
+                shop = recorder.wrap(store, Methods(is_written=lambda answer: True))
+                self.assertEqual(shop.set("x", 2), odd)
+                self.assertEqual(recorder.counts.answered, 1)
+        for answer in (None, 1, "yes"):
+            recorder, store = Recorder(), Shop()
+            with mock.patch.object(store, "swap", mock.Mock(return_value=answer)):
+                with self.assertRaisesRegex(RecordingError, "True if it took place"):
+                    recorder.wrap(store, self.METHODS).swap("x", 1, 2)
+            self.assertEqual(recorder.counts.unanswered, 1)
+
+    def test_the_value_in_an_answer(self) -> None:
+        recorder, store = Recorder(), Shop()
+        with mock.patch.object(store, "get", lambda key: ("7", "version 3")):
+            found = recorder.wrap(store, Methods(value_of=lambda answer: answer[0])).get("x")
+        self.assertEqual((found, json.loads(lines(recorder)[-1])["value"]), (("7", "version 3"), 7))
+
+    def test_other_members_are_the_stores_own(self) -> None:
+        recorder = Recorder()
+        shop = recorder.wrap(Shop(), self.METHODS)
+        self.assertEqual((shop.address, shop.ping()), ("10.0.0.1", "pong"))
+        self.assertFalse(hasattr(shop, "none") or hasattr(shop, "_private"))
+        self.assertTrue(callable(shop.delete))  # it is there, and only a call of it is a mistake
+        self.assertEqual((recorder.mistakes, lines(recorder)), ([], []))
+
+    def test_exceptions_end_calls_as_in_a_block(self) -> None:
+        for raised, ending in [(Lost, []), (Refused, ['{"process":1,"event":"fail","register":"x"}'])]:
+            recorder, store = Recorder(failures=Refused), Shop()
+            with mock.patch.object(store, "get", mock.Mock(side_effect=raised)), self.assertRaises(raised):
+                recorder.wrap(store).get("x")
+            self.assertEqual(lines(recorder)[1:], ending)
+
+    def test_tasks_share_an_async_client(self) -> None:
+        async def use() -> Recorder:
+            async with Recorder() as recorder:
+                shop = recorder.wrap(AsyncShop(), name="ann")
+                await asyncio.gather(*(shop.set(key, value) for value, key in enumerate("xyxyxy", 1)))
+                found = await asyncio.gather(*(shop.get(key) for key in "xyz"))
+                self.assertIn(found[0], [b"1", b"3", b"5"])
+                self.assertIsNone(found[2])
+                return recorder
+
+        recorder = asyncio.run(use())
+        self.assertEqual(told(lines(recorder)), {"call": 9, "reply": 9, "fail": 0, "crash": 0})
+        self.assertEqual({json.loads(line)["process"] for line in lines(recorder)}, set(range(1, 7)))
+
+    def test_a_cancelled_task_leaves_its_call_pending(self) -> None:
+        async def use(recorder: Recorder) -> None:
+            store = AsyncShop()
+            with mock.patch.object(store, "get", lambda key: asyncio.sleep(60)):
+                await asyncio.wait_for(recorder.wrap(store).get("x"), 0.01)
+
+        recorder = Recorder()
+        with self.assertRaises(asyncio.TimeoutError):
+            asyncio.run(use(recorder))
+        self.assertEqual((recorder.counts.reads, recorder.counts.unanswered), (1, 1))
+
+
 class Asyncio(unittest.TestCase):
     def test_tasks_await_within_their_calls(self) -> None:
         recorder, values = Recorder(), {"x": "0"}
@@ -743,6 +1019,36 @@ class Asyncio(unittest.TestCase):
         self.assertEqual({event["process"] for event in history}, {1, 2, 3, 4, 5})
         self.assertEqual(told(lines(recorder))["reply"], 100)
         self.assertEqual(run_checker(recorder.history()).status, 0)
+
+    def test_async_with(self) -> None:
+        async def use() -> Recorder:
+            async with Recorder() as recorder, recorder.client("ann") as client:
+                async with client.write("x") as write:
+                    await asyncio.sleep(0)
+                    self.assertEqual(write.value, 1)
+                with contextlib.suppress(Lost):
+                    async with client.read("x"):
+                        raise Lost
+                async with client.cas("x", 1, 2) as cas:
+                    cas.ok = True
+                async with recorder.read("x") as read:
+                    read.value = 2
+            return recorder
+
+        recorder = asyncio.run(use())
+        self.assertEqual([json.loads(line)["process"] for line in lines(recorder)], [1, 1, 1, 2, 2, 3, 3])
+        with self.assertRaisesRegex(RecordingError, "the recorder is closed"):
+            recorder.client().read("x").__enter__()
+
+    def test_a_client_that_dies_in_a_task_crashes(self) -> None:
+        async def use(recorder: Recorder) -> None:
+            async with recorder.client() as client, client.read("x"):
+                raise Lost
+
+        recorder = Recorder()
+        with self.assertRaises(Lost):
+            asyncio.run(use(recorder))
+        self.assertEqual(lines(recorder)[1:], ['{"process":1,"event":"crash"}'])
 
     def test_a_time_out_is_pending(self) -> None:
         recorder = Recorder()

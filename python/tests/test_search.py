@@ -146,9 +146,9 @@ class Verdicts(Files):
         ran = run("check", given=text(*TWO_WINNERS))
         self.assertEqual((ran.status, ran.err), (1, ""))
         self.assertEqual(ran.out.splitlines()[1:], [
-            '  register "x": the reply of line 6, of the cas from 0 to 2 that took place, by process 2 '
-            '(lines 4 to 6): whatever order the operations before it took effect in, none gives it; it needs '
-            'a value of 0',
+            '  register "x": the cas from 0 to 2 that took place, by process 2 (lines 4 to 6): the value must '
+            'have been 0 at some moment from line 4 to line 6, and no order of the operations called before '
+            'line 6 in which it comes at such a moment gives the other answers',
             "    until then there was an order, and at the end of one the value is 1, by the cas from 0 to 1 "
             "that took place, by process 1 (lines 3 to 5)",
             "    no other call of this register was open then"])
@@ -157,15 +157,29 @@ class Verdicts(Files):
         events = [*AGAIN[:6], write(3, 7), crash(3), cas(4, 9, 8), read(5),
                   *(write(n, 7) for n in range(10, 16)), read(2), gave(2, 6), reply(10)]
         ran = run("check", given=text(*events))
-        self.assertIn("open then: the write of 7 by process 3 (line 7, open when its process crashed at "
-                      "line 8)", ran.out)
-        self.assertIn("open then: the cas from 9 to 8 by process 4 (line 9, never answered)", ran.out)
-        self.assertIn("and 3 other open calls", ran.out)
+        self.assertIn("    no call that was open then would leave 6\n", ran.out)
+        named = re.findall(r"open then: the (\w+) .*by process (\d+)", ran.out)
+        self.assertEqual(named, [("write", "10"), ("read", "5"), ("write", "15"), ("write", "14"),
+                                 ("write", "13"), ("write", "12")])
+        self.assertIn("and 3 other open calls", ran.out)  # older ones that nobody answered
+
+    def test_open_calls_that_could_explain_it_come_first(self) -> None:
+        """The write of 0 by process 2 gave line 10 its value, and so it is hidden by the write of line 11."""
+        events = [write(9, 3), write(1, 0), reply(1), write(2, 0), write(1, 1), reply(1), read(3), gave(3, 1),
+                  read(4), gave(4, 0), write(1, 1), reply(1), read(6), gave(6, 0), reply(2)]
+        ran = run("check", given=text(*events))
+        said = ran.out.splitlines()[1:]
+        self.assertIn("the value must have been 0 at some moment from line 13 to line 14", said[0])
+        self.assertEqual([line.strip() for line in said[2:]], [
+            "open then: the write of 0 by process 2 (lines 4 to 15), which would leave 0; but no order in "
+            "which the read of line 13 finds that gives the other answers",
+            "open then: the write of 3 by process 9 (line 1, never answered)"])
 
     def test_a_miss_and_a_null(self) -> None:
         ran = run("check", given=text(cas(1, None, 5), took(1, False)))
         self.assertIn("the cas from null to 5 that missed, by process 1 (lines 1 to 2)", ran.out)
-        self.assertIn("it needs a value other than null", ran.out)
+        self.assertIn("the value must have been something else than null at some moment from line 1 to line "
+                      "2", ran.out)
 
     def test_unwritten(self) -> None:
         table: List[Any] = [
@@ -272,7 +286,7 @@ class Annotations(Files):
 class Assertions(Files):
     def test_each_answer(self) -> None:
         self.assertEqual(assert_atomic(text(*FINE)).completed_reads, 1)
-        with self.assertRaisesRegex(NotAtomic, "The reply of line 6, of the cas from 0 to 2"):
+        with self.assertRaisesRegex(NotAtomic, "The cas from 0 to 2 that took place, by process 2"):
             assert_atomic(text(*TWO_WINNERS))
         with self.assertRaises(TooLittleEvidence):
             assert_atomic(text(*FINE[:-2]))
@@ -308,10 +322,10 @@ class Drawings(Files):
     def test_a_page_of_each_answer(self) -> None:
         path, page = self.folder / "h.jsonl", self.folder / "h.html"
         table = [(FINE, "Linearizable", False),
-                 (TWO_WINNERS, "The reply of line 6, of the cas from 0 to 2", True),
+                 (TWO_WINNERS, "the value must have been 0 at some moment from line 4 to line 6", True),
                  ([cas(1, 7, 5), took(1, True)], "found 7, which nobody wrote", True),
                  ([write(3, 5), *TWO_WINNERS, write(2, 7)],
-                  "The reply of line 7, of the cas from 0 to 2", True)]
+                  "the value must have been 0 at some moment from line 5 to line 7", True)]
         for events, words, marked in table:
             path.write_bytes(text(*events))
             ran = run("draw", str(path), "-o", str(page))

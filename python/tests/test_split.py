@@ -3,21 +3,25 @@ import io
 import json
 import os
 import pathlib
+import random
+import shutil
 import tempfile
 import unittest
-from typing import Any, Dict, List, Optional, Tuple
+from typing import Any, Dict, List, Mapping, Optional, Tuple
 from unittest import mock
 
 from regkit import cli
-from regkit.checker.programs import SEARCH, NoChecker, find_checker, find_program
+from regkit.checker.programs import CHECK, SEARCH, NoChecker, find_checker, find_program
 from regkit.commands import split as command
-from regkit.parts import routing, splitting
+from regkit.parts import blocks, reading, routing, sizes, writing
 from regkit.parts.answers import line_map
+from regkit.parts.blocks import BLOCK, blocks_of
 from regkit.parts.folder import BLANK, MAP, LineMap, file_of, read_manifest
 from regkit.parts.routing import CertainRefusal, Router
-from regkit.parts.splitting import Plan, lines_of, split
+from regkit.parts.splitting import split
+from regkit.parts.writing import Plan
 from tests import split_support
-from tests.split_support import random_history, run_command
+from tests.split_support import random_history, random_search_history, run_command
 
 
 def has_checker() -> bool:
@@ -88,9 +92,10 @@ class Routes(unittest.TestCase):
         parts: List[Optional[int]] = []
         for line in lines:
             try:
-                parts.append(router.route(line.encode("utf-8") + b"\n"))
+                router.route(line.encode("utf-8") + b"\n")
             except CertainRefusal as refusal:
-                return parts, refusal.parts
+                return parts, [part.number for part in refusal.parts]
+            parts.append(next((part.number for part in router.parts if part.lines), None))
         return parts, []
 
     def test_accepted(self) -> None:
@@ -148,22 +153,127 @@ class Routes(unittest.TestCase):
             with self.subTest(line[:60]):
                 self.assertEqual(([], [0]), self.routed(line))
 
-    def test_any_cas_is_noticed(self) -> None:
-        for line, expected in [(cas(1, "x"), True), (cas(1, "x").replace(" ", ""), True),
-                               (call(1, "x"), False),
-                               ('{"op":"cas","register":"x","process":1,"event":"call"}', True),
-                               ('{"register":"x","op":"read","process":1,"event":"call"}', False)]:
-            with self.subTest(line):
-                router = Router(1)
-                router.route(line.encode())
-                self.assertEqual(router.has_cas, expected)
-
     def test_registers_go_to_the_part_with_the_fewest_events(self) -> None:
         router = Router(2)
-        for line in [call(1, "x"), end(1), call(1, "x"), end(1), call(1, "y"), end(1), call(1, "z")]:
-            last = router.route(line.encode())
-        self.assertEqual(1, last)
-        self.assertEqual([4, 3], router.events)
+        pairs = [call(1, "x"), end(1), call(1, "x"), end(1), call(1, "y"), end(1)]
+        router.route(history_of(*pairs, call(1, "z")))
+        self.assertEqual([[0, 1, 2, 3], [4, 5, 6]], [part.lines for part in router.parts])
+        router.route(history_of(call(2, "v")))
+        self.assertEqual([[], [0]], [part.lines for part in router.parts])
+        self.assertEqual([4, 4], [part.count for part in router.parts])
+
+
+def usual_lines(chance: random.Random) -> bytes:
+    """A line of the usual form, in one of its spellings."""
+    members: Dict[str, object] = {"process": chance.choice([0, 7, 12, 999_999_999])}
+    value = chance.choice([0, 5, -3, None, 10**17])
+    if chance.random() < 0.6:
+        op = chance.choice(["read", "write", "cas"])
+        members.update(event="call", op=op, register=chance.choice(["x", "key 7", "\u00e9"]))
+        members.update({"from": value, "to": 2} if op == "cas" else {"value": value} if op == "write" else {})
+    else:
+        members["event"] = chance.choice(["reply", "fail"])
+        members.update(chance.choice([{}, {"op": "read"}, {"register": "x"}, {"op": "cas", "register": "x"}]))
+        members.update(chance.choice([{}, {"value": value}, {"ok": True}]))
+    members.update((name, what) for name, what in split_support.WHO if chance.random() < 0.3)
+    separators = chance.choice([(",", ":"), (", ", ": ")])
+    return json.dumps(members, ensure_ascii=False, separators=separators).encode("utf-8")
+
+
+def spoiled(line: bytes, chance: random.Random) -> bytes:
+    """The line with up to three bytes changed, added or removed."""
+    for _ in range(chance.randrange(4)):
+        at = chance.randrange(len(line) + 1)
+        new = chance.choice([b"", b"0", b"1", b"-", b".", b" ", b",", b":", b'"', b"\\", b"{", b"}", b"e",
+                             b"\r", b"\t", b"\x00", b"\x7f", b"\xc3", b"\xa9", b"\xff", b"null", b'"x":1,',
+                             b"}\n{"])
+        line = line[:at] + new + line[at + chance.randrange(2):]
+    return line
+
+
+class BothWays(unittest.TestCase):
+    """What the pattern for lines of the usual form finds is what reading them as JSON finds."""
+
+    def test_spoiled_lines(self) -> None:
+        chance = random.Random(5)
+        usual = 0
+        for _ in range(30_000):
+            for line in spoiled(usual_lines(chance), chance).split(b"\n"):
+                for with_cas in (False, True):
+                    rows = reading.form_of(line + b"\n", with_cas).findall(line + b"\n")
+                    self.assertEqual(1, len(rows), line)
+                    process, register, value, rest = rows[0]
+                    if rest:
+                        self.assertEqual(line + b"\n", rest)
+                        continue
+                    event = reading.read_event(line + b"\n")
+                    assert event is not None, line
+                    self.assertEqual((process, register), event[:1] + event[2:3], line)
+                    self.assertEqual(event.event == "call", register != b"", line)
+                    self.assertIn(event.event, ("call", "reply", "fail"), line)
+                    if not with_cas:
+                        self.assertEqual((value, False), event[3:], line)
+                    usual += 1
+        self.assertGreater(usual, 10_000)
+
+    def routed(self, history: bytes) -> List[object]:
+        """Where the lines of a history go, and what is known at the end."""
+        router = Router(3)
+        told: List[object] = []
+        for block in blocks_of(io.BytesIO(history)):
+            try:
+                router.route(block)
+            except CertainRefusal as refusal:
+                told.append([part.number for part in refusal.parts])
+            told.append([part.lines[:] for part in router.parts])
+        writes = [] if router.has_cas else [sorted(part.writes) for part in router.parts]
+        tables: List[Mapping[bytes, Optional[routing.Part]]] = [router.registers, router.open, router.crashed]
+        owners = [[(name, part and part.number) for name, part in table.items()] for table in tables]
+        return [told, router.lines, router.has_cas, writes, owners]
+
+    def test_random_histories(self) -> None:
+        for seed in range(30_000, 31_000):
+            history = (random_history, random_search_history)[seed % 2](seed)
+            both = self.routed(history)
+            with self.subTest(seed), mock.patch.object(routing, "form_of", lambda *_: reading.NO_FORM):
+                self.assertEqual(self.routed(history), both)
+
+
+class Program(Folder):
+    """The manifest names the program that takes all parts."""
+
+    def test_program(self) -> None:
+        swap, other = [cas(1, "x"), end(1, ok=True)], [call(2, "y", 5), end(2)]
+        for name, lines, expected in [
+            ("distinct values", [call(1, "x", 5), end(1), call(1, "x", 6), end(1), *other], CHECK),
+            ("a cas", [*other, *swap], SEARCH),
+            ("a cas in compact form", [*other, swap[0].replace(" ", ""), swap[1]], SEARCH),
+            ("other orders of its members",
+             ['{"op":"cas","register":"x","process":1,"from":null,"to":1,"event":"call"}', *other], SEARCH),
+            ("a value again", [*other, *other], SEARCH),
+            ("a value again, of a write that failed", [other[0], end(2, "fail"), *other], SEARCH),
+            ("a value again, spelled in another way",
+             [*other, '{"value":5,"event":"call","op":"write","register":"\\u0079","process":3}'], SEARCH),
+            ("a value again, without spaces", [*other, other[0].replace(" ", ""), other[1]], SEARCH),
+            ("a value again, below 0", [call(1, "x", -5), end(1), call(1, "x", -5)], SEARCH),
+            ("a value that is read again", [*other, call(1, "y"), end(1, value=5), call(1, "y")], CHECK),
+            ("a value again in the line that is refused",
+             [*other, call(1, "z"), end(1, "crash"), call(1, "y", 5)], SEARCH),
+            ("a cas in the line that is refused", [call(1, "z"), cas(1, "y")], SEARCH),
+        ]:
+            with self.subTest(name), tempfile.TemporaryDirectory() as self.directory:
+                self.split(history_of(*lines), 2)
+                self.assertEqual(expected, read_manifest(self.directory).program)
+                self.assertEqual([], list(pathlib.Path(self.directory).glob("*.writes")))
+
+    def test_many_writes(self) -> None:
+        """More than are kept in memory: the first value again, at the end."""
+        lines = [line for value in range(20_000) for line in (call(1, "x", value), end(1))]
+        for again, expected in [(0, SEARCH), (20_000, CHECK)]:
+            with self.subTest(expected), tempfile.TemporaryDirectory() as self.directory:
+                self.split(history_of(*lines, call(1, "x", again)), 2)
+                self.assertEqual(expected, read_manifest(self.directory).program)
+                self.assertEqual([], list(pathlib.Path(self.directory).glob("*.writes")))
 
 
 class Parts(Folder):
@@ -202,7 +312,7 @@ class Parts(Folder):
 
     def test_many_blank_lines(self) -> None:
         """More blank lines than a buffer holds."""
-        count = 3 * splitting.BUFFER + 5
+        count = 3 * writing.BUFFER + 5
         self.split(b"\n" * count + history_of(call(1, "x")), 2)
         self.assertEqual(b"\n" * count + history_of(call(1, "x")), self.part(0))
         self.assertEqual(b"", self.part(1))
@@ -217,18 +327,28 @@ class Parts(Folder):
         """A long line is never held as a whole."""
         long = b"x" * 10_000_000
         blank = b" " * 1_000_000
-        lines = list(lines_of(io.BytesIO(long + b"\n" + blank + b"\n\n" + blank + b"x\nlast")))
-        self.assertEqual([True, False, False, True, True], [bool(line.strip(b" \n")) for line in lines])
-        self.assertEqual([True, True, False, True, False], [len(line) > 65_537 for line in lines])
-        self.assertLess(max(map(len, lines)), 4 * 65_536)
+        blocks = list(blocks_of(io.BytesIO(long + b"\n" + blank + b"\n\n" + blank + b"x\nlast")))
+        self.assertLess(max(map(len, blocks)), 5 * BLOCK)
+        lines = b"".join(blocks).split(b"\n")
+        self.assertEqual([True, False, False, True, True], [bool(line.strip(b" ")) for line in lines])
+        self.assertEqual([True, True, False, True, False], [len(line) > 65_536 for line in lines])
         self.assertEqual(b"last", lines[-1])
+
+    def test_blocks_are_whole_lines(self) -> None:
+        """Wherever a block would end: in a line, behind its line feed, and at the end of the history."""
+        history = b"".join(b"%d\n" % number for number in range(40_000)) + b"last"
+        for start in range(9):
+            blocks = list(blocks_of(io.BytesIO(history[start:])))
+            self.assertEqual(history[start:], b"".join(blocks))
+            self.assertTrue(all(block.endswith(b"\n") for block in blocks[:-1]))
+            self.assertGreater(len(blocks), 2)
 
 
 class Limits(Folder):
     """What is too large for the checker is named, and no part is left."""
 
     def ask(self, history: bytes, *options: str) -> split_support.Ran:
-        with mock.patch.object(routing, "MAX_EVENTS", 4), mock.patch.object(splitting, "MAX_EVENTS", 4):
+        with mock.patch.object(sizes, "MAX_EVENTS", 4):
             return run_command(command, self.write(history), self.directory, *options)
 
     def test_events(self) -> None:
@@ -240,8 +360,35 @@ class Limits(Folder):
         pair = [call(1, "x\t"), end(1)]
         ran = self.ask(history_of(*pair, call(2, "y"), *pair, call(1, "x\t")), "--parts", "2")
         self.assertEqual((5, b""), ran[:2])
-        self.assertIn('regkit split: line 6: register "x\\u0009" has more than 4 events', ran.words)
+        self.assertIn('line 6: register "x\\u0009" has more than 4 events of its own', ran.words)
+        self.assertIn("head -n 5", ran.words)
         self.assertEqual([], os.listdir(self.directory))
+
+    def test_too_many_bytes_of_a_register(self) -> None:
+        """Blank lines and other registers don't count. The lines before can be split."""
+        lines = [call(2, "y"), end(2), "", call(1, "x"), end(1), call(1, "x"), end(1)]
+        history = history_of(*lines)
+        most = sum(len(line) + 1 for line in lines[3:6])
+        for form in (BLANK, MAP):
+            with self.subTest(form), mock.patch.object(sizes, "MAX_BYTES", most):
+                ran = self.ask(history, "--parts", "1", "--lines", form)
+                self.assertEqual(5, ran.status)
+                self.assertIn(f'line 7: register "x" has more than {most} bytes of its own', ran.words)
+                self.assertIn("head -n 6", ran.words)
+                self.assertEqual([], os.listdir(self.directory))
+                first = history_of(*lines[:6])
+                self.assertEqual(0, self.ask(first, "--parts", "2", "--lines", MAP).status)
+                shutil.rmtree(self.directory)
+
+    def test_a_register_is_found_late(self) -> None:
+        """The part is past the limit long before its largest register is."""
+        pair = [call(1, "x"), end(1)]
+        other = [[call(2, name), end(2)] for name in "abcdefgh"]
+        lines = [*pair, *other[0], *other[1], *other[2], *pair, *other[3], *other[4], *pair]
+        with mock.patch.object(blocks, "BLOCK", 1):
+            ran = self.ask(history_of(*lines), "--parts", "1")
+        self.assertEqual(5, ran.status)
+        self.assertIn(f'line {len(lines) - 1}: register "x" has more than 4 events', ran.words)
 
     def test_too_many_events_of_a_part(self) -> None:
         history = history_of(*(line for name in "uvxyz" for line in (call(1, name), end(1))))
@@ -255,7 +402,7 @@ class Limits(Folder):
     def test_too_many_bytes_of_a_part(self) -> None:
         """Blank lines count, so a map helps."""
         history = b"\n" * 500 + history_of(call(1, "x"), end(1))
-        with mock.patch.object(splitting, "MAX_BYTES", 300):
+        with mock.patch.object(sizes, "MAX_BYTES", 300):
             ran = self.ask(history, "--parts", "2")
             self.assertEqual(5, ran.status)
             self.assertIn("--lines map", ran.words)
@@ -284,10 +431,23 @@ class CommandLine(Folder):
                 self.assertIn("1 to 1000", words.getvalue() if word != "-1" else "1 to 1000")
 
     def test_folder_that_is_not_empty(self) -> None:
+        """What to do depends on what is there."""
         os.mkdir(self.directory)
-        pathlib.Path(self.directory, "part-000.report").touch()
-        with self.assertRaisesRegex(FileExistsError, "is not empty"):
-            run_command(command, self.write(b""), self.directory, "--parts", "2")
+        for name, words in [("notes", "name a new folder"), ("part-000.jsonl", "that was killed: delete"),
+                            ("split.json", "has the parts of a history")]:
+            pathlib.Path(self.directory, name).touch()
+            with self.subTest(name), self.assertRaisesRegex(FileExistsError, words):
+                run_command(command, self.write(b""), self.directory, "--parts", "2")
+
+    def test_interrupted(self) -> None:
+        """No part is left, and the same command begins again."""
+        path = self.write(history_of(call(1, "x")))
+        with mock.patch.object(Router, "route", side_effect=KeyboardInterrupt):
+            ran = run_command(command, path, self.directory, "--parts", "2")
+        self.assertEqual(130, ran.status)
+        self.assertIn("interrupted: no part is left", ran.words)
+        self.assertEqual([], os.listdir(self.directory))
+        self.assertEqual(0, run_command(command, path, self.directory, "--parts", "2").status)
 
     def test_standard_input(self) -> None:
         """A pipe of unknown length gets a map."""
@@ -296,16 +456,9 @@ class CommandLine(Folder):
             out.write(history_of(call(1, "x")))
         with os.fdopen(reading) as pipe, mock.patch("sys.stdin", pipe):
             ran = run_command(command, "-", self.directory, "--parts", "2")
-        expected = f"{self.directory}: 1 events on 1 registers in 2 parts\n"
+        expected = f"{self.directory}: 1 events on 1 registers in 2 parts, for regcheck\n"
         self.assertEqual((0, expected), (ran.status, ran.words))
         self.assertEqual(MAP, read_manifest(self.directory).lines)
-
-    def test_a_history_with_cas(self) -> None:
-        ran = run_command(command, self.write(history_of(cas(1, "x"))), self.directory, "--parts", "1")
-        self.assertEqual(0, ran.status)
-        words = "\nregkit split: the history has cas, so it is one for regsearch: check each part with it\n"
-        self.assertIn(words, ran.words)
-        self.assertTrue(read_manifest(self.directory).cas)
 
     def test_form_of_line_numbers(self) -> None:
         gibibyte = 1 << 30

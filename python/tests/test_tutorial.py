@@ -15,7 +15,7 @@ from contextlib import suppress
 from typing import Any, Dict, List, NamedTuple, Optional
 
 from regkit.checker.programs import find_checker, run_checker
-from regkit.record import Recorder
+from regkit.record import Methods, Recorder
 from regkit.testing import assert_atomic
 
 ROOT = pathlib.Path(__file__).resolve().parents[2]
@@ -174,7 +174,8 @@ class Code(unittest.TestCase):
         with tempfile.TemporaryDirectory() as directory:
             first = Recorder()
             names: Dict[str, Any] = {
-                "suppress": suppress, "Recorder": self.recorder, "assert_atomic": assert_atomic,
+                "suppress": suppress, "Recorder": self.recorder, "Methods": Methods,
+                "assert_atomic": assert_atomic,
                 "Store": Store, "store": Store(), "recorder": first, "client": first.client()}
             here = os.getcwd()
             os.chdir(directory)
@@ -189,6 +190,9 @@ class Code(unittest.TestCase):
         fixture = Recorder()
         names["test_store"](fixture)
         self.assertEqual(assert_atomic(fixture).completed_reads, 1)
+        without_blocks = Recorder()
+        self.assertEqual(names["wrapped"](without_blocks, Store()), 1)
+        self.assertEqual(without_blocks.counts.answered, 2)
 
 
 def accept() -> None:

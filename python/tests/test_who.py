@@ -1,8 +1,6 @@
 """Clients, nodes and times, from the lines of a history to what a person reads."""
 import json
-import pathlib
 import re
-import tempfile
 import unittest
 from typing import Any, Dict, List, Sequence, Tuple
 
@@ -105,13 +103,6 @@ class Words(unittest.TestCase):
                       f"ended before {SAID} began", page)
         self.assertIn(SAID, unfolded(run("explain", "-", given=history).out))
         self.assertIn(SAID, unfolded(run("check", "-", given=history).out))
-
-    def test_the_label_of_a_map_is_said_once(self) -> None:
-        with tempfile.TemporaryDirectory() as folder:
-            path = pathlib.Path(folder) / "map"
-            path.write_text(json.dumps({"values": {}, "processes": {"65": "worker-3"}}))
-            out = unfolded(run("explain", "--map", str(path), "-", given=text(*STALE)).out)
-        self.assertIn('by process "worker-3", node replica-1, 12.031 s (lines 3 to 4)', out)
 
 
 class Pictures(unittest.TestCase):

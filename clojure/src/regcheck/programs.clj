@@ -17,13 +17,16 @@
   [given variable]
   (or given (not-empty (System/getenv variable))))
 
+(defn- program-in
+  "The path of the program in a folder, if it is there; else nil. A folder of its name is none."
+  [folder program]
+  (let [^File place (io/file folder program)]
+    (when (and (.isFile place) (.canExecute place)) (str place))))
+
 (defn- on-path
   "The path of the program on PATH; else nil."
   [program]
-  (some (fn [folder]
-          (let [^File place (io/file folder program)]
-            (when (.canExecute place) (str place))))
-        (str/split (or (System/getenv "PATH") "") #":")))
+  (some #(program-in % program) (str/split (or (System/getenv "PATH") "") #":")))
 
 (defn- missing! [variable program]
   (unknown! program " was not found: put it on PATH, or set " variable " to its path"))
@@ -40,8 +43,7 @@
   or that on PATH."
   [opts given variable program]
   (or (named given variable)
-      (let [beside (io/file (.getParentFile (.getAbsoluteFile (io/file (regcheck opts)))) program)]
-        (when (.canExecute beside) (str beside)))
+      (program-in (.getParentFile (.getAbsoluteFile (io/file (regcheck opts)))) program)
       (on-path program)
       (missing! variable program)))
 

@@ -174,6 +174,17 @@
       (is (= :unknown valid?) words)
       (is (str/includes? (str cause) words)))))
 
+(deftest a-folder-is-no-program
+  (let [folder (.toFile (Files/createTempDirectory "regcheck-" (make-array FileAttribute 0)))
+        [regcheck regsearch :as files] (map #(io/file folder %) ["regcheck" "regsearch"])]
+    (.mkdir regsearch)
+    (spit regcheck "#!/bin/sh\nexit 2\n")
+    (.setExecutable regcheck true)
+    (let [{:keys [valid? cause]} (judged stale {:regcheck (str regcheck)} {})]
+      (is (not= true valid?))
+      (is (not (str/includes? (str cause) "could not be run"))))
+    (run! io/delete-file [regcheck regsearch folder])))
+
 (deftest programs-that-are-not-there
   (let [{:keys [valid? cause]} (judged stale {:regcheck "/nowhere/regcheck"} {})]
     (is (= :unknown valid?))

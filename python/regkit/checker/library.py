@@ -9,6 +9,7 @@ import sys
 from functools import lru_cache
 from typing import Any, Callable, Iterator, NamedTuple, Optional
 
+from regkit import __version__
 from regkit.base.limits import MAX_CONFIGURATIONS, MAX_STEPS
 from regkit.base.statuses import ExitStatus
 
@@ -19,10 +20,7 @@ OUT_OF_MEMORY = "no memory or no thread", 17  # words and number, which a librar
 
 
 class NoLibrary(Exception):
-    """The file in REGCHECK_LIBRARY isn't the library."""
-
-    def __init__(self, path: str, why: str) -> None:
-        super().__init__(f"{path} is not the library of regcheck: {why}. Is REGCHECK_LIBRARY right?")
+    """The file in REGCHECK_LIBRARY isn't the library, or is too old."""
 
 
 class Told(NamedTuple):
@@ -57,7 +55,7 @@ class Library:
         try:
             self._library = ctypes.CDLL(path)
         except OSError as error:
-            raise NoLibrary(path, str(error)) from error
+            raise self._refused(str(error)) from error
         self._check = self._function("regcheck_report", (*_INPUT, *_ANSWER))
         self._check_refusal = self._function("regcheck_refusal", (*_INPUT, *_OUTPUT), ctypes.c_size_t)
         self._search = self._function("regsearch_report", (*_INPUT, *_BOUNDS, *_ANSWER))
@@ -67,9 +65,15 @@ class Library:
         try:
             function: Any = getattr(self._library, name)
         except AttributeError as error:
-            raise NoLibrary(self._path, str(error)) from error
+            if hasattr(self._library, "regcheck_report"):  # the first that there was
+                raise NoLibrary(f"{self._path} is too old for regkit {__version__}: it has no {name}. "
+                                "Install the library of the same release") from error
+            raise self._refused(str(error)) from error
         function.argtypes, function.restype = types, result
         return function  # type: ignore[no-any-return]
+
+    def _refused(self, why: str) -> NoLibrary:
+        return NoLibrary(f"{self._path} is not the library of regcheck: {why}. Is REGCHECK_LIBRARY right?")
 
     def check(self, history: bytes) -> Told:
         """What `regcheck` would say of the history, byte for byte."""

@@ -24,9 +24,13 @@ examples:
   regkit check history.jsonl
   regkit check --least-reads 100 --least-overlaps 20 runs/*.jsonl
   ./record_a_run | regkit check
+  regkit check store/latest/history.edn log.csv               files of other tools, and tables
   regkit check --json --verify runs/*.jsonl > verdicts.jsonl
   regkit check --draw pages runs/*.jsonl
   regkit check --annotate --junit results.xml runs/*.jsonl    in CI: docs/recipes.md has the whole file
+
+A file of any form that `regkit convert` takes without options is converted first, and the outcome says what
+it was taken for. It is refused if it may have two forms, or if something has to be said about it.
 
 A history that says nothing is no success: a yes needs at least one completed read, or what --least-reads and
 --least-overlaps ask for.
@@ -54,7 +58,7 @@ def add_arguments(parser: argparse.ArgumentParser) -> None:
     parser.add_argument("--least-overlaps", metavar="N", type=count, default=0,
                         help="and at least N of them that overlap a write (default %(default)s)")
     parser.add_argument("--count-all", action="store_true",
-                        help="count the reads of the whole history, however long, as --json does")
+                        help="count the reads of the whole history, however long it is")
     parser.add_argument("--first", action="store_true",
                         help="stop at the first faulty register of each history")
     parser.add_argument("--verify", action="store_true",
@@ -107,7 +111,7 @@ def wrong_words(arguments: argparse.Namespace) -> str:
 def settings_of(arguments: argparse.Namespace) -> CheckSettings:
     return CheckSettings(
         most=arguments.most, least_reads=arguments.least_reads, least_overlaps=arguments.least_overlaps,
-        first=arguments.first, verify=arguments.verify, count_all=arguments.count_all or arguments.json,
+        first=arguments.first, verify=arguments.verify, count_all=arguments.count_all,
         bounds=bounds_of(arguments), pages=None if arguments.draw is None else Pages(arguments.draw))
 
 

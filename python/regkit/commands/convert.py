@@ -1,19 +1,20 @@
 """`regkit convert`: makes a history of what another tool recorded."""
 import argparse
-import contextlib
 import io
 import json
 import sys
-from typing import Iterable, Iterator, Optional, TextIO
+from typing import Iterable, Optional, TextIO
 
 from regkit.base.garbage import many_objects
 from regkit.base.statuses import ExitStatus
 from regkit.commands.stopping import complain
 from regkit.convert import output, summary, write_back
 from regkit.convert.edn import NotEdn
+from regkit.convert.forms import form_of, refuse_binary
 from regkit.convert.model import Refused, WrongWords
+from regkit.convert.taking import beginning_of, taken_for, text_of
 from regkit.convert.whole import Converted, convert
-from regkit.convert.words import add_arguments, choices_of
+from regkit.convert.words import AUTO, add_arguments, choices_of
 from regkit.history.inputs import STANDARD_INPUT, opened
 
 __all__ = ["EPILOG", "HELP", "add_arguments", "run"]
@@ -21,19 +22,19 @@ __all__ = ["EPILOG", "HELP", "add_arguments", "run"]
 HELP = "make a history of what another tool recorded"
 EPILOG = """\
 examples:
-  regkit convert --from jepsen store/latest/history.edn | regkit check
-  regkit convert --from porcupine operations.jsonl | regkit check
-  regkit convert --from csv log.csv --columns process=client,register=key -o history.jsonl --map history.map
-  regkit convert --from csv merged.csv --clock-error 5ms --clock-unit us | regkit check
-  regkit convert --from csv log.tsv --ops fetch=read,store=write --outcomes done=ok,timeout=unknown
+  regkit convert store/latest/history.edn -o history.jsonl
+  regkit convert log.csv --columns process=worker,register=object -o history.jsonl --map history.map
+  regkit convert merged.csv --clock-error 5ms --clock-unit us | regkit check
+  regkit convert log.tsv --ops fetch=read,store=write --outcomes done=ok,timeout=unknown | regkit check
+  regkit convert counters.csv --ops incr=add,getset=swap,setnx=create --initial 0 | regkit check
 
 With compare-and-swap (cas) and values that repeat:
-  regkit convert --from jepsen history.edn | regkit check                            # Jepsen, Knossos
-  regkit convert --from jepsen history.edn --failed-cas missed | regkit check        # Maelstrom's lin-kv
-  regkit convert --from porcupine etcd_000.log --failed-cas missed | regkit check    # Porcupine's log of etcd
-  regkit convert --from porcupine kv.jsonl --versions Version --ok-when Err=OK \\
-    --outcomes ErrVersion=missed --null ,ErrNoKey | regkit check                     # MIT 6.5840
-  regkit convert --from csv log.csv | regkit check                                   # columns from, to and ok
+  regkit convert history.edn --failed-cas missed | regkit check        # Maelstrom's lin-kv
+  regkit convert etcd_000.log --failed-cas missed | regkit check       # Porcupine's log of etcd
+  regkit convert kv.jsonl --versions Version --ok-when Err=OK \\
+    --outcomes ErrVersion=missed --null ,ErrNoKey | regkit check       # MIT 6.5840
+
+What needs no options needs no conversion: `regkit check`, `explain` and `draw` take these files themselves.
 
 A conversion never adds a precedence that the source doesn't have. It drops one only at a tie of time stamps
 or by --clock-error, which can hide a fault and never makes one up. What it doesn't understand it refuses by
@@ -64,10 +65,13 @@ def run(arguments: argparse.Namespace) -> int:
 
 
 def _run(arguments: argparse.Namespace) -> int:
-    choices = choices_of(arguments)
     to_history = arguments.to == "history"
-    with _opened(arguments.file or STANDARD_INPUT, choices.form) as lines:
-        converted = convert(lines, choices, number=to_history)
+    with opened(arguments.file or STANDARD_INPUT) as stream:
+        beginning, source = beginning_of(stream)
+        form = _form(arguments.form, beginning)
+        choices = choices_of(arguments, form)
+        with text_of(source, form) as lines:
+            converted = convert(lines, choices, number=to_history)
     if to_history:
         written = _write(output.history_lines(converted), arguments.output)
         warnings = summary.too_large(written.lines, written.size)
@@ -76,20 +80,19 @@ def _run(arguments: argparse.Namespace) -> int:
         warnings = iter(())
     if arguments.map:
         _write_map(converted, arguments)
-    for line in (*summary.told(converted, bool(arguments.map)), *warnings):
+    for line in (*summary.told(converted), *warnings):
         print(f"regkit convert: {line}", file=sys.stderr)
     return ExitStatus.DONE
 
 
-@contextlib.contextmanager
-def _opened(name: str, form: str) -> Iterator[Iterable[str]]:
-    """The lines of the source. A table's rows may have line ends of any kind within quotes."""
-    with opened(name) as stream:
-        lines = io.TextIOWrapper(stream, encoding="utf-8-sig", newline="" if form == "csv" else "\n")
-        try:
-            yield lines
-        finally:
-            lines.detach()
+def _form(named: str, beginning: bytes) -> str:
+    """The form that is named, or the one that the source has by its beginning."""
+    if named != AUTO:
+        refuse_binary(beginning)
+        return named
+    form = form_of(beginning)
+    print(f"regkit convert: {taken_for(form)}", file=sys.stderr)
+    return form.name
 
 
 def _write(lines: Iterable[str], name: Optional[str]) -> output.Written:

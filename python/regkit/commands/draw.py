@@ -5,16 +5,19 @@ import sys
 
 from regkit.base.garbage import many_objects
 from regkit.base.statuses import ExitStatus
-from regkit.checker.programs import NoChecker, decide, with_search_hint
+from regkit.checker.programs import NoChecker, with_search_hint
 from regkit.checker.report import read_report
 from regkit.commands.options import add_bounds, bounds_of
 from regkit.commands.stopping import Stop, complain
 from regkit.drawing.draw import page_of
 from regkit.drawing.page import DrawSettings
+from regkit.explain.looks import shell_name
 from regkit.explain.shrinking import MOST_RUNS, ShrinkSettings
 from regkit.history.inputs import TooLong, read_input, shown_name
 from regkit.history.operations import NoRegister, read_history
+from regkit.judging.other_forms import NotTaken, decide_any, hint_of
 from regkit.words.progress import Progress
+from regkit.words.quoting import plain
 
 HELP = "draw a history on a page for a browser: the fault, or the order of a yes"
 EPILOG = """\
@@ -22,6 +25,7 @@ examples:
   regkit draw h.jsonl -o h.html               runs regcheck or regsearch, and draws what it says
   regkit draw h.jsonl h.report -o h.html      draws a report that is there already
   regkit draw h.jsonl --register x -o h.html  draws one register
+  regkit draw history.edn -o h.html           a file of any form that `regkit convert` takes
 
 The page stands alone: one file, no script, nothing loaded. It begins with the fault of the first register
 that isn't linearizable. If all are, it shows the point at which each operation takes effect. If the search
@@ -77,7 +81,11 @@ def drawn(arguments: argparse.Namespace) -> str:
     with Progress() as progress, many_objects():
         data = read_input(arguments.history)
         progress.step("regcheck")
-        report = read_report(written_report(arguments, data))
+        if arguments.report is None:
+            data, written = new_report(arguments, data, progress)
+        else:
+            written = read_input(arguments.report)
+        report = read_report(written)
         progress.step("reading", data.count(b"\n"))
         history = read_history(data, progress.reach)
         progress.step("drawing", MOST_RUNS if report.by_search else 0)
@@ -86,15 +94,20 @@ def drawn(arguments: argparse.Namespace) -> str:
         return page_of(history, report, title, DrawSettings(arguments.most, arguments.register, shrinking))
 
 
-def written_report(arguments: argparse.Namespace, history: bytes) -> bytes:
-    """The report in a file, or of a new run. Raises Stop if there is none."""
-    if arguments.report is not None:
-        return read_input(arguments.report)
-    answer = decide(history, bounds_of(arguments))
-    if answer.decided:
-        return answer.report
-    status = ExitStatus.REFUSED if answer.status == ExitStatus.REFUSED else ExitStatus.FAILED
-    raise Stop(status, with_search_hint(answer.refusal, history, answer))
+def new_report(arguments: argparse.Namespace, data: bytes, progress: Progress) -> tuple[bytes, bytes]:
+    """The history in a file of any form, and its report by a new run. Raises Stop."""
+    try:
+        history, answer, told = decide_any(data, bounds_of(arguments))
+    except NotTaken as error:
+        hint = hint_of(error, arguments.history, f"draw - -o {shell_name(arguments.output)}")
+        words = plain(str(error)) + (f"\n  {hint}" if hint else "")
+        raise Stop(ExitStatus.REFUSED, words) from error
+    if not answer.decided:
+        status = ExitStatus.REFUSED if answer.status == ExitStatus.REFUSED else ExitStatus.FAILED
+        raise Stop(status, with_search_hint(answer.refusal, history, answer))
+    for line in told:
+        progress.say(f"regkit draw: {plain(line)}", sys.stderr)
+    return history, answer.report
 
 
 def write(name: str, page: str) -> None:

@@ -6,7 +6,7 @@ import sys
 from regkit.base.garbage import many_objects
 from regkit.base.limits import MAX_BYTES
 from regkit.base.statuses import ExitStatus
-from regkit.checker.programs import NoChecker, decide
+from regkit.checker.programs import NoChecker
 from regkit.checker.report import Report, Row, read_report
 from regkit.commands.options import add_bounds, bounds_of, count
 from regkit.commands.stopping import Stop, complain
@@ -17,8 +17,9 @@ from regkit.explain.searched import what_to_do
 from regkit.explain.shrinking import MOST_RUNS
 from regkit.history.inputs import STANDARD_INPUT, TooLong, read_input, shown_name
 from regkit.history.operations import History, NoRegister, NotAHistory, read_history
-from regkit.history.source_map import NotAMap, put_labels
+from regkit.history.texts import Contradictory
 from regkit.judging.failures import file_failure, program_failure, refusal_advice
+from regkit.judging.other_forms import NotTaken, decide_any, hint_of
 from regkit.words.colour import CHOICES, painter
 from regkit.words.phrases import counted
 from regkit.words.progress import Progress
@@ -29,8 +30,8 @@ EPILOG = """\
 examples:
   regkit explain history.jsonl
   regkit explain history.jsonl history.report
+  regkit explain store/latest/history.edn                 a file of any form that `regkit convert` takes
   regkit explain --register user:1 history.jsonl | less
-  regkit convert --from csv log.csv -o h.jsonl --map h.map; regkit explain --map h.map h.jsonl
 
 For each register that isn't linearizable:
   - the contradiction, with the values, the processes and the lines of each operation; of a stale read, the
@@ -61,8 +62,6 @@ def add_arguments(parser: argparse.ArgumentParser) -> None:
     parser.add_argument("history", metavar="HISTORY", help="the history; - is standard input")
     parser.add_argument("report", metavar="REPORT", nargs="?", help="its report (default: regcheck is run)")
     parser.add_argument("--register", metavar="NAME", help="explain this register alone")
-    parser.add_argument("--map", metavar="FILE",
-                        help="show the source's own values: what `regkit convert --map` wrote")
     parser.add_argument("--most", metavar="N", type=count, default=3,
                         help="explain at most N faulty registers (default %(default)s)")
     add_bounds(parser)
@@ -70,17 +69,21 @@ def add_arguments(parser: argparse.ArgumentParser) -> None:
                         help="colour: on a terminal unless NO_COLOR is set (default), always, or never")
 
 
-def written_report(arguments: argparse.Namespace, data: bytes) -> bytes:
-    """The report that is named, or that of a new run. Raises Stop."""
-    if arguments.report is not None:
-        return read_input(arguments.report, None)
-    answer = decide(data, bounds_of(arguments))
+def new_report(arguments: argparse.Namespace, data: bytes, progress: Progress) -> tuple[bytes, bytes]:
+    """The history in a file of any form, and its report by a new run. Raises Stop."""
+    try:
+        data, answer, told = decide_any(data, bounds_of(arguments))
+    except NotTaken as error:
+        raise Stop(ExitStatus.REFUSED, f"refused: {error}", hint_of(error, arguments.history, "explain "
+                                                                                              "-")) from error
     if answer.status == ExitStatus.REFUSED:
         hint = refusal_advice(data, answer, arguments.history)
         raise Stop(ExitStatus.REFUSED, f"refused: {answer.refusal}", hint)
     if not answer.decided:
         raise Stop(ExitStatus.FAILED, program_failure(answer))
-    return answer.report
+    for line in told:
+        progress.say(f"regkit explain: {plain(line)}", sys.stderr)
+    return data, answer.report
 
 
 def parsed_report(written: bytes) -> Report:
@@ -90,14 +93,12 @@ def parsed_report(written: bytes) -> Report:
         raise Stop(ExitStatus.REFUSED, f"the report is none: {error}") from error
 
 
-def labelled_history(arguments: argparse.Namespace, data: bytes, progress: Progress) -> History:
-    """The history, with the source's own values if there is a map."""
+def history_in(arguments: argparse.Namespace, data: bytes, progress: Progress) -> History:
+    """The history. It has the register that is asked for."""
     progress.step(f"{plain(shown_name(arguments.history))}: reading", data.count(b"\n"))
     history = read_history(data, progress.reach)
     if arguments.register is not None:
         history.must_have(arguments.register)
-    if arguments.map is not None:
-        put_labels(history, read_input(arguments.map, None))
     return history
 
 
@@ -113,7 +114,11 @@ def explained(arguments: argparse.Namespace, progress: Progress) -> tuple[int, s
     # A report of `regkit join` may be of a history that is longer than the checker takes.
     data = read_input(arguments.history, MAX_BYTES if arguments.report is None else None)
     progress.step(f"{name}: checking")
-    report = parsed_report(written_report(arguments, data))
+    if arguments.report is None:
+        data, written = new_report(arguments, data, progress)
+    else:
+        written = read_input(arguments.report, None)
+    report = parsed_report(written)
     faulty = [row for row in report.faulty if register in (None, row["register"])]
     unknown = [row for row in report.unknown if register in (None, row["register"])]
     if not faulty and unknown:
@@ -121,7 +126,7 @@ def explained(arguments: argparse.Namespace, progress: Progress) -> tuple[int, s
     if not faulty and register is None:
         operations = counted(report.summary["operations"], "operation")
         return ExitStatus.ATOMIC, f"{name}: linearizable: {operations}, nothing to explain"
-    history = labelled_history(arguments, data, progress)
+    history = history_in(arguments, data, progress)
     if not faulty:
         must_be_judged(report, register)
         words = f"register {quoted(register)} is linearizable, nothing to explain"
@@ -162,10 +167,10 @@ def answer_to(arguments: argparse.Namespace) -> tuple[int, str]:
         with Progress() as progress, many_objects():
             return explained(arguments, progress)
     except TooLong as error:
-        raise Stop(ExitStatus.REFUSED, f"refused: {error}", advice(b"", str(error))) from error
+        raise Stop(ExitStatus.REFUSED, f"refused: {error}", advice(error.beginning, str(error))) from error
     except NoRegister as error:
         raise Stop(ExitStatus.COMMAND_LINE, str(error)) from error
-    except (NotAHistory, NotAMap, NotOfHistory) as error:
+    except (NotAHistory, Contradictory, NotOfHistory) as error:
         raise Stop(ExitStatus.REFUSED, str(error)) from error
     except OSError as error:
         raise Stop(ExitStatus.FAILED, file_failure(arguments.history, error)) from error

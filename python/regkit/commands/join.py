@@ -8,7 +8,7 @@ from regkit.base.statuses import ExitStatus
 from regkit.checker.programs import CHECK, SEARCH
 from regkit.commands.stopping import complain
 from regkit.parts.answers import (STATUSES, Answered, PartOutcome, RefusedPart, Unanswered, command_again,
-                                  outcomes, takes_search)
+                                  outcomes)
 from regkit.parts.folder import Manifest, NotSplit, read_manifest
 from regkit.parts.joining import verdict_of, write_report
 from regkit.words.progress import Progress
@@ -29,7 +29,7 @@ exit status:
   1  some part isn't
   2  the history is refused; standard error says why, as the program would
   3  the command line is refused
-  4  a part has no answer, or one of another program than the others: standard error names it, with the
+  4  a part has no answer, or one of another program than all need: standard error names it, with the
      command that runs it again; or output failed
   6  some part is unknown, and no part is known not to be atomic
 """
@@ -51,13 +51,15 @@ def run(arguments: argparse.Namespace) -> int:
     with Progress() as progress:
         progress.step("reading the answers")
         found = list(outcomes(arguments.directory, manifest))
-    again = to_run_again(found)
+    program = program_to_run(found, manifest)
+    again = to_run_again(found, program)
     if again:
-        return ask_to_run_again(arguments.directory, again, program_to_run(found, manifest))
+        return ask_to_run_again(arguments.directory, again, program)
     refused = min((each for each in found if isinstance(each, RefusedPart)),
                   key=lambda each: each.refusal.rank, default=None)
     if refused is not None:
-        return refuse(arguments.directory, refused)
+        print(refused.refusal, file=sys.stderr)
+        return ExitStatus.REFUSED
     if manifest.stopped is not None:
         words = (f"the checker accepts line {manifest.stopped}, and regkit split could not read it, so no "
                  "later line was checked. This is a defect of regkit: please report the line")
@@ -72,31 +74,20 @@ class Again(NamedTuple):
     why: str  # as a person would go on after its name
 
 
-def to_run_again(found: Sequence[PartOutcome]) -> list[Again]:
-    """The parts without an answer; if there are none, those of regcheck if regsearch checked others."""
+def to_run_again(found: Sequence[PartOutcome], program: str) -> list[Again]:
+    """The parts without an answer; if there are none, those of regcheck if all need regsearch."""
     unanswered = [Again(each.part, f"has no answer: {each.why}")
                   for each in found if isinstance(each, Unanswered)]
-    if unanswered or SEARCH not in programs_of(found):
+    if unanswered or program == CHECK:
         return unanswered
-    return [Again(each.part, "was checked by regcheck, and other parts by regsearch") for each in found
+    return [Again(each.part, "was checked by regcheck, and all parts need regsearch") for each in found
             if not isinstance(each, Unanswered) and each.program == CHECK]
 
 
-def programs_of(found: Sequence[PartOutcome]) -> list[str]:
-    return [each.program for each in found if not isinstance(each, Unanswered) and each.program is not None]
-
-
 def program_to_run(found: Sequence[PartOutcome], manifest: Manifest) -> str:
-    """Which program is to check the parts that lack an answer: regsearch if any other part has one of it."""
-    return SEARCH if manifest.cas or SEARCH in programs_of(found) else CHECK
-
-
-def refuse(directory: str, refused: RefusedPart) -> int:
-    print(refused.refusal, file=sys.stderr)
-    if takes_search(directory, refused):
-        print("regsearch takes repeated values and cas: check each part with it in place of regcheck",
-              file=sys.stderr)
-    return ExitStatus.REFUSED
+    """Which program is to check all parts: that of the manifest, or regsearch if any part has one of it."""
+    programs = [each.program for each in found if not isinstance(each, Unanswered)]
+    return SEARCH if SEARCH in programs else manifest.program
 
 
 def write(parts: list[Answered], manifest: Manifest, order: str) -> int:

@@ -5,17 +5,20 @@ import os
 import stat
 import sys
 from functools import partial
-from typing import BinaryIO, Callable, NamedTuple, Optional
+from typing import BinaryIO, Callable, Optional
 
+from regkit.base.garbage import many_objects
 from regkit.base.statuses import ExitStatus
-from regkit.checker.programs import (CHECK, SEARCH, Answer, NoChecker, find_program, is_for_search,
-                                     run_checker, run_search)
+from regkit.checker.programs import (CHECK, SEARCH, Answer, NoChecker, find_program, run_checker,
+                                     run_search)
 from regkit.checker.refusals import Refusal, read_refusal
 from regkit.commands.stopping import complain
 from regkit.history.inputs import opened
 from regkit.parts.answers import line_map
 from regkit.parts.folder import BLANK, MAP, MAX_PARTS, Manifest, file_of
-from regkit.parts.splitting import CannotSplit, Plan, split
+from regkit.parts.sizes import CannotSplit
+from regkit.parts.splitting import split
+from regkit.parts.writing import Plan
 from regkit.words.progress import Progress
 
 MAP_FROM = 1 << 30  # bytes of a history; some twenty million lines
@@ -24,22 +27,24 @@ NO_SEARCH = ("--steps", "1")  # a refusal comes before any search
 HELP = "split a history of any size into parts that can be checked apart"
 EPILOG = """\
 Each part has whole registers, and is a history again. A history is atomic exactly if each of its registers
-is, so the parts answer for the whole: run regcheck on each of them, then regkit join DIR. If values repeat,
-or if there is any cas, run regsearch on each of them instead. docs/scale.md says more. docs/ and engines/ are
-in the repository, and in share/doc/regcheck of a release.
+is, so the parts answer for the whole: an engine checks each of them, then regkit join DIR. One program checks
+all parts, and split.json names it: regsearch if a value is written again or there is any cas, else regcheck.
+docs/scale.md says more. docs/ and engines/ are in the repository, and in share/doc/regcheck of a release.
 
 examples:
   regkit split history.jsonl parts --parts 8
   cat log.3 log.2 log.1 | regkit split - parts --parts 8
-  engines/with_parallel parts && regkit join parts
-  REGCHECK=$(command -v regsearch) engines/with_parallel parts; regkit join parts
+  engines/with_parallel parts; regkit join parts
 
 exit status:
-  0  the parts are written
-  2  the history is refused; standard error says why, as regcheck or regsearch would
-  3  the command line is refused
-  4  input or output failed, or regcheck was not found to say why the history is refused
-  5  a part or a register is larger than one run of regcheck takes: standard error says which; no part is left
+  0    the parts are written
+  2    the history is refused; standard error says why, as regcheck or regsearch would
+  3    the command line is refused
+  4    input or output failed, or no program was found to say why the history is refused
+  5    a part or a register is larger than one run takes: standard error says which, and what can be done
+  130  it was interrupted
+
+Unless it ends with 0 or 2, no part is left, and the same command can be given again.
 """
 
 
@@ -65,18 +70,18 @@ def run(arguments: argparse.Namespace) -> int:
         manifest = split_named(arguments)
     except CannotSplit as error:
         return complain("split", str(error), ExitStatus.TOO_LARGE)
+    except KeyboardInterrupt:
+        words = f"interrupted: no part is left in {arguments.directory}, so the same command begins again"
+        return complain("split", words, ExitStatus.INTERRUPTED)
     if manifest.stopped is not None:
         return refuse(arguments.directory, manifest)
     print(f"{arguments.directory}: {manifest.events} events on {len(manifest.registers)} registers "
-          f"in {manifest.parts} parts", file=sys.stderr)
-    if manifest.cas:
-        print("regkit split: the history has cas, so it is one for regsearch: check each part with it",
-              file=sys.stderr)
+          f"in {manifest.parts} parts, for {manifest.program}", file=sys.stderr)
     return ExitStatus.DONE
 
 
 def split_named(arguments: argparse.Namespace) -> Manifest:
-    with opened(arguments.history) as stream, Progress() as progress:
+    with opened(arguments.history) as stream, many_objects(), Progress() as progress:
         size = size_of(stream)
         lines = line_form(arguments.lines, size)
         plan = Plan(arguments.history, arguments.directory, arguments.parts, lines)
@@ -103,12 +108,13 @@ def refuse(directory: str, manifest: Manifest) -> int:
     """Says why the history is refused, for the line at which split stopped or an earlier one.
 
     An earlier line may be refused for a reason that only the checker looks for, so it is asked about every
-    part. Where regcheck refuses what regsearch takes, regsearch is asked, if it is there."""
+    part. That is regcheck where there is no regsearch, which takes more."""
     program, why = CHECK, ""
     try:
-        found = first_refused(directory, manifest, run_checker)
-        searcher = find_program(SEARCH)
-        if found is not None and found.for_search and searcher is not None:
+        searcher = find_program(SEARCH) if manifest.program == SEARCH else None
+        if searcher is None:
+            found = first_refused(directory, manifest, run_checker)
+        else:
             program = SEARCH
             search = partial(run_search, options=NO_SEARCH, program=searcher)
             found = first_refused(directory, manifest, search)
@@ -118,27 +124,18 @@ def refuse(directory: str, manifest: Manifest) -> int:
         why = why or f"{program} accepts it, which is a defect of regkit: please report the line"
         words = f"line {manifest.stopped} can't be accepted, and no later line was read: {why}"
         return complain("split", words, ExitStatus.FAILED)
-    print(found.refusal, file=sys.stderr)
+    print(found, file=sys.stderr)
     return ExitStatus.REFUSED
 
 
-class PartRefusal(NamedTuple):
-    """What a program says of a part."""
-
-    refusal: Refusal  # with the lines of the whole
-    for_search: bool  # whether regsearch takes the line
-
-
-def first_refused(directory: str, manifest: Manifest,
-                  check: Callable[[bytes], Answer]) -> Optional[PartRefusal]:
-    """The first refusal of a program. Raises NoChecker."""
-    found: list[PartRefusal] = []
+def first_refused(directory: str, manifest: Manifest, check: Callable[[bytes], Answer]) -> Optional[Refusal]:
+    """The first refusal of a program, with the lines of the whole. Raises NoChecker."""
+    found: list[Refusal] = []
     for part in range(manifest.parts):
-        history = file_of(directory, part, "jsonl").read_bytes()
-        answer = check(history)
+        answer = check(file_of(directory, part, "jsonl").read_bytes())
         if answer.status != ExitStatus.REFUSED:
             continue
         refusal = read_refusal(answer.refusal, line_map(directory, part, manifest))
         if refusal is not None:
-            found.append(PartRefusal(refusal, is_for_search(history, answer)))
-    return min(found, key=lambda each: each.refusal.rank) if found else None
+            found.append(refusal)
+    return min(found, key=lambda refusal: refusal.rank) if found else None

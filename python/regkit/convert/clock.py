@@ -9,6 +9,8 @@ from regkit.convert.model import Refused, WrongWords
 
 UNITS = {"ns": 0, "us": 3, "ms": 6, "s": 9}  # by name, how many nanoseconds: the exponent of ten
 _WHOLE = re.compile(r"-?[0-9]+")
+_DURATION = re.compile(r"([0-9]+(?:\.[0-9]+)?(?:[eE][+-]?[0-9]{1,2})?)\s*(ns|us|\u00b5s|\u03bcs|ms|s)?")
+_UNIT_IN_NAME = re.compile(r".*[_\s(.-](ns|us|ms|s)\)?")  # latency_ms, Duration (us)
 _ERROR = re.compile(r"([0-9]+(?:\.[0-9]+)?)(ns|us|ms|s)?")
 _STAMP = re.compile(
     r"(\d{4})-(\d\d)-(\d\d)[T ](\d\d):(\d\d):(\d\d)(?:[.,](\d{1,18}))?(Z|[+-]\d\d:?\d\d)?", re.ASCII)
@@ -21,6 +23,14 @@ class Time(NamedTuple):
 
     digits: int
     exponent: int
+
+
+class DurationUnit(NamedTuple):
+    """What may say the unit of a duration that has none itself: the name of its column, and options."""
+
+    name: str
+    said: Optional[str]  # by --duration-unit, perhaps `clock`
+    of_clock: Optional[str]  # by --clock-unit
 
 
 class Clock:
@@ -45,6 +55,32 @@ class Clock:
         if time.exponent < self.least:
             self.least = time.exponent
         return time
+
+    def duration(self, value: Any, unit: DurationUnit, line: int) -> Time:
+        """A duration in the unit of the source's clock. Raises Refused if its own unit isn't known."""
+        found = _DURATION.fullmatch(str(value).strip()) if type(value) in (int, str, Decimal) else None
+        if found is None:
+            raise Refused(f"{unit.name} is {value!r}, and a number from 0 is expected, perhaps with ns, us, "
+                          "ms or s", line)
+        named = _UNIT_IN_NAME.fullmatch(unit.name.lower())
+        its = found[2] or unit.said or (named[1] if named else "")
+        its = its.replace("\u00b5", "u").replace("\u03bc", "u")
+        own = unit.of_clock if self.kind == "a number" else "s"
+        if not its or (own is None and its != "clock"):
+            option = "--duration-unit" if not its else "--clock-unit"
+            raise Refused(f"{unit.name} is {found[0]}, and nobody knows of which unit "
+                          f"{'that' if not its else 'the'}"
+                          f"{' is' if not its else ' clock is'}: say {option} ns, us, ms or s"
+                          f"{', or clock if it is that of the times' if not its else ''}", line)
+        digits, places = _digits(Decimal(found[1]))
+        time = Time(digits, places if its == "clock" or own is None else places + UNITS[its] - UNITS[own])
+        self.least = min(self.least, time.exponent)
+        return time
+
+    def sum(self, one: Time, other: Time) -> Time:
+        """A time so much later."""
+        least = min(one.exponent, other.exponent)
+        return Time(sum(each.digits * 10 ** (each.exponent - least) for each in (one, other)), least)
 
     def error(self, words: Optional[str], unit: Optional[str]) -> Time:
         """The clock error that the options state, in the source's unit. Raises WrongWords."""

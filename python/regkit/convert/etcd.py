@@ -10,7 +10,7 @@ from typing import Any, Optional
 
 from regkit.convert.members import Members
 from regkit.convert.model import CAS, KNOWN, READS, Refused, SourceOperation
-from regkit.convert.values import spelled
+from regkit.convert.spellings import spelled
 
 _OPS = {"0": "read", "1": "write", "2": CAS}
 _TOLD = ("ok", "exists", "unknown")
@@ -26,6 +26,9 @@ def asked(word: str, given: Members, line: int) -> tuple[str, Any]:
     if kind in KNOWN and given.get("arg2") not in (None, 0):
         raise Refused(f"Arg2 is {spelled(given['arg2'])[:40]}, and only a cas, which is Op 2, has one: say "
                       "which operation each Op is, as in --ops 1=cas", line)
+    if kind in READS and given.get("arg1") not in (None, 0):
+        raise Refused(f"Arg1 is {spelled(given['arg1'])[:40]}, and a read, which is Op 0, has none: say "
+                      "which operation each Op is, as in --ops 0=write,1=read", line)
     return kind, None if kind in READS else given.get("arg1")
 
 
@@ -43,6 +46,8 @@ def ended(operation: SourceOperation, told: Members, said: dict[bool, int],
                           "expected", line)
     if told.get("unknown"):
         return None, told
+    if told.get("exists") and operation.kind not in READS:
+        raise Refused(f"Exists is true, and only a read has found a value: this is a {operation.kind}", line)
     if operation.kind == CAS:
         return "reply", told
     if "ok" in told:
@@ -54,5 +59,9 @@ def ended(operation: SourceOperation, told: Members, said: dict[bool, int],
     if operation.kind in READS:
         if "exists" not in told or (told["exists"] and "value" not in told):
             raise Refused("the output of a read has Exists, true or false, and Value", line)
+        if not told["exists"] and told.get("value") not in (None, 0):
+            raise Refused(f"Exists is false, and Value is {spelled(told['value'])[:40]}: did the read find "
+                          "it?",
+                          line)
         return "reply", {"value": told["value"] if told["exists"] else None}
     return "reply", told

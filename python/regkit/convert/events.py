@@ -13,9 +13,9 @@ from typing import Any, Iterable, Optional
 from regkit.base.limits import GREATEST_VALUE
 from regkit.convert import edn
 from regkit.convert.json_values import json_values
-from regkit.convert.members import Known, Outcomes
-from regkit.convert.model import (CAS, ENDINGS, READS, WRITES, Choices, Client, Refused, Source,
-                                  SourceOperation, folded)
+from regkit.convert.members import KeyMember, Known, Outcomes, by_folded_name, same_key
+from regkit.convert.model import (ANSWERED, CAS, CONDITIONAL, ENDINGS, NO_KEY, WRITES, Choices, Client,
+                                  Refused, Source, SourceOperation, folded)
 from regkit.convert.pairing import Pairing
 from regkit.convert.rows import client_of
 from regkit.convert.settle import settle
@@ -27,9 +27,11 @@ Event = dict[str, Any]
 
 def from_events(lines: Iterable[str], choices: Choices) -> Source:
     log = _EventLog(choices)
-    for line, event in json_values(lines):
-        if not isinstance(event, dict) or event.get("process") is None:
+    for line, members in json_values(lines):
+        event = by_folded_name(members, line) if isinstance(members, dict) else {}
+        if event.get("process") is None:
             raise Refused('no event: an object such as {"process":1,"event":"reply"} is expected', line)
+        log.known_of(event).check(members, line)
         log.take(line, event)
     source = Source(log.pairing.steps)
     source.notes.extend(log.outcomes.notes())
@@ -46,18 +48,17 @@ class _EventLog:
         self.known = Known(choices, "jsonl")
         self.cas_known = (Known(choices, "jsonl's cas"), Known(choices, "jsonl's end of a cas"))
         self.outcomes = Outcomes(choices)
+        self.key = KeyMember(choices)
 
     def take(self, line: int, event: Event) -> None:
         client, what = client_of(event["process"], False), event.get("event")
-        self._known(client, what, event).check(event, line)
         if what == "call":
             op = event.get("op")
             if type(op) is not str:
                 raise Refused("a call has the member op, read, write or cas", line)
-            key = event.get("register", self.choices.register)
             kind = self.choices.kind_of(op)
-            called = SourceOperation(line, client, kind, key,
-                               self._cas(event, line) if kind == CAS else event.get("value"))
+            called = SourceOperation(line, client, kind, self.key.of(event, line),
+                                     self._cas(event, line) if kind == CAS else event.get("value"))
             _say_who(called, event)
             self.pairing.call(called)
         elif what == "crash":
@@ -67,11 +68,10 @@ class _EventLog:
             called = self.pairing.called(client, line)
             self._agree(event, called, line)
             called.end_time = _time(event)
-            if ending in ("fail", "missed") and event.get("ok") not in (None, False):
-                raise Refused(f"the cas ends by {edn.write(what)}, and ok is {edn.write(event['ok'])}: did "
-                              "it take place or not?", line)
             if ending == "reply":
                 ending = self._reply(event, called, line)
+            else:
+                self._refuse_answer(event, called, line)
             self.pairing.end(line, client, ending, called.answer)
 
     def _crash(self, line: int, client: Client, event: Event) -> None:
@@ -79,15 +79,28 @@ class _EventLog:
         if ended.kind == "crash":
             _say_who(ended, event)
         else:
+            self._agree(event, ended, line)
+            self._refuse_answer(event, ended, line)
             ended.end_time = _time(event)
 
-    def _known(self, client: Client, what: Any, event: Event) -> Known:
+    def known_of(self, event: Event) -> Known:
         """What the line of a cas has is understood in no other line."""
-        if what == "call":
+        if event.get("event") == "call":
             op = event.get("op")
             return self.cas_known[0] if type(op) is str and self.choices.kind_of(op) == CAS else self.known
-        called = self.pairing.open.get(client)
-        return self.cas_known[1] if called is not None and called.kind == CAS else self.known
+        called = self.pairing.open.get(client_of(event["process"], False))
+        return self.cas_known[1] if called is not None and called.kind in CONDITIONAL else self.known
+
+    def _refuse_answer(self, event: Event, called: SourceOperation, line: int) -> None:
+        """A call that failed, or whose outcome is unknown, has no answer; it may repeat its value."""
+        if event.get("ok") not in (None, False) and not self.choices.explains("ok"):
+            raise Refused(f"the cas ends by {edn.write(event['event'])}, and ok is {edn.write(event['ok'])}: "
+                          "did it take place or not?", line)
+        value = event.get("value")
+        asked = called.value if called.kind in WRITES else None
+        if value is not None and edn.write(value) != edn.write(asked) and not self.choices.explains("value"):
+            raise Refused(f"the {called.kind} ends by {edn.write(event['event'])}, and there is a value, "
+                          f"{edn.write(value)[:40]}: say --ignore-member value if it means nothing", line)
 
     def _cas(self, event: Event, line: int) -> tuple[Any, Any]:
         """What a cas asks for and what it writes."""
@@ -122,17 +135,18 @@ class _EventLog:
         if op is not None and self.choices.kind_of(op if type(op) is str else edn.write(op)) != called.kind:
             raise Refused(f"op is {edn.write(op)}, and the call at line {called.line} has "
                           f"{edn.write(called.kind)}: is it the answer to another call?", line)
-        register = event.get("register")
-        if register is not None and edn.write(register) != edn.write(called.key):
-            raise Refused(f"register is {edn.write(register)}, and the call at line {called.line} has "
-                          f"{edn.write(called.key)}: is it the answer to another call?", line)
+        key = self.key.of(event, line)
+        if key is not NO_KEY and not same_key(key, called.key):
+            asked = "none" if called.key is NO_KEY else edn.write(called.key)
+            raise Refused(f"{self.key.name} is {edn.write(key)}, and the call at line {called.line} has "
+                          f"{asked}: is it the answer to another call?", line)
 
     def _reply(self, event: Event, called: SourceOperation, line: int) -> Optional[str]:
         """Gives a call its answer. Returns what ended it."""
-        if called.kind == CAS:
+        if called.kind in CONDITIONAL:
             return self._cas_reply(event, line)
-        ending, found_nothing = self.outcomes.of(event, called.kind in READS)
-        if called.kind in READS and not found_nothing and ending == "reply" and "value" not in event:
+        ending, found_nothing = self.outcomes.of(event, called.kind in ANSWERED)
+        if called.kind in ANSWERED and not found_nothing and ending == "reply" and "value" not in event:
             raise Refused("a read's reply has no value: write null if the read found none", line)
         told = called.kind not in WRITES or not self.choices.explains("value")
         called.answer = event.get("value") if told and not found_nothing else None

@@ -17,21 +17,22 @@ from typing import Any, Iterable, Iterator, Optional
 
 from regkit.convert import edn
 from regkit.convert import pairs
-from regkit.convert.independent import are_independent, nothing_for, pair_of, part
+from regkit.convert.independent import are_independent, nothing_for, pair_of, part, refuse_another
 from regkit.convert.jepsen_lines import NO_OPERATION, line_events
-from regkit.convert.json_values import is_json, json_values
-from regkit.convert.members import Ended, Known, Outcomes, word_of
-from regkit.convert.model import (CAS, ENDINGS, KNOWN, OTHER, READS, WRITES, Choices, Refused, Source,
-                                  SourceOperation, folded)
+from regkit.convert.json_values import as_edn, is_json, json_values
+from regkit.convert.members import Ended, KeyMember, Known, Outcomes, by_folded_name, same_key, word_of
+from regkit.convert.model import (ANSWERED, CONDITIONAL, ENDINGS, KNOWN, NO_KEY, OTHER, READS, WRITES,
+                                  Choices, Refused, Source, SourceOperation, folded)
 from regkit.convert.pairing import Pairing
 from regkit.convert.settle import settle
-from regkit.convert.transactions import refuse_appends, take_apart
-from regkit.convert.values import spelled
+from regkit.convert.spellings import spelled
+from regkit.convert.transactions import refuse_appends, refuse_transactions, take_apart
 
 _NO_KEY = "key-does-not-exist"  # Maelstrom's definite error of a read that found no such key
 _OTHER_VALUE = "precondition-failed"  # and that of a cas that missed
-_TYPES = {":ok": "reply", ":fail": "fail", ":info": "crash"}
-_ERRORS = (":error", ":exception")
+_TYPES = {"ok": "reply", "fail": "fail", "info": "crash"}
+_TOLD = WRITES | CONDITIONAL  # whose calls have their values
+_ERRORS = ("error", "exception")
 _LONGEST = 40  # characters of an error that is shown
 
 Event = dict[Any, Any]
@@ -76,19 +77,7 @@ def _json_events(lines: Iterable[str]) -> Iterator[tuple[int, Event]]:
         if not isinstance(value, dict):
             raise Refused("no operation: an object such as "
                           '{"process":0,"type":"invoke","f":"read","value":null} is expected', line)
-        event = {":" + name.lstrip(":"): _as_edn(member) for name, member in value.items()}
-        if type(event.get(":type")) is str:
-            event[":type"] = edn.Keyword(":" + event[":type"].lstrip(":"))
-        yield line, event
-
-
-def _as_edn(value: Any) -> Any:
-    """A value of JSON with vectors for its lists, and keywords for the names in its objects."""
-    if type(value) is list:
-        return tuple(map(_as_edn, value))
-    if type(value) is dict:
-        return edn.Map((edn.Keyword(":" + name), _as_edn(member)) for name, member in value.items())
-    return value
+        yield line, {name: as_edn(member) for name, member in value.items()}
 
 
 class _JepsenLog:
@@ -99,14 +88,18 @@ class _JepsenLog:
         self.pairing = Pairing()
         self.known = Known(choices, "jepsen")
         self.outcomes = Outcomes(choices)
+        self.key = KeyMember(choices)
         self.left_out: dict[str, int] = Counter()
         self.refused_cas: list[str] = []  # the error of each that may have failed for another reason
         self.index = -1  # of the last event that had one
+        self.time = -1  # likewise, of those without an index
 
     def source(self, events: Events) -> Source:
-        for line, event in events:
-            client = event.get(":process")
+        for line, members in events:
+            event = by_folded_name(members, line)
+            client = event.get("process")
             if type(client) is int:
+                self.known.check(members, line)
                 self._take(line, client, event)
             else:
                 self._leave_out(line, client, event)
@@ -139,9 +132,10 @@ class _JepsenLog:
 
     def _leave_out(self, line: int, client: Any, event: Event) -> None:
         """Counts a line that is no client's. A client's would be missed, so it isn't left out."""
-        function = self.choices.kind_of(folded(spelled(event.get(":f"))))
-        if folded(spelled(client)) != "nemesis" and (function in KNOWN or function in (OTHER, "txn")):
-            raise Refused(f":process is {edn.write(client)}, and its :f is {edn.write(event[':f'])}: give "
+        function = self.choices.kind_of(folded(spelled(event.get("f"))))
+        is_clients = function in KNOWN or function in (OTHER, "txn") or _is_clients(event.get("type"))
+        if folded(spelled(client)) != "nemesis" and is_clients:
+            raise Refused(f":process is {edn.write(client)}, and its :f is {edn.write(event.get('f'))}: give "
                           "each client a whole number", line)
         if client is None:
             name = "without a process"
@@ -152,75 +146,98 @@ class _JepsenLog:
         self.left_out[name] += 1
 
     def _take(self, line: int, client: int, event: Event) -> None:
-        self.known.check(event, line)
         self._look_at_index(event, line)
-        kind = spelled(event.get(":type"))
-        if kind == ":invoke":
-            function = self._function(event, line)
-            self.pairing.call(SourceOperation(line, client, function, event.get(":key"), event.get(":value")))
+        kind = folded(spelled(event.get("type")))
+        if kind == "invoke":
+            self._refuse_error(event, line)
+            function, key = self._function(event, line), self.key.of(event, line)
+            self.pairing.call(SourceOperation(line, client, function, key, event.get("value")))
             return
-        if self.choices.outcomes and folded(kind) in self.choices.outcomes:
-            ending = ENDINGS[self.choices.outcomes[folded(kind)]] or "crash"
+        if self.choices.outcomes and kind in self.choices.outcomes:
+            ending = ENDINGS[self.choices.outcomes[kind]] or "crash"
         elif kind in _TYPES:
             ending = _TYPES[kind]
         else:
-            raise Refused(f":type is {kind}, and :invoke, :ok, :fail or :info is expected: say what it means "
-                          f"with --outcomes {folded(kind)}=unknown (or ok, or fail, if it certainly had no "
-                          "effect)", line)
+            raise Refused(f":type is {spelled(event.get('type'))}, and :invoke, :ok, :fail or :info is "
+                          f"expected: say what it means with --outcomes {kind}=unknown (or ok, or fail, if "
+                          "it certainly had no effect)", line)
+        self._agree(client, event, line)
+        called = self.pairing.open.get(client)
+        if ending != "reply" and called is not None and not self.choices.explains("value"):
+            refuse_another(called.value, event.get("value"), called.line, line)
         if ending == "crash":
-            self._agree(client, event, line)
             self.pairing.crash(line, client)
         else:
             self._end(line, client, ending, event)
 
     def _look_at_index(self, event: Event, line: int) -> None:
         """The order of the lines is the order of time, so they must not have been sorted otherwise."""
-        index = event.get(":index")
+        index = event.get("index")
         if type(index) is int:
             if index < self.index:
                 raise Refused(f":index is {index}, and an earlier line's {self.index}: the order of the "
                               "lines is the order of time, so sort them by :index", line)
             self.index = index
+            return
+        time = event.get("time")
+        if type(time) is int and not self.choices.explains("time"):
+            if time < self.time:
+                raise Refused(f":time is {time}, and an earlier line's {self.time}, and there is no :index: "
+                              "the order of the lines is taken for the order of time, so sort them by "
+                              ":time, or say --ignore-member time if they are in order", line)
+            self.time = time
 
     def _function(self, event: Event, line: int) -> str:
-        name = event.get(":f")
+        name = event.get("f")
         if not isinstance(name, str):
             raise Refused(f":f is {edn.write(name)}, and a keyword such as :read is expected", line)
         return self.choices.kind_of(name.lstrip(":"))
 
     def _agree(self, client: int, event: Event, line: int) -> None:
         called = self.pairing.open.get(client)
-        if called is not None and self._function(event, line) != called.kind:
-            raise Refused(f":f is {edn.write(event[':f'])}, and the open call of process {client}, at line "
+        if called is None:
+            return
+        if self._function(event, line) != called.kind:
+            raise Refused(f":f is {edn.write(event['f'])}, and the open call of process {client}, at line "
                           f"{called.line}, is :{called.kind}: is a line of the log missing?", line)
+        key = self.key.of(event, line)
+        if key is not NO_KEY and not same_key(key, called.key):
+            asked = "none" if called.key is NO_KEY else edn.write(called.key)
+            raise Refused(f":{self.key.name} is {edn.write(key)[:_LONGEST]}, and the call at line "
+                          f"{called.line} has {asked[:_LONGEST]}: is a line of the log missing?", line)
 
     def _end(self, line: int, client: int, ending: Optional[str], event: Event) -> None:
         called = self.pairing.called(client, line)
-        self._agree(client, event, line)
-        answer = event.get(":value")
+        answer = event.get("value")
         is_read = called.kind in READS
         if ending == "fail" and is_read and self._found_no_key(event):
             ending, answer = "reply", nothing_for(called.value)
-        elif ending == "fail" and spelled(event.get(":type")) == ":fail":
+        elif ending == "fail" and folded(spelled(event.get("type"))) == "fail":
             ending = self._failure(called, event)
         elif ending == "reply":
-            ending, found_nothing = self._looked_closer(event, is_read, line)
+            answers = called.kind in ANSWERED
+            ending, found_nothing = self._looked_closer(event, answers, line)
             if found_nothing:
                 answer = nothing_for(called.value)
-            elif is_read and ending == "reply" and ":value" not in event:
-                raise Refused("the reply of a read has no :value: let it be nil if the read found none", line)
-            elif (called.kind in WRITES or called.kind == CAS) and self.choices.explains("value"):
+            elif answers and ending == "reply" and "value" not in event:
+                raise Refused(f"the reply of a {called.kind} has no :value: let it be nil if the read found "
+                              "none", line)
+            elif called.kind in _TOLD and self.choices.explains("value"):
                 answer = called.value
         self.pairing.end(line, client, ending, answer)
 
     def _looked_closer(self, event: Event, is_read: bool, line: int) -> Ended:
-        """How an operation ended that is :ok. An error beside that is a contradiction."""
-        for name in _ERRORS:
-            if event.get(name) is not None and not self.choices.explains(folded(name)):
-                raise Refused(f"the operation is :ok and has {name} {edn.write(event[name])[:60]}: say "
-                              f"--ok-when {name[1:]}= if it took place only without one, or --ignore-member "
-                              f"{name[1:]} if that means nothing", line)
+        """How an operation ended that is :ok."""
+        self._refuse_error(event, line)
         return self.outcomes.of(event, is_read)
+
+    def _refuse_error(self, event: Event, line: int) -> None:
+        """An error beside :ok or :invoke is a contradiction."""
+        for name in _ERRORS:
+            if event.get(name) is not None and not self.choices.explains(name):
+                raise Refused(f"the operation is {spelled(event['type'])} and has :{name} "
+                              f"{edn.write(event[name])[:60]}: say --ok-when {name}= if it took place only "
+                              f"without one, or --ignore-member {name} if that means nothing", line)
 
     def _failure(self, called: SourceOperation, event: Event) -> str:
         """What the log's own failure says: with --failed-cas missed, a cas found another value.
@@ -229,7 +246,7 @@ class _JepsenLog:
         """
         ending, error = self.choices.failure_of(called.kind), _error(event)
         word = folded(word_of(error))
-        if called.kind == CAS and self.choices.outcomes.get(word) == "missed":
+        if called.kind in CONDITIONAL and self.choices.outcomes.get(word) == "missed":
             return "missed"
         if ending != "missed" or error is None or word == _OTHER_VALUE:
             return ending
@@ -251,6 +268,11 @@ class _JepsenLog:
         return error is not None and (folded(word) == _NO_KEY or self.outcomes.names_null(word))
 
 
+def _is_clients(kind: Any) -> bool:
+    """Whether a type is a client's: what is no client only tells :info."""
+    return folded(spelled(kind)) in ("invoke", "ok", "fail")
+
+
 def _error(event: Event) -> Any:
     """What an operation's error begins with."""
     for name in _ERRORS:
@@ -264,7 +286,13 @@ def _place(operation: SourceOperation, independent: bool, choices: Choices) -> N
     """Gives an operation its key, and takes the key out of its values."""
     if operation.kind == "txn":
         take_apart(operation)
-    elif operation.key is None and independent:
+        return
+    if independent and operation.key is not NO_KEY:
+        raise Refused(f"the values have keys, as {edn.write(operation.value)[:60]} may have, and the "
+                      f"operation has a member that is the key too, {edn.write(operation.key)[:60]}: say "
+                      "--keys none if only the member is the key, or --ignore-member if it means "
+                      "nothing", operation.line)
+    if independent:
         part(operation)
-    elif operation.key is None:
-        operation.key = choices.register
+    if operation.kind in KNOWN and choices.values != "exact":
+        refuse_transactions(operation)

@@ -20,6 +20,11 @@ _BARE = re.compile(rf"\s*(\d+|:?nemesis)\s+({_TYPES})\s+([^\s,:]+)(.*)", re.DOTA
 _LOST = re.compile(r"(?:^|\s):(?:invoke|ok|read|write|cas|txn)\s")  # part of an operation
 
 
+def has_events(lines: Iterable[str]) -> bool:
+    """Whether any of some lines records an operation."""
+    return any(_LINE.search(line) or _BARE.fullmatch(line) for line in lines)
+
+
 def line_events(lines: Iterable[str]) -> Iterator[tuple[int, Event]]:
     """The event of each line, and of a line without one who wrote it. Raises Refused."""
     for number, text in enumerate(lines, 1):
@@ -31,13 +36,13 @@ def line_events(lines: Iterable[str]) -> Iterator[tuple[int, Event]]:
             raise Refused("an operation has a process, a type, a function and a value, with their colons, "
                           f"and this line has not all of them: {text.strip()[:60]}", number)
         elif text.strip():
-            yield number, {":process": NO_OPERATION}
+            yield number, {"process": NO_OPERATION}
 
 
 def _event(who: str, kind: str, function: str, values: list[Any]) -> Event:
-    event: Event = {":process": int(who) if who.isdecimal() else edn.Keyword(who), ":type": ":" + kind,
-                    ":f": edn.Keyword(":" + function)}
-    event.update(zip((":value", ":error"), values))
+    event: Event = {"process": int(who) if who.isdecimal() else edn.Keyword(who), "type": ":" + kind,
+                    "f": edn.Keyword(":" + function)}
+    event.update(zip(("value", "error"), values))
     return event
 
 

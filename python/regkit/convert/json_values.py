@@ -5,6 +5,7 @@ import re
 from decimal import Decimal
 from typing import Any, Iterable, Iterator
 
+from regkit.convert import edn
 from regkit.convert.model import Refused
 
 
@@ -26,6 +27,15 @@ _DECODER = json.JSONDecoder(parse_float=Decimal, parse_constant=_no_constant, ob
 # Objects of JSON, or an array of them, and not maps of EDN; and what may yet be either.
 _BEGINS = re.compile(r'\s*(?:\[\s*)?(?:\{\s*(?:"|\}\s*$)|\]\s*$)')
 _UNDECIDED = re.compile(r"\s*(?:\[\s*)?(?:\{\s*)?")
+
+
+def as_edn(value: Any) -> Any:
+    """A value of JSON with vectors for its lists, and keywords for the names in its objects."""
+    if type(value) is list:
+        return tuple(map(as_edn, value))
+    if type(value) is dict:
+        return edn.Map((edn.Keyword(":" + name), as_edn(member)) for name, member in value.items())
+    return value
 
 
 def is_json(lines: Iterable[str]) -> tuple[bool, Iterable[str]]:
@@ -53,9 +63,14 @@ def json_values(lines: Iterable[str]) -> Iterator[tuple[int, Any]]:
         yield number, _decoded(line, number)
 
 
+def decoded(text: str) -> Any:
+    """The value of a text. Raises ValueError, or RecursionError if it is too deep."""
+    return _DECODER.decode(text)
+
+
 def _decoded(text: str, line: int) -> Any:
     try:
-        return _DECODER.decode(text)
+        return decoded(text)
     except (ValueError, RecursionError) as error:
         raise Refused(f"not JSON: {error}", line) from None
 

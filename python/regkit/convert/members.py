@@ -10,32 +10,36 @@ name, until the command line says what it means:
 """
 import shlex
 from collections import Counter
+from functools import lru_cache
 from typing import Any, Iterable, Iterator, Mapping, NamedTuple, Optional
 
 from regkit.convert import edn
-from regkit.convert.model import ENDINGS, Choices, Refused, folded
-from regkit.convert.values import spelled
+from regkit.convert.model import ENDINGS, NO_KEY, Choices, Refused, folded
+from regkit.convert.spellings import spelled
 from regkit.words.phrases import counted
 
 Members = dict[str, Any]
 
 # By form, and for Porcupine by place, the members that its reader understands.
 UNDERSTOOD: dict[str, frozenset[str]] = {
-    "jepsen": frozenset({"process", "type", "f", "value", "key", "error", "exception"}),
+    "jepsen": frozenset({"process", "type", "f", "value", "error", "exception"}),
     "operation": frozenset({"clientid", "input", "call", "output", "return"}),
     "event": frozenset({"clientid", "kind", "value", "id"}),
-    "input": frozenset({"op", "key", "value"}),
+    "input": frozenset({"op", "value"}),
     "output": frozenset({"value"}),
-    "cas input": frozenset({"op", "key", "value", "from", "to"}),
+    "cas input": frozenset({"op", "value", "from", "to"}),
     "cas output": frozenset({"value", "ok"}),
-    "etcd input": frozenset({"op", "key", "arg1", "arg2"}),
+    "etcd input": frozenset({"op", "arg1", "arg2"}),
     "etcd output": frozenset({"ok", "exists", "value", "unknown"}),
     "csv": frozenset(),  # a table and objects name their own
     "operations": frozenset(),
-    "jsonl": frozenset({"process", "event", "op", "register", "value"}),
-    "jsonl's cas": frozenset({"process", "event", "op", "register", "value", "from", "to"}),
-    "jsonl's end of a cas": frozenset({"process", "event", "op", "register", "value", "from", "to", "ok"}),
+    "jsonl": frozenset({"process", "event", "op", "value"}),
+    "jsonl's cas": frozenset({"process", "event", "op", "value", "from", "to"}),
+    "jsonl's end of a cas": frozenset({"process", "event", "op", "value", "from", "to", "ok"}),
 }
+# The places where a member may be the key.
+_KEYED = frozenset({"jepsen", "input", "cas input", "etcd input", "jsonl", "jsonl's cas",
+                    "jsonl's end of a cas"})
 # By form, members that say who, where and when, and never how an operation ended.
 HARMLESS: dict[str, frozenset[str]] = {
     "jepsen": frozenset({"index", "time", "node", "final?"}),
@@ -49,6 +53,7 @@ HARMLESS: dict[str, frozenset[str]] = {
 WRITE_ANSWERS = {"jepsen": "value", "porcupine": "Output", "csv": "value", "operations": "value",
                  "jsonl": "value"}
 _ANSWERS = frozenset({"value", "output"})  # a read's value, which is never its outcome
+_CALLS = frozenset({"call", "invoke"})  # what says that a line is a call
 _LONGEST = 40  # characters of a value that is shown
 
 
@@ -58,9 +63,10 @@ class Known:
     def __init__(self, choices: Choices, place: str, own: Iterable[str] = (), what: str = "member") -> None:
         self.what = what
         self.register = choices.columns.get("register") if place in ("csv", "operations") else None
-        self.is_input = place == "input"
+        self.place = place
+        self.keys = frozenset(choices.key_names() if place in _KEYED else ())
         self.names = (UNDERSTOOD[place] | HARMLESS.get(place, frozenset()) | choices.ignored
-                      | choices.ok_when.keys() | {folded(name) for name in own})
+                      | choices.ok_when.keys() | {folded(name) for name in own} | self.keys)
         self.seen: set[tuple[Any, ...]] = set()  # the members of lines that were let through
 
     def refuse(self, members: Mapping[Any, Any], strange: list[Any], line: int) -> None:
@@ -69,16 +75,15 @@ class Known:
             raise Refused(self._not_understood(members, strange), line)
 
     def check(self, members: Mapping[Any, Any], line: int) -> None:
-        """Raises Refused for the first member that isn't understood."""
+        """Raises Refused for the members that aren't understood and aren't null."""
         names = tuple(members)
         if names in self.seen:
             return
         strange = [name for name in names if folded(spelled(name)) not in self.names]
-        self.refuse(members, strange, line)
-        if len({folded(spelled(name)) for name in names}) < len(names):
-            raise Refused(f"two members have one name, among {', '.join(map(spelled, names))}: rename one",
-                          line)
-        self.seen.add(names)
+        self.refuse(members, [name for name in strange if members[name] is not None], line)
+        by_folded_name(members, line)
+        if not strange:
+            self.seen.add(names)
 
     def _not_understood(self, members: Mapping[Any, Any], strange: list[Any]) -> str:
         first, *others = (shlex.quote(spelled(name).lstrip(":")) for name in strange)
@@ -94,9 +99,15 @@ class Known:
             return ""
         no_register = self.register is not None and self.register not in members
         return ((f"--columns register={name} if it is the key, " if no_register else "")
+                + (f"--key {name} if it is the key, " if self._has_no_key(by_folded_name(members)) else "")
                 + (f"--columns outcome={name} if it is the outcome, " if self.what == "column" else "")
                 + (f"--versions {name} if a put takes place only if its key has this version, "
-                   if self.is_input and folded(name) == "version" else ""))
+                   if self.place == "input" and folded(name) == "version" else ""))
+
+    def _has_no_key(self, members: Members) -> bool:
+        """Whether it is a call whose key isn't known."""
+        what = members.get("event", members.get("type", "call" if self.place.endswith("input") else ""))
+        return bool(self.keys) and folded(spelled(what)) in _CALLS and not self.keys & members.keys()
 
 
 def word_of(value: Any) -> str:
@@ -121,6 +132,8 @@ class Outcomes:
     def __init__(self, choices: Choices) -> None:
         self.choices = choices
         self.unknown: dict[tuple[str, str], int] = Counter()  # by member and its word, how many
+        own = {folded(choices.columns[name]) for name in _ANSWERS if name in choices.columns}
+        self.answers = _ANSWERS | own
 
     def of(self, members: Mapping[Any, Any], is_read: bool) -> Ended:
         """By its members. What isn't said to be well or to have failed is unknown."""
@@ -129,7 +142,7 @@ class Outcomes:
         members = by_folded_name(members)
         endings: set[Optional[str]] = {"reply"}
         for name, well in self.choices.ok_when.items():
-            if is_read and name in _ANSWERS:
+            if is_read and name in self.answers:
                 continue
             word = word_of(members.get(name))
             if folded(word) in well:
@@ -167,6 +180,41 @@ def ok_of(told: Any) -> Optional[bool]:
     return told if type(told) is bool else None
 
 
-def by_folded_name(members: Mapping[Any, Any]) -> dict[str, Any]:
-    """Members by the names under which options have them."""
-    return {folded(spelled(name)): value for name, value in members.items()}
+def by_folded_name(members: Mapping[Any, Any], line: Optional[int] = None) -> Members:
+    """Members by the names under which options have them. Raises Refused if two have one name."""
+    found = {_folded(name): value for name, value in members.items()}
+    if len(found) < len(members):
+        raise Refused(f"two members have one name, among {', '.join(map(spelled, members))}: rename "
+                      "one", line)
+    return found
+
+
+@lru_cache(maxsize=10_000, typed=True)
+def _folded(name: Any) -> str:
+    return folded(spelled(name))
+
+
+def same_key(one: Any, other: Any) -> bool:
+    """Whether two keys are one, neither of them NO_KEY or both."""
+    return one is other or (NO_KEY not in (one, other) and edn.write(one) == edn.write(other))
+
+
+class KeyMember:
+    """Finds the key among members. A source has one name for it, the first that it gives."""
+
+    def __init__(self, choices: Choices) -> None:
+        self.names = choices.key_names()
+        self.name: Optional[str] = None
+
+    def of(self, members: Members, line: int) -> Any:
+        """The key by members with folded names; NO_KEY if they have none."""
+        found = [name for name in self.names if members.get(name) is not None]
+        if not found:
+            return NO_KEY
+        self.name = self.name or found[0]
+        other = next((name for name in found if name != self.name), None)
+        if other is not None:
+            raise Refused(f"{self.name} is the key in this source, and there is a member {other} too, which "
+                          f"is {edn.write(members[other])[:_LONGEST]}: say --key {other} if that is the key, "
+                          "and --ignore-member for the one that means nothing", line)
+        return members[self.name]

@@ -12,8 +12,16 @@ READS = frozenset({"read", "r", "get"})
 WRITES = frozenset({"write", "w", "put", "set"})
 CAS = "cas"
 READ_AND_WRITE = frozenset({CAS, "append"})  # operations that read and write at once
+# What --ops makes a cas of: to write a value only where there is none, to write one and be answered the old
+# one, to add and be answered the new value, or the old one.
+CREATE, SWAP, ADD, FETCH_ADD = "create", "swap", "add", "fetch-add"
+ANSWERED = READS | {SWAP, ADD, FETCH_ADD}  # whose reply has a value that the call doesn't have
+CHANGES = frozenset({CREATE, SWAP, ADD, FETCH_ADD})
+CONDITIONAL = frozenset({CAS, CREATE})  # that take place only if the key has what they ask for
 OTHER = "other"  # by --ops, an operation that is no read, no write and no cas
-KNOWN = READS | WRITES | READ_AND_WRITE
+NO_KEY: Any = object()  # the key of an operation that names none
+KEY_NAMES = ("register", "key", "k")  # members and columns that are the key, unless --key names another
+KNOWN = READS | WRITES | READ_AND_WRITE | CHANGES
 # By outcome, what ends an operation. A cas that missed found another value, and replied so.
 ENDINGS = {"ok": "reply", "fail": "fail", "unknown": None, "missed": "missed"}
 
@@ -57,12 +65,14 @@ class Choices(NamedTuple):
     """What the command line says of a source. Its words for operations, outcomes and members are folded."""
 
     form: str
-    register: str = "x"  # the one register of a source without keys
+    register: Optional[str] = None  # of operations without a key; by default "x", if none has a key
+    key: Optional[str] = None  # the member or column that is the key
     keys: str = "auto"
     nulls: frozenset[str] = frozenset()
     initial: Optional[str] = None
     values: str = "auto"
     cas: str = "keep"
+    skip_key: bool = False  # whether to leave out keys that something else touches than operations of one
     failed_cas: str = "fail"  # or missed
     versions: Optional[str] = None  # the member by which a put is a cas
     drop_versions: bool = False  # whether each value is [version value]
@@ -74,6 +84,12 @@ class Choices(NamedTuple):
     ignored: frozenset[str] = frozenset()  # members that mean nothing
     clock_error: Optional[str] = None
     clock_unit: Optional[str] = None
+    duration_unit: Optional[str] = None
+
+    def key_names(self) -> tuple[str, ...]:
+        """The members that may be the key, folded."""
+        names = KEY_NAMES if self.key is None else (self.key,)
+        return tuple(name for name in names if not self.explains(name))
 
     def kind_of(self, word: str) -> str:
         """What a word of the source does, if the command line says so; else the word."""
@@ -81,7 +97,7 @@ class Choices(NamedTuple):
 
     def failure_of(self, kind: str) -> str:
         """What a form's own word for a failure says of an operation."""
-        return "missed" if kind == CAS and self.failed_cas == "missed" else "fail"
+        return "missed" if kind in CONDITIONAL and self.failed_cas == "missed" else "fail"
 
     def explains(self, *members: str) -> bool:
         """Whether the command line says what one of some members means."""
@@ -100,7 +116,7 @@ class Source:
     def __init__(self, steps: list[SourceOperation]) -> None:
         self.steps = steps
         self.left_out: dict[str, int] = Counter()  # which lines were left out -> how many
-        self.skipped = ""  # what --cas skip-key left out, in words
+        self.skipped = ""  # which keys were left out, in words
         self.notes: list[str] = []  # what else a person should know
 
     def moments(self) -> Iterator[tuple[SourceOperation, bool]]:

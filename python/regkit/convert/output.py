@@ -1,4 +1,4 @@
-"""The lines of a history, and the map that leads back to the source.
+"""The lines of a history, which say what their numbers stand for, and the map that leads back to the source.
 
 The map is one JSON object:
 
@@ -14,15 +14,29 @@ import json
 from typing import Any, Iterable, Iterator, NamedTuple, TextIO
 
 from regkit.convert.model import CAS, Source, SourceOperation, Value
-from regkit.convert.values import readable
+from regkit.convert.values import Table, readable
 from regkit.convert.whole import Converted
+from regkit.history import texts
 from regkit.history.who import members
 
 _AT_ONCE = 10_000
 
 
+class _Texts:
+    """Says of each number what it stands for, once, in the first line that has it."""
+
+    def __init__(self, numbers: Table) -> None:
+        self.unsaid = {key: {number: text for text, number in own.items()} for key, own in numbers.items()}
+
+    def of(self, key: str, *values: Value) -> str:
+        unsaid = self.unsaid.get(key)
+        return texts.member({int(value): unsaid.pop(int(value)) for value in values
+                             if value in unsaid}) if unsaid else ""
+
+
 def history_lines(converted: Converted) -> Iterator[str]:
     quoted = {key: json.dumps(name, ensure_ascii=False) for key, name in converted.names.items()}
+    said = _Texts(converted.numbers)
     for step, is_call in converted.source.moments():
         process, value, who = step.process, step.value, _who(step, is_call)
         if step.kind == "crash":
@@ -31,15 +45,19 @@ def history_lines(converted: Converted) -> Iterator[str]:
             if step.ending != "reply":
                 yield f'{{"process":{process},"event":"{step.ending}"{who}}}\n'
             elif step.kind == "read":
-                yield f'{{"process":{process},"event":"reply","value":{_shown_value(value)}{who}}}\n'
+                text = said.of(step.key, value)  # it goes with the register
+                key = f',"register":{quoted[step.key]}' if text else ""
+                found = f'"value":{_shown_value(value)}{text}'
+                yield f'{{"process":{process},"event":"reply"{key},{found}{who}}}\n'
             elif step.kind == CAS:
                 told = "false" if step.missed else "true"
                 yield f'{{"process":{process},"event":"reply","ok":{told}{who}}}\n'
             else:
                 yield f'{{"process":{process},"event":"reply"{who}}}\n'
         else:
+            text = "" if step.kind == "read" else said.of(step.key, step.expected, value)
             yield (f'{{"process":{process},"event":"call","op":"{step.kind}","register":{quoted[step.key]}'
-                   f'{_asked(step)}{who}}}\n')
+                   f'{_asked(step)}{text}{who}}}\n')
 
 
 def _asked(step: SourceOperation) -> str:

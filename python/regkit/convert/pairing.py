@@ -10,12 +10,14 @@ class Pairing:
     def __init__(self, ends_with_crash: bool = False) -> None:
         self.steps: list[SourceOperation] = []
         self.open: dict[Hashable, SourceOperation] = {}
+        self.lost: dict[Hashable, tuple[int, int]] = {}  # the lines of a call and of its unknown outcome
         self.crashed: Optional[dict[Client, int]] = {} if ends_with_crash else None
 
     def call(self, operation: SourceOperation, identity: Optional[Hashable] = None) -> None:
         if self.crashed:
             self.refuse_crashed(operation.client, operation.line)
         found = self.open.setdefault(operation.client if identity is None else identity, operation)
+        self.lost.pop(operation.client if identity is None else identity, None)
         if found is not operation:
             raise Refused(f"client {operation.client} calls while its call of line {found.line} is open: the "
                           "log must end that call first, or the client go on under another number",
@@ -26,7 +28,13 @@ class Pairing:
         """The open call of a client. Raises Refused if there is none."""
         if self.crashed:
             self.refuse_crashed(client, line)
-        found = self.open.get(client if identity is None else identity)
+        who = client if identity is None else identity
+        found = self.open.get(who)
+        if found is None and who in self.lost:
+            call, end = self.lost[who]
+            raise Refused(f"client {client} has no open call: that of line {call} ended at line {end} with "
+                          f"an unknown outcome. If this is its late answer, delete line {end} to take the "
+                          "answer, or this line to leave the outcome unknown", line)
         if found is None:
             raise Refused(f"client {client} has no open call that this could end: is the log's beginning "
                           "missing?", line)
@@ -37,7 +45,9 @@ class Pairing:
         """Ends the open call of a client; without an ending its outcome stays unknown."""
         operation = self.called(client, line, identity)
         del self.open[client if identity is None else identity]
-        if ending is not None:
+        if ending is None:
+            self.lost[client if identity is None else identity] = operation.line, line
+        else:
             operation.ending, operation.end_line, operation.answer = ending, line, answer
             self.steps.append(operation)
 
@@ -51,6 +61,7 @@ class Pairing:
             operation = SourceOperation(line, client, "crash", None, None)
         else:
             operation.ending, operation.end_line = "crash", line
+            self.lost[client] = operation.line, line
         self.steps.append(operation)
         return operation
 

@@ -11,7 +11,7 @@ from typing import Any, Iterable
 
 from regkit.convert import edn
 from regkit.convert.independent import pair_of
-from regkit.convert.model import CAS, KNOWN, READS, Choices, Refused, SourceOperation
+from regkit.convert.model import CAS, KNOWN, NO_KEY, READS, Choices, Refused, SourceOperation
 
 NOTE = "each value is [version value], and the versions are left out: they aren't checked"
 
@@ -21,7 +21,7 @@ def have_keys(operations: Iterable[SourceOperation], choices: Choices) -> bool:
     if choices.keys != "auto":
         return choices.keys == "independent"
     calls = [each for each in operations
-             if each.key is None and each.kind in KNOWN and each.value is not None]
+             if each.key is NO_KEY and each.kind in KNOWN and each.value is not None]
     found = [(each, pair_of(each.value)) for each in calls]
     return bool(calls) and all(pair is not None and _is_versioned(each, pair[1]) for each, pair in found)
 
@@ -35,7 +35,11 @@ def drop_versions(operation: SourceOperation) -> None:
     """Leaves the version out of an operation's values. Raises Refused for a value without one."""
     if operation.kind not in KNOWN:
         return
-    operation.value = _without(operation.value, operation, operation.line)
+    called, operation.value = operation.value, _without(operation.value, operation, operation.line)
+    if called is not None and (pair_of(called) or called)[0] is not None:
+        raise Refused(f"the value {edn.write(called)[:60]} of a {operation.kind} asks for a version, and "
+                      "--drop-versions leaves versions out: record it as a cas from this version to the "
+                      "next, or let the client call with nil there", operation.line)
     if operation.ending == "reply":
         operation.answer = _without(operation.answer, operation, operation.end_line or operation.line)
 

@@ -18,13 +18,14 @@ from typing import Any, Iterable, Optional
 
 from regkit.convert import etcd, jepsen, versions
 from regkit.convert.json_values import is_json, json_values
-from regkit.convert.members import Known, Members, Outcomes, by_folded_name, ok_of
-from regkit.convert.model import CAS, READS, WRITES, Choices, Refused, Source, SourceOperation, WrongWords
+from regkit.convert.members import KeyMember, Known, Members, Outcomes, by_folded_name, ok_of
+from regkit.convert.model import (ANSWERED, CAS, CONDITIONAL, READS, WRITES, Choices, Refused, Source,
+                                  SourceOperation, WrongWords)
 from regkit.convert.pairing import Pairing
 from regkit.convert.rows import client_of
 from regkit.convert.settle import settle
+from regkit.convert.spellings import spelled
 from regkit.convert.timed import TimedOperations
-from regkit.convert.values import spelled
 
 # Operations in Porcupine's models: the key-value model has numbers, the register says whether it is a read.
 _OPS = {"0": "get", "1": "put", "2": "append", "true": "get", "false": "put"}
@@ -50,6 +51,7 @@ class _Values:
         self.timed = TimedOperations()
         self.pairing = Pairing()
         self.outcomes = Outcomes(choices)
+        self.key = KeyMember(choices)
         self.known = {place: Known(choices, place) for place in (
             "operation", "event", "input", "output", "cas input", "cas output", "etcd input", "etcd output")}
         if choices.versions is not None:
@@ -62,7 +64,7 @@ class _Values:
         for line, value in json_values(lines):
             if not isinstance(value, dict):
                 raise Refused("no operation and no event: an object is expected", line)
-            members = by_folded_name(value)
+            members = by_folded_name(value, line)
             if "kind" in members:
                 self._take_event(value, members, line)
             elif "call" in members:
@@ -81,7 +83,7 @@ class _Values:
 
     def _operation(self, line: int, client: Any, given: Any) -> SourceOperation:
         """The operation that an input describes."""
-        found = by_folded_name(given) if isinstance(given, dict) else {}
+        found = by_folded_name(given, line) if isinstance(given, dict) else {}
         if found.get("op") is None:
             raise Refused("the input has no member Op: let it have Op (get or put), Key and Value, exported, "
                           "so that Go's encoding/json writes them", line)
@@ -90,11 +92,11 @@ class _Values:
         if "arg1" in found or "arg2" in found:
             self.known["etcd input"].check(given, line)
             kind, value = etcd.asked(kind, found, line)
-            operation = SourceOperation(line, client, kind, found.get("key", self.choices.register), value)
+            operation = SourceOperation(line, client, kind, self.key.of(found, line), value)
             self.etcd.add(operation)
             return operation
-        key = found.get("key", self.choices.register)
         self.known["cas input" if kind == CAS else "input"].check(given, line)
+        key = self.key.of(found, line)
         if kind == CAS:
             return SourceOperation(line, client, kind, key, _swap(found, line))
         kind = _OPS.get(word, word) if kind == word else kind
@@ -102,20 +104,25 @@ class _Values:
             raise Refused(f"Op {word} is a get in Porcupine's models, and this input has a value to write, "
                           f"{spelled(found['value'])[:40]}: say which operation each Op is, as in "
                           f"--ops {_READS_BY_HABIT[word]}", line)
-        if self.choices.versions is not None and kind in WRITES:
-            change = versions.as_cas(found, self.choices.versions, line)
-            return SourceOperation(line, client, CAS, key, change)
-        return SourceOperation(line, client, kind, key, found.get("value"))
+        if self.choices.versions is not None:
+            if kind in WRITES:
+                change = versions.as_cas(found, self.choices.versions, line)
+                return SourceOperation(line, client, CAS, key, change)
+            versions.refuse_asked(found, self.choices.versions, line)
+        asked = None if kind in READS and _is_zero(found.get("value")) else found.get("value")
+        return SourceOperation(line, client, kind, key, asked)
 
     def _end(self, operation: SourceOperation, output: Any, beside: Members, line: int) -> Optional[str]:
         """Gives an operation its answer, the output or its member Value. Returns the operation's ending."""
         members: Members = {} if output is None else {"output": output}
-        is_etcd, is_cas, version = operation in self.etcd, operation.kind == CAS, self.choices.versions
+        is_etcd, is_cas = operation in self.etcd, operation.kind in CONDITIONAL
+        version = self.choices.versions
         if isinstance(output, dict):
             place = "etcd output" if is_etcd else "cas output" if is_cas and version is None else "output"
             self.known[place].check(output, line)
-            members = by_folded_name(output)
-        is_read = operation.kind in READS
+            members = by_folded_name(output, line)
+        _agree(beside, members, line)
+        is_read = operation.kind in ANSWERED
         ending, found_nothing = self.outcomes.of({**beside, **members}, is_read)
         if ending == "reply" and is_etcd:
             ending, members = etcd.ended(operation, members, self.etcd_said, line)
@@ -131,6 +138,15 @@ class _Values:
         elif operation.kind in WRITES and not self.choices.explains("output", "value"):
             operation.answer = _written(members)
         return ending
+
+    def _refuse_answer(self, operation: SourceOperation, members: Members, line: int) -> None:
+        """An operation without Return may have an output, but none that says what it found."""
+        output = members.get("output")
+        told = by_folded_name(output, line) if isinstance(output, dict) else {"output": output}
+        found = _written(told) if operation.kind in READS else ok_of(told.get("ok")) or None
+        if found is not None and self.outcomes.of({**_beside(members), **told}, False).ending == "reply":
+            raise Refused(f"the operation has an answer, {spelled(found)[:40]}, and no Return: write the "
+                          "time of the answer, or no answer if there was none", line)
 
     def _end_cas(self, members: Members, line: int) -> str:
         """By Ok, unless the options say which words mean that it took place."""
@@ -163,6 +179,10 @@ class _Values:
             self.pairing.call(self._operation(line, client, members.get("value")), shared)
             return
         called = self.pairing.called(client, line, shared)
+        if "clientid" in members and called.client != client:
+            raise Refused(f"ClientId is {spelled(client)[:40]}, and the call with this Id, at line "
+                          f"{called.line}, has {spelled(called.client)[:40]}: give each operation an Id of "
+                          "its own", line)
         ending = self._end(called, members.get("value"), _beside(members), line)
         self.pairing.end(line, client, ending, called.answer, shared)
 
@@ -173,6 +193,8 @@ class _Values:
         end = members.get("return")
         if end is not None and end != _END_OF_TIME:
             operation.ending = self._end(operation, members.get("output"), _beside(members), line)
+        else:
+            self._refuse_answer(operation, members, line)
         self.timed.add(operation, members["call"], end, ("Call", "Return"))
 
 
@@ -190,6 +212,14 @@ def _client(members: Members) -> Any:
 def _beside(members: Members) -> Members:
     """What stands beside the value in a line."""
     return {name: value for name, value in members.items() if name not in ("value", "output")}
+
+
+def _agree(beside: Members, members: Members, line: int) -> None:
+    """What stands both in a line and in its output is alike there."""
+    for name in beside.keys() & members.keys():
+        if beside[name] is not None and spelled(beside[name]) != spelled(members[name]):
+            raise Refused(f"{name} is {spelled(beside[name])[:40]}, and {spelled(members[name])[:40]} in the "
+                          "output: write one of them", line)
 
 
 def _is_zero(value: Any) -> bool:

@@ -1,23 +1,30 @@
 """Operations with a start and an end, whether from a table's rows or from JSON objects."""
+import re
 import shlex
 from typing import Any, NamedTuple, Optional
 
+from regkit.convert.columns import Used
 from regkit.convert.members import Known, Members, Outcomes, ok_of
-from regkit.convert.model import (CAS, ENDINGS, READS, Choices, Client, Refused, Source, SourceOperation,
-                                  folded)
+from regkit.convert.model import (ANSWERED, CAS, CONDITIONAL, CREATE, ENDINGS, NO_KEY, READS, Choices, Client,
+                                  Refused, Source, SourceOperation, folded)
 from regkit.convert.settle import settle
-from regkit.convert.timed import TimedOperations
-from regkit.convert.values import settled, spelled
+from regkit.convert.spellings import spelled
+from regkit.convert.timed import TimedOperations, Times
+from regkit.convert.values import settled
 
 OUTCOMES = {"ok": "ok", "fail": "fail", "unknown": "unknown", "info": "unknown", "missed": "missed", "": "ok"}
 ABSENT: Any = object()  # a value that isn't there
+_HALF = r"([^\s,\[\]()]+?)"
+_PAIR = re.compile(rf"\s*[\[(]?\s*{_HALF}\s*(?:,|\s|->)\s*{_HALF}\s*[\])]?\s*")  # [1 2] or 1, 2 or 1->2
 
 
 class Row(NamedTuple):
-    """An operation as its source has it, its columns in order. One that isn't there is ABSENT."""
+    """An operation as its source has it, its columns in the order of `COLUMNS`. One that isn't there is
+    ABSENT."""
 
     line: int
-    members: Members  # all that it has, if the options or a cas may ask for any of these
+    members: Members  # all that it has, by folded names, if the options may ask for any of these
+    used: Used
     process: Any
     start: Any
     end: Any
@@ -25,69 +32,115 @@ class Row(NamedTuple):
     op: Any
     value: Any
     outcome: Any
-    asked: Any  # of a cas, what it asks for: the column `from`
-    written: Any  # and what it writes: the column `to`
+    from_: Any  # of a cas, what it asks for
+    to: Any  # and what it writes
     ok: Any  # of a cas, whether it took place
+    input: Any  # what was asked, and what was answered
+    output: Any
+    duration: Any
+    event: Any  # of a row for each event alone
+    time: Any
+    id: Any
+    end_line: int = 0  # of the row that ended it, if that is another
 
 
 class Rows:
     """Makes operations of rows."""
 
-    def __init__(self, choices: Choices, what: str) -> None:
+    def __init__(self, choices: Choices) -> None:
         self.choices = choices
         self.is_csv = choices.form == "csv"
-        self.known = Known(choices, choices.form, what=what)
+        self.known = Known(choices, choices.form, what="column" if self.is_csv else "member")
         self.timed = TimedOperations()
         self.outcomes = Outcomes(choices)
         self.empty: Optional[int] = None  # the line of the first outcome that is an empty text
         self.well: Optional[int] = None  # and of the first that is ok
-        self.names = (choices.columns["start"], choices.columns["end"])
 
     def take(self, row: Row) -> None:
-        register, end = _or_none(row.register), _or_none(row.end)
+        is_blank = self.is_csv and is_nothing(row.register)
+        register = NO_KEY if is_blank or row.register in (None, ABSENT) else row.register
         kind = self.choices.kind_of(row.op.strip().lower() if type(row.op) is str else spelled(row.op))
-        operation = SourceOperation(row.line, client_of(row.process, self.is_csv), kind,
-                              self.choices.register if register is None else register, _or_none(row.value))
-        operation.answer = operation.value
+        operation = SourceOperation(row.line, client_of(row.process, self.is_csv), kind, register, None)
         operation.ending = self._ending(row, kind)
-        if type(end) is str and not end.strip():
-            end = None
-        if end is None and operation.ending in ("reply", "missed"):
+        times = Times(_or_nothing(row.start), _or_nothing(row.end), _or_nothing(row.duration), row.used.times)
+        if times.end is None and (times.start is None or times.duration is None) and (
+                operation.ending in ("reply", "missed")):
             operation.ending = None
         found_nothing = self._found_nothing(operation, row.members)
-        if kind == CAS:
+        if kind in CONDITIONAL:
             self._take_cas(operation, row)
         else:
             self._refuse_cas_members(row)
-        if row.value is ABSENT and not found_nothing and operation.ending == "reply" and kind in READS:
-            raise Refused(f"a read without {self.choices.columns['value']}: write null if it found none, or "
-                          "say which member is the value with --columns value=NAME", row.line)
-        self.timed.add(operation, row.start, end, self.names)
+            self._take_values(operation, row, found_nothing)
+        self.timed.add_times(operation, times, self.choices)
+        if operation.end_line is not None:
+            operation.end_line = row.end_line or row.line
+
+    def _take_values(self, operation: SourceOperation, row: Row, found_nothing: bool) -> None:
+        """What a read or a write asked, and what it was answered."""
+        is_read, answers = operation.kind in READS, operation.kind in ANSWERED
+        if row.used.is_plain and (is_read or not answers) and (row.value is not ABSENT or not is_read):
+            asked = answer = row.value
+        elif is_read:
+            asked, answer = ABSENT, self._agreed(row, "output", "value")
+            self._refuse_unused(row, "input", [row.register, answer])
+        else:
+            asked, answer = self._agreed(row, "input", "value"), row.output
+            if not answers:
+                self._refuse_unused(row, "output", [asked])
+        if answers and answer is ABSENT and not found_nothing and operation.ending == "reply":
+            column = "value" if is_read else "output"
+            kind = "read" if is_read else operation.kind
+            raise Refused(f"a {kind} without {row.used.name(column)}: write null if it found none, or say "
+                          f"which {self.known.what} has what was answered with --columns {column}=NAME",
+                          row.line)
+        operation.value = None if is_read else _or_none(asked)
+        operation.answer = _or_none(answer) if answers and not found_nothing else None
+
+    def _agreed(self, row: Row, *columns: str) -> Any:
+        """What the columns have that may say a value. Raises Refused if two differ."""
+        values = [(column, getattr(row, column)) for column in columns if getattr(row, column) is not ABSENT
+                  and folded(row.used.name(column)) not in self.choices.ignored]
+        said = [(column, value) for column, value in values if not is_nothing(value)]
+        for column, value in said[1:]:
+            if spelled(value) != spelled(said[0][1]):
+                raise Refused(f"{row.used.name(said[0][0])} is {spelled(said[0][1])[:40]} and "
+                              f"{row.used.name(column)} {spelled(value)[:40]}: say with --ignore-member "
+                              "which of them means nothing", row.line)
+        return said[0][1] if said else values[0][1] if values else ABSENT
+
+    def _refuse_unused(self, row: Row, column: str, used: list[Any]) -> None:
+        """Raises Refused for a value that isn't used, unless it is one of those that are."""
+        value, name = getattr(row, column), row.used.name(column)
+        if is_nothing(value) or self.choices.explains(folded(name)) or (
+                spelled(value) in {*self.choices.nulls, *map(spelled, filter(is_there, used))}):
+            return
+        if column == "output":
+            what = f"--ok-when {name}=WORD,.. with the words in it by which the operation took place"
+        else:
+            what = f"--columns register={name} if it is the key"
+        raise Refused(f"{name} is {spelled(value)[:40]}, which isn't understood here: say {what}, or "
+                      f"--ignore-member {name} if it means nothing", row.end_line or row.line)
 
     def _found_nothing(self, operation: SourceOperation, members: Members) -> bool:
         """Ends an operation as --ok-when says, and tells whether it is a read that found no value."""
         if operation.ending == "reply":
-            operation.ending, found_nothing = self.outcomes.of(members, operation.kind in READS)
-            if found_nothing:
-                operation.answer = None
+            operation.ending, found_nothing = self.outcomes.of(members, operation.kind in ANSWERED)
             return found_nothing
         return False
 
     def _take_cas(self, operation: SourceOperation, row: Row) -> None:
-        """Gives a cas its two values, and its ending by `ok`."""
-        line, told = row.line, row.ok
-        if row.asked is ABSENT or row.written is ABSENT:
-            raise Refused("a cas has from and to: say which they are with --columns from=NAME,to=NAME", line)
-        if not _is_nothing(row.value) and not self.choices.explains("value"):
-            raise Refused(f"a cas has from and to, and no value, but this is {spelled(row.value)[:40]}", line)
-        operation.value, operation.answer = (row.asked, row.written), None
-        name = self.choices.columns.get("ok", "ok")
-        if operation.ending is None or self.choices.explains(folded(name)):
+        """Gives a cas its two values, and its ending by `ok` or its output. To create is a cas from null."""
+        line, (name, told) = row.line, self._told(row)
+        operation.value = self._halves(operation.kind, row)
+        operation.kind = CAS
+        is_said = operation.ending is None and self.outcomes.say(row.members)  # by --ok-when
+        if is_said or self.choices.explains(folded(name)):
             told = ABSENT
         took_place = ok_of(told)
-        if took_place is None and not _is_nothing(told):
+        if took_place is None and not is_nothing(told):
             raise Refused(f"{name} is {spelled(told)[:40]}, and true or false is expected, whether the cas "
-                          "took place", line)
+                          f"took place: or say --ok-when {name}=WORD,.. with the words by which it did", line)
         if took_place and operation.ending != "reply":
             raise Refused(f"{name} is true, and the outcome is another: did the cas take place or not?", line)
         if took_place is None and operation.ending == "reply" and not self._says_ok(row):
@@ -96,19 +149,47 @@ class Rows:
         if took_place is False and operation.ending == "reply":
             operation.ending = "missed"
 
+    def _told(self, row: Row) -> tuple[str, Any]:
+        """Which column says whether a cas took place, and what it says."""
+        told = is_nothing(row.ok) and not is_nothing(row.output)
+        if told and not (is_there(row.input) and spelled(row.output) == spelled(row.input)):
+            return row.used.name("output"), row.output
+        self._refuse_unused(row, "output", [row.ok, row.input])
+        return row.used.name("ok"), row.ok
+
+    def _halves(self, kind: str, row: Row) -> tuple[Any, Any]:
+        """What a cas asks for and what it writes: from its own columns, or both from what was asked."""
+        if kind == CREATE:
+            return None, self._agreed(row, "to", "input", "value")
+        if row.from_ is ABSENT or row.to is ABSENT:
+            asked = self._agreed(row, "input", "value")
+            if type(asked) is list and len(asked) == 2:
+                return asked[0], asked[1]
+            pair = _PAIR.fullmatch(asked) if type(asked) is str else None
+            if pair is None:
+                raise Refused("a cas has from and to: say which they are with --columns from=NAME,to=NAME",
+                              row.line)
+            return pair[1], pair[2]
+        for column in ("value", "input"):
+            value, name = getattr(row, column), row.used.name(column)
+            if not is_nothing(value) and not self.choices.explains(folded(name)):
+                raise Refused(f"a cas has from and to, and no {name}, but this is "
+                              f"{spelled(value)[:40]}", row.line)
+        return row.from_, row.to
+
     def _says_ok(self, row: Row) -> bool:
         """Whether the outcome of a row, or a member by --ok-when, says by a word that all went well."""
-        word = "" if _is_nothing(row.outcome) else spelled(row.outcome).strip()
+        word = "" if is_nothing(row.outcome) else spelled(row.outcome).strip()
         return bool(word) or "" in self.choices.outcomes or self.outcomes.say(row.members)
 
     def _refuse_cas_members(self, row: Row) -> None:
         """A read and a write have nothing in the columns of a cas, unless the options say what it means."""
-        strange = []
-        for column, value in (("from", row.asked), ("to", row.written), ("ok", row.ok)):
-            name = self.choices.columns.get(column, column)
-            if not _is_nothing(value) and not self.choices.explains(folded(name)):
-                strange.append(name)
-        self.known.refuse(row.members, strange, row.line)
+        if row.from_ is ABSENT and row.to is ABSENT and row.ok is ABSENT:
+            return
+        strange = {row.used.name(column): value
+                   for column, value in (("from", row.from_), ("to", row.to), ("ok", row.ok))
+                   if not is_nothing(value) and not self.choices.explains(folded(row.used.name(column)))}
+        self.known.refuse(strange, list(strange), row.line)
 
     def _ending(self, row: Row, kind: str) -> Optional[str]:
         """How an operation ended by its outcome; without one all went well."""
@@ -141,7 +222,15 @@ def _or_none(value: Any) -> Any:
     return None if value is ABSENT else value
 
 
-def _is_nothing(value: Any) -> bool:
+def _or_nothing(value: Any) -> Any:
+    return None if is_nothing(value) else value
+
+
+def is_there(value: Any) -> bool:
+    return value is not ABSENT
+
+
+def is_nothing(value: Any) -> bool:
     return value is ABSENT or value is None or (type(value) is str and not value.strip())
 
 

@@ -8,7 +8,7 @@ from regkit.convert.whole import Converted
 from regkit.words.phrases import counted, for_regsearch
 
 
-def told(converted: Converted, has_map: bool) -> Iterator[str]:
+def told(converted: Converted) -> Iterator[str]:
     """Lines for standard error."""
     yield _read(converted)
     for what, lines in sorted(converted.source.left_out.items()):
@@ -18,14 +18,14 @@ def told(converted: Converted, has_map: bool) -> Iterator[str]:
                           repeats(converted.source.operations()))
     if words:
         yield words
-    if not any((each.kind, each.ending) == ("read", "reply") for each in converted.operations):
-        yield ("there is no completed read, so a yes would say nothing: regkit check will find too little "
-               "evidence")
+    if not any(each.kind != "write" and each.ending == "reply" for each in converted.operations):
+        yield ("there is no completed read or cas, so a yes would say nothing: regkit check will find too "
+               "little evidence")
     yield from _renamed(converted)
     texts = sum(map(len, converted.numbers.values()))
     if texts:
-        where = "" if has_map else "; --map FILE writes which number is which"
-        yield f"numbered {counted(texts, 'value')} of {counted(len(converted.numbers), 'register')}{where}"
+        yield (f"numbered {counted(texts, 'value')} of {counted(len(converted.numbers), 'register')}; the "
+               "history says what each number stands for")
 
 
 def _read(converted: Converted) -> str:

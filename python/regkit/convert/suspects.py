@@ -1,25 +1,25 @@
 """Values that were found and that nothing writes, where the conversion may be the one that is wrong.
 
 To give such a value to a read, or to a cas that took place, is a fault of the store, unless the value spells
-null (none, -1), is the one with which registers start (0), or is spelled as a written value is and has
-another kind: a client may write 1 and read "1". To make up a fault is the worst that a conversion can do. So
-a person has to say what such a value is.
+null (none, []), is the one with which registers start (0), or has another kind than what is written: a client
+may write 1 and read "1", 1M or ({:val 1}). A cas of an unknown outcome that asks for such a value may have
+taken place too. To make up a fault is the worst that a conversion can do. So a person has to say what such a
+value is.
 """
 import shlex
 from typing import Any, Iterator, Optional
 
 from regkit.convert import edn
 from regkit.convert.model import CAS, Choices, Refused, Source, SourceOperation, Value
-from regkit.convert.values import Written, bare, initial_value, shown, spelled, unsettled
+from regkit.convert.spellings import bare, kind_of, parsed, spelled, unquoted
+from regkit.convert.values import Written, initial_value, shown, unsettled
 from regkit.words.phrases import counted
 
 SPELL_NULL = frozenset({
-    "", "-", "\\n", "<nil>", "(nil)", "(null)", "absent", "empty", "key not found", "key-does-not-exist",
-    "missing", "n/a", "na", "nan", "nil", "no such key", "nokey", "none", "not found", "not-found",
-    "not_found", "notfound", "null", "undefined"})
+    "", "-", "\\n", "()", "[]", "{}", "#{}", "<nil>", "(nil)", "(null)", "absent", "empty", "key not found",
+    "key-does-not-exist", "missing", "n/a", "na", "nan", "nil", "no such key", "nokey", "none", "not found",
+    "not-found", "not_found", "notfound", "null", "undefined"})
 STARTS = frozenset({"0", "-1", "false"})  # what a register may have before any write, or what stands for none
-_COLLECTIONS = (tuple, edn.Map)
-_ANOTHER_KIND = "a value of another kind that is spelled alike is written there"
 
 
 def look_at_reads(source: Source, written: Written, choices: Choices) -> Iterator[str]:
@@ -36,12 +36,14 @@ def look_at_reads(source: Source, written: Written, choices: Choices) -> Iterato
         if is_call:
             if each.kind != "read" and not each.missed:
                 begun.add((each.key, each.value))
+            if each.kind == CAS and each.ending in (None, "crash") and each.expected is not None:
+                if not spellings.has(each.key, each.expected) or spellings.has_twin(each.key, each.expected):
+                    _refuse_suspect(each, each.expected, spellings, choices)
             continue
         value = _find(each)
         if value is None:
             continue
-        asks = choices.values == "auto" and spellings.has_twin(each.key, value)
-        if asks or (each.key, value) not in begun:
+        if (each.key, value) not in begun or spellings.has_twin(each.key, value):
             _refuse_suspect(each, value, spellings, choices)
         write = written.get(each.key, nothing).get(value)
         if write is None:
@@ -67,23 +69,22 @@ def _find(operation: SourceOperation) -> Value:
 
 def _refuse_suspect(read: SourceOperation, found: Value, spellings: "_Spellings", choices: Choices) -> None:
     value = unsettled(found)
-    why = _spells_null(value, choices)
-    if why is None and choices.values == "auto":
-        why = spellings.why(read.key, found)
+    why = None if spellings.has_twin(read.key, found) else _spells_null(value, choices)
+    if why is None and choices.values != "exact":
+        why = spellings.why(read.key, found, choices)
     if why is not None:
-        kind = "cas found" if read.kind == CAS else "read gave"
+        kind = "read gave" if read.kind != CAS else "cas found" if read.ending == "reply" else "cas asks for"
         which = f", which nothing writes to {shown(read.key)}"
         if spellings.has(read.key, found):
             which = " of " + shown(read.key) if spellings.has_twin(read.key, found) else which + " before"
         what = f"a {kind} {edn.write(value)[:40]}{which}"
-        raise Refused(f"{what}: {why}", read.end_line)
+        raise Refused(f"{what}: {why}", read.end_line or read.line)
 
 
 def _spells_null(value: Any, choices: Choices) -> Optional[str]:
     """What to say of a value that may be none, or the one before any write."""
     start = None if choices.initial is None else initial_value(choices.initial, choices.form)
-    word = bare(value)
-    starts, spells = word in STARTS and choices.initial is None, word.lower() in SPELL_NULL
+    starts, spells = bare(value) in STARTS and choices.initial is None, unquoted(value).lower() in SPELL_NULL
     if not (starts or spells) or (choices.initial is not None and start is None):
         return None
     null = shlex.quote("--null=" + ",".join(sorted(choices.nulls | {spelled(value)})))
@@ -98,8 +99,8 @@ class _Spellings:
         self._written = written
         self._form = form
         self._values: dict[str, set[str]] = {}  # by key
-        self._parts: dict[str, set[str]] = {}  # by key, of collections too
-        self._keys: dict[str, list[str]] = {}  # by spelling
+        self._parts: dict[tuple[str, bool], set[str]] = {}  # by key, and whether of all values or collections
+        self._kinds: dict[str, set[str]] = {}  # by key
         self._twins: dict[str, set[Value]] = {}  # by key, what is written there in two kinds, spelled alike
 
     def has(self, key: str, value: Value) -> bool:
@@ -119,33 +120,34 @@ class _Spellings:
                     twins |= {twin, each}
         return value in twins
 
-    def why(self, key: str, found: Value) -> Optional[str]:
-        """What to say of a value if it is like another one that is written."""
+    def why(self, key: str, found: Value, choices: Choices) -> Optional[str]:
+        """What to say of a value if it is like another one that is written, or like none."""
         value = unsettled(found)
-        if self.has(key, found):
-            alike = _ANOTHER_KIND if self.has_twin(key, found) else None
-        else:
-            alike = self._alike(key, bare(value))
-        if alike is not None:
-            return (f"{alike}; say --values alike if what is spelled alike is one value and one key, or "
-                    "--values exact if it isn't")
-        if type(value) in _COLLECTIONS and not self.has(key, found) and _parts(value) & self._parts_of(key):
+        is_written = self.has(key, found)
+        if self.has_twin(key, found) if is_written else bare(value) in self._values_of(key):
+            return ("a value of another kind that is spelled alike is written there; say --values alike if "
+                    "what is spelled alike is one value and one key, or --values exact if it isn't")
+        if is_written:
+            return None
+        exact = ", or say --values exact if {}" if choices.values == "auto" else ""
+        if _parts(value) & self._parts_of(key, _is_collection(value)):
             drop = "say --drop-versions if each value is [version value], " if self._form == "jepsen" else ""
             return (f"a value that has a part of it in common is written there; {drop}let the recorder keep "
-                    "the value alone, without a version, or say --values exact if they are several values")
-        return None
+                    f"the value alone, without a version{exact.format('they are several values')}")
+        kind, kinds = kind_of(found), self._kinds_of(key)
+        if not kinds or kind in kinds:
+            return None
+        null = shlex.quote("--null=" + ",".join(sorted(choices.nulls | {spelled(value)})))
+        return (f"it is one of the {kind}, and only {' and '.join(sorted(kinds))} are written there; say "
+                f"{null} if it stands for none, let the recorder keep what a read gives as it keeps what is "
+                f"written{exact.format('the store was wrong to give it')}")
 
-    def _alike(self, key: str, word: str) -> Optional[str]:
-        """Where a value is written that is spelled alike, in words."""
-        if word in self._values_of(key):
-            return _ANOTHER_KIND
-        if not self._keys:
-            for each in self._written:
-                self._keys.setdefault(bare(unsettled(each)), []).append(each)
-        for other in self._keys.get(bare(unsettled(key)), []):
-            if word in self._values_of(other):
-                return f"it is written to {other}, a key of another kind that is spelled alike"
-        return None
+    def _kinds_of(self, key: str) -> set[str]:
+        """The kinds of the values that are written to a key; of one that is never written, to any key."""
+        if key not in self._kinds:
+            keys = [key] if self._written.get(key) else list(self._written)
+            self._kinds[key] = {kind_of(value) for each in keys for value in self._written[each]}
+        return self._kinds[key]
 
     def _values_of(self, key: str) -> set[str]:
         known = self._values.get(key)
@@ -154,15 +156,31 @@ class _Spellings:
             known = self._values[key] = {bare(unsettled(value)) for value in values}
         return known
 
-    def _parts_of(self, key: str) -> set[str]:
-        known = self._parts.get(key)
+    def _parts_of(self, key: str, of_all: bool) -> set[str]:
+        """How the parts of what is written to a key are spelled, of all values or of collections."""
+        known = self._parts.get((key, of_all))
         if known is None:
-            values = self._written.get(key, {})
-            known = self._parts[key] = {part for value in values for part in _parts(unsettled(value))}
+            values = map(unsettled, self._written.get(key, {}))
+            known = self._parts[key, of_all] = {part for value in values if of_all or _is_collection(value)
+                                                for part in _parts(value)}
         return known
 
 
+def _whole(value: Any) -> Any:
+    """A value, or the collection that it spells as a text or has behind a tag."""
+    if type(value) is edn.Tagged:
+        return _whole(value.value)
+    return (parsed(value) or value) if type(value) is str else value
+
+
+def _is_collection(value: Any) -> bool:
+    return isinstance(_whole(value), (tuple, dict))
+
+
 def _parts(value: Any) -> set[str]:
-    """How what is in a collection is spelled; of any other value, how it is spelled itself."""
-    inner = value.values() if type(value) is edn.Map else value if type(value) is tuple else [value]
-    return {bare(part) for part in inner if part is not None}
+    """How what is in a collection is spelled, at any depth; of any other value, how it is spelled itself."""
+    whole = _whole(value)
+    inner = whole.values() if isinstance(whole, dict) else whole if isinstance(whole, tuple) else None
+    if inner is None:
+        return {bare(value)} if value is not None else set()
+    return {part for each in inner for part in _parts(each)}

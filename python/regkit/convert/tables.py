@@ -1,48 +1,47 @@
-"""Operations with a start and an end: rows of a table, or JSON objects.
+"""Tables and JSON objects: a row for each operation, or in a table also one for each event.
 
     process,op,register,value,start,end,outcome
     alice,write,k,v1,10,20,ok
 
-A cas has `from` and `to` in place of `value`, and `ok`, true or false, which says whether it took place.
+A cas has `from` and `to` in place of `value`, and `ok`, true or false, which says whether it took place. In
+place of `value` there may be `input`, what was asked, and `output`, what was answered; in place of `start` or
+of `end` a `duration`. An empty end, or an outcome of unknown or info, is an unknown outcome: the operation
+stays pending.
 
-An empty end, or an outcome of unknown or info, is an unknown outcome: the operation stays pending.
+    time,process,event,op,register,value
+    10,alice,call,write,k,v1
+    20,alice,reply,write,k,
+
+The rows of events are paired (event_rows). Names of columns may be of any case.
 """
 import csv
 from itertools import chain
-from typing import Any, Iterable, Iterator, Optional
+from typing import Any, Iterable, Iterator, Optional, Sequence
 
+from regkit.convert.columns import COLUMNS, HEADER, OBJECT, Used, known_columns, missing, used_columns
+from regkit.convert.event_rows import operations_of
 from regkit.convert.json_values import json_values
 from regkit.convert.members import Known
-from regkit.convert.model import Choices, Refused, Source, WrongWords
+from regkit.convert.model import Choices, Refused, Source, folded
 from regkit.convert.rows import ABSENT, Row, Rows
 from regkit.words.phrases import counted
 
-PLAIN_COLUMNS = ("process", "start", "end", "register", "op", "value", "outcome")
-CAS_COLUMNS = ("from", "to", "ok")  # which only a cas has
-COLUMNS = PLAIN_COLUMNS + CAS_COLUMNS
-OPTIONAL = ("register", "outcome", *CAS_COLUMNS)
-DELIMITERS = ",;\t|"
-
-
-def columns(words: Optional[str]) -> dict[str, str]:
-    """The source's name of each column, by `--columns process=NAME,..`. Raises WrongWords.
-
-    A name that is given to another column is no column of a cas.
-    """
-    given: dict[str, str] = {}
-    for word in (words or "").split(",") if words else []:
-        column, equals, name = word.partition("=")
-        if column not in COLUMNS or not equals or not name:
-            raise WrongWords(f"--columns {word}: COLUMN=NAME is expected, with one of {', '.join(COLUMNS)}")
-        given[column] = name
-    taken = set(given.values())
-    return {column: given.get(column, column) for column in COLUMNS
-            if column in given or column not in CAS_COLUMNS or column not in taken}
+_DELIMITERS = ",;\t|"
 
 
 def from_csv(lines: Iterable[str], choices: Choices) -> Source:
     """The rows of a table whose first row names the columns."""
-    return _source(_csv_rows(lines, choices), choices)
+    rest = iter(lines)
+    first = next(rest, "")
+    delimiter = choices.delimiter or _delimiter_of(first)
+    reader = csv.reader(chain([first], rest), strict=True, delimiter=delimiter)
+    try:
+        header = [name.strip() for name in next(reader, [])]
+        used = used_columns(header, choices.columns, HEADER, 1)
+        rows = _table_rows(_numbered(reader, len(header)), header, used, choices)
+        return _source(operations_of(rows, used, choices) if used.is_events else rows, choices)
+    except csv.Error as error:
+        raise Refused(f"not CSV: {error}", reader.line_num) from None
 
 
 def from_objects(lines: Iterable[str], choices: Choices) -> Source:
@@ -50,82 +49,70 @@ def from_objects(lines: Iterable[str], choices: Choices) -> Source:
     return _source(_json_rows(lines, choices), choices)
 
 
-def _csv_rows(lines: Iterable[str], choices: Choices) -> Iterator[Row]:
-    rest = iter(lines)
-    first = next(rest, "")
-    delimiter = choices.delimiter or _delimiter_of(first, choices.columns)
-    reader = csv.reader(chain([first], rest), strict=True, delimiter=delimiter)
-    try:
-        header = [name.strip() for name in next(reader, [])]
-        places = _places(header, choices.columns)
-        known = Known(choices, "csv", choices.columns.values(), "column")
-        keeps = bool(choices.ok_when) or any(place is not None for place in places[len(PLAIN_COLUMNS):])
-        line = reader.line_num + 1
-        for row in reader:
-            if row:
-                fields = _fields(row, places, len(header), line)
-                members = dict(zip(header, row)) if keeps or not known.seen else {}
-                if not known.seen:  # the columns of the first row are those of all
-                    known.check(members, line)
-                yield Row(line, members, *fields)
-            line = reader.line_num + 1
-    except csv.Error as error:
-        raise Refused(f"not CSV: {error}", reader.line_num) from None
+def names_columns(line: str) -> int:
+    """How many names of columns a line has, as the first row of a table may."""
+    return known_columns(_names(line, _delimiter_of(line)))
 
 
-def _delimiter_of(header: str, named: dict[str, str]) -> str:
-    """The delimiter by which the header has most of the columns that are looked for, else most names."""
+def _names(line: str, delimiter: str) -> list[str]:
+    return [name.strip().strip('"') for name in line.split(delimiter)]
+
+
+def _delimiter_of(header: str) -> str:
+    """The delimiter by which the header has most names of columns, else most names."""
     def found(delimiter: str) -> tuple[int, int]:
-        names = [name.strip().strip('"') for name in header.split(delimiter)]
-        return len(set(names) & set(named.values())), len(names)
+        names = _names(header, delimiter)
+        return known_columns(names), len(names)
 
-    return max(DELIMITERS, key=found)
-
-
-def _fields(row: list[str], places: list[Optional[int]], width: int, line: int) -> list[Any]:
-    if len(row) != width:
-        raise Refused(f"the row has {counted(len(row), 'field')}, and the header {width}: put a field that "
-                      "has the delimiter in double quotes, or say with --delimiter what it is", line)
-    return [ABSENT if place is None else row[place] for place in places]
+    return max(_DELIMITERS, key=found)
 
 
-def _places(header: list[str], named: dict[str, str]) -> list[Optional[int]]:
-    """Where each column is. Only register and outcome may be absent, unless --columns names them."""
-    places: list[Optional[int]] = []
-    for column in COLUMNS:
-        name = named.get(column)
-        if name is not None and header.count(name) > 1:
-            raise Refused(f"the header has {name} twice: rename one of them", 1)
-        if name is None:
-            places.append(None)
-        elif name in header:
-            places.append(header.index(name))
-        elif column in OPTIONAL and name == column:
-            places.append(None)
-        else:
-            option = "what stands between its fields with --delimiter C" if len(header) == 1 else (
-                f"which column is the {column} with --columns {column}=NAME")
-            raise Refused(f"the header has no {name}, but {', '.join(header) or 'nothing'}: say {option}", 1)
-    return places
+def _numbered(reader: Any, width: int) -> Iterator[tuple[int, list[str]]]:
+    """The rows of a table, each with its line. Raises Refused for one that isn't as wide as the header."""
+    line = reader.line_num + 1
+    for row in reader:
+        if row and len(row) != width:
+            raise Refused(f"the row has {counted(len(row), 'field')}, and the header {width}: put a field "
+                          "that has the delimiter in double quotes, or say with --delimiter what it "
+                          "is", line)
+        if row:
+            yield line, row
+        line = reader.line_num + 1
+
+
+def _table_rows(numbered: Iterable[tuple[int, list[str]]], header: Sequence[str], used: Used,
+                choices: Choices) -> Iterator[Row]:
+    known = Known(choices, "csv", used.names.values(), "column")
+    folds = [folded(name) for name in header]
+    places = [header.index(used.names[column]) if column in used.names else None for column in COLUMNS]
+    for line, row in numbered:
+        if not known.seen:  # the columns of the first row are those of all
+            known.check(dict(zip(header, row)), line)
+        members = dict(zip(folds, row)) if choices.ok_when else {}
+        yield Row(line, members, used, *[ABSENT if place is None else row[place] for place in places])
 
 
 def _json_rows(lines: Iterable[str], choices: Choices) -> Iterator[Row]:
-    named = choices.columns
-    known = Known(choices, "operations", named.values())
+    uses: dict[tuple[str, ...], tuple[Used, Known, list[Optional[str]]]] = {}  # by the members of an object
     for line, row in json_values(lines):
         if not isinstance(row, dict):
             raise Refused('no operation: an object such as {"process":1,"op":"read",..} is expected', line)
-        for column in ("process", "start", "op"):
-            if row.get(named[column]) is None:
-                raise Refused(f"the object has no {named[column]}, but {', '.join(row) or 'nothing'}: say "
-                              f"which member is the {column} with --columns {column}=NAME", line)
+        names = tuple(row)
+        if names not in uses:
+            used = used_columns(names, choices.columns, OBJECT, line)
+            uses[names] = (used, Known(choices, "operations", used.names.values()),
+                           [used.names.get(column) for column in COLUMNS])
+        used, known, members_of = uses[names]
         known.check(row, line)
-        fields = [row.get(named[column], ABSENT) if column in named else ABSENT for column in COLUMNS]
-        yield Row(line, row, *fields)
+        for column in ("process", "op"):
+            if row[used.names[column]] is None:
+                raise Refused(missing(column, choices.columns, names, OBJECT), line)
+        members = {folded(name): value for name, value in row.items()} if choices.ok_when else {}
+        yield Row(line, members, used, *[ABSENT if name is None else row[name] for name in members_of])
 
 
 def _source(rows: Iterable[Row], choices: Choices) -> Source:
-    taken = Rows(choices, "column" if choices.form == "csv" else "member")
+    taken = Rows(choices)
     for row in rows:
         taken.take(row)
     return taken.source()

@@ -8,11 +8,20 @@ of one client, and C end when D starts, of another, all at one time. An order wi
 C's end before D's call has A's end before D's call too, or C's end before B's call, which the source doesn't
 say.
 """
-from typing import Any, Optional
+from typing import Any, NamedTuple, Optional
 
-from regkit.convert.clock import Clock, Time
+from regkit.convert.clock import Clock, DurationUnit, Time
 from regkit.convert.model import Choices, Refused, Source, SourceOperation
 from regkit.words.phrases import counted
+
+
+class Times(NamedTuple):
+    """When an operation started and ended, as its source has it: two of these, and what they are called."""
+
+    start: Any
+    end: Any
+    duration: Any
+    names: tuple[str, ...]
 
 
 class TimedOperations:
@@ -28,11 +37,32 @@ class TimedOperations:
     def add(self, operation: SourceOperation, start: Any, end: Optional[Any], names: tuple[str, str]) -> None:
         """Adds an operation. One that failed at no known time ends as it starts, since it had no effect."""
         began = self.clock.read(start, operation.line, names[0])
+        is_timed = end is not None and operation.ending is not None
+        self._add(operation, began, self.clock.read(end, operation.line, names[1]) if is_timed else None)
+
+    def add_times(self, operation: SourceOperation, times: Times, choices: Choices) -> None:
+        """Adds an operation that may have a duration in place of a start or an end."""
+        line, (start_name, end_name, name) = operation.line, times.names
+        if times.start is None and (times.end is None or times.duration is None):
+            raise Refused(f"the operation has no {start_name}, so nobody knows when it began", line)
+        if times.duration is None or (times.start is not None and times.end is not None):
+            self.add(operation, times.start, times.end, (start_name, end_name))
+            return
+        known = times.start if times.end is None else times.end
+        time = self.clock.read(known, line, start_name if times.end is None else end_name)
+        lasted = self.clock.duration(times.duration, DurationUnit(name, choices.duration_unit,
+                                                                  choices.clock_unit), line)
+        if times.end is None:
+            self._add(operation, time, self.clock.sum(time, lasted))
+        else:
+            self._add(operation, self.clock.sum(time, lasted._replace(digits=-lasted.digits)), time)
+
+    def _add(self, operation: SourceOperation, began: Time, ended: Optional[Time]) -> None:
         self.operations.append(operation)
         self.starts.append(began)
         if operation.ending is None:
             return
-        self.ends.append(began if end is None else self.clock.read(end, operation.line, names[1]))
+        self.ends.append(began if ended is None else ended)
         self.ended.append(operation)
         operation.end_line = operation.line
 

@@ -2,7 +2,9 @@
 from typing import Any, Iterable, Optional
 
 from regkit.convert import edn
-from regkit.convert.model import Refused, SourceOperation
+from regkit.convert.model import NO_KEY, Refused, SourceOperation
+
+_FUNCTIONS = frozenset({"r", "w", "read", "write", "append", "cas"})
 
 
 def refuse_appends(operations: Iterable[SourceOperation]) -> None:
@@ -14,8 +16,23 @@ def refuse_appends(operations: Iterable[SourceOperation]) -> None:
                           "in `elle-cli --model list-append history.edn`", operation.line)
 
 
+def refuse_transactions(operation: SourceOperation) -> None:
+    """Raises Refused for a read or a write whose value is a transaction."""
+    for value, line in (operation.value, operation.line), (operation.answer, operation.end_line):
+        parts = _parts(value)
+        if parts and all(_function(part) in _FUNCTIONS for part in parts):
+            raise Refused(f"the value {edn.write(value)[:60]} of a {operation.kind} looks like a "
+                          "transaction, which may touch several keys: let :f be :txn if each has one "
+                          "operation, check the history with Elle, or say --values exact if it is a "
+                          "value", line)
+
+
 def take_apart(operation: SourceOperation) -> None:
     """Takes a transaction of one operation for that operation. Raises Refused for any other."""
+    if operation.key is not NO_KEY:
+        raise Refused(f"a transaction names the key in its value, {edn.write(operation.value)[:60]}, and "
+                      f"there is a member for the key too, which has {edn.write(operation.key)[:60]}: which "
+                      "of them is it? --ignore-member leaves out the member", operation.line)
     function, key, value = _single(operation.value, operation.line)
     if operation.ending == "reply":
         line = operation.end_line or operation.line
@@ -42,6 +59,11 @@ def _single(value: Any, line: int) -> list[Any]:
     parts = _parts(value)
     if len(parts) == 1 and _function(parts[0]) is not None:
         return [_function(parts[0]), *parts[0][1:]]
+    keyed = _parts(parts[1]) if len(parts) == 2 and _function(parts[0]) is None else []
+    if len(keyed) == 1 and _function(keyed[0]) is not None:  # under a key, as jepsen.independent puts it
+        function, key, given = keyed[0]
+        return [function.lstrip(":"), (parts[0], key), given]
+    parts = keyed if keyed and all(map(_function, keyed)) else parts
     if len(parts) > 1:
         raise Refused(f"a transaction of {len(parts)} operations, and registers have single reads and "
                       "writes: let each transaction have one operation (:max-txn-length 1, "

@@ -5,28 +5,14 @@ from typing import AbstractSet, Any, Iterable
 from regkit.base.limits import GREATEST_VALUE, LEAST_VALUE
 from regkit.convert import edn
 from regkit.convert.model import Refused, SourceOperation, Value
+from regkit.convert.spellings import bare, spelled
 
 ALL_TEXTS = frozenset({"csv", "porcupine"})  # forms in which a text of a whole number is that number
 _WHOLE = re.compile(r"-?[1-9][0-9]{0,18}|0")  # a longer one has more than 64 bits
 
-_QUOTED = re.compile(r"""b?(["'])(.*)\1""", re.DOTALL)  # a text as JSON, EDN or Python shows it, or its bytes
-
 Table = dict[str, dict[str, int]]  # by key, the number of each text
 # By key and value, what wrote it: a write that didn't fail, if there is one.
 Written = dict[str, dict[Value, SourceOperation]]
-
-
-def spelled(value: Any) -> str:
-    """A value as a person would spell it in an option: a text by itself, all else as EDN writes it."""
-    return value if type(value) is str else edn.write(value)
-
-
-def bare(value: Any) -> str:
-    """How a value is spelled without what only tells its kind: quotes, a colon, or a fraction of zero."""
-    text = spelled(value).strip()
-    quoted = _QUOTED.fullmatch(text)
-    text = quoted[2] if quoted else text.lstrip(":")
-    return text[:-2] if re.fullmatch(r"-?[0-9]+\.0", text) else text
 
 
 def settled(value: Any, nulls: AbstractSet[str], numeric_texts: bool = False, alike: bool = False) -> Value:

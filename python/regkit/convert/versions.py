@@ -8,7 +8,7 @@ from typing import Any, Mapping, Optional
 
 from regkit.base.limits import GREATEST_VALUE
 from regkit.convert.model import Refused
-from regkit.convert.values import spelled
+from regkit.convert.spellings import spelled
 
 # A put by version 3, as a form has it that tells of cas only.
 _AS_CAS = {"jepsen": ":f :cas, :value [3 4]", "log": ':f :cas, :value ["3" "4"]',
@@ -28,6 +28,13 @@ def as_cas(given: Mapping[str, Any], member: str, line: int) -> tuple[Optional[i
     """The version that a put asks for, and the next one."""
     version = _version(given, member, line, "input of a put")
     return version or None, version + 1
+
+
+def refuse_asked(given: Mapping[str, Any], member: str, line: int) -> None:
+    """The input of a get has no version, or Go's zero."""
+    if given.get(member) not in (None, 0):
+        raise Refused(f"the input of a get has the version {spelled(given[member])[:40]}, and by --versions "
+                      "only a put asks for one: a read of an old version is none of a register", line)
 
 
 def found(told: Mapping[str, Any], member: str, line: int) -> Optional[int]:

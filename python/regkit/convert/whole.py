@@ -45,7 +45,7 @@ def convert(lines: Iterable[str], choices: Choices, number: bool = True) -> Conv
 
 def _nothing_left(source: Source, form: str) -> str:
     if source.skipped:
-        return f"nothing is left to check: --cas skip-key {source.skipped}"
+        return f"nothing is left to check: {source.skipped}"
     return "; ".join([f"the source has no operation to check: is it the right file, and of the form {form}?",
                       *source.notes])
 

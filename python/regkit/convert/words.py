@@ -3,19 +3,24 @@ import argparse
 import re
 from typing import Collection, Optional
 
-from regkit.convert import tables, versions, write_back
-from regkit.convert.model import CAS, ENDINGS, OTHER, READ_AND_WRITE, Choices, WrongWords, folded
+from regkit.convert import versions, write_back
+from regkit.convert.advice import takes_away
+from regkit.convert.columns import COLUMNS, columns
+from regkit.convert.model import (ADD, CAS, CREATE, ENDINGS, FETCH_ADD, OTHER, READ_AND_WRITE, SWAP, Choices,
+                                  WrongWords, folded)
 from regkit.convert.whole import READERS
 
+AUTO = "auto"  # the form is what the source's beginning says
 TIMED = ("porcupine", "csv", "operations")
 NULLS = {"porcupine": "", "csv": ""}  # by form, what spells null if --null doesn't say
-OPS = ("read", "write", CAS, OTHER)
+OPS = ("read", "write", CAS, CREATE, SWAP, ADD, FETCH_ADD, OTHER)
 DELIMITERS = {"comma": ",", "semicolon": ";", "tab": "\t", "\\t": "\t", "pipe": "|", "bar": "|"}
 
 
 def add_arguments(parser: argparse.ArgumentParser) -> None:
     add = parser.add_argument
-    add("--from", dest="form", required=True, choices=list(READERS), help="the form of the source")
+    add("--from", dest="form", choices=[AUTO, *READERS], default=AUTO,
+        help="the form of the source (default auto: by how it begins, and refused if it may have two)")
     add("file", metavar="FILE", nargs="?", help="the source, packed by gzip or not (default: standard input)")
     add("-o", "--output", metavar="OUT", help="the history (default: standard output)")
     add("--map", metavar="FILE", help="write here, as JSON, what each number, process and line stands for")
@@ -23,6 +28,9 @@ def add_arguments(parser: argparse.ArgumentParser) -> None:
     add("--clock-error", metavar="TIME", help="porcupine, csv, operations: how far a clock may be from the "
         "true time, such as 5ms; calls become earlier and replies later by it")
     add("--clock-unit", choices=["ns", "us", "ms", "s"], help="what a number of the source's clock means")
+    add("--duration-unit", choices=["clock", "ns", "us", "ms", "s"], help="csv, operations: what a number in "
+        "the column of the durations means (clock: it is of the unit of the times), unless its name or the "
+        "number says it, as in latency_ms and 5ms")
     add("--null", metavar="TEXT,..", help="the spellings of null, such as nil,,not-found (the second is the "
         "empty text, default for csv and porcupine); EDN's nil and JSON's null always are null")
     add("--initial", metavar="VALUE", help="each register starts with this value: a completed write of it "
@@ -33,6 +41,9 @@ def add_arguments(parser: argparse.ArgumentParser) -> None:
     add("--cas", choices=["keep", "skip-key", "refuse"], default="keep",
         help="keep compare-and-swap for regsearch (default), leave out the keys that have any operation but "
         "reads and writes, or refuse it")
+    add("--skip-key", action="store_true", help="leave out the keys that anything but a read, a write or a "
+                                                "cas of one key touches, such as mget x,y or what --ops "
+                                                "calls other")
     add("--failed-cas", choices=["fail", "missed"], default="fail",
         help="what a failed cas says: nothing, since it had no effect (fail, the default), or that the store "
         "looked and found another value (missed)")
@@ -42,7 +53,8 @@ def add_arguments(parser: argparse.ArgumentParser) -> None:
         "test of etcd; only the values are checked")
     add("--keys", choices=["auto", "independent", "none"], default="auto",
         help="jepsen: whether a value is [key value] (default auto: if all calls' values are pairs)")
-    add("--register", metavar="NAME", default="x", help="the register of a source without keys (default x)")
+    add("--register", metavar="NAME",
+        help="the register of the operations without a key (default x, if no operation has one)")
     add("--to", choices=["history", *write_back.WRITERS], default="history",
         help="the form of the output (default history, for regcheck)")
 
@@ -50,13 +62,15 @@ def add_arguments(parser: argparse.ArgumentParser) -> None:
 def _add_meanings(parser: argparse.ArgumentParser) -> None:
     """The options that say what the source's own words mean."""
     add = parser.add_argument
+    add("--key", metavar="NAME", help="the member or column that is the key (default register, key or k)")
     add("--columns", metavar="COLUMN=NAME,..",
-        help=f"csv, operations: the source's names for {', '.join(tables.COLUMNS)}")
+        help=f"csv, operations: the source's names for {', '.join(COLUMNS)}")
     add("--delimiter", metavar="C", help="csv: what stands between the fields: a character, or comma, "
         "semicolon or tab (default: whichever the header has)")
     add("--ops", metavar="WORD=OP,..", action="append", default=[],
-        help="what the source's words for operations mean: read, write, cas, or other, whose keys --cas "
-        "skip-key leaves out")
+        help="what the source's words for operations mean: read, write, cas; create (a put-if-absent), swap "
+        "(a get-and-set), add (an increment that is answered the new value), fetch-add (the old one); or "
+        "other, whose keys --skip-key leaves out")
     add("--outcomes", metavar="WORD=OUTCOME,..", action="append", default=[],
         help="what the source's words for outcomes mean: ok, fail (it certainly had no effect), unknown, or "
              "of a cas missed (the store found another value)")
@@ -67,11 +81,18 @@ def _add_meanings(parser: argparse.ArgumentParser) -> None:
         help="this member or column means nothing; may be given again")
 
 
-def choices_of(arguments: argparse.Namespace) -> Choices:
-    """What the options say. Raises WrongWords if they don't fit the form."""
-    form = arguments.form
+def plain_choices(form: str) -> Choices:
+    """What no options say of a source."""
+    parser = argparse.ArgumentParser()
+    add_arguments(parser)
+    return choices_of(parser.parse_args([]), form)
+
+
+def choices_of(arguments: argparse.Namespace, form: str) -> Choices:
+    """What the options say of a source in a form. Raises WrongWords if they don't fit it."""
     for option, value, forms in (("--columns", arguments.columns, ("csv", "operations")),
                                  ("--delimiter", arguments.delimiter, ("csv",)),
+                                 ("--duration-unit", arguments.duration_unit, ("csv", "operations")),
                                  ("--drop-versions", arguments.drop_versions or None, ("jepsen",)),
                                  ("--clock-error", arguments.clock_error, TIMED),
                                  ("--clock-unit", arguments.clock_unit, TIMED)):
@@ -83,14 +104,24 @@ def choices_of(arguments: argparse.Namespace) -> Choices:
         raise WrongWords("--map describes a history for regcheck: leave out --to, or --map")
     return Choices(
         form=form, register=arguments.register, keys=arguments.keys, nulls=_nulls(form, arguments.null),
-        initial=arguments.initial, values=arguments.values,
-        cas=arguments.cas, failed_cas=arguments.failed_cas,
+        initial=arguments.initial, values=arguments.values, key=arguments.key and folded(arguments.key),
+        cas=arguments.cas, skip_key=arguments.skip_key, failed_cas=arguments.failed_cas,
         versions=arguments.versions and folded(arguments.versions), drop_versions=arguments.drop_versions,
-        columns=tables.columns(arguments.columns),
+        columns=_columns(arguments),
         delimiter=_delimiter(arguments.delimiter), ops=_meanings("--ops", arguments.ops, OPS),
         outcomes=_meanings("--outcomes", arguments.outcomes, ENDINGS), ok_when=_ok_when(arguments.ok_when),
         ignored=frozenset(map(folded, arguments.ignore_member)), clock_error=arguments.clock_error,
-        clock_unit=arguments.clock_unit)
+        clock_unit=arguments.clock_unit, duration_unit=arguments.duration_unit)
+
+
+def _columns(arguments: argparse.Namespace) -> dict[str, str]:
+    """The columns, with the key by --key."""
+    found = columns(arguments.columns)
+    if arguments.key is not None:
+        if found["register"] not in ("register", arguments.key):
+            raise WrongWords(f"--key {arguments.key}: by --columns the key is {found['register']}")
+        found["register"] = arguments.key
+    return found
 
 
 def _nulls(form: str, words: Optional[str]) -> frozenset[str]:
@@ -119,6 +150,10 @@ def _meanings(option: str, given: list[str], known: Collection[str]) -> dict[str
             if folded(said) in READ_AND_WRITE and meaning in OPS and meaning not in (folded(said), OTHER):
                 raise WrongWords(f"{option} {said}={meaning}: {said} reads and writes at once, so it is "
                                  f"{'cas or other' if folded(said) == CAS else OTHER}")
+            if meaning in (ADD, FETCH_ADD) and takes_away(said):
+                raise WrongWords(f"{option} {said}={meaning}: {said} takes away, and {meaning} adds what is "
+                                 "asked, or 1: record it as an addition of a negative number, under another "
+                                 "word")
             if meanings.setdefault(folded(said), meaning) != meaning:
                 raise WrongWords(f"{option}: {said} is given two meanings")
     return meanings

@@ -9,7 +9,7 @@ from typing import Any, Callable, Iterator
 
 from regkit.convert import edn
 from regkit.convert.model import CAS, Source, SourceOperation, Value
-from regkit.convert.tables import COLUMNS, PLAIN_COLUMNS
+from regkit.convert.columns import PLAIN_COLUMNS, WRITTEN
 from regkit.convert.values import unsettled
 
 _TYPES = {"reply": ":ok", "fail": ":fail", "crash": ":info"}
@@ -89,7 +89,7 @@ def to_csv(source: Source) -> Iterator[str]:
     text = io.StringIO()
     writer = csv.writer(text, lineterminator="\n")
     rows = _rows(source)
-    columns = COLUMNS if any(len(row) > len(PLAIN_COLUMNS) for row in rows) else PLAIN_COLUMNS
+    columns = WRITTEN if any(len(row) > len(PLAIN_COLUMNS) for row in rows) else PLAIN_COLUMNS
     writer.writerow(columns)
     for process, start, end, key, kind, value, outcome, *cas in rows:
         cells = [process, start, end, _plain(key), kind, _plain(value), outcome]
@@ -103,7 +103,7 @@ def to_operations(source: Source) -> Iterator[str]:
     for row in _rows(source):
         for place in (3, 5, 7, 8):
             row[place:place + 1] = map(_json_value, row[place:place + 1])
-        yield json.dumps(dict(zip(COLUMNS, row)), separators=(",", ":")) + "\n"
+        yield json.dumps(dict(zip(WRITTEN, row)), separators=(",", ":")) + "\n"
 
 
 def _json_value(value: Value) -> Any:

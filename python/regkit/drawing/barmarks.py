@@ -9,9 +9,10 @@ from regkit.drawing.scene import Scene
 from regkit.drawing.svg import tag
 from regkit.explain.sentences import named
 from regkit.words.phrases import capital
+from regkit.words.quoting import columns
 
 SIGNS: dict[str, Callable[[float, float], str]] = {
-    "unexplained": shapes.exclamation, "contradicted": shapes.exclamation, "stale": shapes.exclamation,
+    "unexplained": shapes.exclamation, "contradicted": shapes.exclamation, "stale": shapes.back,
     "fresh": shapes.tick,
     "overlapped": shapes.parallel, "beside": shapes.parallel, "loose": shapes.tilde, "failed": shapes.cross}
 SIGN_WORDS = {"unexplained": "the first read that can't be explained",
@@ -70,7 +71,7 @@ def bar_group(bar: Bar, scene: Scene, gutter: float, top: float) -> str:
 def label(bar: Bar, x: float, y: float) -> str:
     """The operation, and in small letters its process or its place in the order."""
     parts = [html.escape(bar.label)]
-    x_small = x + len(bar.label) * LETTER + PADDING
+    x_small = x + columns(bar.label) * LETTER + PADDING
     for words, kind in ((bar.process, "process"), (bar.place, "place")):
         if words:
             parts.append(tag("tspan", html.escape(words), class_=kind, x=x_small))

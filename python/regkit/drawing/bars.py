@@ -4,6 +4,7 @@ from typing import NamedTuple, Optional
 from regkit.drawing.marks import Marks
 from regkit.explain.sentences import value_of, wanted_of
 from regkit.history.operations import Operation
+from regkit.words.quoting import columns
 
 INITIAL_CALL = -1  # where the initial write's bar begins; it ends at line 0
 LETTER = 6.9  # the width of a letter of a label, with a little to spare: fonts differ
@@ -34,7 +35,7 @@ class Bar(NamedTuple):
     @property
     def label_width(self) -> float:
         small = sum(len(text) * SMALL_LETTER + PADDING for text in (self.process, self.place) if text)
-        return 2 * PADDING + len(self.label) * LETTER + small
+        return 2 * PADDING + columns(self.label) * LETTER + small
 
 
 def shown_value(value: str) -> str:
@@ -55,7 +56,7 @@ def signs_of(operation: Operation, marks: Marks) -> list[str]:
     signs = []
     if marks.unexplained is not None and operation.line == marks.unexplained.line:
         signs.append("contradicted" if marks.by_search else "unexplained")
-    elif marks.pair is not None and operation is marks.pair.stale:
+    if marks.pair is not None and operation is marks.pair.stale:
         signs.append("stale")
     if marks.pair is not None and operation is marks.pair.fresh and operation.kind == "read":
         signs.append("fresh")

@@ -12,6 +12,7 @@ from regkit.drawing.svg import tag, text
 from regkit.explain.sentences import precedence, value_of
 from regkit.history.operations import History
 from regkit.words.phrases import capital
+from regkit.words.quoting import columns
 
 PAGE_WIDTH = 1136.0  # of what the page has room for
 LEAST_GUTTER = 84.0  # for the labels at the left
@@ -42,11 +43,23 @@ def zone_title(zone: Zone) -> str:
             f"line {zone.end}, and one moment in it is enough for them.")
 
 
+def zones_in_words(zones: Sequence[Zone]) -> str:
+    """What two zones are, and why they contradict each other: a forward zone holds all of the other, or both
+    are forward and overlap."""
+    if not zones:
+        return ""
+    backward = next((zone for zone in zones if not zone.forward), None)
+    why = ("Both overlap, and the register can't hold two values at once." if backward is None else
+           f"The zone of {backward.value} lies within the other one, so no moment is left for it.")
+    return " ".join([*map(zone_title, zones), why])
+
+
 def gutter_of(marks: Marks, lane_labels: list[str], details: Sequence[str] = ()) -> float:
     """The room that the labels at the left need, and the small ones below them."""
     labels = [zone_label(zone) for zone in marks.zones] + lane_labels
     labels += [arrow_label(arrow) for arrow in marks.arrows]
-    widths = [len(label) * LETTER for label in labels] + [len(detail) * SMALL_LETTER for detail in details]
+    widths = [columns(label) * LETTER for label in labels]
+    widths += [columns(detail) * SMALL_LETTER for detail in details]
     return max(LEAST_GUTTER, max(widths) + 18) if labels else LEFT
 
 

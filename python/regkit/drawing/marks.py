@@ -4,7 +4,7 @@ from typing import NamedTuple, Optional
 
 from regkit.checker.report import Row
 from regkit.explain.causes import StalePair, stale_pair
-from regkit.explain.searched import contradicted, is_unwritten, value_after, without_effect
+from regkit.explain.searched import contradicted, is_unwritten, likeliest_first, value_after, without_effect
 from regkit.explain.sentences import pairs_of, value_of
 from regkit.explain.unexplained import Unexplained
 from regkit.history.operations import History, Operation
@@ -94,13 +94,13 @@ class Marks:
 
 
 def overlapped_writes(read: Operation, calls: list[Operation]) -> list[Operation]:
-    """The writes that a completed read overlaps, those that were answered first. A pending one is open for
+    """The writes that a completed read overlaps, those first that could explain it. A pending one is open for
     good."""
     assert read.end_line is not None
     end = read.end_line
     found = [call for call in calls if call.line < end and call.writes and not call.failed
              and call is not read and (call.pending or (call.end_line or 0) > read.line)]
-    return sorted(found, key=lambda call: call.pending)
+    return likeliest_first(found, read)
 
 
 def marks_of_fault(history: History, row: Row) -> Marks:

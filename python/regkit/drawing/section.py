@@ -3,7 +3,7 @@ from typing import NamedTuple, Optional
 
 from regkit.checker.report import Row
 from regkit.drawing import shapes
-from regkit.drawing.figure import PAGE_WIDTH, RIGHT, Figure, gutter_of
+from regkit.drawing.figure import PAGE_WIDTH, RIGHT, Figure, gutter_of, zones_in_words
 from regkit.drawing.marks import FIRST, SECOND, Marks, marks_of_fault, marks_of_read, marks_of_search
 from regkit.drawing.reduced import Reduced, reduced, table
 from regkit.drawing.scene import Register, Scene, fitted, strips
@@ -138,7 +138,8 @@ class Author:
     def windows(self, marks: Marks, label: str) -> str:
         scene = fitted(self.register, marks, self.room(marks))
         self.scenes.append(scene)
-        return figure(Figure(scene, self.history), label, self.caption(scene))
+        caption = f"{self.caption(scene)} {zones_in_words(marks.zones)}".strip()
+        return figure(Figure(scene, self.history), label, caption)
 
     def caption(self, scene: Scene) -> str:
         """How much is drawn and what isn't."""

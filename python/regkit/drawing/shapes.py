@@ -43,9 +43,16 @@ def cross(x: float, y: float) -> str:
 
 
 def exclamation(x: float, y: float) -> str:
-    """The sign of a stale read, or one that can't be explained: an exclamation mark in a disc."""
+    """The sign of a read that can't be explained, or of a reply: an exclamation mark in a disc."""
     return (tag("circle", class_="alarm", cx=x, cy=y, r=7) +
             tag("path", class_="alarm-mark", d=path("M", x, y - 4, "v 5 m 0 2 v 1.2")))
+
+
+def back(x: float, y: float) -> str:
+    """The sign of a stale read: an arrow that turns back, in a ring."""
+    turned = path("M", x + 3, y + 3.6, "v -4.6 h -5.6 m 2.4 -2.6 l -2.6 2.6 l 2.6 2.6")
+    return (tag("circle", class_="stale-ring", cx=x, cy=y, r=6.4) +
+            tag("path", class_="stale-mark", d=turned))
 
 
 def tick(x: float, y: float) -> str:

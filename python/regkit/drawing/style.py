@@ -95,6 +95,8 @@ tspan.place{font-size:10px;fill:var(--good-ink);font-weight:700}
 .bolt{fill:var(--ink);stroke:var(--paper);stroke-width:1}
 .alarm{fill:var(--stale)}
 .alarm-mark{stroke:#101214;stroke-width:2;fill:none}
+.stale-ring{fill:var(--paper);stroke:var(--stale);stroke-width:1.6}
+.stale-mark{stroke:var(--ink);stroke-width:1.6;fill:none}
 .fine{fill:var(--good)}
 .fine-mark{stroke:var(--on);stroke-width:2;fill:none}
 .parallel{stroke:var(--ink);stroke-width:2;fill:none}

@@ -4,7 +4,11 @@ from typing import Any, Callable, NamedTuple, Optional
 
 from regkit.base.limits import MAX_EVENTS
 from regkit.checker.refusals import Refusal, read_refusal
-from regkit.explain.looks import looks_like, operations
+from regkit.convert.advice import not_taken
+from regkit.convert.forms import EVENTS, forms_of
+from regkit.convert.model import Refused
+from regkit.explain.looks import looks_like, shell_name
+from regkit.history.inputs import LOOKED_AT
 from regkit.history.lines import Event, NotJson, json_of
 from regkit.words.quoting import plain, quoted
 
@@ -49,6 +53,19 @@ class Place(NamedTuple):
             if event is not None and event.get("process") == process:
                 return event
         return None
+
+
+def is_of_another_form(history: bytes) -> bool:
+    """Whether a long input isn't a history of our own yet."""
+    try:
+        return bool(set(forms_of(history[:LOOKED_AT])) - {EVENTS})
+    except Refused:
+        return False
+
+
+def convert_first(name: str) -> str:
+    return (f"it isn't a history yet: `regkit convert {shell_name(name)} -o h.jsonl` makes one, and `regkit "
+            "split` parts of that, each with whole registers")
 
 
 def object_of(line: bytes) -> Optional[Event]:
@@ -124,7 +141,9 @@ def no_op(place: Place) -> str:
         return f"the op is {shown(op)}: write `{own}`"
     if op == "cas":
         return f"the op is {shown(op)}: regcheck takes reads and writes alone"
-    return f"the op is {shown(op)}: only reads, writes and cas can be checked, so leave this register out"
+    what = f", or let `regkit convert` take it for what it is: {not_taken(op)}" if isinstance(op, str) else ""
+    return (f"the op is {shown(op)}: only reads, writes and cas can be checked, so leave this register "
+            f"out{what}")
 
 
 def no_register(place: Place) -> str:
@@ -210,7 +229,7 @@ def advice(history: bytes, refusal: str, name: str = "-") -> str:
     """What to do about the refusal of a history from the file `name`. Empty if there is nothing to say."""
     for beginning, words in OF_THE_RUN.items():
         if beginning in refusal:
-            return words
+            return convert_first(name) if words == SPLIT and is_of_another_form(history) else words
     found = read_refusal(refusal)
     if found is None:
         return ""
@@ -219,10 +238,6 @@ def advice(history: bytes, refusal: str, name: str = "-") -> str:
         if looks:
             return looks
     lines = history.split(b"\n")
-    if 4 <= found.number <= 8:
-        looks = operations(lines[found.line - 1], name)
-        if looks:
-            return looks
     place = Place(lines, found, object_of(lines[found.line - 1]) or {})
     absent = misnamed(place.event, MEMBERS[found.number]) if found.number in MEMBERS else None
     return absent or ADVICE.get(found.number, no_object)(place)

@@ -7,7 +7,8 @@ from typing import Any, Iterable, Iterator, Optional, Sequence
 
 from regkit.checker.report import Row
 from regkit.history.lines import BLANK, Event, NotJson, json_of
-from regkit.history.operations import History, history_of, read_history
+from regkit.history.operations import History, history_of, put_texts, read_history
+from regkit.history.texts import MARK, Texts
 
 DISGUISED = re.compile(rb"\\u00[67]")  # a letter of a member's name may be written so
 Found = dict[int, Event]  # by line
@@ -76,6 +77,17 @@ class EventFinder:
             if event["event"] == "call":
                 self.add_call(number, place)
 
+    def texts_of(self, history: History) -> Texts:
+        """What the lines say of the values of some operations."""
+        texts = Texts()
+        values = {value for call in history.calls for value in (call.value, call.asked) if value is not None}
+        for value in values if MARK in self.data else ():
+            for match in re.finditer(rb'"texts"[^\n]*"%d"\s*:' % value, self.data):
+                event = self.event_at(self.data.rfind(b"\n", 0, match.start()) + 1)
+                if event.get("register") in history.registers:
+                    texts.add(0, event)
+        return texts
+
 
 def unwritten_value(finder: EventFinder, row: Row) -> Optional[int]:
     """The value that a read gave and nobody wrote, if that is the fault."""
@@ -90,7 +102,8 @@ def unwritten_value(finder: EventFinder, row: Row) -> Optional[int]:
 
 def excerpt(data: bytes, rows: Sequence[Row]) -> History:
     """A history of what the sentences about some faults need: the operations that they name, the first one,
-    from which times are counted, and the writes of values that nobody wrote to the register."""
+    from which times are counted, the writes of values that nobody wrote to the register, and what the values
+    stand for."""
     if b"\\" in data and DISGUISED.search(data):
         return read_history(data)
     finder = EventFinder(data)
@@ -101,4 +114,6 @@ def excerpt(data: bytes, rows: Sequence[Row]) -> History:
     for value in {unwritten_value(finder, row) for row in rows}:
         if value is not None:
             finder.add_writes(value)
-    return history_of(sorted(finder.found.items()))
+    history = history_of(sorted(finder.found.items()))
+    put_texts(history.calls, finder.texts_of(history))
+    return history

@@ -58,24 +58,20 @@ def pair_of(history: History, row: Row) -> Optional[StalePair]:
     return stale_pair(pairs_of(history, row), history.registers[row["register"]])
 
 
-def named_lines(fault: Row) -> set[int]:
-    """The lines of the operations that a fault names."""
-    return {line for key in ("first", "second") for line in fault.get(key, [])} | {fault.get("read", 0)}
-
-
 def as_reported(told: Unexplained, history: History, row: Row) -> Optional[Unexplained]:
-    """The read with the report's own contradiction, if that is about this read, the same writes, and nothing
-    that was called later."""
+    """The read with the contradiction of the report's values, if that is about this read, the same writes,
+    and nothing that was called later."""
     fault = row["fault"]
-    lines = named_lines(fault)
-    if told.read.line not in lines or told.kind != fault["kind"] or max(lines) > (told.read.end_line or 0):
+    if told.kind != fault["kind"]:
         return None
     if told.kind != "zones":
-        return told
-    assert told.write is not None and told.other is not None
-    if {told.write.line, told.other.line} != set(fault["writes"]):
+        return told if told.read.line == fault["read"] else None
+    pairs = pairs_of(history, row)
+    lines = {operation.line for pair in pairs for operation in pair}
+    if told.read.line not in lines or max(lines) > (told.read.end_line or 0):
         return None
-    return told._replace(pairs=pairs_of(history, row))
+    assert told.write is not None and told.other is not None
+    return told._replace(pairs=pairs) if {told.write.line, told.other.line} == set(fault["writes"]) else None
 
 
 def how_many(count: int, reads: int) -> str:

@@ -3,21 +3,14 @@ import json
 import re
 from typing import Optional
 
-from regkit.history.inputs import STANDARD_INPUT
+from regkit.history.inputs import LOOKED_AT, STANDARD_INPUT
 from regkit.words.quoting import plain
 
 PACKED = [(b"\x1f\x8b", "gzip", "gzip -dc"), (b"\x28\xb5\x2f\xfd", "zstd", "zstd -dc"),
           (b"BZh", "bzip2", "bzip2 -dc"), (b"\xfd7zXZ\x00", "xz", "xz -dc"),
           (b"PK\x03\x04", "a zip archive", "unzip -p")]
 UTF_16 = (b"\xff\xfe", b"\xfe\xff")
-MARK = b"\xef\xbb\xbf"
-EDN = re.compile(rb"\s*(?:(?:[\[({]|#[^\s{]*\{)\s*)*:(?:type|process|f|index|time|value)\b")
-LOG = re.compile(rb"(?m)^.*\s:(?:invoke|ok|info|fail)\s+:\w+")
 TABLE = re.compile(rb"\s*\"?[A-Za-z_][\w .-]*\"?([,;\t])\"?[A-Za-z_][\w .\-\",;\t]*\r?\n")
-LEAST_COLUMNS = 5  # of a table that can be converted
-MEMBERS = {"porcupine": {b"clientid"}, "jepsen": {b"process", b"type", b"f"}, "operations": {b"start"},
-           "jsonl": {b"process", b"event"}}  # by form, what tells it from the forms after it
-ENOUGH = 65_536  # bytes that are looked at
 
 
 def shell_name(name: str) -> str:
@@ -39,28 +32,17 @@ def packed(beginning: bytes, file: str) -> Optional[str]:
 
 def encoded(beginning: bytes, file: str) -> Optional[str]:
     """Text whose first bytes say how it is encoded."""
-    if beginning.startswith(MARK):
-        return f"it begins with a byte order mark: leave it out, as in `tail -c +4 {file} | regkit check`"
     if beginning.startswith(UTF_16):
         return f"this looks like UTF-16: make it UTF-8, as in `iconv -f UTF-16 {file} | regkit check`"
     return None
 
 
-def converted(beginning: bytes, file: str) -> Optional[str]:
-    """The forms of other tools that `regkit convert` reads."""
-    if EDN.match(beginning):
-        if re.search(rb":f\s+:(?:get|put|append)\b", beginning) and b":key" in beginning:
-            return f"this looks like EDN, as Porcupine's logs are: `regkit convert --from porcupine {file}`"
-        return f"this looks like EDN, as Jepsen writes it: `regkit convert --from jepsen {file}`"
-    if LOG.search(beginning):
-        return f"this looks like lines of Jepsen's log: `regkit convert --from jepsen {file}`"
-    table = TABLE.match(beginning)
-    if table is None:
+def table(beginning: bytes) -> Optional[str]:
+    """A table that doesn't name the columns that are needed. Others are converted without a word."""
+    if TABLE.match(beginning) is None:
         return None
-    if table[0].count(table[1]) < LEAST_COLUMNS - 1:
-        return "this looks like CSV, and `regkit convert` needs columns for process, op, value, start and end"
-    return (f"this looks like CSV: `regkit convert --from csv {file}`, with --columns if its columns "
-            "have names of their own")
+    return ("this looks like a table: `regkit convert --from csv` says what its columns have to be, and "
+            "--columns which is which")
 
 
 def is_json(text: bytes) -> bool:
@@ -71,28 +53,11 @@ def is_json(text: bytes) -> bool:
     return True
 
 
-def form_of(text: bytes) -> Optional[str]:
-    """Which form of `regkit convert` some JSON has, by the names in it."""
-    names = set(re.findall(rb'"(\w+)"\s*:', text.lower()))
-    return next((form for form, own in MEMBERS.items() if own <= names), None)
-
-
-def operations(line: bytes, name: str) -> Optional[str]:
-    """JSON lines in a form that isn't a history's."""
-    form = form_of(line)
-    if form in (None, "jsonl"):
-        return None
-    what = "Jepsen's history as JSON" if form == "jepsen" else "operations with their times"
-    return f"this looks like {what}: `regkit convert --from {form} {shell_name(name)}`"
-
-
-def nearly(history: bytes, file: str) -> Optional[str]:
+def nearly(history: bytes) -> Optional[str]:
     """JSON, but not one object a line."""
-    beginning = history[:ENOUGH].lstrip()
+    beginning = history[:LOOKED_AT].lstrip()
     if beginning.startswith(b"["):
-        form = form_of(beginning)
-        how = "write each event on one line, as `jq -c '.[]'` does"
-        return f"this looks like a JSON array: {f'`regkit convert --from {form} {file}`' if form else how}"
+        return "this looks like a JSON array: write each event on one line, as `jq -c '.[]'` does"
     if beginning.startswith(b"{") and not is_json(beginning.split(b"\n")[0]) and is_json(history):
         return "this is one JSON object over several lines: write each event on one line, as `jq -c` does"
     return None
@@ -109,6 +74,6 @@ def binary(beginning: bytes) -> Optional[str]:
 
 def looks_like(history: bytes, name: str) -> Optional[str]:
     """What the input looks like and what to do about it, or None if it looks like lines of JSON."""
-    beginning, file = history[:ENOUGH], shell_name(name)
-    return (packed(beginning, file) or encoded(beginning, file) or converted(beginning, file)
-            or nearly(history, file) or binary(beginning))
+    beginning, file = history[:LOOKED_AT], shell_name(name)
+    return (packed(beginning, file) or encoded(beginning, file) or table(beginning) or nearly(history)
+            or binary(beginning))

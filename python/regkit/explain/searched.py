@@ -47,28 +47,73 @@ def value_after(order: Sequence[Operation]) -> Optional[Operation]:
     return next((call for call in reversed(order) if call.writes), None)
 
 
-def wants(call: Operation) -> str:
-    """What a call that was answered needs."""
-    if call.kind == "write":
-        return "it only needs a moment between its call and its reply"
-    return f"it needs a value {'other than' if call.missed else 'of'} {wanted_of(call)}"
+def suits(value: Optional[int], call: Operation) -> bool:
+    """Whether a call that was answered may have found a value."""
+    return (value == wanted_by(call)) != call.missed
+
+
+def wanted_by(call: Operation) -> Optional[int]:
+    return call.asked if call.kind == "cas" else call.value
+
+
+def may_explain(other: Operation, call: Operation) -> bool:
+    """Whether another call would leave a value that the answer to a call needs."""
+    return call.kind != "write" and other.writes and suits(other.value, call)
+
+
+def likeliest_first(opened: Sequence[Operation], call: Operation) -> list[Operation]:
+    """The calls that were open at a reply: first those that could explain it, then what was answered later
+    and changes the value, then reads; and last what nobody answered, the oldest at the end."""
+    def place(other: Operation) -> tuple[bool, bool, bool, int]:
+        lingers = other.pending and other.writes
+        return not may_explain(other, call), lingers, not other.writes, -other.line if lingers else other.line
+
+    return sorted(opened, key=place)
+
+
+def needed(call: Operation) -> str:
+    """The value that the answer to a call needs."""
+    return f"something else than {wanted_of(call)}" if call.missed else wanted_of(call)
+
+
+def must_have_been(told: Contradicted) -> str:
+    """What the reply says of the value, and that no order has it."""
+    call, line = told.call, told.line
+    must = "it must have taken effect" if call.kind == "write" else f"the value must have been {needed(call)}"
+    return (f"{named(call)}: {must} at some moment from line {call.line} to line {line}, and no order of the "
+            f"operations called before line {line} in which it comes at such a moment gives the other answers")
+
+
+def open_then(other: Operation, told: Contradicted) -> str:
+    """A call that was open at the reply, and why it doesn't help if it seems to."""
+    if not may_explain(other, told.call):
+        return f"open then: {named(other)}"
+    return (f"open then: {named(other)}, which would leave {value_of(other)}; but no order in which the "
+            f"{told.call.kind} of line {told.call.line} finds that gives the other answers")
+
+
+def why_none_of(told: Contradicted) -> list[str]:
+    """The calls that were open at the reply, and why none of them helps."""
+    opened = likeliest_first(told.opened, told.call)
+    if not opened:
+        return ["no other call of this register was open then"]
+    lines = [open_then(other, told) for other in opened[:MOST_OPEN]]
+    if told.call.kind != "write" and not may_explain(opened[0], told.call):
+        lines.insert(0, f"no call that was open then would leave {needed(told.call)}")
+    if len(opened) > MOST_OPEN:
+        lines.append(f"and {counted(len(opened) - MOST_OPEN, 'other open call')}")
+    return lines
 
 
 def search_sentences(history: History, row: Row) -> list[str]:
     """Why a search found no order."""
     told = contradicted(history, row)
-    lines = [f"the reply of line {told.line}, of {named(told.call)}: whatever order the operations before it "
-             f"took effect in, none gives it; {wants(told.call)}"]
+    lines = [must_have_been(told)]
     if told.before is not None:
         last = value_after(told.before)
         left = "null, the initial value" if last is None else f"{value_of(last)}, by {named(last)}"
         lines.append(f"until then there was an order, and at the end of one the value is {left}")
-    lines += [f"open then: {named(call)}" for call in told.opened[:MOST_OPEN]]
-    if len(told.opened) > MOST_OPEN:
-        lines.append(f"and {counted(len(told.opened) - MOST_OPEN, 'other open call')}")
-    if not told.opened:
-        lines.append("no other call of this register was open then")
-    return lines
+    return lines + why_none_of(told)
 
 
 def without_effect(history: History, call: Operation) -> Optional[Operation]:

@@ -2,6 +2,7 @@
 from typing import Optional
 
 from regkit.checker.report import Row
+from regkit.explain.nearest import Pair, precedence_between, with_reads
 from regkit.history.operations import History, Operation
 from regkit.history.who import process_of
 from regkit.words.quoting import quoted
@@ -53,7 +54,7 @@ def precedence(before: Operation, after: Operation) -> str:
     return f"{named(before)} ended before {named(after)} began"
 
 
-def contradiction(pairs: list[tuple[Operation, Operation]], values: tuple[str, str]) -> list[str]:
+def contradiction(pairs: list[Pair], values: tuple[str, str]) -> list[str]:
     """Two precedences that put the writes of two values in both orders."""
     (first, second), (old, new) = pairs, values
     return [f"{precedence(*first)}, so {old} comes before {new}",
@@ -92,11 +93,15 @@ def early(read: Operation, write: Operation) -> list[str]:
     return [f"{named(read)} ended before the write of its value began: {named(write)}"]
 
 
-def pairs_of(history: History, row: Row) -> list[tuple[Operation, Operation]]:
-    """The two precedences of a conflict: of each, the operation that ended before the other one began."""
+def pairs_of(history: History, row: Row) -> list[Pair]:
+    """The two precedences of a conflict: of each, the operation that ended before the other one began. They
+    are between the values that the report names, and of all such operations the easiest to follow."""
     fault, register = row["fault"], row["register"]
-    return [(history.operation(register, begin), history.operation(register, end))
-            for begin, end in (fault["first"], fault["second"])]
+    calls = history.registers[register]
+    old, new = (with_reads(history.operation(register, line), calls) for line in fault["writes"])
+    reported = [(history.operation(register, begin), history.operation(register, end))
+                for begin, end in (fault["first"], fault["second"])]
+    return [precedence_between(old, new) or reported[0], precedence_between(new, old) or reported[1]]
 
 
 def zones(history: History, row: Row) -> list[str]:
@@ -115,19 +120,12 @@ def fault_of(history: History, row: Row) -> list[str]:
     return unwritten(history, read)
 
 
-def inversion_of(row: Row) -> Optional[tuple[int, int]]:
-    """The lines of the two reads of a new-old inversion, if that is what the fault is."""
-    if row.get("regular") != "yes" or row["fault"]["kind"] != "zones":
-        return None
-    new, old = row.get("inversion", row["fault"]["second"])
-    return new, old
-
-
 def inversion(history: History, row: Row) -> list[str]:
     """A regular register whose reads went back, in a sentence."""
-    lines = inversion_of(row)
-    if lines is None:
+    if row.get("regular") != "yes" or row["fault"]["kind"] != "zones":
         return []
-    new, old = (history.operation(row["register"], line) for line in lines)
+    new, old = pairs_of(history, row)[1]
+    if "inversion" in row and {new.kind, old.kind} != {"read"}:
+        new, old = (history.operation(row["register"], line) for line in row["inversion"])
     return [f"this is a new-old inversion: the read of line {new.line} gave {value_of(new)}, the new value, "
             f"and the later read of line {old.line} gave {value_of(old)}, the old one"]

@@ -6,7 +6,8 @@ from regkit.explain.unexplained import Unexplained
 from regkit.history.operations import Operation
 
 FOREVER = float("inf")
-SUSPECT, OWN, ACROSS, OVERLAPS, FAILED = range(5)  # what a bystander may be, the likeliest culprit first
+# What a bystander may be, the likeliest culprit first. What lingers is a write from before all this.
+SUSPECT, OWN, ACROSS, OVERLAPS, FAILED, LINGERS = range(6)
 
 
 class Bystander(NamedTuple):
@@ -61,11 +62,14 @@ def overwriting(told: Unexplained) -> Optional[Operation]:
     return other if other is not None and other.line and end_of(other) < end_of(told.read) else None
 
 
-def rank_of(told: Unexplained, call: Operation) -> int:
+def rank_of(told: Unexplained, call: Operation, began: int) -> int:
+    """What a call may be, if the contradiction began at some line."""
     if call.failed:
         return FAILED
     if any(call is write for write in writes_of(told)):
         return OWN
+    if call.kind == "write" and call.pending and call.line < began:
+        return LINGERS
     write = overwriting(told)
     may_be_old = call.kind == "read" and (call.pending or call.value == told.read.value)
     if write is not None and may_be_old and overlap(call, write) and end_of(write) < end_of(call):
@@ -77,15 +81,15 @@ def find_surroundings(told: Unexplained, calls: list[Operation]) -> Surroundings
     """Who else was there, among the calls of the register. What was called when all was over wasn't."""
     actors = actors_of(told)
     lines = {actor.line for actor in actors}
-    over = max(end_of(told.read), *lines)
+    began, over = min(lines - {0}), max(end_of(told.read), *lines)
     bystanders = []
     for call in calls:
         if call.line in lines or call.line > over:
             continue
         beside = next((actor for actor in reversed(actors) if overlap(call, actor)), None)
         if beside is not None:
-            bystanders.append(Bystander(call, rank_of(told, call), beside))
-    bystanders.sort(key=lambda bystander: (bystander.rank, bystander.call.line))
+            bystanders.append(Bystander(call, rank_of(told, call, began), beside))
+    bystanders.sort(key=lambda each: (each.rank, -each.call.line if each.rank == LINGERS else each.call.line))
     return Surroundings(told, actors, bystanders)
 
 

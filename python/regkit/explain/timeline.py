@@ -3,6 +3,7 @@ from typing import NamedTuple
 
 from regkit.explain.sentences import change_of, value_of
 from regkit.history.operations import Operation
+from regkit.words.quoting import columns
 
 WIDEST = 4  # characters a column, at most
 OPEN, REPLY, FAIL, CRASH, UNANSWERED = "[", "]", "x", "!", ">"
@@ -45,12 +46,12 @@ def columns_of(entries: list[Entry]) -> dict[int, int]:
     return {line: place for place, line in enumerate(sorted(lines))}
 
 
-def bar(call: Operation, columns: dict[int, int], width: int, filling: str) -> str:
+def bar(call: Operation, places: dict[int, int], width: int, filling: str) -> str:
     """The bar of a call. An open end goes on to the right edge."""
-    begin = columns[call.line] * width
+    begin = places[call.line] * width
     if call.end_line is None:
-        return " " * begin + OPEN + filling * ((len(columns) - 1) * width - begin) + UNANSWERED
-    length = columns[call.end_line] * width - begin
+        return " " * begin + OPEN + filling * ((len(places) - 1) * width - begin) + UNANSWERED
+    length = places[call.end_line] * width - begin
     end = SIGNS[call.ending]
     return " " * begin + (OPEN + filling * (length - 1) + end if length else end)
 
@@ -64,15 +65,15 @@ def legend(entries: list[Entry]) -> list[str]:
 def draw(entries: list[Entry], width: int) -> list[Line]:
     """The rows, by line of call, no wider than `width` if that is possible."""
     entries = sorted(entries, key=lambda entry: entry.call.line)
-    columns = columns_of(entries)
+    places = columns_of(entries)
     named = [labels(entry.call) for entry in entries]
-    spans = [max(len(label[place]) for label in named) for place in range(3)]
+    spans = [max(columns(label[place]) for label in named) for place in range(3)]
     room = width - sum(spans) - 10
-    across = max(1, min(WIDEST, room // max(1, len(columns))))
+    across = max(1, min(WIDEST, room // max(1, len(places))))
     rows = []
     for entry, label in zip(entries, named):
-        padded = "  ".join(text.ljust(span) for text, span in zip(label, spans))
+        padded = "  ".join(text + " " * (span - columns(text)) for text, span in zip(label, spans))
         filling = "=" if entry.sign.strip() else "-"
-        drawn = bar(entry.call, columns, across, filling)
+        drawn = bar(entry.call, places, across, filling)
         rows.append(Line(f"{padded} {entry.sign or ' '} {drawn}", entry.style))
     return rows

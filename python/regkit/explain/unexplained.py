@@ -13,6 +13,7 @@ their cluster's last call."""
 from bisect import bisect_left
 from typing import NamedTuple, Optional
 
+from regkit.explain.nearest import Pair, precedence_between, with_reads
 from regkit.history.operations import Operation, initial_write
 
 
@@ -63,7 +64,7 @@ class Unexplained(NamedTuple):
     kind: str  # "unwritten", "early" or "zones"
     write: Optional[Operation]  # the write of its value, unless it is unwritten
     other: Optional[Operation]  # zones: a write that has to come both before and after that one
-    pairs: list[tuple[Operation, Operation]]  # zones: two pairs of which the one ended before the other began
+    pairs: list[Pair]  # zones: two pairs of which the one ended before the other began
 
 
 class Replay:
@@ -121,7 +122,10 @@ class Replay:
         if kind == "early":
             return Unexplained(read, kind, cluster.write, None, [])
         other = self.latest_conflict(cluster, read)
-        pairs = [witnesses(cluster, other, other.last), witnesses(other, cluster, read)]
+        known = [reply for reply in self.replies if end_of(reply) <= end_of(read)]
+        own, others = with_reads(cluster.write, known), with_reads(other.write, known)
+        found = precedence_between(own, others), precedence_between(others, [read])
+        pairs = [pair for pair in found if pair is not None]
         return Unexplained(read, kind, cluster.write, other.write, pairs)
 
     def latest_conflict(self, cluster: Cluster, read: Operation) -> Cluster:
@@ -136,15 +140,6 @@ def end_of(operation: Operation) -> int:
     """The line of the reply of a completed operation."""
     assert operation.end_line is not None
     return operation.end_line
-
-
-def witnesses(before: Cluster, after: Cluster, last: Operation) -> tuple[Operation, Operation]:
-    """An operation of one cluster that ended before one of the other, called no later than `last`, began.
-    The writes themselves are taken if they will do, as they are the easiest to understand."""
-    assert before.first is not None
-    late = after.write if after.write.line > end_of(before.first) else last
-    own = before.write
-    return (own if own.completed and end_of(own) < late.line else before.first), late
 
 
 def find_unexplained(calls: list[Operation]) -> tuple[Optional[Unexplained], int]:

@@ -4,4 +4,4 @@
 - `lines.py`: the lines as JSON objects.
 - `operations.py`: the calls of an accepted history, with what ended each.
 - `who.py`: who made a call, and when.
-- `source_map.py`: the values of the source that a history was converted from."""
+- `texts.py`: what the numbers of a converted history stand for."""

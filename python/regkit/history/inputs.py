@@ -11,13 +11,15 @@ from regkit.base.limits import MAX_BYTES
 
 STANDARD_INPUT = "-"
 GZIP = b"\x1f\x8b"
+LOOKED_AT = 65_536  # bytes of a file, by which its form is told
 
 
 class TooLong(Exception):
     """The input is longer than the checker takes."""
 
-    def __init__(self) -> None:
+    def __init__(self, beginning: bytes) -> None:
         super().__init__(f"input is longer than {MAX_BYTES} bytes")
+        self.beginning = beginning
 
 
 class _Packed(io.RawIOBase):
@@ -64,7 +66,7 @@ def read_stream(stream: BinaryIO, most: Optional[int]) -> bytes:
         return stream.read()
     data = stream.read(most + 1)
     if len(data) > most:
-        raise TooLong
+        raise TooLong(data[:LOOKED_AT])
     return data
 
 

@@ -2,6 +2,7 @@
 from typing import Callable, Iterable, Optional
 
 from regkit.history import lines
+from regkit.history.texts import MEMBER, Texts
 from regkit.words.quoting import quoted
 
 TELL_EVERY = 8192  # events between two calls of a watcher
@@ -102,16 +103,20 @@ def read_history(data: bytes, watch: Optional[Callable[[int], None]] = None) -> 
 
 def history_of(events: Iterable[tuple[int, lines.Event]],
                watch: Optional[Callable[[int], None]] = None) -> History:
-    """The history of some events, each with the number of its line. Raises NotAHistory."""
+    """The history of some events, each with the number of its line. Raises NotAHistory, and Contradictory if
+    a number stands for two values."""
     calls: list[Operation] = []
     open_calls: dict[int, Operation] = {}
     crashes: dict[int, int] = {}
+    texts = Texts()
     count = line = 0
     try:
         for line, event in events:
             count += 1
             if watch is not None and count % TELL_EVERY == 0:
                 watch(line)
+            if MEMBER in event:
+                texts.add(line, event)
             if event["event"] == "call":
                 call = call_of(line, event)
                 calls.append(call)
@@ -122,7 +127,15 @@ def history_of(events: Iterable[tuple[int, lines.Event]],
     except (KeyError, TypeError, AttributeError, lines.NotJson) as error:
         raise NotAHistory(f"line {line}: no event that regcheck accepts") from error
     count_from_first(calls)
+    put_texts(calls, texts)
     return History(calls, count, line, crashes)
+
+
+def put_texts(calls: Iterable[Operation], texts: Texts) -> None:
+    """Lets the values that stand for texts show as these."""
+    for call in calls if texts else ():
+        call.value = texts.label(call.register, call.value)
+        call.asked = texts.label(call.register, call.asked)
 
 
 def call_of(line: int, event: lines.Event) -> Operation:

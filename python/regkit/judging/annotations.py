@@ -21,7 +21,7 @@ def member(text: str) -> str:
 
 def annotation(level: str, outcome: Outcome, line: Optional[int], lines: list[str]) -> str:
     where = [] if outcome.file == STANDARD_INPUT else [f"file={member(outcome.file)}"]
-    if where and line:
+    if where and line and not outcome.form:  # it is no line of the file
         where.append(f"line={line}")
     title = f"title={member('regkit: ' + VERDICTS[outcome.status])}"
     return f"::{level} {','.join([*where, title])}::{data(lines)}"

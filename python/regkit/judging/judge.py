@@ -5,14 +5,15 @@ from regkit.base.garbage import many_objects
 from regkit.base.statuses import ExitStatus
 from regkit.checker.programs import SEARCH, Answer, NoChecker, begin, judge, searched
 from regkit.checker.report import Report
-from regkit.evidence.counting import Reads
 from regkit.evidence.evidence import Evidence
 from regkit.history.inputs import TooLong, read_input, shown_name
 from regkit.history.operations import NotAHistory
+from regkit.history.texts import Contradictory, refuse_contradictory
 from regkit.judging.failures import advice, file_failure, program_failure, refusal_advice
+from regkit.judging.other_forms import NotTaken, hint_of, taken_of
 from regkit.judging.outcome import Outcome, evidence_in_words, lacks
 from regkit.judging.pages import Pages
-from regkit.judging.reads import enough_reads, first_reads, unusual_reads
+from regkit.judging.reads import enough_evidence, first_evidence, whole_evidence
 from regkit.judging.settings import CheckSettings
 from regkit.judging.trust import (Untrue, check_status, faults_in, unknown_advice, verdict_in, verify_refusal,
                                   verify_report)
@@ -45,9 +46,11 @@ def judge_file(name: str, label: str, settings: CheckSettings, progress: Progres
         with many_objects():
             return outcome_of(subject)
     except TooLong as error:
-        return Outcome(name, ExitStatus.REFUSED, str(error), advice(b"", str(error), name))
+        return Outcome(name, ExitStatus.REFUSED, str(error), advice(error.beginning, str(error), name))
     except OSError as error:
         return Outcome(name, ExitStatus.FAILED, plain(file_failure(name, error)))
+    except Contradictory as error:
+        return Outcome(name, ExitStatus.REFUSED, plain(str(error)))
     except MemoryError:
         hint = "check parts of it: `regkit split` makes them"
         return Outcome(name, ExitStatus.FAILED, "no memory", hint)
@@ -57,31 +60,40 @@ def judge_file(name: str, label: str, settings: CheckSettings, progress: Progres
 
 def outcome_of(subject: Subject) -> Outcome:
     """The outcome of a history. It fails if the answer can't be true."""
-    answer, reads = ask(subject)
+    answer, found = ask(subject)
     try:
-        return outcome_by(subject, answer, reads)
+        taken = taken_of(subject.data, answer)
+        if taken is None:
+            return outcome_by(subject, answer, found)
+        subject = subject._replace(data=taken.history)
+        answer, found = ask(subject)
+        return outcome_by(subject, answer, found)._replace(form=taken.form, told=taken.told)
+    except NotTaken as error:
+        hint = hint_of(error, subject.name, "check")
+        return Outcome(subject.name, ExitStatus.REFUSED, plain(str(error)), hint)
     except Untrue as error:
         words = f"the answer of {answer.program} is wrong: {plain(str(error))}"
         return Outcome(subject.name, ExitStatus.FAILED, words, BUG)
 
 
-def ask(subject: Subject) -> tuple[Answer, Optional[Reads]]:
-    """The answer of the program that takes the history, and its first reads, counted meanwhile."""
+def ask(subject: Subject) -> tuple[Answer, Optional[Evidence]]:
+    """The answer of the program that takes the history, and its first evidence, counted meanwhile."""
     data, settings = subject.data, subject.settings
     early = settings.first and settings.pages is None  # a picture needs the whole report
     with begin(data, ["--first"] if early else []) as run:
-        reads = first_reads(data, settings)
+        found = first_evidence(data, settings)
         answer = run.answer()
     if early and answer.status == ExitStatus.COMMAND_LINE:  # a checker that doesn't know `--first`
         answer = judge(data)
-    return searched(data, answer, settings.bounds), reads
+    return searched(data, answer, settings.bounds), found
 
 
-def outcome_by(subject: Subject, answer: Answer, reads: Optional[Reads]) -> Outcome:
+def outcome_by(subject: Subject, answer: Answer, found: Optional[Evidence]) -> Outcome:
     """The outcome by an answer. Raises Untrue."""
     name, data = subject.name, subject.data
     if answer.decided:
-        return outcome_by_report(subject, answer, reads)
+        refuse_contradictory(data)
+        return outcome_by_report(subject, answer, found)
     if answer.status != ExitStatus.REFUSED:
         return Outcome(name, ExitStatus.FAILED, program_failure(answer), advice(b"", answer.refusal, name))
     if subject.settings.verify:
@@ -89,19 +101,18 @@ def outcome_by(subject: Subject, answer: Answer, reads: Optional[Reads]) -> Outc
     return Outcome(name, ExitStatus.REFUSED, plain(answer.refusal), refusal_advice(data, answer, name))
 
 
-def outcome_by_report(subject: Subject, answer: Answer, reads: Optional[Reads]) -> Outcome:
+def outcome_by_report(subject: Subject, answer: Answer, found: Optional[Evidence]) -> Outcome:
     """The outcome of a history that was accepted. Raises Untrue."""
     data, settings = subject.data, subject.settings
     report = verdict_in(answer)
-    reads = enough_reads(data, answer, reads, settings)
     unsearched = 0
     if settings.verify:
         subject.step("verifying")
         unsearched = verify_report(data, answer)
-    if reads is None:
-        reads = unusual_reads(data, settings, subject.progress, subject.label)
+    evidence = (enough_evidence(answer, found, settings)
+                or whole_evidence(data, subject.progress, subject.label))
     check_status(answer, report)
-    outcome = verdict(subject, answer, report, reads)
+    outcome = verdict(subject, answer, report, evidence)
     if settings.verify:
         outcome = as_verified(outcome, unsearched)
     if settings.pages is not None:
@@ -109,11 +120,11 @@ def outcome_by_report(subject: Subject, answer: Answer, reads: Optional[Reads]) 
     return outcome
 
 
-def verdict(subject: Subject, answer: Answer, report: Report, reads: Reads) -> Outcome:
+def verdict(subject: Subject, answer: Answer, report: Report, found: Evidence) -> Outcome:
     """What a report says of the history, and what that rests on. Raises Untrue."""
     settings, summary = subject.settings, report.summary
-    evidence = Evidence(summary["operations"], summary["registers"], reads.completed, reads.overlapping)
-    words = evidence_in_words(evidence, at_least=reads.at_least, by_search=answer.by_search)
+    evidence = found._replace(operations=summary["operations"], registers=summary["registers"])
+    words = evidence_in_words(evidence, by_search=answer.by_search)
     unknown = [row["register"] for row in report.unknown]
     outcome = Outcome(subject.name, ExitStatus.ATOMIC, words, unknown_advice(report), evidence,
                       program=answer.program, unknown=unknown)

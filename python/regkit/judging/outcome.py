@@ -4,7 +4,6 @@ from typing import Any, NamedTuple, Optional, Sequence
 from regkit.base.statuses import ExitStatus
 from regkit.checker.programs import CHECK
 from regkit.checker.report import Row
-from regkit.evidence import beginning
 from regkit.evidence.evidence import Evidence
 from regkit.explain.sentences import fault_of, inversion
 from regkit.history.operations import History
@@ -41,6 +40,8 @@ class Outcome(NamedTuple):
     drawing: str = ""
     program: str = CHECK  # which one decided
     unknown: Sequence[str] = ()  # the registers that a search gave up
+    form: str = ""  # of `regkit convert`, if the file wasn't a history of our own
+    told: Sequence[str] = ()  # what there is to say of that
 
 
 class TimedOutcome(NamedTuple):
@@ -55,13 +56,13 @@ def gravest(statuses: list[int]) -> int:
     return max(statuses, default=ExitStatus.ATOMIC, key=GRAVITY.index)
 
 
-def evidence_in_words(evidence: Evidence, *, at_least: bool, by_search: bool) -> str:
+def evidence_in_words(evidence: Evidence, *, by_search: bool) -> str:
     """The counts. Those of the reads are exact, or there are at least this many of them. A search counts each
     cas that was answered among them."""
     reads, overlapping = evidence.completed_reads, evidence.overlapping_reads
-    verb, least = "overlaps" if overlapping == 1 else "overlap", "at least " if at_least else ""
-    found = f"{least}{overlapping:,} {verb} a write" if overlapping or not at_least else (
-        f"no overlap with a write counted in the first {beginning.LINES:,} lines (--count-all counts all)")
+    verb, least = "overlaps" if overlapping == 1 else "overlap", "at least " if evidence.at_least else ""
+    found = f"{least}{overlapping:,} {verb} a write" if overlapping or not least else (
+        "no overlap with a write counted at the beginning (--count-all counts all)")
     or_cas, searched = (" or cas", "; by search (regsearch)") if by_search else ("", "")
     return (f"{counted(evidence.operations, 'operation')} on {counted(evidence.registers, 'register')}; "
             f"{least}{counted(reads, 'completed read')}{or_cas}, {found}{searched}")
@@ -114,7 +115,7 @@ def text_of(outcome: Outcome) -> list[str]:
         lines.append(f"  {outcome.advice}")
     if outcome.drawing:
         lines.append(f"  drawn: {plain(outcome.drawing)}")
-    return lines
+    return [*lines, *(f"  {plain(line)}" for line in outcome.told)]
 
 
 def json_of(outcome: Outcome) -> dict[str, Any]:
@@ -136,4 +137,6 @@ def json_of(outcome: Outcome) -> dict[str, Any]:
         said["advice"] = outcome.advice
     if outcome.drawing:
         said["drawing"] = outcome.drawing
+    if outcome.form:
+        said["form"], said["conversion"] = outcome.form, outcome.told
     return said

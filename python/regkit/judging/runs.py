@@ -42,7 +42,7 @@ def row(run: ListedRun, page: pathlib.Path) -> str:
     when = datetime.fromtimestamp(run.changed, timezone.utc)
     kind = "yes" if run.outcome.status == ExitStatus.ATOMIC else "no"
     shown = name(run.path.name) if run.picture is None else link(run.picture, page, name(run.path.name))
-    faults = [capital(fault.sentences[0]) for fault in run.outcome.faults]
+    faults = [capital("; ".join(fault.sentences[:2])) for fault in run.outcome.faults]
     said = [words(plain(each)) for each in (run.outcome.words, *faults)]
     said += [with_code(plain(run.outcome.advice))] if run.outcome.advice else []
     cells = [tag("td", f"{when:%Y-%m-%d %H:%M} UTC", class_="when"),

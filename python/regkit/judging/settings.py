@@ -1,7 +1,7 @@
 """What is asked of a check: what a yes needs, how much is looked at, and how much is shown."""
 from typing import NamedTuple, Optional, Sequence
 
-from regkit.evidence.counting import Reads
+from regkit.evidence.evidence import Evidence
 from regkit.judging.pages import Pages
 
 
@@ -17,8 +17,7 @@ class CheckSettings(NamedTuple):
     bounds: Sequence[str] = ()  # of a search: options of regsearch
     pages: Optional[Pages] = None  # where each history is drawn
 
-    def are_overlaps_enough(self, reads: Reads) -> bool:
-        return reads.overlapping >= self.least_overlaps
-
-    def are_reads_enough(self, reads: Reads) -> bool:
-        return reads.completed >= self.least_reads
+    def is_enough(self, found: Evidence) -> bool:
+        """Whether a yes may rest on it."""
+        return (found.completed_reads >= self.least_reads
+                and found.overlapping_reads >= self.least_overlaps)

@@ -8,6 +8,8 @@ from regkit.history.lines import NotJson
 from regkit.history.operations import read_history
 from regkit.judging.outcome import Fault, faults_of, faults_of_search
 
+SHORT = 4_194_304  # bytes of a history that is read in whole, so that a fault names its nearest operations
+
 
 class Untrue(Exception):
     """The checker's answer doesn't hold."""
@@ -36,7 +38,7 @@ def faults_in(data: bytes, answer: Answer, rows: Sequence[Row]) -> list[Fault]:
     try:
         if answer.by_search:  # it may need each call of the register
             return faults_of_search(read_history(data), rows)
-        return faults_of(excerpt(data, rows), rows)
+        return faults_of(read_history(data) if len(data) <= SHORT else excerpt(data, rows), rows)
     except (KeyError, TypeError, ValueError, NotJson) as error:
         raise Untrue("its faults aren't those of the history") from error
 

@@ -10,7 +10,7 @@ from typing import Iterable, NamedTuple, Sequence
 
 from regkit.merge.numbers import Numbers
 from regkit.merge.order import in_order
-from regkit.merge.recorded import Recorded, Unmergeable, first_again, refuse_twice
+from regkit.merge.recorded import Recorded, Unmergeable, first_again, refuse_twice, refuse_unlike_texts
 
 __all__ = ["Merged", "Recorded", "Unmergeable", "first_again", "merge", "merged"]
 
@@ -26,6 +26,7 @@ class Merged(NamedTuple):
 def merged(files: Sequence[Recorded], clock_error: int) -> Merged:
     """The history of several. Raises Unmergeable."""
     refuse_twice(files)
+    refuse_unlike_texts(files)
     numbers = Numbers(files)
     lines, given_up = [], 0
     for step in in_order([file.events for file in files], clock_error):

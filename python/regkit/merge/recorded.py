@@ -1,8 +1,10 @@
 """The events of one recorder's history with their times, or the reason why it can't be merged."""
 import json
-from typing import Any, NamedTuple, Optional, Sequence
+from typing import Any, Iterator, NamedTuple, Optional, Sequence
 
 from regkit.history.lines import numbered_lines
+from regkit.history.operations import history_of
+from regkit.history.texts import MARK, Contradictory, Texts
 from regkit.verify.operations import FOREVER, History, Refused, event_of
 from regkit.words.quoting import quoted
 
@@ -46,6 +48,7 @@ class Recorded:
         self.events: list[RecordedEvent] = []
         self.writes: list[ValueWrite] = []
         self.has_cas = False
+        self.has_texts = MARK in data
         history = History(FOREVER, search=True)
         try:
             for number, line in numbered_lines(data):
@@ -72,6 +75,24 @@ class Recorded:
     @property
     def processes(self) -> list[int]:
         return sorted({event.process for event in self.events})
+
+    def values(self) -> Iterator[tuple[str, int, str]]:
+        """Each register with a number that it has, and what that stands for."""
+        events = ({"process": event.process, **json.loads("{" + event.rest)} for event in self.events)
+        for call in history_of(enumerate(events, 1)).calls:
+            yield from ((call.register, int(value), str(value)) for value in (call.value, call.asked)
+                        if value is not None)
+
+
+def refuse_unlike_texts(files: Sequence[Recorded]) -> None:
+    """Raises Unmergeable if a number stands for one value in one history, and for another in another one."""
+    texts = Texts()
+    try:
+        for file in files if any(file.has_texts for file in files) else ():
+            for register, number, text in file.values():
+                texts.meet(file.name, register, number, text)
+    except Contradictory as error:
+        raise Unmergeable(str(error)) from None
 
 
 def refuse_twice(files: Sequence[Recorded]) -> None:

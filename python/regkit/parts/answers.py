@@ -9,7 +9,7 @@ from contextlib import suppress
 from typing import Callable, Iterator, NamedTuple, Optional, Union
 
 from regkit.base.statuses import ExitStatus
-from regkit.checker.programs import CHECK, SEARCH, Answer, find_program, is_for_search
+from regkit.checker.programs import CHECK, SEARCH, find_program
 from regkit.checker.refusals import (BAD_OP, REPEATED, SEARCH_TEXTS, TEXTS, Refusal, read_refusal,
                                      same_line)
 from regkit.checker.report import Row
@@ -124,14 +124,6 @@ def ends_of(report: pathlib.Path, registers: int) -> tuple[Row, Row]:
     if not whole or not last.endswith(b"\n"):
         raise ValueError(f"{report} does not end with the summary of {registers} registers")
     return row, summary
-
-
-def takes_search(directory: str, refused: RefusedPart) -> bool:
-    """Whether regcheck refused a part for what regsearch takes."""
-    if refused.program != CHECK:
-        return False
-    history = file_of(directory, refused.part, "jsonl").read_bytes()
-    return is_for_search(history, Answer(ExitStatus.REFUSED, b"", refused.words))
 
 
 def command_again(directory: str, part: int, program: str) -> str:

@@ -6,7 +6,7 @@ import pathlib
 from typing import NamedTuple, Optional
 
 MAX_PARTS = 1000
-FORMAT = "regkit split 1"
+FORMAT = "regkit split 2"
 MANIFEST = "split.json"
 BLANK, MAP = "blank", "map"  # what keeps the line numbers of the whole: blank lines, or a map beside the part
 MAP_LINE = 13  # bytes of a line of a map: a number of up to 12 digits, with spaces before it, and a line feed
@@ -17,16 +17,16 @@ class NotSplit(Exception):
 
 
 class Manifest(NamedTuple):
-    """What `join` needs to know of the whole history."""
+    """What the engines and `join` need to know of the whole history."""
 
     history: str  # the name of its file
     lines: str  # BLANK or MAP
     parts: int
+    program: str  # that takes all parts: regcheck or regsearch
     events: int  # of the whole history, each counted once
     last_line: int  # the last line that was read
     stopped: Optional[int]  # the line that was sure to be refused; nothing after it was read
     registers: list[int]  # the part of each register, in the order of their first calls
-    cas: bool = False  # whether any call is a cas, which only regsearch takes
 
 
 def file_of(directory: str, part: int, ending: str) -> pathlib.Path:

@@ -11,9 +11,12 @@ AnyCaller = TypeVar("AnyCaller", bound="Caller")
 class Caller:
     """A thread, a task or a connection. `Client` says what it is for a test."""
 
-    def __init__(self, journal: Journal, name: str = "", node: str = "") -> None:
+    def __init__(self, journal: Journal, name: str = "", node: str = "", alone: bool = False) -> None:
         self.journal = journal
         self.name = name
+        self.alone = alone  # whether it makes one call
+        # Whose process numbers it shares. A picture shows a number as one client, so others don't get it.
+        self._owner = name if name or alone else None
         self.node = node
         self._process: Optional[int] = None  # from the first call on
         self._open = False  # whether a call is open right now
@@ -37,9 +40,9 @@ class Caller:
         self._gone = True
 
     def close(self) -> None:
-        """Says that this client is done, so that another may have its process number."""
+        """Says that this client is done. A later one of its name may have its process number."""
         if self._process is not None and not (self._gone or self._spent or self._open):
-            self.journal.give_back(self._process)
+            self.journal.give_back(self._process, self._owner)
         self._gone = True
 
     def __enter__(self: AnyCaller) -> AnyCaller:
@@ -51,6 +54,12 @@ class Caller:
         else:
             self.crash()
 
+    async def __aenter__(self: AnyCaller) -> AnyCaller:
+        return self
+
+    async def __aexit__(self, kind: Optional[type[BaseException]], *_: object) -> None:
+        self.__exit__(kind)
+
     def begin(self, op: str, register: str, behind: Optional[str]) -> Optional[int]:
         """Writes the line of a call, and gives the value that the recorder chose, if it did. For Call
         alone."""
@@ -60,7 +69,8 @@ class Caller:
         if self._gone:
             raise self.journal.mistake(f"the client is closed or crashed, and calls a {op} of {register!r}")
         kept, self._spent = None if self._spent else self._process, True
-        process, value = self.journal.call(kept, op, register, behind, self._who)
+        process = self.journal.take(self._owner) if kept is None else kept
+        value = self.journal.call(process, op, register, behind, self._who)
         self._process, self._open, self._spent = process, True, False
         return value
 

@@ -17,10 +17,9 @@ class Call:
     rest = ""  # of its arguments, for a person
     behind: Optional[str] = ""  # what its line says after the register; None for a value that is chosen
 
-    def __init__(self, client: Caller, register: str, alone: bool = False) -> None:
+    def __init__(self, client: Caller, register: str) -> None:
         self.register = client.journal.key(register)  # its name in the store, too
         self._client = client
-        self._alone = alone  # whether the client makes this one call
         self._stage = "new"  # then "open", then "ended"
         self._said: Optional[str] = None  # if the caller said it
         self._number: Optional[int] = None
@@ -65,10 +64,17 @@ class Call:
         self._stage = "ended"
         missing = "" if self._said or kind is not None else self.missing()
         self._client.end(self.register, self._ending(kind, missing), self.reply_value())
-        if self._alone:
+        if self._client.alone:
             self._client.close()
         if missing:
             raise self.mistake(missing)
+
+    async def __aenter__(self: AnyCall) -> AnyCall:
+        return self.__enter__()
+
+    async def __aexit__(self, kind: Optional[type[BaseException]], error: Optional[BaseException],
+                        trace: Optional[TracebackType]) -> None:
+        self.__exit__(kind, error, trace)
 
     def _ending(self, kind: Optional[type[BaseException]], missing: str) -> str:
         if self._said:
@@ -92,9 +98,8 @@ class Write(Call):
     op = "write"
     _asked = False
 
-    def __init__(self, client: Caller, register: str, value: Optional[int] = None,
-                 alone: bool = False) -> None:
-        super().__init__(client, register, alone)
+    def __init__(self, client: Caller, register: str, value: Optional[int] = None) -> None:
+        super().__init__(client, register)
         self.behind = None
         if value is not None:
             self._number, self._asked = self.checked(chosen, value), True
@@ -149,9 +154,8 @@ class Cas(Call):
     rest = ", from_, to"
     _ok: Optional[bool] = None
 
-    def __init__(self, client: Caller, register: str, from_: Optional[int], to: int,
-                 alone: bool = False) -> None:
-        super().__init__(client, register, alone)
+    def __init__(self, client: Caller, register: str, from_: Optional[int], to: int) -> None:
+        super().__init__(client, register)
         self.from_ = None if from_ is None else self.checked(chosen, from_)
         self.to = self.checked(chosen, to)
         self.behind = f',"from":{member(self.from_)},"to":{self.to}'

@@ -11,7 +11,8 @@ class Client(Caller):
     Each of its lines has its name, and the node that it asks, if they are given. `node` may be set to another
     one at any time, also within a call once the answer tells which server gave it.
 
-    As a context manager it gives the number back at the end. If an exception leaves the block, it crashes."""
+    As a context manager, with `async` or without, it is closed at the end: a later client of its name may
+    have its number, and no other client. If an exception leaves the block, it crashes."""
 
     def write(self, register: str, value: Optional[int] = None) -> Write:
         """The call of a write, for a `with` statement. Its `value` is what to write: the one that is given

@@ -7,18 +7,49 @@ import json
 import os
 import pathlib
 import threading
-from typing import IO, Any, Callable, Optional, Union
+from typing import IO, Any, Callable, NamedTuple, NoReturn, Optional, Union
 
 from regkit.base.limits import GREATEST_VALUE, MAX_NAME
 from regkit.history.who import members
+from regkit.words.phrases import counted
 
 Output = Union[None, str, "os.PathLike[str]", IO[Any], io.IOBase]
 Failures = Union[type[BaseException], tuple[type[BaseException], ...]]
 Clock = Callable[[], int]  # gives nanoseconds, and never goes back
 
 
+CARRIED = ("a recorder stays in the process that made it, and this is a child of that process: make a "
+           "Recorder in each process, with a file, values_after and a clock of its own, and let regkit merge "
+           "make one history of theirs")
+
+
 class RecordingError(Exception):
     """The recorder was used in a way that would make the history wrong. The call stays pending."""
+
+
+class Counts(NamedTuple):
+    """How many calls were recorded, by what they are, and how they ended so far."""
+
+    reads: int
+    writes: int
+    cas: int
+    answered: int
+    failed: int
+
+    @property
+    def calls(self) -> int:
+        return self.reads + self.writes + self.cas
+
+    @property
+    def unanswered(self) -> int:
+        """Those that are open, or whose outcome stays unknown."""
+        return self.calls - self.answered - self.failed
+
+    def __str__(self) -> str:
+        kinds = [counted(self.reads, "read"), counted(self.writes, "write")]
+        kinds += [f"{self.cas:,} cas"] if self.cas else []
+        return (f"{counted(self.calls, 'call')}: {', '.join(kinds)}; {self.answered:,} answered, "
+                f"{self.failed:,} failed, {self.unanswered:,} open or unknown")
 
 
 def quoted(name: str, what: str = "register") -> str:
@@ -81,7 +112,9 @@ class Journal:
         self._clock = clock
         self._lock = threading.Lock()
         self._closed = False
-        self._free: list[int] = []  # a heap of the process numbers given back
+        self._maker = os.getpid()
+        self._count = {"read": 0, "write": 0, "cas": 0, "reply": 0, "fail": 0, "crash": 0}
+        self._free: dict[str, list[int]] = {}  # by whose they are, heaps of the process numbers given back
         self._processes = 0
         self._values_after = values_after
         self._values: dict[str, int] = {}  # register -> the greatest value written
@@ -92,6 +125,8 @@ class Journal:
         return self._log.path
 
     def content(self) -> bytes:
+        if self.is_carried:
+            return self._log.content()
         with self._lock:
             return self._log.content()
 
@@ -115,56 +150,84 @@ class Journal:
             raise self.mistake(str(error)) from None
         return members(client, node)
 
-    def call(self, process: Optional[int], op: str, register: str, behind: Optional[str],
-             who: str) -> tuple[int, Optional[int]]:
-        """Writes a call, under a free number if none is given. Gives the number.
+    @property
+    def is_carried(self) -> bool:
+        """Whether this is a child of the process that made it, which shares the file and no number with it.
+        Its lock may be held by a thread that the child doesn't have."""
+        return os.getpid() != self._maker
 
-        `behind` is what the line says after its register. If it is None, that is a value which the register
-        never had from here, and the value is given too."""
+    def __reduce__(self) -> NoReturn:
+        raise RecordingError(CARRIED)
+
+    @property
+    def counts(self) -> Counts:
+        with self._lock:
+            count = dict(self._count)
+        return Counts(count["read"], count["write"], count["cas"], count["reply"], count["fail"])
+
+    def take(self, owner: Optional[str]) -> int:
+        """A process number: one that was given back for this owner, or a new one."""
+        self._refuse_carried()
+        with self._lock:
+            free = self._free.get(owner) if owner is not None else None
+            if free:
+                return heapq.heappop(free)
+            self._processes += 1
+            return self._processes
+
+    def give_back(self, process: int, owner: Optional[str]) -> None:
+        """Lets clients of this owner have a number, and nobody if that is None. Never that of a call that
+        stays pending, or of a crash."""
+        if owner is not None and not self.is_carried:
+            with self._lock:
+                heapq.heappush(self._free.setdefault(owner, []), process)
+
+    def call(self, process: int, op: str, register: str, behind: Optional[str], who: str) -> Optional[int]:
+        """Writes a call. `behind` is what the line says after its register. If it is None, that is a value
+        which the register never had from here, and the value is given."""
+        self._refuse_carried()
         with self._lock:
             if self._closed:
                 raise RecordingError("the recorder is closed: let its clients end before you close it")
             name = self._names.get(register) or self._new_name(register)
-            if process is None:
-                process = self._free_process()
             value = None
             if behind is None:
                 value = self._values[register] = self._values.get(register, self._values_after) + 1
                 behind = f',"value":{value}'
             self._append(f'{{"process":{process},"event":"call","op":"{op}","register":{name}{behind}{who}')
-        return process, value
+            self._count[op] += 1
+        return value
 
     def reply(self, process: int, register: str, value: str, who: str) -> None:
         """Writes a reply. It names its register, so that the line can be read alone."""
-        self._end(f'{{"process":{process},"event":"reply","register":{self._names[register]}{value}{who}')
+        self._refuse_carried()
+        self._end(process, "reply", f',"register":{self._names[register]}{value}{who}')
 
     def fail(self, process: int, register: str, who: str) -> None:
-        self._end(f'{{"process":{process},"event":"fail","register":{self._names[register]}{who}')
+        self._end(process, "fail", f',"register":{self._names[register]}{who}')
 
     def crash(self, process: int, who: str) -> None:
-        self._end(f'{{"process":{process},"event":"crash"{who}')
-
-    def give_back(self, process: int) -> None:
-        """Lets another client have a number. Never that of a call that stays pending, or of a crash."""
-        with self._lock:
-            heapq.heappush(self._free, process)
+        self._end(process, "crash", who)
 
     def close(self) -> None:
-        with self._lock:
-            self._closed = True
-            self._log.close()
+        if not self.is_carried:
+            with self._lock:
+                self._closed = True
+                self._log.close()
 
-    def _end(self, line: str) -> None:
-        """Writes a line that ends a call or a process, unless it comes after the end of the history."""
+    def _refuse_carried(self) -> None:
+        if self.is_carried:
+            raise self.mistake(CARRIED)
+
+    def _end(self, process: int, event: str, rest: str) -> None:
+        """Writes a line that ends a call or a process, unless it comes after the end of the history. In a
+        child it would be the line of another process."""
+        if self.is_carried:
+            return
         with self._lock:
             if not self._closed:
-                self._append(line)
-
-    def _free_process(self) -> int:
-        if self._free:
-            return heapq.heappop(self._free)
-        self._processes += 1
-        return self._processes
+                self._append(f'{{"process":{process},"event":"{event}"{rest}')
+                self._count[event] += 1
 
     def _new_name(self, register: str) -> str:
         try:

@@ -4,7 +4,9 @@ from typing import Optional
 
 from regkit.recording.calls import Cas, Read, Write
 from regkit.recording.client import Client
-from regkit.recording.journal import Clock, Failures, Journal, Output, RecordingError
+from regkit.recording.journal import Clock, Counts, Failures, Journal, Output, RecordingError
+from regkit.recording.wrapped import Methods, Wrapped
+from regkit.words.progress import Progress
 
 
 class Recorder:
@@ -13,12 +15,16 @@ class Recorder:
     - `failures`: an exception of these that leaves the block of a call says that it certainly had no effect.
     - `prefix`: each register's name begins with it. `call.register` is the whole name, for the store.
     - `values_after`: the values of a register's writes are this number plus 1, 2, 3, and so on.
-    - `clock`: gives the time of each line, in whole nanoseconds, such as time.monotonic_ns."""
+    - `clock`: gives the time of each line, in whole nanoseconds, such as time.monotonic_ns.
+    - `progress`: a line on the terminal says how many calls there are, while the run takes its time."""
 
     def __init__(self, output: Output = None, failures: Failures = (), *, prefix: str = "",
-                 values_after: int = 0, clock: Optional[Clock] = None) -> None:
+                 values_after: int = 0, clock: Optional[Clock] = None, progress: bool = False) -> None:
         self._journal = Journal(output, failures, prefix, values_after, clock)
         self.checked = False  # whether a test has looked at the verdict
+        self._progress = Progress(label_of=lambda: f"recording {self.counts}") if progress else None
+        if self._progress is not None:
+            self._progress.__enter__()
 
     def client(self, name: str = "", node: str = "") -> Client:
         """A client for one thread or task. Its first call takes a process number.
@@ -26,22 +32,37 @@ class Recorder:
         Its lines have its name, and the node (the server of the store) that it asks, if they are given."""
         return Client(self._journal, name, node)
 
+    def wrap(self, store: object, methods: Methods = Methods(), name: str = "", node: str = "") -> Wrapped:
+        """A client of a store, whose calls are recorded as they are made. `methods` says which do what.
+
+        Threads and tasks may share it: each call gets a process number that is free. What the caller writes
+        may repeat."""
+        return Wrapped(store, methods, lambda: Client(self._journal, name, node, alone=True))
+
+    def _client_of_one_call(self) -> Client:
+        return Client(self._journal, alone=True)
+
     def write(self, register: str, value: Optional[int] = None) -> Write:
         """A write under any free process number. Take a client where one thread makes several calls."""
-        return Write(Client(self._journal), register, value, alone=True)
+        return Write(self._client_of_one_call(), register, value)
 
     def read(self, register: str) -> Read:
         """A read under any free process number. Take a client where one thread makes several calls."""
-        return Read(Client(self._journal), register, alone=True)
+        return Read(self._client_of_one_call(), register)
 
     def cas(self, register: str, from_: Optional[int], to: int) -> Cas:
         """A cas under any free process number. Take a client where one thread makes several calls."""
-        return Cas(Client(self._journal), register, from_, to, alone=True)
+        return Cas(self._client_of_one_call(), register, from_, to)
 
     @property
     def path(self) -> Optional[pathlib.Path]:
         """Where the history is, if it goes to a path."""
         return self._journal.path
+
+    @property
+    def counts(self) -> Counts:
+        """How many calls there are so far, and how they ended."""
+        return self._journal.counts
 
     @property
     def mistakes(self) -> list[RecordingError]:
@@ -55,9 +76,17 @@ class Recorder:
     def close(self) -> None:
         """Ends the history. Open calls stay pending, and a later call raises RecordingError."""
         self._journal.close()
+        if self._progress is not None:
+            self._progress.end()
 
     def __enter__(self) -> "Recorder":
         return self
 
     def __exit__(self, *_: object) -> None:
+        self.close()
+
+    async def __aenter__(self) -> "Recorder":
+        return self
+
+    async def __aexit__(self, *_: object) -> None:
         self.close()

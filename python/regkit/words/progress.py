@@ -3,7 +3,7 @@ import sys
 import threading
 import time
 from types import TracebackType
-from typing import Optional, TextIO
+from typing import Callable, Optional, TextIO
 
 PATIENCE = 2.0  # seconds before the bar shows
 PAUSE = 0.2  # seconds between two looks
@@ -15,11 +15,12 @@ class Progress:
     """Tells a person how far the work is. Nothing is written unless the stream is a terminal.
 
     The work sets `done` as it goes; a thread of its own draws, so that a step that can't count, such as a
-    run of the checker, shows its seconds all the same."""
+    run of the checker, shows its seconds all the same. `label_of` gives the label of work without steps."""
 
-    def __init__(self, stream: Optional[TextIO] = None) -> None:
+    def __init__(self, stream: Optional[TextIO] = None, label_of: Optional[Callable[[], str]] = None) -> None:
         self.stream = sys.stderr if stream is None else stream
         self.label = ""
+        self._label_of = label_of
         self.done = 0
         self.total = 0
         self._began = time.monotonic()
@@ -36,6 +37,10 @@ class Progress:
 
     def __exit__(self, kind: Optional[type[BaseException]], error: Optional[BaseException],
                  trace: Optional[TracebackType]) -> None:
+        self.end()
+
+    def end(self) -> None:
+        """Takes the bar away."""
         self._ended.set()
         if self._thread is not None:
             self._thread.join()
@@ -64,7 +69,7 @@ class Progress:
     def line(self, seconds: float) -> str:
         """What the bar shows at the moment."""
         if not self.total:
-            return f"{self.label}, {seconds:.0f} s"
+            return f"{self._label_of() if self._label_of else self.label}, {seconds:.0f} s"
         part = min(1.0, self.done / self.total)
         full = int(part * WIDTH)
         return f"{self.label} [{'#' * full}{' ' * (WIDTH - full)}] {part:4.0%}, {seconds:.0f} s"

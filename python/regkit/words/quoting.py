@@ -23,6 +23,12 @@ def plain(text: str) -> str:
     return "".join(each if is_plain(each) else escaped(each) for each in text)
 
 
+def columns(text: str) -> int:
+    """How many letters wide a text is shown: letters of the Far East, and pictures, are two wide."""
+    return sum(0 if unicodedata.combining(each) else 2 if unicodedata.east_asian_width(each) in "WF" else 1
+               for each in text)
+
+
 def quoted(name: str) -> str:
     """The name in quotation marks, so that one sees where it ends."""
     return '"' + plain(name.replace("\\", "\\\\").replace('"', '\\"')) + '"'

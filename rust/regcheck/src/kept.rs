@@ -5,23 +5,40 @@ use crate::{
     Answer, Bounds, Trouble, Verdict,
 };
 use std::{
-    env, fs,
+    env, fs, io,
+    os::unix::fs::DirBuilderExt,
     path::{Path, PathBuf},
     process,
-    sync::atomic::{AtomicU64, Ordering::Relaxed},
+    sync::{
+        atomic::{AtomicU64, Ordering::Relaxed},
+        Mutex, PoisonError,
+    },
 };
 
 const LONGEST: usize = 200; // bytes of a file's name
 
-/// Files whose names begin alike.
-struct Files {
-    history: PathBuf,
-    report: PathBuf,
-    page: PathBuf,
+/// How the files begin that failed tests of this process left, each with the number of its owner.
+static TAKEN: Mutex<Vec<(PathBuf, u64)>> = Mutex::new(Vec::new());
+
+/// Who leaves files of failed tests, and where.
+#[derive(Clone)]
+pub struct Keeper {
+    pub folder: PathBuf,
+    owner: u64,
 }
 
-impl Files {
-    fn named(folder: &Path, test: &str) -> Files {
+impl Default for Keeper {
+    fn default() -> Keeper {
+        static NEXT: AtomicU64 = AtomicU64::new(0);
+        Keeper {
+            folder: "regcheck-failures".into(),
+            owner: NEXT.fetch_add(1, Relaxed),
+        }
+    }
+}
+
+impl Keeper {
+    fn begin(&self, test: &str) -> PathBuf {
         let fits = |letter: char| letter.is_ascii_alphanumeric() || "._-".contains(letter);
         let mut name = String::new();
         for letter in test.chars() {
@@ -31,12 +48,62 @@ impl Files {
                 name.push('_');
             }
         }
-        let name = &name[name.len().saturating_sub(LONGEST)..];
-        let file = |ending| folder.join(format!("{name}.{ending}"));
+        self.folder
+            .join(&name[name.len().saturating_sub(LONGEST)..])
+    }
+
+    /// The files that are named after the test; with a number behind it if another owner has left some.
+    fn files(&self, test: &str) -> Files {
+        let begin = self.begin(test);
+        let mut taken = TAKEN.lock().unwrap_or_else(PoisonError::into_inner);
+        let mut free = begin.clone();
+        for number in 2.. {
+            match taken.iter().find(|(path, _)| *path == free) {
+                Some((_, owner)) if *owner != self.owner => {
+                    free = ended(&begin, &format!("-{number}"))
+                }
+                Some(_) => break,
+                None => {
+                    taken.push((free.clone(), self.owner));
+                    break;
+                }
+            }
+        }
+        Files::named(&free)
+    }
+
+    /// Deletes what an earlier run left of a test that passed now.
+    fn clear(&self, test: &str) {
+        let begin = self.begin(test);
+        let taken = TAKEN.lock().unwrap_or_else(PoisonError::into_inner);
+        if taken.iter().all(|(path, _)| *path != begin) {
+            let files = Files::named(&begin);
+            for file in [files.history, files.report, files.page] {
+                let _ = fs::remove_file(file); // mostly there is none
+            }
+        }
+    }
+}
+
+fn ended(begin: &Path, end: &str) -> PathBuf {
+    let mut path = begin.as_os_str().to_owned();
+    path.push(end);
+    path.into()
+}
+
+/// Files whose names begin alike.
+struct Files {
+    history: PathBuf,
+    report: PathBuf,
+    page: PathBuf,
+}
+
+impl Files {
+    fn named(begin: &Path) -> Files {
         Files {
-            history: file("jsonl"),
-            report: file("report"),
-            page: file("html"),
+            history: ended(begin, ".jsonl"),
+            report: ended(begin, ".report"),
+            page: ended(begin, ".html"),
         }
     }
 
@@ -116,12 +183,24 @@ fn shown(answer: &Answer) -> String {
     lines.fold(verdict.to_owned(), |words, line| words + "\n  " + line)
 }
 
+/// Makes a folder that nobody else can read, and that wasn't there before.
+fn temporary_folder() -> Result<PathBuf, String> {
+    static NEXT: AtomicU64 = AtomicU64::new(0);
+    loop {
+        let name = format!("regcheck-{}-{}", process::id(), NEXT.fetch_add(1, Relaxed));
+        let folder = env::temp_dir().join(name);
+        match fs::DirBuilder::new().mode(0o700).create(&folder) {
+            Ok(()) => return Ok(folder),
+            Err(error) if error.kind() == io::ErrorKind::AlreadyExists => {} // another one's: the next
+            Err(error) => return Err(format!("{} can't be made: {error}", folder.display())),
+        }
+    }
+}
+
 /// Why a history isn't linearizable, or what to do if nobody knows, in the words of regkit.
 pub fn words(history: &[u8], report: &[u8], bounds: Bounds) -> Result<String, String> {
-    static NEXT: AtomicU64 = AtomicU64::new(0);
-    let name = format!("regcheck-{}-{}", process::id(), NEXT.fetch_add(1, Relaxed));
-    let folder = env::temp_dir().join(name);
-    let files = Files::named(&folder, "history");
+    let folder = temporary_folder()?;
+    let files = Files::named(&folder.join("history"));
     let told = files
         .keep(history, Some(report))
         .and_then(|()| files.explained(bounds));
@@ -132,26 +211,22 @@ pub fn words(history: &[u8], report: &[u8], bounds: Bounds) -> Result<String, St
 
 /// Says why a history fails its test, if it does, and keeps it then.
 pub fn check(
-    folder: &Path,
+    keeper: &Keeper,
     test: &str,
     history: &[u8],
     reads: u64,
     bounds: Bounds,
 ) -> Result<(), Trouble> {
-    let files = Files::named(folder, test);
-    let place = format!("history: {}", files.history.display());
-    let keep = |report| files.keep(history, report).map_err(Trouble::NotChecked);
-    let answer = match answer::check(history, bounds) {
-        Ok(answer) => answer,
-        Err(error) => {
-            keep(None)?;
-            return Err(Trouble::NotChecked(format!("{error}\n\n{place}")));
-        }
-    };
-    if answer.verdict == Verdict::Yes && reads > 0 {
+    let answer = answer::check(history, bounds);
+    if matches!(&answer, Ok(answer) if answer.verdict == Verdict::Yes) && reads > 0 {
+        keeper.clear(test);
         return Ok(());
     }
-    keep(Some(&answer.report))?;
+    let files = keeper.files(test);
+    let report = answer.as_ref().ok().map(|answer| &answer.report[..]);
+    files.keep(history, report).map_err(Trouble::NotChecked)?;
+    let place = format!("history: {}", files.history.display());
+    let answer = answer.map_err(|error| Trouble::NotChecked(format!("{error}\n\n{place}")))?;
     Err(match answer.verdict {
         Verdict::Yes => Trouble::NotLinearizable(format!(
             "too little evidence: the history is linearizable, but no read was completed\n\n{place}"

@@ -1,5 +1,9 @@
 //! Records what the clients of a store call and get.
-use crate::{clock::now, kept, Bounds, Trouble};
+use crate::{
+    clock::now,
+    kept::{self, Keeper},
+    Bounds, Trouble,
+};
 use std::{
     collections::HashMap,
     io,
@@ -35,7 +39,7 @@ const NAME_BYTES: usize = 255;
 #[derive(Clone, Default)]
 pub struct Recorder {
     journal: Arc<Mutex<Journal>>,
-    folder: Option<PathBuf>,
+    keeper: Keeper,
     bounds: Bounds,
 }
 
@@ -134,7 +138,7 @@ impl Recorder {
 
     /// Says where `check` leaves what it found, in place of `regcheck-failures`.
     pub fn keep_in(mut self, folder: impl Into<PathBuf>) -> Recorder {
-        self.folder = Some(folder.into());
+        self.keeper.folder = folder.into();
         self
     }
 
@@ -163,9 +167,9 @@ impl Recorder {
 
     /// Says why the history fails the test, unless it is linearizable, a read was completed, and the recorder
     /// was used rightly. A cas that was answered counts as a read. It leaves the history, its report and a
-    /// page that shows the fault in `regcheck-failures`, named after the test. If the search for an order
-    /// gave up, nobody knows: that fails the test too. The words and the page are made by `regkit`: where it
-    /// isn't there, the report stands in their place.
+    /// page that shows the fault in `regcheck-failures`, named after the test; a pass deletes what an earlier
+    /// run left there. If the search for an order gave up, nobody knows: that fails the test too. The words
+    /// and the page are made by `regkit`: where it isn't there, the report stands in their place.
     ///
     /// # Errors
     /// What is wrong, in words.
@@ -176,14 +180,7 @@ impl Recorder {
         }
         let (history, reads) = (journal.history.clone(), journal.reads);
         drop(journal);
-        let folder = self.folder.clone();
-        kept::check(
-            &folder.unwrap_or_else(|| "regcheck-failures".into()),
-            test,
-            &history,
-            reads,
-            self.bounds,
-        )
+        kept::check(&self.keeper, test, &history, reads, self.bounds)
     }
 
     /// `check`, for a test that is to panic.

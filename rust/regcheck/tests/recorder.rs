@@ -224,10 +224,31 @@ fn a_search_that_gives_up_fails_the_test() {
         "{words}"
     );
     let kept = fs::read_to_string(folder.0.join("two.report")).unwrap();
-    assert!(
-        kept.contains(r#""gave_up":{"bound":"steps"}"#),
-        "{kept}"
-    );
+    assert!(kept.contains(r#""gave_up":{"bound":"steps"}"#), "{kept}");
+}
+
+#[test]
+fn failed_tests_of_one_name_have_files_of_their_own_and_a_pass_deletes_earlier_ones() {
+    let folder = Folder::new("files");
+    let file = |name: &str| folder.0.join(name);
+    let recorded = |value| {
+        let recorder = Recorder::new().keep_in(&folder.0);
+        recorder.client("one").read("x").replied(value);
+        recorder
+    };
+    fs::create_dir_all(&folder.0).unwrap();
+    fs::write(file("same.report"), "").unwrap();
+    recorded(None).check("same").expect("a pass");
+    assert!(!file("same.report").exists());
+    for (value, name) in [(7, "same.jsonl"), (8, "same-2.jsonl")] {
+        let recorder = recorded(Some(value));
+        for _time in 0..2 {
+            recorder.check("same").expect_err("a fault");
+        }
+        recorded(None).check("same").expect("a pass");
+        assert_eq!(fs::read(file(name)).unwrap(), recorder.history(), "{name}");
+    }
+    assert!(!file("same-3.jsonl").exists());
 }
 
 #[test]

@@ -11,8 +11,8 @@ package main
 import (
 	"sync"
 
-	"regcheck"
-	"regcheck/internal/toy"
+	"example.org/regcheck"
+	"example.org/regcheck/internal/toy"
 )
 
 type cache struct {

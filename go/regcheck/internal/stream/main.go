@@ -13,7 +13,7 @@ import (
 	"os"
 	"strconv"
 
-	"regcheck"
+	"example.org/regcheck"
 )
 
 type numbers struct {

@@ -6,7 +6,7 @@ import (
 	"fmt"
 	"os"
 
-	"regcheck"
+	"example.org/regcheck"
 )
 
 // Run records one run of a store, and prints the verdict in words. The first word of the command line says

@@ -4,10 +4,11 @@ nil is None; true, false and whole numbers are Python's; other numbers are Decim
 tuples, since Clojure takes them for equal.
 """
 import re
-from decimal import Decimal
+from decimal import MAX_EMAX, MAX_PREC, MIN_EMIN, Context, Decimal
 from typing import Any
 
 Value = Any
+_EXACT = Context(prec=MAX_PREC, Emax=MAX_EMAX, Emin=MIN_EMIN)
 
 
 class Keyword(str):
@@ -66,7 +67,7 @@ def quote(text: str) -> str:
 
 def _decimal(value: Decimal) -> str:
     """A number that isn't whole, equal ones alike, and never as a whole number is written."""
-    text = str(value.normalize())
+    text = str(value.normalize(_EXACT))
     return text if "." in text or "E" in text else text + ".0"
 
 

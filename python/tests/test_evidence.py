@@ -1,25 +1,36 @@
-"""The counts of a beginning: a long history has at least so many reads, and the words say no more."""
+"""The evidence of a beginning: a long history has at least so many reads, and the words say no more."""
 import json
 import random
 import unittest
-from typing import Any, List, Tuple
+from typing import Any, List, NamedTuple, Tuple
 from unittest import mock
 
-from regkit.evidence import beginning
-from regkit.evidence.beginning import reads_of_beginning, unusual_reads_of_beginning
-from regkit.evidence.counting import Reads, Unusual
+from regkit.evidence import evidence
+from regkit.evidence.evidence import Evidence, count_evidence, evidence_of_beginning
+from regkit.history.operations import NotAHistory, read_history
 
-from .events import Line, crash, fail, gave, read, reply, run, text, write
-from .test_counting import counted, run_of, spelled
+from .events import Line, cas, crash, fail, gave, read, reply, run, text, took, write
+from .test_excerpts import run_of, spelled
 
 LINES = 8  # of a beginning, in these tests
 BUSY = [write(1, 1), read(2), gave(2, 1), reply(1), read(2), gave(2, 1), read(2), gave(2, 1)]
 QUIET = [write(1, 1), reply(1), *[read(2), gave(2, 1)] * 3]
-UNUSUAL = b'{"register":"y","op":"read","event":"call","process":9}\n'
+SHUFFLED = b'{"register":"y","op":"read","event":"call","process":9}\n'
+
+
+class Reads(NamedTuple):
+    """The completed reads, and how many of them overlap a write."""
+
+    completed: int
+    overlapping: int
+
+
+def reads_in(found: Evidence) -> Reads:
+    return Reads(found.completed_reads, found.overlapping_reads)
 
 
 def short(lines: int = LINES) -> Any:
-    return mock.patch.object(beginning, "LINES", lines)
+    return mock.patch.object(evidence, "LINES", lines)
 
 
 def after(events: List[Line]) -> bytes:
@@ -48,39 +59,51 @@ class Counts(unittest.TestCase):
         for name, lines, expected in table:
             self.assertEqual(len(lines), LINES, name)
             with self.subTest(name), short():
-                self.assertIsNone(reads_of_beginning(text(*lines)))
-                self.assertIsNone(unusual_reads_of_beginning(text(*lines)))
-                for way in (reads_of_beginning, unusual_reads_of_beginning):
-                    self.assertEqual(way(text(*lines) + b"\n"), expected._replace(at_least=True))
+                self.assertFalse(evidence_of_beginning(text(*lines)).at_least)
+                found = evidence_of_beginning(text(*lines) + b"\n")
+                self.assertEqual((reads_in(found), found.at_least), (expected, True))
 
     def test_never_too_many(self) -> None:
-        """Whatever comes behind a beginning. Both ways count the same, and most cuts miss something."""
+        """Whatever comes behind a beginning; and most cuts miss something."""
         fewer = 0
         for seed in range(300):
             chance = random.Random(seed)
             registers = ["x", "y", "z"][:chance.randrange(1, 4)]
             history = spelled(run_of(chance, chance.randrange(20, 120), registers))
-            whole = counted(history)
+            whole = count_evidence(read_history(history))
+            self.assertEqual(evidence_of_beginning(history), whole, f"seed {seed}")
             with short(chance.randrange(1, 20)):
-                reads = reads_of_beginning(history)
-                self.assertEqual(reads, unusual_reads_of_beginning(history), f"seed {seed}")
-            assert reads is not None and reads.at_least
-            self.assertLessEqual(reads.completed, whole.completed, f"seed {seed}")
-            self.assertLessEqual(reads.overlapping, whole.overlapping, f"seed {seed}")
-            self.assertLessEqual(reads.overlapping, reads.completed, f"seed {seed}")
-            fewer += reads.overlapping < whole.overlapping
+                found = evidence_of_beginning(history)
+            self.assertTrue(found.at_least)
+            self.assertLessEqual(found.completed_reads, whole.completed_reads, f"seed {seed}")
+            self.assertLessEqual(found.overlapping_reads, whole.overlapping_reads, f"seed {seed}")
+            self.assertLessEqual(found.overlapping_reads, found.completed_reads, f"seed {seed}")
+            fewer += found.overlapping_reads < whole.overlapping_reads
         self.assertGreater(fewer, 200)
+
+    def test_a_cas_is_a_read_and_a_write(self) -> None:
+        """One that was answered tells the value. It overlaps the write, and the read overlaps neither."""
+        events = [write(1, 1), cas(2, 1, 2), took(2, True), reply(1), read(2), gave(2, 2), cas(3, 2, 1)]
+        self.assertEqual(reads_in(evidence_of_beginning(text(*events))), Reads(2, 1))
 
     def test_lines_that_nothing_follows(self) -> None:
         with short():
-            self.assertIsNone(reads_of_beginning(b""))
-            self.assertIsNone(reads_of_beginning(text(*BUSY).rstrip(b"\n")))
-            self.assertIsNotNone(reads_of_beginning(text(*BUSY, read(3))))
+            self.assertEqual(evidence_of_beginning(b""), Evidence(0, 0, 0, 0))
+            self.assertFalse(evidence_of_beginning(text(*BUSY).rstrip(b"\n")).at_least)
+            self.assertTrue(evidence_of_beginning(text(*BUSY, read(3))).at_least)
 
-    def test_only_the_beginning_is_read(self) -> None:
-        with short():
-            self.assertEqual(reads_of_beginning(text(*BUSY) + UNUSUAL), Reads(3, 1, True))
-            self.assertRaises(Unusual, reads_of_beginning, UNUSUAL + text(*BUSY))
+    def test_how_lines_are_made_is_all_the_same(self) -> None:
+        """Blank lines, members in any order, and names in escapes."""
+        history = text(*BUSY[:4]) + b" \r\n\n" + SHUFFLED + b'{"proces\\u0073":9,"value":null,"event":"reply"}'
+        self.assertEqual(reads_in(evidence_of_beginning(history)), Reads(2, 1))
+
+    def test_what_is_no_event(self) -> None:
+        """What follows the beginning isn't looked at."""
+        for line in (b"7", b"[]", b"{}", b'{"process":1}', b'{"process":1,"event":"call","op":"read"}',
+                     b"\xff", b"[" * 9999, b"no JSON"):
+            with self.subTest(line[:40]), short():
+                self.assertRaises(NotAHistory, evidence_of_beginning, line)
+                self.assertEqual(reads_in(evidence_of_beginning(text(*BUSY) + line)), Reads(3, 1))
 
 
 class Words(unittest.TestCase):
@@ -106,25 +129,20 @@ class Words(unittest.TestCase):
             (BUSY, ["--least-overlaps", "2"], whole),
             (BUSY, ["--count-all"], whole),
             (BUSY, ["--first"], least),
-            (QUIET, [], "; at least 3 completed reads, no overlap with a write counted in the first 8 lines "
-             "(--count-all counts all)\n"),
+            (QUIET, [], "; at least 3 completed reads, no overlap with a write counted at the "
+             "beginning (--count-all counts all)\n"),
         ]
         for events, options, words in table:
             with self.subTest(options=options, quiet=events is QUIET):
                 self.assertIn(": linearizable: ", self.said(after(events), *options))
                 self.assertIn(words, self.said(after(events), *options))
 
-    def test_of_a_history_with_unusual_lines(self) -> None:
-        events = text(*BUSY[:-2])
-        history = UNUSUAL + events + after([])
-        self.assertIn("; at least 2 completed reads, at least 1 overlaps a write\n", self.said(history))
-        self.assertIn("; 4 completed reads, 2 overlap a write\n", self.said(history, "--count-all"))
-        self.assertIn("; 4 completed reads, 2 overlap a write\n", self.said(history, "--least-reads", "3"))
-
-    def test_json_counts_all(self) -> None:
-        said = json.loads(self.said(after(BUSY), "--json"))
-        self.assertEqual((said["completed_reads"], said["overlapping_reads"]), (5, 2))
-        self.assertIn("; 5 completed reads, 2 overlap a write", said["reason"])
+    def test_json_says_it_in_a_member(self) -> None:
+        table: List[Tuple[List[str], Tuple[int, int, bool]]] = [
+            ([], (3, 1, True)), (["--count-all"], (5, 2, False))]
+        for options, counts in table:
+            said = json.loads(self.said(after(BUSY), "--json", *options))
+            self.assertEqual((said["completed_reads"], said["overlapping_reads"], said["at_least"]), counts)
 
     def test_too_little_evidence_is_told_of_the_whole(self) -> None:
         with short():
