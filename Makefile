@@ -1,6 +1,8 @@
 # make: prove and build bin/regcheck and bin/regsearch.
+# make help: show these lines.
 # make run: run regcheck on a shipped example, or on FILE=...
-# make try: the same at once, unproved and with checks at run time; for a first look.
+# make try: the same at once, unproved and with checks at run time; for a first look. PROGRAM=regsearch takes
+#   repeated values and cas.
 # make test: the gate: every proof from nothing, edits that must fail, tests, and scripts over the built
 #   program.
 # make edits: try the wrong bodies that `make test` leaves out, in half an hour: after a change of a contract
@@ -27,32 +29,51 @@
 # make dist: the release in dist/: a tarball, a Debian package, their bill of materials and their sums.
 # make dist-library: a tarball of the library in dist/, with the packages for other languages.
 # make wheel: regkit, the program and the library in one file in dist/, for pip.
+# make dist ARCH=arm64, and so with the two others: the same for ARM64 Linux, beside those in dist/; it needs
+#   Debian's gcc-aarch64-linux-gnu.
+# make arm64-test: run the programs for ARM64 as the gate runs those for x86-64; it needs qemu-user-static.
 # make stores: record real stores and check them, those whose servers are installed, with pages in STORES=...
+#   REGCHECK=... names the program, which is built else.
 FILE ?= examples/new_old_inversion.jsonl
+PROGRAM ?= regcheck
 PREFIX ?= /usr/local
 SECONDS ?= 600
 SHOTS ?= /tmp/regkit-shots
 STORES ?= /tmp/regkit-stores
 COUNT ?= 10000
 VERSION := $(shell cat VERSION)
+# What a release is for: amd64 or arm64, as Debian calls them; how Linux does; and the tools for ARM64.
+ARCH ?= amd64
+LINUX := $(if $(filter arm64,$(ARCH)),aarch64,x86_64)
+CROSS := aarch64-linux-gnu-
+CROSS_CC := $(if $(filter arm64,$(ARCH)),$(CROSS)gcc,$(CC))
+# The folders with the library and the programs of a release for it.
+LIBRARY := $(if $(filter arm64,$(ARCH)),bin/arm64,bin)
+STATIC := $(if $(filter arm64,$(ARCH)),bin/arm64,bin/static)
 # The number behind .so is that of the interface.
 SONAME := libregcheck.so.1
 SOURCES := $(shell find crates -name out -prune -o -type f \( -name '*.rt' -o -name '*.antt' \) -print)
 PYTHON := $(shell find python/regkit -name '*.py')
 # The packages for other languages, without what somebody built in their folders.
 PACKAGES := $(shell find clojure go java javascript rust -name target -prune -o -type f \
-	\( -name '*.clj' -o -name '*.go' -o -name go.mod -o -name '*.java' -o -name '*.cjs' -o -name '*.rs' \
-	-o -name Cargo.toml -o -name README.md \) -print | sort)
+	\( -name '*.clj' -o -name '*.go' -o -name '*.java' -o -name '*.cjs' -o -name '*.cts' -o -name '*.rs' \
+	-o -name go.mod -o -name Cargo.toml -o -name pom.xml -o -name package.json -o -name deps.edn \
+	-o -name README.md \) -print | sort)
 PROGRAMS := regcheck regsearch
 # The folder that has them; a release has those of bin/static.
 BUILT := bin
 DOCUMENTS = $(DESTDIR)$(PREFIX)/share/doc/regcheck
+# What isn't only read, since a container's packages may come without documents.
+SHARED = $(DESTDIR)$(PREFIX)/share/regcheck
 
-.PHONY: all run try test edits costs fuzz picture-test bench bench-compare bench-search bench-search-worst \
-	library embed-test bench-library install install-programs install-library dist dist-library wheel \
-	stores clean
+.PHONY: all help run try test edits costs fuzz picture-test bench bench-compare bench-search \
+	bench-search-worst library embed-test bench-library install install-programs install-library dist \
+	dist-library wheel arm64-test stores clean
 
 all: $(PROGRAMS:%=bin/%)
+
+help:
+	@sed -n '/^#/!q; s/^# //p' Makefile
 
 # The crates below a program are proved side by side. Then `rt run` proves the program's own, builds it and
 # leaves it in out/; its stored input keeps it from waiting for ours. What they say goes to logs in bin/, and
@@ -67,7 +88,7 @@ bin/history_generator: $(SOURCES) crates.txt
 		$(CURDIR)/packaging/prove $(CURDIR)/bin/history_generator.log rt run -- sequential
 	cp crates/history_generator/out/history_generator bin/history_generator
 
-library: bin/libregcheck.a bin/libregcheck.so bin/regcheck.pc
+library: $(LIBRARY)/libregcheck.a $(LIBRARY)/libregcheck.so bin/regcheck.pc bin/regcheck.h
 
 # The names of the library, which library/regcheck.map has too.
 CALLS := regcheck_report regcheck_refusal regsearch_report regsearch_refusal
@@ -79,16 +100,34 @@ bin/libregcheck.a: $(SOURCES) crates.txt
 	for crate in regcheck_c regsearch_c; do \
 	    (cd crates/$$crate && $(CURDIR)/packaging/prove $(CURDIR)/bin/$$crate.log rt lib) || exit 1; \
 	done
-	ld -r $(CALLS:%=-u %) -o bin/regcheck.o crates/regcheck_c/out/libregcheck_c.a \
+	ld -r $(CALLS:%=-u %) -o bin/libregcheck.o crates/regcheck_c/out/libregcheck_c.a \
 	    crates/regsearch_c/out/libregsearch_c.a "$$(dirname "$$(rt doc)")/c/liblibc_c.a"
-	objcopy $(CALLS:%=--keep-global-symbol=%) bin/regcheck.o
+	objcopy $(CALLS:%=--keep-global-symbol=%) bin/libregcheck.o
 	rm -f $@
-	ar rcsD $@ bin/regcheck.o
+	ar rcsD $@ bin/libregcheck.o
 
-bin/libregcheck.so: bin/libregcheck.a library/regcheck.map
-	$(CC) -shared -o bin/$(SONAME) -Wl,-soname,$(SONAME),--version-script=library/regcheck.map \
-		-Wl,--no-undefined,-z,noexecstack,-z,now bin/regcheck.o
+# The same for ARM64, over what the rule above proved.
+bin/arm64/libregcheck.a: bin/libregcheck.a bin/arm64/heap.o packaging/compile_arm64
+	packaging/compile_arm64 regcheck_c bin/arm64/libregcheck_c.a
+	packaging/compile_arm64 regsearch_c bin/arm64/libregsearch_c.a
+	$(CROSS)ld -r $(CALLS:%=-u %) -o bin/arm64/libregcheck.o bin/arm64/libregcheck_c.a \
+	    bin/arm64/libregsearch_c.a bin/arm64/heap.o
+	$(CROSS)objcopy $(CALLS:%=--keep-global-symbol=%) bin/arm64/libregcheck.o
+	rm -f $@
+	$(CROSS)ar rcsD $@ bin/arm64/libregcheck.o
+
+$(LIBRARY)/libregcheck.so: $(LIBRARY)/libregcheck.a library/regcheck.map
+	$(CROSS_CC) -shared -o $(@D)/$(SONAME) -Wl,-soname,$(SONAME),--version-script=library/regcheck.map \
+		-Wl,--no-undefined,-z,noexecstack,-z,now $(@D)/libregcheck.o
 	ln -sf $(SONAME) $@
+
+bin/arm64/heap.o bin/arm64/words.o: bin/arm64/%.o: packaging/arm64/%.c
+	mkdir -p $(@D)
+	$(CROSS)gcc -O2 -fPIC -Wall -Wextra -c $< -o $@
+
+# The header stands beside the library, as in a release: what finds one finds both.
+bin/regcheck.h: library/regcheck.h bin/libregcheck.a
+	cp $< $@
 
 bin/regcheck.pc: library/regcheck.pc.in VERSION
 	mkdir -p bin
@@ -104,10 +143,8 @@ bench-library: library bin/regcheck bin/history_generator
 run: bin/regcheck
 	bin/regcheck < $(FILE); status=$$?; test $$status -le 1
 
-# Nothing is proved here: `rt try` compiles all crates with checks, runs the program, and keeps nothing.
 try:
-	@echo 'Nothing is proved in this run: see make run.' >&2
-	@cd crates/regcheck && rt try < $(abspath $(FILE)); status=$$?; test $$status -le 1
+	@packaging/try_unproved $(PROGRAM) $(FILE); status=$$?; test $$status -le 1
 
 # tests/gate says what it runs, and at its end how long each part took.
 test:
@@ -169,13 +206,16 @@ install-programs: $(PROGRAMS:%=bin/%) bin/regkit bin/completions
 	install -D -m 644 -t $(DOCUMENTS)/examples/stores examples/stores/harness.py
 	install -D -m 755 -t $(DOCUMENTS)/examples/stores \
 		$(addprefix examples/stores/,redis.py postgresql.py etcd.py)
-	install -D -m 755 -t $(DOCUMENTS)/engines engines/*
-	for file in $(PACKAGES); do install -D -m 644 $$file $(DOCUMENTS)/$$file || exit 1; done
+	install -D -m 755 -t $(SHARED)/engines engines/*
+	for file in $(PACKAGES); do install -D -m 644 $$file $(SHARED)/$$file || exit 1; done
+	for folder in engines $(sort $(foreach file,$(PACKAGES),$(firstword $(subst /, ,$(file))))); do \
+	    rm -rf $(DOCUMENTS)/$$folder; ln -s ../../regcheck/$$folder $(DOCUMENTS)/$$folder || exit 1; \
+	done
 
 install-library: library
 	install -D -m 644 -t $(DESTDIR)$(PREFIX)/include library/regcheck.h
-	install -D -m 644 -t $(DESTDIR)$(PREFIX)/lib bin/libregcheck.a
-	install -D -m 755 -t $(DESTDIR)$(PREFIX)/lib bin/$(SONAME)
+	install -D -m 644 -t $(DESTDIR)$(PREFIX)/lib $(LIBRARY)/libregcheck.a
+	install -D -m 755 -t $(DESTDIR)$(PREFIX)/lib $(LIBRARY)/$(SONAME)
 	ln -sf $(SONAME) $(DESTDIR)$(PREFIX)/lib/libregcheck.so
 	install -D -m 644 -t $(DESTDIR)$(PREFIX)/lib/pkgconfig bin/regcheck.pc
 
@@ -188,28 +228,41 @@ bin/static/regsearch: crates/regsearch/out/regsearch.o
 $(PROGRAMS:%=bin/static/%): bin/static/%: bin/% packaging/link_static
 	packaging/link_static crates/$*/out/$*.o $@
 
-dist: $(PROGRAMS:%=bin/static/%)
-	rm -rf dist bin/tree
-	$(MAKE) --no-print-directory -s install-programs DESTDIR=bin/tree PREFIX= BUILT=bin/static
-	packaging/make_dist bin/tree dist
+$(PROGRAMS:%=bin/arm64/%.o): bin/arm64/%.o: bin/% packaging/compile_arm64
+	packaging/compile_arm64 $* $@
 
-LIBRARY_TREE := bin/library/libregcheck-$(VERSION)-x86_64-linux
+$(PROGRAMS:%=bin/arm64/%): %: %.o bin/arm64/heap.o bin/arm64/words.o packaging/link_static
+	CC=$(CROSS)gcc STRIP=$(CROSS)strip packaging/link_static $< $@ "bin/arm64/heap.o bin/arm64/words.o"
+
+dist: $(PROGRAMS:%=$(STATIC)/%)
+	rm -rf bin/tree $(if $(filter arm64,$(ARCH)),,dist)
+	$(MAKE) --no-print-directory -s install-programs DESTDIR=bin/tree PREFIX= BUILT=$(STATIC)
+	CC=$(CROSS_CC) packaging/make_dist bin/tree dist
+
+LIBRARY_TREE := bin/library/libregcheck-$(VERSION)-$(LINUX)-linux
 
 dist-library:
 	rm -rf bin/library
 	$(MAKE) --no-print-directory -s install-library DESTDIR=$(LIBRARY_TREE) PREFIX=
 	cp --parents $(PACKAGES) docs/embedding.md docs/format.md $(LIBRARY_TREE)
+	ln $(LIBRARY_TREE)/include/regcheck.h $(LIBRARY_TREE)/lib/libregcheck.a $(LIBRARY_TREE)/go/regcheck
+	CC=$(CROSS_CC) packaging/make_bill $(LIBRARY)/libregcheck.a $(LIBRARY)/$(SONAME) \
+		> $(LIBRARY_TREE)/libregcheck.spdx.json
 	mkdir -p dist
 	tar --sort=name --owner=root --group=root --mtime=@0 --mode=u+rw,go=rX -C bin/library -c . \
 		| gzip -9n > dist/$(notdir $(LIBRARY_TREE)).tar.gz
 	packaging/write_sums dist
 
-wheel: $(PROGRAMS:%=bin/static/%) bin/libregcheck.so
-	packaging/make_wheel $(PROGRAMS:%=bin/static/%) bin/$(SONAME) dist
+wheel: $(PROGRAMS:%=$(STATIC)/%) $(LIBRARY)/libregcheck.so
+	CC=$(CROSS_CC) packaging/make_bill $(PROGRAMS:%=$(STATIC)/%) $(LIBRARY)/$(SONAME) > bin/regkit.spdx.json
+	packaging/make_wheel $(PROGRAMS:%=$(STATIC)/%) $(LIBRARY)/$(SONAME) bin/regkit.spdx.json dist
 	packaging/write_sums dist
 
+arm64-test: $(PROGRAMS:%=bin/%) $(PROGRAMS:%=bin/arm64/%)
+	tests/arm64
+
 # Status 5 is that of a store whose server isn't here.
-stores: bin/regcheck
+stores: $(if $(REGCHECK),,bin/regcheck)
 	@right=0; for store in redis postgresql etcd; do \
 	    examples/stores/$$store.py $(STORES); status=$$?; test $$status = 0 -o $$status = 5 || right=1; \
 	done; exit $$right

@@ -1,15 +1,38 @@
-"""What all files of a release share: the version, the time of each file, the rights, and the sums."""
+"""What all files of a release share: the machine, the version, times, rights, and the sums."""
 import calendar
 import hashlib
 import os
 import pathlib
 import re
+import struct
 import time
+from typing import Iterable, NamedTuple
 
-ROOT = pathlib.Path(__file__).resolve().parents[1]
+from crates import ROOT
+
 VERSION = (ROOT / "VERSION").read_text().strip()
 CHANGELOG = (ROOT / "CHANGELOG.md").read_text()
 SUMS = "SHA256SUMS"
+
+
+class Machine(NamedTuple):
+    """What a release is for, as Debian calls it and as Linux does."""
+
+    debian: str
+    linux: str
+
+
+# By the number that the head of a program has for it.
+MACHINES = {62: Machine("amd64", "x86_64"), 183: Machine("arm64", "aarch64")}
+
+
+def machine_of(files: Iterable[pathlib.Path]) -> Machine:
+    """The machine that the first program or shared library among the files is for."""
+    for file in files:
+        data = file.read_bytes()
+        if data.startswith(b"\x7fELF"):
+            return MACHINES[struct.unpack_from("<H", data, 18)[0]]
+    raise SystemExit("no file is a program or a shared library")
 
 
 def epoch() -> int:
@@ -23,9 +46,9 @@ def epoch() -> int:
 def settle(tree: pathlib.Path) -> None:
     """Gives a tree's files the same time, and the rights that a release has, whatever the umask is."""
     for path in sorted([tree, *tree.rglob("*")], reverse=True):
-        runs = path.is_dir() or path.stat().st_mode & 0o100
-        path.chmod(0o755 if runs else 0o644)
-        os.utime(path, (epoch(), epoch()))
+        if not path.is_symlink():
+            path.chmod(0o755 if path.is_dir() or path.stat().st_mode & 0o100 else 0o644)
+        os.utime(path, (epoch(), epoch()), follow_symlinks=False)
 
 
 def write_sums(folder: pathlib.Path) -> None:
