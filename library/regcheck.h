@@ -7,6 +7,8 @@
 #ifndef REGCHECK_H
 #define REGCHECK_H
 
+#define REGCHECK_VERSION "1.2.0"
+
 #include <stddef.h>
 #include <stdint.h>
 

@@ -122,7 +122,7 @@ def search_case(program: str, name: str, words: Tuple[str, ...], given: bytes) -
     """The answer is the program's own, if nothing is wrong with it: more than one may be right."""
     ran = subprocess.run([program, *words], input=given, capture_output=True, check=False)
     ended = search_judge.Ended(ran.returncode, ran.stdout, ran.stderr)
-    why = search_judge.complaint(given, ended, "--configurations" not in words)
+    why = search_judge.complaint(given, ended, not {"--steps", "--configurations"} & {*words})
     if why:
         raise SystemExit(f"{name}: {why}")
     return Case(name, words, given, ended)
@@ -137,6 +137,8 @@ def refused_search_cases(program: str) -> List[Case]:
     cases.append(search_case(program, "cas, one worker", ("--workers", "1"), history(CAS)))
     cases.append(search_case(program, "as it is", (), history(MERGED)))
     cases.append(search_case(program, "given up", ("--configurations", "1"), history(GIVEN_UP)))
+    for name, text in {"by zones": WRITE_AND_READ, "not atomic, by zones": INVERSION}.items():
+        cases.append(search_case(program, name, ("--steps", "1"), history(text)))
     cases.append(search_case(program, "by name", (), history(CAS))._replace(named=True))
     cases.append(search_case(program, "in two blocks", ("--workers", "2"), in_two_blocks(history(CAS))))
     cases.append(Case("bad words", ("--workers", "17"), history(CAS), (3, b"", BAD_WORDS)))
