@@ -9,7 +9,7 @@ from typing import Callable, List, Optional, Sequence, Tuple
 from unittest import mock
 
 from regkit.checker.programs import CHECK, SEARCH, Answer, find_program, run_checker, run_search
-from regkit.checker.refusals import NUMBERS, SEARCH_TEXTS
+from regkit.checker.refusals import NUMBERS, REPEATED, SEARCH_TEXTS, TEXTS
 from regkit.checker.report import Row
 from regkit.commands import join as command
 from regkit.parts.folder import BLANK, MAP, MAP_LINE, Manifest, file_of, write_manifest
@@ -249,19 +249,22 @@ class RefusedParts(HandMade):
         self.assertEqual((2, b"", "line 70: the process has an open call at line 4\n"), self.join())
 
     def test_every_text_of_the_format(self) -> None:
-        """Each refusal of a line in docs/format.md is known by its number, but that of too many events."""
+        """docs/format.md has each refusal of each program. Those of a line have the numbers and texts that
+        `join` knows, but that of too many events."""
         text = (pathlib.Path(__file__).parents[2] / "docs" / "format.md").read_text(encoding="utf-8")
-        text, of_search = text.split("### Refusals of `regsearch`")
-        for number, words in SEARCH_TEXTS.items():
-            found = [line for line in of_search.splitlines() if line.startswith(f"| {number} |")]
-            self.assertIn(f"`{words}` |", found[0])
-            self.assertEqual(number, NUMBERS[words])
         rows = [[cell.strip(" `") for cell in line.split("|")[1:-1]] for line in text.splitlines()]
-        table = {int(row[0]): row[2] for row in rows if len(row) == 3 and row[0].isdigit()}
-        self.assertLessEqual(set(range(1, 14)), set(table))
-        for number in set(table) & {*range(1, 14), 19}:
-            with self.subTest(number):
-                self.assertEqual(number, NUMBERS.get(table[number].replace(" at line N", "")))
+        of_search = {**TEXTS, **SEARCH_TEXTS}
+        del of_search[REPEATED]
+        numbers = {*range(1, 20)}
+        programs = [(numbers, TEXTS), ((numbers - {REPEATED}) | {20, 21}, of_search)]
+        for column, (expected, texts) in enumerate(programs):
+            table = {int(row[column]): row[3].replace(" at line N", "")
+                     for row in rows if len(row) == 4 and row[column].isdigit()}
+            self.assertEqual(set(table), expected)
+            for number, words in texts.items():
+                with self.subTest(column=column, number=number):
+                    self.assertEqual(table[number], words)
+                    self.assertEqual(NUMBERS[words], number)
 
     def test_a_line_that_split_could_not_read(self) -> None:
         """Never an answer about a half of the history."""

@@ -70,6 +70,18 @@ class Recipes(unittest.TestCase):
                     self.assertEqual(command("check", given=source.encode()).status, status)
 
     @unittest.skipUnless(find_program(SEARCH), "regsearch isn't built")
+    def test_calls(self) -> None:
+        """An increment, a put-if-absent that missed, and a read of what the increment left."""
+        calls = block("calls.jsonl")
+        words, = [words for words in commands() if "calls.jsonl" in words]
+        words.remove("calls.jsonl")
+        read = '"op":"get","key":"x","output":'
+        self.assertIn(f"{read}2", calls)
+        for source, status in [(calls, 0), (calls.replace(f"{read}2", f"{read}1"), 1)]:
+            ran = run(source, AUTO, *words)
+            self.assertEqual(command("check", given=ran.history.encode()).status, status)
+
+    @unittest.skipUnless(find_program(SEARCH), "regsearch isn't built")
     def test_lock(self) -> None:
         """Two cas of which one is told that it missed. Both can't take place."""
         lock = block("lock.csv")
