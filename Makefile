@@ -31,7 +31,8 @@
 # make wheel: regkit, the program and the library in one file in dist/, for pip.
 # make dist ARCH=arm64, and so with the two others: the same for ARM64 Linux, beside those in dist/; it needs
 #   Debian's gcc-aarch64-linux-gnu.
-# make arm64-test: run the programs for ARM64 as the gate runs those for x86-64; it needs qemu-user-static.
+# make arm64-test: run the programs and the library for ARM64 as the gate runs those for x86-64; it needs
+#   qemu-user-static.
 # make stores: record real stores and check them, those whose servers are installed, with pages in STORES=...
 #   REGCHECK=... names the program, which is built else.
 FILE ?= examples/new_old_inversion.jsonl
@@ -258,7 +259,7 @@ wheel: $(PROGRAMS:%=$(STATIC)/%) $(LIBRARY)/libregcheck.so
 	packaging/make_wheel $(PROGRAMS:%=$(STATIC)/%) $(LIBRARY)/$(SONAME) bin/regkit.spdx.json dist
 	packaging/write_sums dist
 
-arm64-test: $(PROGRAMS:%=bin/%) $(PROGRAMS:%=bin/arm64/%)
+arm64-test: $(PROGRAMS:%=bin/%) $(PROGRAMS:%=bin/arm64/%) bin/arm64/libregcheck.a
 	tests/arm64
 
 # Status 5 is that of a store whose server isn't here.

@@ -18,14 +18,17 @@ ROOT = pathlib.Path(__file__).resolve().parents[2]
 NAME = f"regkit-{__version__}"
 PROGRAMS = ("regcheck", "regsearch")
 BILL = "regkit.spdx.json"
-HEAD = b"\x7fELF" + bytes(14) + b"\x3e\0"  # of a program for x86-64
+HEADS = {"x86_64": b"\x7fELF" + bytes(14) + b"\x3e\0",  # how programs for each machine begin
+         "aarch64": b"\x7fELF" + bytes(14) + b"\xb7\0"}
 FOUND = ("from regkit.checker import library, programs; print(programs.find_checker()); "
          "print(next(library._places()))")
 
 
-def packed(name: str, *paths: pathlib.Path) -> None:
-    """Runs a script of packaging/."""
-    subprocess.run([sys.executable, "-B", str(ROOT / "packaging" / name), *map(str, paths)], check=True)
+def packed(name: str, *paths: pathlib.Path) -> str:
+    """Runs a script of packaging/, and gives its words if it fails."""
+    words = [sys.executable, "-B", str(ROOT / "packaging" / name), *map(str, paths)]
+    ran = subprocess.run(words, stderr=subprocess.PIPE, text=True, check=False)
+    return ran.stderr if ran.returncode else ""
 
 
 class Wheel(unittest.TestCase):
@@ -33,16 +36,23 @@ class Wheel(unittest.TestCase):
         folder = tempfile.TemporaryDirectory()
         self.addCleanup(folder.cleanup)
         self.folder = pathlib.Path(folder.name)
-        for name in (*PROGRAMS, FILE, BILL):  # pip asks nothing of them, and the wheel for which processor
-            (self.folder / name).write_bytes(HEAD + f"stands in for {name}".encode())
+        self.stand_in("x86_64")
         self.wheel = self.made("first")
+
+    def stand_in(self, machine: str, needs: str = "GLIBC_2.17") -> None:
+        """Writes files of which pip asks nothing, and the wheel for which machine and C library they are."""
+        for name in (*PROGRAMS, FILE, BILL):
+            (self.folder / name).write_bytes(HEADS[machine] + f"stands in for {name}\0{needs}\0".encode())
 
     def made(self, name: str) -> pathlib.Path:
         """The wheel, made in a folder of that name."""
-        given = (*PROGRAMS, FILE, BILL, name)
-        packed("make_wheel", *(self.folder / it for it in given))
+        self.assertEqual(self.refused(name), "")
         wheel, = (self.folder / name).iterdir()
         return wheel
+
+    def refused(self, name: str) -> str:
+        """What making a wheel in that folder says if it fails."""
+        return packed("make_wheel", *(self.folder / it for it in (*PROGRAMS, FILE, BILL, name)))
 
     def installed(self) -> pathlib.Path:
         """The prefix of a tree with the files where pip puts them."""
@@ -60,7 +70,25 @@ class Wheel(unittest.TestCase):
         before = os.umask(0o077)
         self.addCleanup(os.umask, before)
         self.assertEqual(self.wheel.read_bytes(), self.made("second").read_bytes())
-        self.assertEqual(self.wheel.name, f"{NAME}-py3-none-linux_x86_64.whl")
+
+    def test_its_name_says_for_which_machines_it_is(self) -> None:
+        for machine in HEADS:
+            self.stand_in(machine)
+            wheel = self.made(machine)
+            tags = [f"manylinux2014_{machine}", f"musllinux_1_2_{machine}"]
+            self.assertEqual(wheel.name, f"{NAME}-py3-none-{'.'.join(tags)}.whl")
+            with zipfile.ZipFile(wheel) as archive:
+                lines = archive.read(f"{NAME}.dist-info/WHEEL").decode().splitlines()
+            self.assertEqual(lines[-2:], [f"Tag: py3-none-{tag}" for tag in tags])
+
+    def test_a_library_for_a_later_glibc_is_refused(self) -> None:
+        self.stand_in("x86_64", "GLIBC_2.2.5")
+        self.made("older")
+        for needs in ("GLIBC_2.18", "GLIBC_2.34", "GLIBC_ABI_DT_RELR"):
+            self.stand_in("x86_64", needs)
+            words = f"needs glibc {needs.removeprefix('GLIBC_')}, and the wheel promises 2.17\n"
+            self.assertTrue(self.refused("later").endswith(words))
+            self.assertFalse((self.folder / "later").exists())
 
     def test_what_is_in_it(self) -> None:
         with zipfile.ZipFile(self.wheel) as archive:
@@ -107,7 +135,7 @@ class Sums(unittest.TestCase):
             for _ in range(2):  # the second time, the sums themselves are there
                 (folder / "b").write_bytes(b"two")
                 (folder / "a").write_bytes(b"one")
-                packed("write_sums", folder)
+                self.assertEqual(packed("write_sums", folder), "")
                 data = {"a": b"one", "b": b"two"}
                 lines = [f"{hashlib.sha256(data[name]).hexdigest()}  {name}" for name in "ab"]
                 self.assertEqual((folder / "SHA256SUMS").read_text().splitlines(), lines)
