@@ -19,8 +19,8 @@ from typing import Any, Iterable, Optional
 from regkit.convert import etcd, jepsen, versions
 from regkit.convert.json_values import is_json, json_values
 from regkit.convert.members import KeyMember, Known, Members, Outcomes, by_folded_name, ok_of
-from regkit.convert.model import (ANSWERED, CAS, CONDITIONAL, READS, WRITES, Choices, Refused, Source,
-                                  SourceOperation, WrongWords)
+from regkit.convert.model import (ANSWERED, CAS, CONDITIONAL, READS, STATED, WRITES, Choices, Refused,
+                                  Source, SourceOperation, WrongWords)
 from regkit.convert.pairing import Pairing
 from regkit.convert.rows import client_of
 from regkit.convert.settle import settle
@@ -135,7 +135,7 @@ class _Values:
         if is_read and not found_nothing:
             operation.answer = (self._read(members, line) if version is None
                                 else versions.found(members, version, line))
-        elif operation.kind in WRITES and not self.choices.explains("output", "value"):
+        elif operation.kind in STATED and not self.choices.explains("output", "value"):
             operation.answer = _written(members)
         return ending
 

@@ -63,7 +63,7 @@ def readable(texts: Iterable[str]) -> dict[str, str]:
 
 
 def _unquoted(text: str) -> str:
-    if text[0] != '"' or text == '""':
+    if text[:1] != '"' or text == '""':
         return text
     return str(unsettled(text)) if "\\" in text else text[1:-1]
 

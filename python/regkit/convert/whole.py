@@ -33,10 +33,10 @@ def convert(lines: Iterable[str], choices: Choices, number: bool = True) -> Conv
     if not read:
         raise Refused(_nothing_left(source, choices.form))
     given = give_processes(source)
+    start = None
     if choices.initial is not None:
         start = initial_value(choices.initial, choices.form, choices.values == "alike")
-        if start is not None:
-            _begin(source, read, start)
+    _begin(source, read, start)
     source.notes.extend(look_at_reads(source, all_written(source.operations()), choices))
     named = names(read)
     numbers = number_texts(source.operations()) if number else {}
@@ -50,8 +50,8 @@ def _nothing_left(source: Source, form: str) -> str:
                       *source.notes])
 
 
-def _begin(source: Source, operations: list[SourceOperation], value: Value) -> None:
-    """Puts a completed write of a value to each register before all else.
+def _begin(source: Source, operations: list[SourceOperation], start: Value) -> None:
+    """Puts a completed write of a value to each register before all else, if it starts with one.
 
     The process that first writes a register later writes its initial value too, so that a single writer stays
     one.
@@ -63,6 +63,9 @@ def _begin(source: Source, operations: list[SourceOperation], value: Value) -> N
             first[operation.key] = operation
     steps: list[SourceOperation] = []
     for key, operation in first.items():
+        value = source.starts.get(key) if start is None else start
+        if value is None:
+            continue
         write = SourceOperation(0, operation.client, "write", key, value)
         write.ending, write.end_line, write.process = "reply", 0, operation.process
         steps += [write, write]

@@ -6,14 +6,14 @@ from typing import Collection, Optional
 from regkit.convert import versions, write_back
 from regkit.convert.advice import takes_away
 from regkit.convert.columns import COLUMNS, columns
-from regkit.convert.model import (ADD, CAS, CREATE, ENDINGS, FETCH_ADD, OTHER, READ_AND_WRITE, SWAP, Choices,
-                                  WrongWords, folded)
+from regkit.convert.model import (ADD, APPEND, CAS, CREATE, ENDINGS, FETCH_ADD, FETCH_SUBTRACT, OTHER,
+                                  READ_AND_WRITE, SUBTRACT, SWAP, Choices, WrongWords, folded)
 from regkit.convert.whole import READERS
 
 AUTO = "auto"  # the form is what the source's beginning says
 TIMED = ("porcupine", "csv", "operations")
 NULLS = {"porcupine": "", "csv": ""}  # by form, what spells null if --null doesn't say
-OPS = ("read", "write", CAS, CREATE, SWAP, ADD, FETCH_ADD, OTHER)
+OPS = ("read", "write", CAS, CREATE, SWAP, ADD, FETCH_ADD, SUBTRACT, FETCH_SUBTRACT, APPEND, OTHER)
 DELIMITERS = {"comma": ",", "semicolon": ";", "tab": "\t", "\\t": "\t", "pipe": "|", "bar": "|"}
 
 
@@ -151,9 +151,8 @@ def _meanings(option: str, given: list[str], known: Collection[str]) -> dict[str
                 raise WrongWords(f"{option} {said}={meaning}: {said} reads and writes at once, so it is "
                                  f"{'cas or other' if folded(said) == CAS else OTHER}")
             if meaning in (ADD, FETCH_ADD) and takes_away(said):
-                raise WrongWords(f"{option} {said}={meaning}: {said} takes away, and {meaning} adds what is "
-                                 "asked, or 1: record it as an addition of a negative number, under another "
-                                 "word")
+                raise WrongWords(f"{option} {said}={meaning}: {said} takes away, and {meaning} adds: say "
+                                 f"{said}={SUBTRACT if meaning == ADD else FETCH_SUBTRACT}")
             if meanings.setdefault(folded(said), meaning) != meaning:
                 raise WrongWords(f"{option}: {said} is given two meanings")
     return meanings
