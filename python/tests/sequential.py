@@ -1,7 +1,8 @@
 """Stores of one key that do one thing after another, their random histories, and a slow judge of these.
 
-A store is a function from its state and what is asked to the next state and the answer. A history is judged
-by trying all orders of its operations on the store, so it shares nothing with what `regkit convert` does.
+A store is a function from its state and what is asked to what may come of it: next states with answers. A
+history is judged by trying all orders of its operations on the store, and all that may come of them. So the
+judge shares nothing with `regkit convert`.
 """
 import pathlib
 import random
@@ -14,7 +15,7 @@ import search_judge  # noqa: E402
 
 Asked = Tuple[str, Any]  # an operation, and what it gives
 State = Any  # hashable
-Store = Callable[[State, Asked], Tuple[State, Any]]
+Store = Callable[[State, Asked], List[Tuple[State, Any]]]
 
 
 class Done(NamedTuple):
@@ -54,12 +55,12 @@ def history_of(chance: random.Random, store: Store, state: State, ask: Callable[
         client = clients[place]
         call = running.get(client)
         if lost and chance.random() < 0.15:
-            state, _ = store(state, lost.pop(chance.randrange(len(lost))).asked)
+            state, _ = chance.choice(store(state, lost.pop(chance.randrange(len(lost))).asked))
         if call is None:
             running[client] = _Open(client, ask(state), time)
         elif not call.is_effective and chance.random() < 0.85:
             call.is_effective = True
-            state, call.answer = store(state, call.asked)
+            state, call.answer = chance.choice(store(state, call.asked))
         else:
             del running[client]
             if call.is_effective and chance.random() < 0.85:
@@ -90,8 +91,8 @@ def is_linearizable(done: Iterable[Done], store: Store, state: State) -> bool:
         tried.add((taken, state))
         for at, each in enumerate(held):
             if not taken >> at & 1 and not before[at] & ~taken:
-                after, answer = store(state, each.asked)
-                if (each.outcome != "ok" or answer == each.answer) and rest(taken | 1 << at, after):
+                if any(rest(taken | 1 << at, after) for after, answer in store(state, each.asked)
+                       if each.outcome != "ok" or answer == each.answer):
                     return True
         return False
 

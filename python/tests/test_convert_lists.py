@@ -23,12 +23,12 @@ UNCLEAR = ["a", "b", "ab", "ba", "aa", "bb", "aab", "c", "ca", "abc"]
 PUT = ["", "", "p;", "p;", "q;", "x 9 9 y"]
 
 
-def texts(state: State, asked: Asked) -> Tuple[State, Any]:
+def texts(state: State, asked: Asked) -> List[Tuple[State, Any]]:
     """A key with a text, which is empty at first."""
     op, value = asked
     if op == "get":
-        return state, state
-    return (value if op == "put" else state + value), None
+        return [(state, state)]
+    return [(value if op == "put" else state + value, None)]
 
 
 class Way(NamedTuple):
@@ -110,12 +110,8 @@ def table(done: List[Done]) -> str:
     return "\n".join(lines)
 
 
-def elements(text: Optional[str]) -> List[str]:
-    """A text as the list of what it is made of: words that end by y or a semicolon, or of other letters."""
-    return edn_list(text or "")
-
-
-def edn_list(text: str) -> List[str]:
+def elements(text: str) -> List[str]:
+    """A text as the list of what it is made of, each of which ends by a sign of its own."""
     parts: List[str] = [""]
     for letter in text:
         parts[-1] += letter

@@ -4,11 +4,11 @@ from typing import Any, Callable, Optional
 
 from regkit.convert import edn, lists
 from regkit.convert.advice import not_taken
-from regkit.convert.changes import as_cas, leave_out_failed, refuse_repeated
+from regkit.convert.changes import as_cas, leave_out_failed, meet_nothing, refuse_repeated
 from regkit.convert.keys import settle_keys
 from regkit.convert.members import WRITE_ANSWERS
-from regkit.convert.model import (APPEND, CAS, CHANGES, CONDITIONAL, READS, WRITES, Choices, Refused, Source,
-                                  SourceOperation, Value)
+from regkit.convert.model import (ADDITIONS, APPEND, CAS, CHANGES, CONDITIONAL, READS, WRITES, Choices,
+                                  Refused, Source, SourceOperation, Value)
 from regkit.convert.values import ALL_TEXTS, settled, shown
 
 _OPAQUE = frozenset({"object", "error"})  # tags of values that can't be compared by how they are written
@@ -23,9 +23,11 @@ def settle(source: Source, choices: Choices) -> None:
     refuse_repeated(operations, choices.form, read_value)
     kept = [operation for operation in operations if operation.key not in skipped]
     source.lists = lists.keys_of(kept, read_value)
+    added = [operation for operation in kept if operation.kind in ADDITIONS]
     for operation in kept:
         is_list = operation.key in source.lists
         _settle_one(operation, partial(lists.raw, nulls=choices.nulls) if is_list else read_value, choices)
+    meet_nothing(added, kept, choices)
     leave_out_failed(source)
     lists.fold(source, kept, choices)
 
@@ -55,7 +57,7 @@ def _settle_kind(operation: SourceOperation, takes_cas: bool) -> None:
 def _settle_ending(operation: SourceOperation) -> None:
     if operation.ending != "missed":
         return
-    if operation.kind not in CONDITIONAL:
+    if operation.kind not in CONDITIONAL and operation.version is None:
         raise Refused(f"by --outcomes it missed, and it is a {operation.kind}, not a cas: say what the word "
                       "means of all operations, such as WORD=fail or WORD=unknown", operation.end_line)
     operation.ending, operation.missed = "reply", True

@@ -111,7 +111,7 @@ def all_written(operations: Iterable[SourceOperation]) -> Written:
     for operation in operations:
         if operation.kind == "read":
             continue
-        if operation.value is None:
+        if operation.value is None and operation.version is None:
             raise Refused(f"a {operation.kind} of null to {shown(operation.key)}: only the initial value is "
                           "null. Let the workload delete nothing, or go on with another key; or name fewer "
                           "spellings of null with --null", operation.line)

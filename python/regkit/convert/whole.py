@@ -1,7 +1,7 @@
 """The whole way from a source's lines to a history that can be written."""
 from typing import Callable, Iterable, NamedTuple
 
-from regkit.convert import events, jepsen, porcupine, tables
+from regkit.convert import events, jepsen, porcupine, tables, versions
 from regkit.convert.model import Choices, Refused, Source, SourceOperation, Value
 from regkit.convert.names import names
 from regkit.convert.processes import Given, give_processes
@@ -38,6 +38,9 @@ def convert(lines: Iterable[str], choices: Choices, number: bool = True) -> Conv
         start = initial_value(choices.initial, choices.form, choices.values == "alike")
     _begin(source, read, start)
     source.notes.extend(look_at_reads(source, all_written(source.operations()), choices))
+    versions.fold(source, read, choices)
+    left = set(source.operations())
+    read = [operation for operation in read if operation in left]
     named = names(read)
     numbers = number_texts(source.operations()) if number else {}
     return Converted(source, read, named, numbers, given)
