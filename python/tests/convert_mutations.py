@@ -111,6 +111,8 @@ def _of_jepsen(record: Record, _: str) -> Set[str]:
 def _of_operation(record: Record, _: str) -> Set[str]:
     op = record.get("op", record.get("what", "")).lower()
     used = {"process", "start", "end", "register", "op", "outcome", "code", "who", "what", "key", "status"}
+    if op in ("put", "append"):
+        return used | {"input"}
     if op not in ("write", "store"):
         used.add("output")  # the column for what was answered
     if "who" in record:
@@ -122,12 +124,12 @@ def _of_operation(record: Record, _: str) -> Set[str]:
 
 def _of_event(record: Record, op: str) -> Set[str]:
     if record["event"] == "call":
-        asked = {"write": {"value"}, "cas": {"from", "to"}}.get(op, set())
-        return {"process", "event", "op", "register"} | asked
-    return {"process", "event"} | {"read": {"value"}, "cas": {"ok"}}.get(op, set())
+        asked = {"write": {"value"}, "put": {"value"}, "append": {"value"}, "cas": {"from", "to"}}
+        return {"process", "event", "op", "register"} | asked.get(op, set())
+    return {"process", "event"} | {"read": {"value"}, "get": {"value"}, "cas": {"ok"}}.get(op, set())
 
 
-_OPS = {0: "read", 1: "write", "cas": "cas", 2: "cas"}
+_OPS = {0: "read", 1: "write", "cas": "cas", 2: "cas", "get": "read", "put": "write", "append": "write"}
 _INPUTS = {"read": {"op", "key"}, "write": {"op", "key", "value", "arg1", "version"},
            "cas": {"op", "key", "from", "to", "arg1", "arg2"}}
 _OUTPUTS = {"read": {"err", "value", "exists", "version", "unknown"}, "write": {"err", "unknown"},

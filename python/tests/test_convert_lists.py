@@ -6,7 +6,7 @@ import json
 import os
 import random
 import unittest
-from typing import Any, Callable, Dict, List, NamedTuple, Optional, Tuple
+from typing import Any, Callable, Dict, List, NamedTuple, Sequence, Tuple
 
 from regkit.convert import edn
 from regkit.convert.model import Refused
@@ -41,10 +41,10 @@ class Way(NamedTuple):
     has_puts: bool = True
 
 
-def made(chance: random.Random, way: Way) -> List[Done]:
+def made(chance: random.Random, way: Way, words: Sequence[str] = CLEAR) -> List[Done]:
     """A history, right or with one answer changed. Each text is appended once, but after a failure."""
-    words = list(UNCLEAR if chance.random() < 0.2 and not way.has_lists else CLEAR)
-    chance.shuffle(words)
+    unused = list(words)
+    chance.shuffle(unused)
 
     def ask(_: State) -> Asked:
         dice = chance.random()
@@ -52,13 +52,13 @@ def made(chance: random.Random, way: Way) -> List[Done]:
             return "get", None
         if dice < 0.5 and way.has_puts:
             return "put", chance.choice(PUT)
-        return "append", words.pop() if words else chance.choice(CLEAR)
+        return "append", unused.pop() if unused else "y"
 
     done = random_history(chance, texts, "", ask)
+    appended = [each.asked for each in done if each.asked[0] == "append"]
     if chance.random() < 0.3:
-        done = [each._replace(asked=("append", chance.choice(done).asked[1]))
+        done = [each._replace(asked=chance.choice(appended))
                 if each.asked[0] == "append" and each.outcome == "fail" else each for each in done]
-        done = [each for each in done if each.asked[1] is not None or each.asked[0] == "get"]
     return changed(done, chance) if chance.random() < 0.6 else done
 
 
@@ -95,16 +95,15 @@ def porcupine_log(done: List[Done]) -> str:
 
 def porcupine_operations(done: List[Done]) -> str:
     rows = [{"ClientId": each.client, "Call": each.start, "Return": each.end,
-             "Input": {"Op": ["get", "put", "append"].index(each.asked[0]), "Key": "k",
-                       "Value": each.asked[1] or ""},
+             "Input": {"Op": each.asked[0], "Key": "k", "Value": each.asked[1] or ""},
              "Output": {"Value": each.answer or "", "Err": {"ok": "OK", "fail": "No"}.get(each.outcome, "?")}}
             for each in done]
     return "\n".join(map(json.dumps, rows))
 
 
 def table(done: List[Done]) -> str:
-    lines = ["process|start|end|op|key|input|output|outcome"]
-    lines += ["|".join(["" if each is None else str(each) for each in (
+    lines = ["process,start,end,op,key,input,output,outcome"]
+    lines += [",".join(["" if each is None else str(each) for each in (
         call.client, call.start, call.end, call.asked[0], "k", call.asked[1], call.answer, call.outcome)])
         for call in done]
     return "\n".join(lines)
@@ -150,7 +149,7 @@ WAYS = {
     "porcupine's log": Way("porcupine", porcupine_log),
     "porcupine's operations": Way("porcupine", porcupine_operations,
                                   ("--ok-when", "Err=OK", "--outcomes", "No=fail")),
-    "a table": Way("csv", table),
+    "csv": Way("csv", table),
     "transactions of one append": Way("jepsen", transactions, (), True, False),
     "events with lists": Way("jsonl", events, ("--null=[]",), True),
 }
@@ -164,7 +163,7 @@ class Lists(unittest.TestCase):
             chance = random.Random(name)
             refused = faulty = 0
             for _ in range(MANY // len(WAYS)):
-                done = made(chance, way)
+                done = made(chance, way, UNCLEAR if chance.random() < 0.2 and not way.has_lists else CLEAR)
                 if not any(each.outcome != "fail" for each in done):
                     continue
                 source = way.write(done)
@@ -181,7 +180,131 @@ class Lists(unittest.TestCase):
                 self.assertLess(refused, MANY / len(WAYS) / 4)
                 self.assertGreater(faulty, MANY / len(WAYS) / 8)
         if REGSEARCH:
-            self.assertEqual(verdicts([history for history, _ in kept], REGSEARCH), [is_right for _, is_right in kept])
+            self.assertEqual(verdicts([history for history, _ in kept], REGSEARCH),
+                             [is_right for _, is_right in kept])
+
+
+# Appends and gets in a short form, and whether a store may answer so. Rows of a process, an operation and its
+# answer stand in order; a reply stands where its process is named alone.
+ROWS: List[Tuple[List[str], bool]] = [
+    (["1 append 1", "2 append 2", "1", "2", "3 r", "3 [2 1]", "4 append 3", "3 r", "3 [2 1 3]"], True),
+    (["1 append 1", "2 append 2", "3 r", "3 [2]", "3 r", "3 [1]", "1", "2"], False),
+    (["1 append 1", "1", "2 append 2", "2", "3 r", "3 [1]"], False),
+    (["1 append 1", "1", "2 r", "2 [1 1]"], False),
+    (["1 append 1", "2 r", "2 [1]", "2 r", "2 nil"], False),
+]
+
+
+def rows(lines: List[str]) -> str:
+    """Jepsen's transactions of one operation."""
+    asked: Dict[str, str] = {}
+    events = []
+    for line in lines:
+        process, *rest = line.split(" ", 1)
+        is_call = bool(rest) and rest[0][0] in "ar"
+        if is_call:
+            asked[process] = rest[0] if rest[0] != "r" else "r nil"
+        op, value = asked[process].split(" ", 1)
+        value = rest[0] if rest and not is_call else value
+        events.append(f"{{:process {process}, :type :{'invoke' if is_call else 'ok'}, :f :txn, "
+                      f":value [[:{op} :k {value}]]}}")
+    return "\n".join(events)
+
+
+def log(*lines: str) -> str:
+    """Porcupine's lines of one client, each a call with its end: `append a` and `get ab`."""
+    events = []
+    for line in lines:
+        op, value = line.split(" ", 1)
+        for kind in ("invoke", "ok"):
+            shown = "nil" if (op, kind) == ("get", "invoke") else edn.quote(value)
+            events.append(f'{{:process 0, :type :{kind}, :f :{op}, :key "k", :value {shown}}}')
+    return "\n".join(events)
+
+
+TWICE = '{"process":1,"event":"call","op":"append","register":"k","value":%s}\n{"process":1,"event":"reply"}\n'
+GET = ('{"process":1,"event":"call","op":"get","register":"k"}\n'
+       '{"process":1,"event":"reply","value":%s}\n')
+REFUSED: List[Tuple[str, str, str]] = [
+    ("porcupine", log("append a", "append a"), "line 3: a is appended to k again, and before that at line 1"),
+    ("porcupine", log("append a", "append aa", "get aaa"), "line 6: aaa can be made of what is put and appended"),
+    ("porcupine", log("put a", "append a", "get a"), "line 6: a can be made of what is put and appended to k in"),
+    ("porcupine", log("append a", "append b", "get a,b"), "line 6: a get gave a,b, which isn't made of what is"),
+    ("porcupine", log("append a", 'get "a"'), "record the text as the store has it"),
+    ("porcupine", log("append a", "get none"), "say --null=,none if it stands for none"),
+    ("porcupine", log("append a", "cas a").replace('"a"}', '["a" "b"]}'), "beside appends only gets and puts"),
+    ("jsonl", TWICE % 1 + GET % '"1"', "1 is appended to k, and gets give texts"),
+    ("jsonl", TWICE % 1 + GET % '["1"]', '"1" is spelled like an element of another kind'),
+    ("jsonl", TWICE % 1 + GET % "5", "the value 5 is no text, or no list, as others are"),
+    ("jsonl", TWICE % 1 + GET % "[]", "the list is empty: say '--null=[]' if that is the same as no value"),
+    ("jsonl", TWICE % "null", "an append of nothing changes nothing"),
+    ("jsonl", TWICE.replace('"reply"', '"reply","value":1') % '"a"', "the reply of an append has the value 1"),
+    ("csv", "process,start,end,op,input,output\n1,1,2,append,abc,3\n", "output is 3, which isn't understood"),
+]
+
+
+class Words(unittest.TestCase):
+    def test_rows(self) -> None:
+        for lines, expected in ROWS:
+            self.assertEqual(is_atomic(history_of(rows(lines), "jepsen")), expected, lines)
+
+    def test_what_is_refused(self) -> None:
+        for form, source, words in REFUSED:
+            with self.subTest(words):
+                ran = run(source, form)
+                self.assertEqual(ran.status, 2, ran.history)
+                self.assertIn(words, ran.told)
+
+    def test_the_lines(self) -> None:
+        """Each append has the value that it met and that it left, and one that no get shows is a write."""
+        ran = run(log("append a", "get a", "append b", "append c", "get abc", "append d"), "porcupine")
+        self.assertEqual(short(ran.history), [
+            "0 c k None 1", "0 True", "0 r k", "0 = 1", "0 c k 1 2", "0 True", "0 c k 2 3", "0 True", "0 r k",
+            "0 = 3", "0 w k 4", "0 ."])
+        texts = {number: text for event in ran.events for number, text in event.get("texts", {}).items()}
+        self.assertEqual(texts, {"1": '"a"', "2": '"ab"', "3": '"abc"', "4": "a-text-that-no-read-gives"})
+
+    def test_a_key_that_is_emptied_starts_with_the_empty_text(self) -> None:
+        ran = run(log("get ", "append a", "put ", "get ", "append b", "get b"), "porcupine")
+        self.assertEqual(short(ran.history), [
+            "0 w k 1", "0 .", "0 r k", "0 = 1", "0 w k 2", "0 .", "0 w k 1", "0 .", "0 r k", "0 = 1",
+            "0 c k 1 3", "0 True", "0 r k", "0 = 3"])
+
+    def test_an_append_that_nobody_can_tell_of(self) -> None:
+        """It is left out, and its crash stays."""
+        lines = rows(["1 append 1", "2 r", "2 nil"]) + "\n" + (
+            "{:process 1, :type :info, :f :txn, :value [[:append :k 1]]}")
+        ran = run(lines, "jepsen")
+        self.assertEqual(short(ran.history), ["2 r :k", "2 = None", "1 crash"])
+        self.assertIn("left out 1 append of unknown outcome that no read shows", ran.told)
+
+    def test_long_texts_and_lists(self) -> None:
+        """Their lines are short, and no two values have one name."""
+        words = [f"x 0 {count} y" for count in range(150)]
+        appends = [f"append {word}" for word in words]
+        gets = [f"get {''.join(words[:end])}" for end in (100, 150)]
+        lists = [f"0 append {count}" if is_call else "0" for count in range(150) for is_call in (True, False)]
+        read = ["0 r", f"0 [{' '.join(map(str, range(150)))}]"]
+        for form, source in [("porcupine", log(*appends[:100], gets[0], *appends[100:], gets[1])),
+                             ("jepsen", rows([*lists, *read]))]:
+            history = history_of(source, form)
+            texts = [text for line in history.splitlines()
+                     for text in json.loads(line).get("texts", {}).values()]
+            self.assertEqual((len(set(texts)), len(texts)), (150, 150))
+            self.assertLess(max(map(len, history.splitlines())), 400)
+            self.assertTrue(is_atomic(history))
+
+    def test_events_with_lists_and_puts(self) -> None:
+        source = TWICE % 1 + GET % "[1]" + TWICE.replace("append", "put") % "[7, 8]" + TWICE % 2 + GET % "[7,8,2]"
+        self.assertEqual(short(history_of(source, "jsonl")), [
+            "1 c k None 1", "1 True", "1 r k", "1 = 1", "1 w k 2", "1 .", "1 c k 2 3", "1 True", "1 r k",
+            "1 = 3"])
+
+    def test_a_table_of_lists(self) -> None:
+        """A cell may have a list as JSON."""
+        source = 'process,start,end,op,input,output\n1,1,2,rpush,a,\n1,3,4,rpush,b,\n1,5,6,get,,"[""a"",""b""]"\n'
+        self.assertEqual(short(history_of(source, "csv", "--ops", "rpush=append")), [
+            "1 c x None 1", "1 True", "1 c x 1 2", "1 True", "1 r x", "1 = 2"])
 
 
 if __name__ == "__main__":

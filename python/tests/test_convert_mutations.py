@@ -7,7 +7,8 @@ The conversion refuses the source then, or the verdict stays.
 import os
 import random
 import unittest
-from typing import Callable, List, Optional, Tuple
+from functools import partial
+from typing import Any, Callable, List, Tuple
 
 from regkit.convert.edn import NotEdn
 from regkit.convert.model import Refused
@@ -15,6 +16,8 @@ from tests.convert_mutations import mutated, taken_apart
 from tests.convert_sources import (CAS_FORMS, FORMS, VERSION_FORM, Call, Form, faulty_history, is_atomic,
                                    right_history)
 from tests.convert_support import history_of
+from tests.sequential import is_atomic as is_legal
+from tests.test_convert_lists import WAYS as LIST_WAYS, Way, made
 from tests.search_sources import changed_search_history, find_regsearch, right_search_history, verdicts
 
 MANY = int(os.environ.get("REGKIT_MUTATIONS", "150"))  # of each form
@@ -60,6 +63,30 @@ class Mutations(unittest.TestCase):
                                    lambda chance: changed_search_history(chance, by_version))
                 before, after = (verdicts((pair[at] for pair in pairs), REGSEARCH or "") for at in (0, 2))
                 self.assertEqual([], [each for each, one, other in zip(pairs, before, after) if one != other])
+
+    def test_appends(self) -> None:
+        for name, way in LIST_WAYS.items():
+            if name == "transactions of one append":  # whose values have all that they say
+                continue
+            form, listed = Form(way.form, partial(_written, way), way.options), partial(_listed, way)
+            with self.subTest(name):
+                for history, source, changed in self.pairs(name, form, listed, listed):
+                    self.assertEqual(is_legal(changed), is_legal(history), (source, history, changed))
+
+
+def _written(way: Way, done: Any, _: random.Random) -> str:
+    return way.write(done)
+
+
+def _listed(way: Way, chance: random.Random) -> Any:
+    """A history with appends whose source isn't refused."""
+    while True:
+        done = made(chance, way)
+        try:
+            history_of(way.write(done), way.form, *way.options)
+        except (Refused, NotEdn):
+            continue
+        return done
 
 
 if __name__ == "__main__":

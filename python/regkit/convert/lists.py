@@ -27,7 +27,7 @@ _LONGEST_TEXT, _LONGEST_LIST = 400, 60  # that is a value itself; of a longer on
 _END_OF_TEXT, _END_OF_LIST = 30, 3  # of a longer one, how much of each end is shown
 _UNREAD = {True: "a-text-that-no-read-gives", False: "a-list-that-no-read-gives"}
 _SEPARATORS = re.compile(r"[\s,;|\"'\[\]()]+")
-_SKIP = "--ops append=other --skip-key leaves out such keys"
+_SKIP = "or leave out such keys with --ops append=other --skip-key"
 
 
 def raw(value: Any, nulls: frozenset[str]) -> Any:
@@ -114,10 +114,10 @@ class _Register:
         if other is not None:
             raise Refused(f"{shown(self.key)} is appended to or emptied, and this is a {other.kind}: beside "
                           "appends only gets and puts of the whole value are taken, since no other "
-                          f"operation tells the value that an append met; {_SKIP}", other.line)
+                          f"operation tells the value that an append met, {_SKIP}", other.line)
         if self.choices.values == "alike":
             raise Refused("by --values alike values that are spelled alike are one, and an append makes "
-                          f"values of values: leave the option out, or {_SKIP}", self.line)
+                          f"values of values: leave the option out, {_SKIP}", self.line)
 
     def _holds_texts(self) -> bool:
         """Whether the values are texts, and not lists. Raises Refused if they are neither or both."""
@@ -136,7 +136,7 @@ class _Register:
         strange = next((each for each in held if type(each.value) not in (str, tuple)), held[-1])
         raise Refused(f"{shown(self.key)} is appended to, and the value {edn.write(strange.value)[:60]} is "
                       "no text, or no list, as others are: record what a get gives and what a put writes as "
-                      f"the whole text or the whole list; {_SKIP}", strange.end_line or strange.line)
+                      f"the whole text or the whole list, {_SKIP}", strange.end_line or strange.line)
 
     def _initial(self) -> Whole:
         """The value with which the key starts."""
@@ -162,7 +162,7 @@ class _Register:
                 raise Refused(f"{spelled(each.value)[:40]} is appended to {shown(self.key)} again, and "
                               f"before that at line {other.line}: reads don't tell which append came where. "
                               "Let each append have a text or a number of its own, such as one with the "
-                              f"client and a counter in it; {_SKIP}", each.line)
+                              f"client and a counter in it, {_SKIP}", each.line)
             operations.append(each)
         return found
 
@@ -175,7 +175,7 @@ class _Register:
             return (self._number(value),)
         if type(value) is not str:
             raise Refused(f"{edn.write(value)[:40]} is appended to {shown(self.key)}, and gets give texts: "
-                          f"record the text that is appended; {_SKIP}", append.line)
+                          f"record the text that is appended, {_SKIP}", append.line)
         return value
 
     def _number(self, element: Any) -> int:
@@ -193,7 +193,7 @@ class _Register:
             return self._empty()
         if not value:
             raise Refused(f"the {'text' if self.is_text else 'list'} is empty: say "
-                          f"{shlex.quote('--null=' + spelled(value))} if that is the same as no value; {_SKIP}",
+                          f"{shlex.quote('--null=' + spelled(value))} if that is the same as no value, {_SKIP}",
                           operation.end_line or operation.line)
         return value if self.is_text else tuple(map(self._number, value))
 
@@ -211,7 +211,7 @@ class _Register:
                 raise Refused(f"{spelled(get.value)[:60]} can be made of what is put and appended to "
                               f"{shown(self.key)} in more than one way, so it doesn't tell which: let each "
                               "append have a text that begins no other one, such as one that ends by a sign "
-                              f"of its own, and that nobody puts; {_SKIP}", get.end_line or get.line)
+                              f"of its own, and that nobody puts, {_SKIP}", get.end_line or get.line)
             if not ways:
                 if get.value is not None:
                     self._refuse_suspect(get, whole, elements)
