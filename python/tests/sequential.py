@@ -38,10 +38,12 @@ class _Open:
         self.is_effective = False
 
     def ended(self, end: Optional[int], outcome: str) -> Done:
-        return Done(self.client, self.asked, self.answer if outcome == "ok" else None, self.start, end, outcome)
+        answer = self.answer if outcome == "ok" else None
+        return Done(self.client, self.asked, answer, self.start, end, outcome)
 
 
-def history_of(chance: random.Random, store: Store, state: State, ask: Callable[[State], Asked]) -> List[Done]:
+def history_of(chance: random.Random, store: Store, state: State,
+               ask: Callable[[State], Asked]) -> List[Done]:
     """Clients ask, take effect at one moment and get their answers, but for some that fail or get none.
 
     `ask` says what is asked next, and may look at the state.
@@ -79,8 +81,8 @@ def is_linearizable(done: Iterable[Done], store: Store, state: State) -> bool:
     """Whether some order of the operations gives each answer. One of unknown outcome may be left out."""
     held = [each for each in done if each.outcome != "fail"]
     needed = sum(1 << at for at, each in enumerate(held) if each.outcome == "ok")
-    before = [sum(1 << at for at, other in enumerate(held) if other.end is not None and other.end < each.start)
-              for each in held]
+    before = [sum(1 << at for at, other in enumerate(held)
+                  if other.end is not None and other.end < each.start) for each in held]
     tried: Set[Tuple[int, State]] = set()
 
     def rest(taken: int, state: State) -> bool:

@@ -20,7 +20,8 @@ CHANGES: List[Tuple[str, str, List[Asked], List[str], bool]] = [
     ("getincr", "fetch-add", [(3, 0), (3, 0)], ["0 c x 0 3", "0 True", "1 c x 0 3", "1 True"], False),
     ("decr", "subtract", [(None, -1), (None, -2)], ["0 c x 0 -1", "0 True", "1 c x -1 -2", "1 True"], True),
     ("decrby", "subtract", [(3, -3), (2, -2)], ["0 c x 0 -3", "0 True", "1 c x 0 -2", "1 True"], False),
-    ("getdecr", "fetch-subtract", [(None, 0), (2, -1)], ["0 c x 0 -1", "0 True", "1 c x -1 -3", "1 True"], True),
+    ("getdecr", "fetch-subtract", [(None, 0), (2, -1)],
+     ["0 c x 0 -1", "0 True", "1 c x -1 -3", "1 True"], True),
     ("getset", "swap", [(7, 0), (8, 7)], ["0 c x 0 7", "0 True", "1 c x 7 8", "1 True"], True),
     ("getset", "swap", [(7, 0), (8, 0)], ["0 c x 0 7", "0 True", "1 c x 0 8", "1 True"], False),
 ]
@@ -158,8 +159,8 @@ class Changes(unittest.TestCase):
                 self.assertEqual((ran.status, words in ran.told), (2, True), ran.told)
         for word in ("decr", "decrby", "subtract"):
             ran = run("", "csv", "--ops", f"{word}=add")
-            self.assertEqual((ran.status, f"{word} takes away, and add adds: say {word}=subtract" in ran.told),
-                             (3, True), ran.told)
+            self.assertEqual(ran.status, 3)
+            self.assertIn(f"{word} takes away, and add adds: say {word}=subtract", ran.told)
 
     def test_an_answer_that_is_not_there(self) -> None:
         for word, op in [("getset", "swap"), ("incr", "add")]:

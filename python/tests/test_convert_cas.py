@@ -297,8 +297,8 @@ class Words(unittest.TestCase):
         self.assertIn("each register has the versions of its key, and a put is a cas from its version to the "
                       "next: the values aren't checked",
                       run(source, "porcupine", *PUTS, "--ignore-member", "Value").told)
-        self.assertIn("each value of the history is [version value], and a put is a cas from the value of its "
-                      "version to the next\n", run(source, "porcupine", *PUTS).told)
+        self.assertIn("each value of the history is [version value], and a put is a cas from the value of "
+                      "its version to the next\n", run(source, "porcupine", *PUTS).told)
         log = run('{:process 0, :type :invoke, :f :put, :key "x", :value "1"}', "porcupine", *PUTS)
         self.assertEqual((log.status, log.history), (3, ""))
         self.assertIn("--versions and --revisions are for Go's values as JSON (--from porcupine), for tables "

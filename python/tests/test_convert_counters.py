@@ -1,15 +1,15 @@
 """Additions and subtractions: their histories are as linearizable as what `regkit convert` makes of them.
 
-    REGKIT_COUNTERS=20000 nice python3 -m unittest tests.test_convert_counters    more of them, in some minutes
+    REGKIT_COUNTERS=20000 nice python3 -m unittest tests.test_convert_counters    more, in some minutes
 """
 import json
 import os
 import random
 import unittest
-from typing import Any, Dict, List, Optional, Tuple
+from typing import Any, Dict, List, Tuple
 
 from regkit.convert.model import Refused
-from tests.convert_support import history_of, run
+from tests.convert_support import history_of
 from tests.search_sources import find_regsearch, verdicts
 from tests.sequential import Asked, Done, State, history_of as random_history
 from tests.sequential import is_atomic, is_linearizable, moments
@@ -102,7 +102,8 @@ def events(done: List[Done]) -> str:
             rows.append({"process": each.client, "event": "call", "op": op, "register": "k", **given})
         else:
             told = {"value": each.answer} if each.outcome == "ok" and op != "write" else {}
-            rows.append({"process": each.client, "event": "fail" if each.outcome == "fail" else "reply", **told})
+            what = "fail" if each.outcome == "fail" else "reply"
+            rows.append({"process": each.client, "event": what, **told})
     return "\n".join(map(json.dumps, rows))
 
 

@@ -1,12 +1,12 @@
 """Puts by version: their histories are as linearizable as what `regkit convert` makes of them.
 
-    REGKIT_VERSIONS=20000 nice python3 -m unittest tests.test_convert_versions    more of them, in some minutes
+    REGKIT_VERSIONS=20000 nice python3 -m unittest tests.test_convert_versions    more, in some minutes
 """
 import json
 import os
 import random
 import unittest
-from typing import Any, Callable, Dict, List, NamedTuple, Optional, Tuple
+from typing import Any, Callable, Dict, List, NamedTuple, Tuple
 
 from regkit.convert.model import Refused
 from tests.convert_support import history_of, run, short
@@ -88,7 +88,7 @@ def changed(done: List[Done], chance: random.Random) -> List[Done]:
 
 
 def _ended(each: Done) -> str:
-    return each.answer[0] if each.outcome == "ok" and each.asked[1] else each.outcome
+    return str(each.answer[0]) if each.outcome == "ok" and each.asked[1] else each.outcome
 
 
 def porcupine(done: List[Done]) -> str:
@@ -113,7 +113,8 @@ def operations(done: List[Done]) -> str:
     rows: List[Dict[str, Any]] = []
     for each in done:
         put = each.asked[1]
-        value, version = (put.value, put.version) if put else each.answer if each.outcome == "ok" else (None, None)
+        found = each.answer if each.outcome == "ok" else (None, None)
+        value, version = (put.value, put.version) if put else found
         create = put is not None and not put.version and each.start % 2
         rows.append({"process": each.client, "start": each.start, "end": each.end, "register": "k",
                      "op": "create" if create else each.asked[0], "value": value or None,
@@ -124,8 +125,8 @@ def operations(done: List[Done]) -> str:
 
 def table(done: List[Done]) -> str:
     rows = [json.loads(line) for line in operations(done).splitlines()]
-    return "\n".join([",".join(rows[0])] + [",".join("" if each is None else str(each) for each in row.values())
-                                            for row in rows])
+    lines = [",".join("" if each is None else str(each) for each in row.values()) for row in rows]
+    return "\n".join([",".join(rows[0]), *lines])
 
 
 class Way(NamedTuple):
@@ -162,8 +163,8 @@ class Versions(unittest.TestCase):
                     history = history_of(source, way.form, *way.options, option, way.member,
                                          "--values", "exact")
                 except Refused as error:
-                    refused += "which no operation names" in str(error) or "asks for the version" in str(error)
-                    self.assertRegex(str(error), "no operation|asks for the version")
+                    refused += 1
+                    self.assertRegex(str(error), "which no operation names|asks for the version")
                     continue
                 after = any_greater(done) if option == "--revisions" else by_one
                 expected = is_linearizable(done, versioned(after), START)
@@ -182,6 +183,125 @@ class Versions(unittest.TestCase):
 
     def test_versions_skip_numbers(self) -> None:
         self.check("--revisions")
+
+
+# Puts by version and gets in a short form, and whether a store may answer so. Rows of a process, an operation
+# and its answer stand in order; a reply stands where its process is named alone.
+ROWS: List[Tuple[List[str], bool]] = [
+    (["1 put 7 0", "2 put 8 0", "1 OK", "2 ErrVersion", "3 get", "3 7 1", "3 put 9 1", "3 ErrMaybe", "1 get",
+      "1 9 2"], True),
+    (["1 put 7 0", "2 put 8 0", "1 OK", "2 ErrMaybe", "3 get", "3 8 1"], False),
+    (["1 put 7 0", "1 ErrMaybe", "2 put 8 0", "2 ErrVersion", "3 put 9 1", "3 OK", "1 get", "1 9 2"], True),
+    (["1 put 7 0", "1 ErrMaybe", "2 put 8 0", "2 ErrVersion", "3 get", "3 ErrNoKey"], False),
+    (["1 put 7 0", "2 put 8 0", "1 OK", "2 OK"], False),
+    (["1 put 7 0", "1 OK", "2 get", "2 7 1", "2 get", "2 7 2"], False),
+]
+LAB = ("--ok-when", "Err=OK", "--outcomes", "ErrVersion=missed,ErrNoKey=missed", "--null", ",ErrNoKey")
+
+
+def rows(lines: List[str]) -> str:
+    """Porcupine's operations as JSON, as a tester of MIT 6.5840 would write them."""
+    made_of: Dict[str, Dict[str, Any]] = {}
+    done: List[Dict[str, Any]] = []
+    for time, line in enumerate(lines):
+        process, *words = line.split()
+        if words[0] in ("put", "get"):
+            given: Dict[str, Any] = dict(zip(("Op", "Value"), words))
+            given.update({"Version": int(words[2])} if len(words) > 2 else {})
+            made_of[process] = {"ClientId": int(process), "Input": {"Key": "x", **given}, "Call": time}
+            done.append(made_of[process])
+        else:
+            told: Dict[str, Any] = {"Err": words[0]}
+            if len(words) > 1:
+                told = {"Err": "OK", "Value": words[0], "Version": int(words[1])}
+            made_of[process].update(Output=told, Return=time)
+    return "\n".join(map(json.dumps, done))
+
+
+PUT = {"ClientId": 0, "Input": {"Op": "put", "Key": "x", "Value": "a", "Version": 3}, "Call": 1,
+       "Output": {"Err": "OK"}, "Return": 2}
+
+
+def changed_put(**members: Any) -> str:
+    """A put of which some members are others."""
+    return json.dumps({**PUT, **members})
+
+
+REFUSED: List[Tuple[str, Tuple[str, ...], str]] = [
+    (changed_put(Output={"Err": "OK", "Version": 7}), ("--versions", "Version"),
+     "asks for the version 3 and gave the next one: if versions may skip numbers, say --revisions in place"),
+    (changed_put(Output={"Err": "OK", "Version": 3}), ("--revisions", "Version"),
+     "asks for the version 3 and gave a greater one, if versions go up"),
+    (changed_put(Output={"Err": "ErrVersion", "Version": 3}), ("--versions", "Version"),
+     "asks for the version 3 and missed a put of this version"),
+    (changed_put(Output={"Err": "late", "Version": 3}), ("--versions", "Version"), "so it gave none"),
+    (changed_put(Output={"Err": "late"}), ("--revisions", "Version"),
+     "a put of unknown outcome asks for version 3, which no operation names that certainly took place"),
+    (changed_put() + "\n" + changed_put(Input={"Op": "cas", "Key": "x", "From": "a", "To": "b"},
+                                        Output={"Ok": True, "Err": "OK"}), ("--versions", "Version"),
+     "this cas of x asks for no version, and others do"),
+    (changed_put(Input={"Op": "get", "Key": "x"}, Output={"Err": "OK", "Value": "a", "Version": 0}),
+     ("--versions", "Version"), "a get found a at version 0, which stands for no value"),
+    (changed_put(Input={"Op": "create", "Key": "x", "Value": "a", "Version": 3}),
+     ("--versions", "Version", "--ops", "create=create"), "the input of a create has the version 3"),
+]
+
+
+class Words(unittest.TestCase):
+    def test_rows(self) -> None:
+        for lines, expected in ROWS:
+            for option in ("--versions", "--revisions"):
+                if option == "--versions" or not any("ErrMaybe" in line for line in lines):
+                    history = history_of(rows(lines), "porcupine", option, "Version", *LAB)
+                    self.assertEqual(is_atomic(history), expected, (option, lines))
+
+    def test_values_are_judged_too(self) -> None:
+        """Versions alone, and values alone, may be right where both together aren't."""
+        source = rows(ROWS[1][0])
+        for options in [("--versions", "Version", "--ignore-member", "Value"),
+                        ("--ignore-member", "Version")]:
+            self.assertTrue(is_atomic(history_of(source, "porcupine", *options, "--ok-when", "Err=OK")))
+
+    def test_the_lines(self) -> None:
+        ran = run(rows(ROWS[0][0]), "porcupine", "--versions", "Version", *LAB)
+        self.assertEqual(short(ran.history), [
+            "1 c x None 1", "2 c x None 2", "1 True", "2 False", "3 r x", "3 = 1", "3 c x 1 3", "1 r x",
+            "1 = 3"])
+        texts = [text for event in ran.events for text in event.get("texts", {}).values()]
+        self.assertEqual(texts, ["[1 7]", "[1 8]", "[2 9]"])
+
+    def test_a_put_that_cannot_have_taken_place(self) -> None:
+        ran = run(rows(ROWS[1][0]), "porcupine", "--versions", "Version", *LAB)
+        self.assertEqual(short(ran.history), ["1 c x None 1", "1 True", "3 r x", "3 = 2"])
+        self.assertIn("left out 1 put of unknown outcome that can't have taken place, since the version has",
+                      ran.told)
+
+    def test_what_is_refused(self) -> None:
+        for source, options, words in REFUSED:
+            with self.subTest(words):
+                ran = run(source, "porcupine", *options, *LAB)
+                self.assertEqual(ran.status, 2, ran.history)
+                self.assertIn(words, ran.told)
+
+    def test_options_that_do_not_fit(self) -> None:
+        for options, words in [(("--versions", "a", "--revisions", "b"), "say one of them"),
+                               (("--versions", "a", "--initial", "5"), "a key starts without a value"),
+                               (("--columns", "event=what", "--versions", "a"), "a row for each event")]:
+            ran = run("process,what,op,value,a\n", "csv", *options)
+            self.assertEqual(ran.status, 3, ran.told)
+            self.assertIn(words, ran.told)
+
+    def test_the_option_is_named(self) -> None:
+        for name, option in [("version", "--versions version"), ("mod_revision", "--revisions mod_revision")]:
+            ran = run(f"process,start,end,op,value,{name}\n1,1,2,put,a,3\n", "csv")
+            self.assertEqual(ran.status, 2)
+            self.assertIn(f"{option} if a put takes place only if its key has this version", ran.told)
+
+    def test_a_table_has_to_say_whether_a_put_took_place(self) -> None:
+        for end, status in [("", 2), (",ok", 0), (",missed", 0)]:
+            header = "process,start,end,op,value,version" + (",outcome" if end else "")
+            ran = run(f"{header}\n1,1,2,put,a,3{end}\n", "csv", "--versions", "version")
+            self.assertEqual(ran.status, status, ran.told)
 
 
 if __name__ == "__main__":

@@ -25,8 +25,8 @@ def takes_away(word: str) -> bool:
 def not_taken(kind: str) -> str:
     """What to say of it."""
     if kind in READ_AND_WRITE:
-        return (f"{kind} reads and writes at once, and by --cas refuse only reads and writes are taken: keep it "
-                "for regsearch with --cas keep, leave it out of the workload, or leave out the keys that it "
+        return (f"{kind} reads and writes at once, and by --cas refuse only reads and writes are taken: keep "
+                "it for regsearch with --cas keep, leave it out of the workload, or leave out the keys that it "
                 "touches with --cas skip-key")
     if kind == OTHER:
         return ("by --ops this is neither a read nor a write nor a cas: leave out the keys that it touches "
@@ -53,11 +53,11 @@ def _what(word: str, option: str) -> str:
         return (f"adds to a value, which is a cas from the old value to the new one: say {option}add if its "
                 f"reply has the new value, {option}fetch-add if it has the old one, or ")
     if takes_away(word):
-        return (f"takes from a value, which is a cas from the old value to the new one: say {option}subtract if "
-                f"its reply has the new value, {option}fetch-subtract if it has the old one, or ")
+        return (f"takes from a value, which is a cas from the old value to the new one: say {option}subtract "
+                f"if its reply has the new value, {option}fetch-subtract if it has the old one, or ")
     if word in _APPENDS:
-        return (f"may append to a text or a list: say {option}append if what is appended stands behind all that "
-                "was there, and reads give the whole, or ")
+        return (f"may append to a text or a list: say {option}append if what is appended stands behind all "
+                "that was there, and reads give the whole, or ")
     if word in _LOCKS:
         return ("is of a lock, and that is a cas: record that a client takes it as a cas from 0 to the "
                 "client's number, and that it gives it back as one back to 0, with --initial 0, or ")

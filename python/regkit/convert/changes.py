@@ -23,8 +23,8 @@ NO_EFFECT = "no effect"  # the kind of an addition that failed, which is left ou
 _REPEATING = frozenset({"jepsen", "porcupine", "jsonl"})  # forms in which a reply may repeat its call
 
 _SIGNS = {ADD: 1, FETCH_ADD: 1, SUBTRACT: -1, FETCH_SUBTRACT: -1}
-_RECORD = ("whether additions that differ make up what is read is an NP-complete question. Record the value that "
-           "the store answers (Redis's INCR, RETURNING in SQL, UPDATED_NEW in DynamoDB), or let the client add "
+_RECORD = ("whether additions that differ make up what is read is an NP-complete question. Record the value "
+           "that the store answers (Redis's INCR, RETURNING in SQL, UPDATED_NEW in DynamoDB), or let the client add "
            "by a read and a cas, or leave out its key with --ops WORD=other --skip-key")
 
 Reader = Callable[[object], Value]
@@ -96,8 +96,8 @@ def meet_nothing(added: Iterable[SourceOperation], operations: Iterable[SourceOp
                           f"{zeros[each.key].line}: begin the run with a write of 0 to {shown(each.key)}, and "
                           "leave --initial null out", each.end_line)
         if choices.initial is None and each.key not in zeros:
-            raise Refused(f"an addition met 0, which nothing writes to {shown(each.key)}: say --initial 0 if it "
-                          "starts with 0, or --initial null if it starts without a value, which counts as 0",
+            raise Refused(f"an addition met 0, which nothing writes to {shown(each.key)}: say --initial 0 if "
+                          "it starts with 0, or --initial null if it starts without a value, which counts as 0",
                           each.end_line)
         each.expected = 0 if choices.initial is None else None
 
@@ -105,8 +105,8 @@ def meet_nothing(added: Iterable[SourceOperation], operations: Iterable[SourceOp
 def _refuse_nothing(operations: Iterable[SourceOperation], choices: Choices) -> None:
     for each in operations:
         if (each.kind, each.ending, each.value) == ("read", "reply", None):
-            raise Refused(f"a read found no value, and by --initial {choices.initial} {shown(each.key)} starts "
-                          "with one: say --initial null if it starts without a value, which counts as 0 for "
+            raise Refused(f"a read found no value, and by --initial {choices.initial} {shown(each.key)} "
+                          "starts with one: say --initial null if it starts without a value, which counts as 0 for "
                           "an addition", each.end_line)
 
 

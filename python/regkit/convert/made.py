@@ -14,7 +14,7 @@ class Trunk:
 
     def __init__(self, whole: Whole, bases: Iterable[Whole], elements: AbstractSet[Whole]) -> None:
         self.whole = whole
-        self.ways = [0] * (len(whole) + 1)  # by position, in how many ways it can be made: 2 for more than one
+        self.ways = [0] * (len(whole) + 1)  # by position, in how many ways it can be made, or 2 for more
         self._before = [_BASE] * (len(whole) + 1)
         self.ends: set[int] = set()  # of the sequences that it has
         self.walked: set[int] = set()
@@ -33,7 +33,7 @@ class Trunk:
                         self._before[end] = at
 
     def walk(self, end: int) -> Iterator[tuple[int, int]]:
-        """Where each element begins and ends up to a position that can be made in one way, the last one first.
+        """Where each element begins and ends up to a position that can be made in one way, the last first.
 
         What an earlier walk gave isn't given again.
         """
@@ -55,7 +55,7 @@ class Trunks:
         self._of: dict[Whole, Trunk] = {}
         last: Optional[Trunk] = None
         # In this order a sequence comes behind those that it begins, and all between them begin with it too.
-        for whole in sorted(set(wholes), reverse=True):  # type: ignore[type-var]
+        for whole in sorted(set(wholes), reverse=True):
             if last is None or last.whole[:len(whole)] != whole:
                 last = Trunk(whole, bases, elements)
                 self.all.append(last)

@@ -134,9 +134,8 @@ class _Values:
         """Gives an operation its answer, the output or its member Value. Returns the operation's ending."""
         members: Members = {} if output is None else {"output": output}
         is_etcd, is_cas = operation in self.etcd, operation.kind in CONDITIONAL
-        version = self.choices.versions
         if isinstance(output, dict):
-            place = "etcd output" if is_etcd else "cas output" if is_cas and version is None else "output"
+            place = "etcd output" if is_etcd else "cas output" if is_cas else "output"
             self.known[place].check(output, line)
             members = by_folded_name(output, line)
         _agree(beside, members, line)

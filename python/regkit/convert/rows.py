@@ -6,8 +6,8 @@ from typing import Any, NamedTuple, Optional
 from regkit.convert import versions
 from regkit.convert.columns import Used
 from regkit.convert.members import Known, Members, Outcomes, ok_of
-from regkit.convert.model import (ANSWERED, CAS, CONDITIONAL, CREATE, ENDINGS, NO_KEY, READS, STATED, WRITES, Choices,
-                                  Client, Refused, Source, SourceOperation, folded)
+from regkit.convert.model import (ANSWERED, CAS, CONDITIONAL, CREATE, ENDINGS, NO_KEY, READS, STATED, WRITES,
+                                  Choices, Client, Refused, Source, SourceOperation, folded)
 from regkit.convert.settle import settle
 from regkit.convert.spellings import spelled
 from regkit.convert.timed import TimedOperations, Times

@@ -148,8 +148,8 @@ class _Key:
     def _refuse_others(self, operations: Iterable[SourceOperation]) -> None:
         for each in operations:
             if each.kind not in ("read", "write") or (each.kind == "write" and each.version is None):
-                raise Refused(f"this {each.kind} of {shown(each.key)} asks for no version, and others do: what "
-                              "changes a key whatever its version is doesn't tell the version that it met. "
+                raise Refused(f"this {each.kind} of {shown(each.key)} asks for no version, and others do: "
+                              "what changes a key whatever its version is doesn't tell the version that it met. "
                               "Let it ask for a version, or leave out such keys with --ops WORD=other "
                               "--skip-key", each.line)
 
