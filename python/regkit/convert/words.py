@@ -41,9 +41,9 @@ def add_arguments(parser: argparse.ArgumentParser) -> None:
     add("--cas", choices=["keep", "skip-key", "refuse"], default="keep",
         help="keep compare-and-swap for regsearch (default), leave out the keys that have any operation but "
         "reads and writes, or refuse it")
-    add("--skip-key", action="store_true", help="leave out the keys that anything but a read, a write or a "
-                                                "cas of one key touches, such as mget x,y or what --ops "
-                                                "calls other")
+    add("--skip-key", action="store_true", help="leave out the keys that anything but a read, a write, an "
+                                                "append or a cas of one key touches, such as mget x,y or "
+                                                "what --ops calls other")
     add("--failed-cas", choices=["fail", "missed"], default="fail",
         help="what a failed cas says: nothing, since it had no effect (fail, the default), or that the store "
         "looked and found another value (missed)")
