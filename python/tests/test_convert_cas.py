@@ -124,14 +124,14 @@ _end("porcupine", _PUT % '{"Value":"","Version":0,"Err":"ErrMaybe"}', True, *VER
 _end("porcupine", _PUT % '{"Value":"","Version":0,"Err":"ErrVersion"}', True, *VERSIONS)
 _end("porcupine", _PUT % '{"Err":"ErrVersion"}', True, *VERSIONS, "--outcomes", "ErrVersion=fail")
 _end("porcupine", _PUT % '{"Err":"ErrVersion"}', False, *VERSIONS, "--outcomes", "ErrVersion=missed")
-_end("porcupine", _PUT % '{"Err":"OK","Version":7}', "the output of a put has the version 7, and the put",
+_end("porcupine", _PUT % '{"Err":"OK","Version":7}', "the answer to a put has the version 7, and the put",
      *VERSIONS)
 _end("porcupine", _PUT % '{"Err":"OK","Leader":7}', "the member Leader isn't understood", *VERSIONS)
-_end("porcupine", (_PUT % '{"Err":"OK"}').replace(',"Version":0', ""), "the input of a put has no version in",
+_end("porcupine", (_PUT % '{"Err":"OK"}').replace(',"Version":0', ""), "the put has no version in",
      *VERSIONS)
 _end("porcupine", (_PUT % '{"Err":"OK"}').replace("ErrNoKey", "OK").replace(',"Version":0,"Err"', ',"Err"'),
-     "the output of a get has no version in version", *VERSIONS)
-_end("porcupine", (_PUT % '{"Err":"OK"}').replace('"Version":0}', '"Version":"0"}'), "the input of a put has",
+     "the answer to a get has no version in version", *VERSIONS)
+_end("porcupine", (_PUT % '{"Err":"OK"}').replace('"Version":0}', '"Version":"0"}'), "the put has the version 0 in",
      *VERSIONS)
 _end("porcupine", _PUT % "{}", "the output of a cas has no Ok", "--versions", "Version", "--ignore-member",
      "Err")

@@ -83,6 +83,8 @@ class Rows:
         """The version that a put asks for, or that a read found. To create is to put by version 0."""
         member = self.choices.versions or ""
         given = _or_nothing(row.members.get(member))
+        if self.is_csv:
+            given = settled(given, frozenset(), True)
         if operation.kind in READS and operation.ending == "reply" and given is not None:
             operation.version = versions.found(given, None, member, row.line)
         elif operation.kind in WRITES or operation.kind == CREATE:

@@ -82,8 +82,6 @@ def told(given: Any, version: int, ending: Optional[str], choices: Choices, line
 
 
 def _version(given: Any, where: str, line: int) -> int:
-    if type(given) is str and given.isascii() and given.isdigit():
-        given = int(given)
     if type(given) is not int or not 0 <= given < GREATEST_VALUE:
         said = "no version" if given in (None, "") else f"the version {spelled(given)[:40]}"
         raise Refused(f"the {where.format(said)}, and by --versions a whole number from 0 is expected", line)
