@@ -262,7 +262,7 @@ class Words(unittest.TestCase):
             "0 c k None 1", "0 True", "0 r k", "0 = 1", "0 c k 1 2", "0 True", "0 c k 2 3", "0 True", "0 r k",
             "0 = 3", "0 w k 4", "0 ."])
         texts = {number: text for event in ran.events for number, text in event.get("texts", {}).items()}
-        self.assertEqual(texts, {"1": '"a"', "2": '"ab"', "3": '"abc"', "4": "a-text-that-no-read-gives"})
+        self.assertEqual(texts, {"1": '"a"', "2": '"ab"', "3": '"abc"', "4": '#appended "d"'})
 
     def test_a_key_that_is_emptied_starts_with_the_empty_text(self) -> None:
         ran = run(log("get ", "append a", "put ", "get ", "append b", "get b"), "porcupine")

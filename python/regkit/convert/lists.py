@@ -1,7 +1,7 @@
 """Appends to texts and to lists, as the cas that they are once the whole history is known.
 
     append "b", where a read gives "abc" and "a" was put     cas from "a" to "ab"
-    append "d", which no read gives                          a write of a value that nobody asks for
+    append "d", which no read gives                          a write of #appended "d", which nobody asks for
 
 Each element is appended to a key once, and a read's value can be made in one way: of a base, which was put or
 is the empty one, and of elements. So what a read gives says which value each element in it was appended to.
@@ -25,7 +25,7 @@ from regkit.words.phrases import counted
 
 _LONGEST_TEXT, _LONGEST_LIST = 400, 60  # that is a value itself; of a longer one the ends and a digest are
 _END_OF_TEXT, _END_OF_LIST = 30, 3  # of a longer one, how much of each end is shown
-_UNREAD = {True: "a-text-that-no-read-gives", False: "a-list-that-no-read-gives"}
+_UNREAD = "appended"  # the tag of what was appended, in place of a value that no read gives
 _SEPARATORS = re.compile(r"[\s,;|\"'\[\]()]+")
 _SKIP = "or leave out such keys with --ops append=other --skip-key"
 
@@ -53,11 +53,16 @@ def fold(source: Source, operations: Iterable[SourceOperation], choices: Choices
         if operation.key in by_key:
             by_key[operation.key].append(operation)
     left_out: set[SourceOperation] = set()
+    unread = 0
     for key, mine in by_key.items():
         register = _Register(key, mine, choices)
         left_out |= register.fold()
+        unread += sum(each.kind == "write" for each in register.appends)
         if register.start is not None:
             source.starts[key] = register.start
+    if unread > len(left_out):
+        source.notes.append(f"took {counted(unread - len(left_out), 'append')} that no read shows for writes of "
+                            f"a value of their own, which is shown as #{_UNREAD}")
     if left_out:
         source.leave_out(left_out)
         source.notes.append(f"left out {counted(len(left_out), 'append')} of unknown outcome that no read "
@@ -102,7 +107,7 @@ class _Register:
                     trunk, before, end = steps[element]
                     each.kind, each.expected, each.value = "cas", names[trunk][before], names[trunk][end]
                 else:
-                    each.kind, each.value = "write", _UNREAD[self.is_text]
+                    each.kind, each.value = "write", edn.write(edn.Tagged(_UNREAD, each.value))
                     left_out |= {each} if each.ending in (None, "crash") else set()
         return left_out
 
