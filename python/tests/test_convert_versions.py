@@ -143,7 +143,7 @@ WAYS = {
     "porcupine's operations": Way("porcupine", porcupine, "Version", 0.5, (
         "--ok-when", "Err=OK", "--outcomes", "ErrVersion=missed,ErrLeader=fail", "--null", ",ErrNoKey")),
     "operations": Way("operations", operations, "rev", 0.0),
-    "a table": Way("csv", table, "rev", 0.0),
+    "csv": Way("csv", table, "rev", 0.0),
 }
 
 

@@ -61,8 +61,8 @@ def fold(source: Source, operations: Iterable[SourceOperation], choices: Choices
         if register.start is not None:
             source.starts[key] = register.start
     if unread > len(left_out):
-        source.notes.append(f"took {counted(unread - len(left_out), 'append')} that no read shows for writes of "
-                            f"a value of their own, which is shown as #{_UNREAD}")
+        source.notes.append(f"took {counted(unread - len(left_out), 'append')} that no read shows for writes "
+                            f"of a value of their own, which is shown as #{_UNREAD}")
     if left_out:
         source.leave_out(left_out)
         source.notes.append(f"left out {counted(len(left_out), 'append')} of unknown outcome that no read "
@@ -82,6 +82,7 @@ class _Register:
         self.gets = [each for each in operations if each.kind == "read" and each.ending == "reply"]
         self.numbers: dict[Value, int] = {}  # of the elements of lists, each with its place in the next one
         self.elements: list[Value] = []
+        self._known: dict[tuple[type, Any], int] = {}  # likewise, of elements as the source has them
         self._refuse_others(operations)
         self.is_text = self._holds_texts()
         self.nothing: Value = None
@@ -185,10 +186,16 @@ class _Register:
 
     def _number(self, element: Any) -> int:
         """The number of an element of a list."""
+        is_plain = type(element) in (int, str)
+        known = self._known.get((type(element), element)) if is_plain else None
+        if known is not None:
+            return known
         value = settled(element, self.choices.nulls, self.choices.form in ALL_TEXTS)
         number = self.numbers.setdefault(value, len(self.numbers))
         if number == len(self.elements):
             self.elements.append(value)
+        if is_plain:
+            self._known[type(element), element] = number
         return number
 
     def _whole(self, operation: SourceOperation) -> Whole:
@@ -264,7 +271,7 @@ class _Register:
     def _name(self, whole: Whole, end: int, digest: "hashlib._Hash") -> Value:
         if not end:
             return self.nothing
-        if whole[:end] == self.initial:
+        if end == len(self.initial) and whole[:end] == self.initial:
             return initial_value(self.choices.initial or "", self.choices.form)
         if end <= (_LONGEST_TEXT if self.is_text else _LONGEST_LIST):
             parts = "".join(self._spelled(whole[:end])).strip()
