@@ -116,10 +116,10 @@ ADDITIONS = ("incr", "decr", "getincr", "getdecr")  # words for operations that 
 def _of_operation(record: Record, _: str) -> Set[str]:
     op = record.get("op", record.get("what", "")).lower()
     used = {"process", "start", "end", "register", "op", "outcome", "code", "who", "what", "key", "status"}
-    if op in ("put", "create", "append"):
-        return used | {"value" if "value" in record else "input", "rev"}
-    if op in ADDITIONS:
-        return used | {"input", "output"}
+    if op in ("put", "create", "append", *ADDITIONS):  # which may be asked in a column value too
+        return used | {"input", "value", "rev"} | ({"output"} if op in ADDITIONS else set())
+    if op == "get":
+        used.add("rev")
     if op not in ("write", "store"):
         used.add("output")  # the column for what was answered
     if "who" in record:

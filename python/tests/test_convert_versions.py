@@ -241,7 +241,7 @@ REFUSED: List[Tuple[str, Tuple[str, ...], str]] = [
                                         Output={"Ok": True, "Err": "OK"}), ("--versions", "Version"),
      "this cas of x asks for no version, and others do"),
     (changed_put(Input={"Op": "get", "Key": "x"}, Output={"Err": "OK", "Value": "a", "Version": 0}),
-     ("--versions", "Version"), "a get found a at version 0, which stands for no value"),
+     ("--versions", "Version"), "a get found a and version 0: let it have the version of the value that"),
     (changed_put(Input={"Op": "create", "Key": "x", "Value": "a", "Version": 3}),
      ("--versions", "Version", "--ops", "create=create"), "the input of a create has the version 3"),
 ]
@@ -296,6 +296,20 @@ class Words(unittest.TestCase):
             ran = run(f"process,start,end,op,value,{name}\n1,1,2,put,a,3\n", "csv")
             self.assertEqual(ran.status, 2)
             self.assertIn(f"{option} if a put takes place only if its key has this version", ran.told)
+
+    def test_a_get_without_a_version(self) -> None:
+        """It found nothing, or it is refused."""
+        for value, version, options, words in [
+                ("", "", (), None), ("", "0", (), None), ("a", "", (), "a get found a and no version"),
+                ("a", "0", (), "a get found a and version 0"),
+                ("", "3", (), "a get found no value and version 3"),
+                ("", "0", ("--ignore-member", "value"), None),
+                ("a", "", ("--ignore-member", "value"), "the answer to a get has no version in version")]:
+            ran = run(f"process,start,end,op,value,version\n1,1,2,get,{value},{version}\n", "csv",
+                      "--versions", "version", *options)
+            with self.subTest(value=value, version=version, options=options):
+                self.assertIn(words or "read 1 operation", ran.told)
+                self.assertEqual(short(ran.history), [] if words else ["1 r x", "1 = None"])
 
     def test_a_table_has_to_say_whether_a_put_took_place(self) -> None:
         for end, status in [("", 2), (",ok", 0), (",missed", 0)]:

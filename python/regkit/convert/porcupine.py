@@ -161,7 +161,7 @@ class _Values:
         if version is None or "value" not in self.choices.ignored:
             get.answer = self._read(members, line)
         if version is not None:
-            get.version = versions.found(members.get(version), get.answer, version, line)
+            get.version = versions.found(members.get(version), version, line)
 
     def _refuse_answer(self, operation: SourceOperation, members: Members, line: int) -> None:
         """An operation without Return may have an output, but none that says what it found."""

@@ -69,7 +69,7 @@ class Rows:
             operation.ending = None
         found_nothing = self._found_nothing(operation, row.members)
         if self.choices.versions is not None:
-            self._take_version(operation, row)
+            self._take_version(operation, row, found_nothing)
         if operation.kind in CONDITIONAL:
             self._take_cas(operation, row)
         else:
@@ -79,14 +79,18 @@ class Rows:
         if operation.end_line is not None:
             operation.end_line = row.end_line or row.line
 
-    def _take_version(self, operation: SourceOperation, row: Row) -> None:
-        """The version that a put asks for, or that a read found. To create is to put by version 0."""
+    def _take_version(self, operation: SourceOperation, row: Row, found_nothing: bool) -> None:
+        """The version that a put asks for, or that a read found. To create is to put by version 0.
+
+        A read that found no value needn't have one.
+        """
         member = self.choices.versions or ""
         given = _or_nothing(row.members.get(member))
         if self.is_csv:
             given = settled(given, frozenset(), True)
-        if operation.kind in READS and operation.ending == "reply" and given is not None:
-            operation.version = versions.found(given, None, member, row.line)
+        if operation.kind in READS and operation.ending == "reply" and not found_nothing:
+            if given is not None or "value" in self.choices.ignored:
+                operation.version = versions.found(given, member, row.line)
         elif operation.kind in WRITES or operation.kind == CREATE:
             operation.version = versions.asked(
                 0 if operation.kind == CREATE and given is None else given, member, row.line)

@@ -53,13 +53,9 @@ def refuse_asked(given: Any, line: int) -> None:
                       "put asks for one: a read of an old version is none of a register", line)
 
 
-def found(given: Any, value: Any, member: str, line: int) -> int:
-    """The version that a get found. Without one there is no value."""
-    version = _version(given, f"answer to a get has {{}} in {member}", line)
-    if not version and value not in (None, "", 0):
-        raise Refused(f"a get found {spelled(value)[:40]} at version 0, which stands for no value: which of "
-                      "them is it?", line)
-    return version
+def found(given: Any, member: str, line: int) -> int:
+    """The version that a get found."""
+    return _version(given, f"answer to a get has {{}} in {member}", line)
 
 
 def told(given: Any, version: int, ending: Optional[str], choices: Choices, line: int) -> Optional[int]:
@@ -116,6 +112,7 @@ class _Key:
         self.puts = [each for each in operations if each.kind == "write"]
         self._refuse_others(operations)
         self.next = self._next() if choices.revisions else {}
+        self._refuse_unversioned()
         self.values: dict[int, Value] = {}  # by version, if somebody tells it
         for put in self.puts:
             if _took_place(put) and put.told_version is not None:
@@ -150,6 +147,18 @@ class _Key:
                               "what changes a key whatever its version is doesn't tell the version that it met. "
                               "Let it ask for a version, or leave out such keys with --ops WORD=other "
                               "--skip-key", each.line)
+
+    def _refuse_unversioned(self) -> None:
+        """A get that found a value found its version too, and one that found none has version 0 or none."""
+        puts_null = any(put.value is None for put in self.puts)
+        for get in self.gets if self.has_values else ():
+            if get.ending != "reply" or bool(get.version) == (get.value is not None) or (
+                    get.version and puts_null):
+                continue
+            version = "no version" if get.version is None else f"version {get.version}"
+            raise Refused(f"a get found {'no value' if get.value is None else shown(get.value)[:40]} and "
+                          f"{version}: let it have the version of the value that it found, and no value at "
+                          "version 0", get.end_line or get.line)
 
     def _next(self) -> dict[int, int]:
         """By version that an operation names which took place, the next such version."""
