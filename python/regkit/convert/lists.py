@@ -69,6 +69,11 @@ def fold(source: Source, operations: Iterable[SourceOperation], choices: Choices
                             "shows: nobody can tell whether they took place")
 
 
+def _bare(text: Whole) -> Whole:
+    """A text without what a recorder may have added or taken away."""
+    return _SEPARATORS.sub("", text) if isinstance(text, str) else text
+
+
 class _Register:
     """The operations of one key, as they are made reads, writes and cas."""
 
@@ -243,12 +248,12 @@ class _Register:
 
     def _other_spelling(self, whole: Whole, elements: set[Whole]) -> Optional[str]:
         if isinstance(whole, str):
-            known = sorted((each for each in elements if isinstance(each, str)), key=len, reverse=True)
-            rest = re.sub("|".join(map(re.escape, known)), "", whole) if known else whole
-            if rest != whole and _SEPARATORS.fullmatch(rest):
-                return (f"between them stands {rest[:10]!r}; record the text as the store has it, or a list "
-                        "as a list, or say --values exact if the store was wrong to give it")
-            return None
+            parts = {_bare(each) for each in elements} - {""}
+            bases = {_bare(self._whole(each)) for each in self.puts} | {_bare(self.initial)}
+            if not Trunk(_bare(whole), bases, parts).ways[-1]:
+                return None
+            return ("but for blanks, quotes and separators it is; record each text as the store has it, or a "
+                    "list as a list, or say --values exact if the store was wrong to give it")
         appended = {bare(unsettled(self.elements[number])) for each in elements for number in each
                     if isinstance(number, int)}
         odd = next((self.elements[number] for number in whole if (number,) not in elements
