@@ -20,7 +20,8 @@ OPS = ("--ops", "incr=add,decr=subtract,getincr=fetch-add,getdecr=fetch-subtract
 CHANGED = {"incr": 1, "getincr": 1, "decr": -1, "getdecr": -1}
 UNKNOWN = "an addition of unknown outcome"
 # What is refused as nobody can tell it: what an addition met, and whether answers only repeat what was asked.
-UNTOLD = f"{UNKNOWN}|met 0, which may have been|has the value of its call|found no value, and by --initial"
+UNTOLD = (f"{UNKNOWN}|met 0, which may have been|met 0, and nothing had put|has the value of its call|"
+          "found no value, and by --initial|say --initial=(0|-1) if registers start with it")
 
 
 def counter(state: State, asked: Asked) -> List[Tuple[State, Any]]:
@@ -122,22 +123,21 @@ class Counters(unittest.TestCase):
                 done = made(chance)
                 if not any(each.outcome != "fail" or each.asked[0] not in CHANGED for each in done):
                     continue
-                start = chance.choice(["null", "null", "0"])
+                start = chance.choice([("--initial", "null"), ("--initial", "0"), ()])
                 try:
-                    history = history_of(write(done), form, *options, *OPS, "--initial", start, "--values",
-                                         "exact")
+                    history = history_of(write(done), form, *options, *OPS, *start, "--values", "exact")
                 except Refused as error:
                     refused += 1
                     self.assertRegex(str(error), UNTOLD)
                     self.assertTrue(UNKNOWN not in str(error) or any(
                         each.asked[0] in CHANGED and each.outcome == "unknown" for each in done))
                     continue
-                expected = is_linearizable(done, counter, None if start == "null" else 0)
+                expected = is_linearizable(done, counter, 0 if "0" in start else None)
                 faulty += not expected
                 kept.append((history, expected))
                 self.assertEqual(is_atomic(history), expected, (form, write(done), history))
             with self.subTest(form):
-                self.assertLess(refused, MANY / len(FORMS) / 2)
+                self.assertLess(refused, MANY / len(FORMS) * 2 / 3)
                 self.assertGreater(faulty, MANY / len(FORMS) / 8)
         if REGSEARCH:
             self.assertEqual(verdicts([history for history, _ in kept], REGSEARCH),

@@ -73,33 +73,48 @@ def as_cas(operation: SourceOperation, read_value: Reader) -> None:
         operation.value = _in_range(old + by, operation.end_line)
 
 
-def meet_nothing(added: Iterable[SourceOperation], operations: Iterable[SourceOperation],
-                 choices: Choices) -> None:
+def meet_nothing(added: list[SourceOperation], source: Source, choices: Choices) -> None:
     """By --initial null a key without a value counts as 0: so an addition to 0 met none, if nothing made a 0.
 
     `added` are the operations that were additions. Raises Refused if it can't be told what they met, or if a
     read found no value where registers start with a number.
     """
     keys = {each.key for each in added}
-    mine = [each for each in operations if each.key in keys]
-    start = None if choices.initial is None else initial_value(choices.initial, choices.form)
-    if start is not None:
-        _refuse_nothing(mine, choices)
+    if choices.initial is not None and initial_value(choices.initial, choices.form) is not None:
+        _refuse_nothing((each for each in source.operations() if each.key in keys), choices)
         return
-    zeros = {each.key: each for each in mine
-             if each.kind != "read" and each.value == 0 and each.ending != "fail" and not each.missed}
+    empty = _perhaps_empty(set(added), source)
+    zeros = {each.key: each for each in source.operations() if each.key in keys and each.kind != "read"
+             and each.value == 0 and each.ending != "fail" and not each.missed}
     for each in added:
-        if each.kind != CAS or each.expected != 0:
-            continue
-        if choices.initial is not None and each.key in zeros:
-            raise Refused("an addition met 0, which may have been no value or the 0 of line "
-                          f"{zeros[each.key].line}: begin the run with a write of 0 to {shown(each.key)}, and "
-                          "leave --initial null out", each.end_line)
-        if choices.initial is None and each.key not in zeros:
-            raise Refused(f"an addition met 0, which nothing writes to {shown(each.key)}: say --initial 0 if "
-                          "it starts with 0, or --initial null if it starts without a value, which counts as 0",
-                          each.end_line)
-        each.expected = 0 if choices.initial is None else None
+        if each.kind == CAS and each.expected == 0 and each.key in empty:
+            _refuse_unclear(each, zeros.get(each.key), choices)
+            each.expected = None
+
+
+def _perhaps_empty(additions: set[SourceOperation], source: Source) -> set[str]:
+    """The keys to which something may have been added before a value was put there."""
+    put: set[str] = set()
+    empty: set[str] = set()
+    for each, is_call in source.moments():
+        if each in additions:
+            empty |= {each.key} - put
+        elif not is_call and each.kind in ("write", CAS) and each.ending == "reply" and not each.missed:
+            put.add(each.key)
+    return empty
+
+
+def _refuse_unclear(addition: SourceOperation, zero: Optional[SourceOperation], choices: Choices) -> None:
+    """Raises Refused for an addition to 0, unless no value is said to count as 0, and nothing made a 0."""
+    key = shown(addition.key)
+    if choices.initial is None:
+        raise Refused(f"an addition met 0, and nothing had put a value to {key}: say --initial 0 if it "
+                      "starts with 0, or --initial null if it starts without a value, which counts as 0",
+                      addition.end_line)
+    if zero is not None:
+        raise Refused(f"an addition met 0, which may have been no value or the 0 of line {zero.line}: "
+                      f"begin the run with a put of 0 to {key}, before any addition",
+                      addition.end_line)
 
 
 def _refuse_nothing(operations: Iterable[SourceOperation], choices: Choices) -> None:

@@ -27,7 +27,7 @@ def settle(source: Source, choices: Choices) -> None:
     for operation in kept:
         is_list = operation.key in source.lists
         _settle_one(operation, partial(lists.raw, nulls=choices.nulls) if is_list else read_value, choices)
-    meet_nothing(added, kept, choices)
+    meet_nothing(added, source, choices)
     leave_out_failed(source)
     lists.fold(source, kept, choices)
 

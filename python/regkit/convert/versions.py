@@ -189,9 +189,9 @@ class _Key:
         return edn.write((_symbol(version), _UNSEEN))
 
     def _named(self, version: int, value: Value) -> Value:
-        if not self.has_values:
-            return version
-        return edn.write((_symbol(version), unsettled(value)))
+        if self.has_values:
+            return edn.write((_symbol(version), unsettled(value)))
+        return version if version >= 0 else edn.write(_symbol(version))
 
 
 def _symbol(version: int) -> Any:
