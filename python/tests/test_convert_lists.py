@@ -271,6 +271,13 @@ class Words(unittest.TestCase):
             "0 w k 1", "0 .", "0 r k", "0 = 1", "0 w k 2", "0 .", "0 w k 1", "0 .", "0 r k", "0 = 1",
             "0 c k 1 3", "0 True", "0 r k", "0 = 3"])
 
+    def test_a_get_that_contradicts_the_others(self) -> None:
+        """It alone has a value that nobody made."""
+        ran = run(log("append a", "append b", "get ba", "get ab", "append c", "get abc"), "porcupine")
+        self.assertEqual(short(ran.history), [
+            "0 c k None 1", "0 True", "0 c k 1 2", "0 True", "0 r k", "0 = 3", "0 r k", "0 = 2", "0 c k 2 4",
+            "0 True", "0 r k", "0 = 4"])
+
     def test_an_append_that_nobody_can_tell_of(self) -> None:
         """It is left out, and its crash stays."""
         lines = rows(["1 append 1", "2 r", "2 nil"]) + "\n" + (

@@ -12,6 +12,7 @@ since a value that is only asked for need never have been there.
 import hashlib
 import re
 import shlex
+from collections import Counter
 from typing import Any, Callable, Iterable, Iterator, Optional
 
 from regkit.convert import edn
@@ -218,9 +219,13 @@ class _Register:
 
     def _steps(self, trunks: Trunks, values: dict[SourceOperation, Whole],
                elements: set[Whole]) -> dict[Whole, tuple[Trunk, int, int]]:
-        """By element that some get gave, between which values it was appended."""
+        """By element that some get gave, between which values it was appended.
+
+        If gets contradict each other, any of them will do, and what most of them say explains the fault best.
+        """
         steps: dict[Whole, tuple[Trunk, int, int]] = {}
-        for get in self.gets:
+        agree = Counter(trunks.of(values[get]) for get in self.gets)
+        for get in sorted(self.gets, key=lambda get: -agree[trunks.of(values[get])]):
             whole = values[get]
             trunk = trunks.of(whole)
             ways = trunk.ways[len(whole)]
