@@ -278,6 +278,12 @@ class Words(unittest.TestCase):
             "0 c k None 1", "0 True", "0 c k 1 2", "0 True", "0 r k", "0 = 3", "0 r k", "0 = 2", "0 c k 2 4",
             "0 True", "0 r k", "0 = 4"])
 
+    def test_a_text_that_was_appended_twice(self) -> None:
+        """Its first place is where it was appended, so what it makes by the second is made by nobody."""
+        ran = run(log("append a", "append b", "get abb"), "porcupine")
+        self.assertEqual(short(ran.history), [
+            "0 c k None 1", "0 True", "0 c k 1 2", "0 True", "0 r k", "0 = 3"])
+
     def test_an_append_that_nobody_can_tell_of(self) -> None:
         """It is left out, and its crash stays."""
         lines = rows(["1 append 1", "2 r", "2 nil"]) + "\n" + (

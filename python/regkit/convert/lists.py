@@ -238,7 +238,7 @@ class _Register:
                 if get.value is not None:
                     self._refuse_suspect(get, whole, elements)
                 continue
-            for before, end in trunk.walk(len(whole)):
+            for before, end in reversed(list(trunk.walk(len(whole)))):  # an element's first place
                 steps.setdefault(whole[before:end], (trunk, before, end))
         return steps
 
