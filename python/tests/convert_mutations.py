@@ -104,13 +104,22 @@ def _of_jepsen(record: Record, _: str) -> Set[str]:
     kind, function = record["type"].lstrip(":"), record["f"].lstrip(":")
     used = {"process", "type", "f", "before", "gap"} | ({"error", "exception"} if kind == "fail" else set())
     is_read = function in ("read", "get")
+    if function in ADDITIONS:
+        return used | ({"value"} if kind in ("ok", "invoke") else set())
     return used | ({"value"} if kind == ("ok" if is_read else "invoke") else set()) | (
         {"key", "k", "register"} if kind == "invoke" and "key" in record else set())
+
+
+ADDITIONS = ("incr", "decr", "getincr", "getdecr")  # words for operations that add and are answered
 
 
 def _of_operation(record: Record, _: str) -> Set[str]:
     op = record.get("op", record.get("what", "")).lower()
     used = {"process", "start", "end", "register", "op", "outcome", "code", "who", "what", "key", "status"}
+    if op in ("put", "create", "append", *ADDITIONS):  # which may be asked in a column value too
+        return used | {"input", "value", "rev"} | ({"output"} if op in ADDITIONS else set())
+    if op == "get":
+        used.add("rev")
     if op not in ("write", "store"):
         used.add("output")  # the column for what was answered
     if "who" in record:
@@ -122,16 +131,19 @@ def _of_operation(record: Record, _: str) -> Set[str]:
 
 def _of_event(record: Record, op: str) -> Set[str]:
     if record["event"] == "call":
-        asked = {"write": {"value"}, "cas": {"from", "to"}}.get(op, set())
-        return {"process", "event", "op", "register"} | asked
-    return {"process", "event"} | {"read": {"value"}, "cas": {"ok"}}.get(op, set())
+        asked = {"write": {"value"}, "put": {"value"}, "append": {"value"}, "cas": {"from", "to"},
+                 **dict.fromkeys(ADDITIONS, {"value"})}
+        return {"process", "event", "op", "register"} | asked.get(op, set())
+    told = {"read": {"value"}, "get": {"value"}, "cas": {"ok"}, **dict.fromkeys(ADDITIONS, {"value"})}
+    return {"process", "event"} | told.get(op, set())
 
 
-_OPS = {0: "read", 1: "write", "cas": "cas", 2: "cas"}
+_OPS = {0: "read", 1: "write", "cas": "cas", 2: "cas", "get": "read", "put": "write", "append": "write",
+        "create": "write", "read": "read", "write": "write", **dict.fromkeys(ADDITIONS, "add")}
 _INPUTS = {"read": {"op", "key"}, "write": {"op", "key", "value", "arg1", "version"},
-           "cas": {"op", "key", "from", "to", "arg1", "arg2"}}
-_OUTPUTS = {"read": {"err", "value", "exists", "version", "unknown"}, "write": {"err", "unknown"},
-            "cas": {"err", "ok", "unknown"}}
+           "cas": {"op", "key", "from", "to", "arg1", "arg2"}, "add": {"op", "key", "value"}}
+_OUTPUTS = {"read": {"err", "value", "exists", "version", "unknown"}, "write": {"err", "unknown", "version"},
+            "cas": {"err", "ok", "unknown"}, "add": {"err", "value"}}
 
 
 def _places(record: Record, op: str) -> Iterator[Tuple[Record, Set[str]]]:

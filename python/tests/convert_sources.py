@@ -290,7 +290,7 @@ def porcupine_etcd(calls: List[Call], chance: random.Random) -> str:
 
 
 def porcupine_versions(calls: List[Call], chance: random.Random) -> str:
-    """Puts by version and gets, whose registers have versions. The values are any."""
+    """Puts by version and gets. Each version has one value."""
     errors = {"ok": ["OK"], "missed": ["ErrVersion"], "fail": ["ErrLeader"],
               "unknown": ["ErrMaybe", "timeout"]}
     rows = []
@@ -299,9 +299,9 @@ def porcupine_versions(calls: List[Call], chance: random.Random) -> str:
         given: Dict[str, Any] = {"Op": int(call.op != "read"), "Key": call.key, "Value": "", "Version": 0}
         told: Dict[str, Any] = {"Value": "", "Version": 0, "Err": chance.choice(errors[call.outcome])}
         if call.op == "cas":
-            given.update(Value=chance.choice("abc"), Version=version)
+            given.update(Value=f"v{version + 1}", Version=version)
         elif version:
-            told.update(Value=chance.choice("abc"), Version=version)
+            told.update(Value=f"v{version}", Version=version)
         elif call.outcome == "ok":
             told.update(Err="ErrNoKey")
         rows.append({"ClientId": call.client, "Input": given, "Call": call.start, "Output": told,

@@ -18,6 +18,10 @@ CHANGES: List[Tuple[str, str, List[Asked], List[str], bool]] = [
     ("incrby", "add", [(-3, -3), (2, -2)], ["0 c x 0 -3", "0 True", "1 c x -4 -2", "1 True"], False),
     ("getincr", "fetch-add", [(None, 0), (None, 1)], ["0 c x 0 1", "0 True", "1 c x 1 2", "1 True"], True),
     ("getincr", "fetch-add", [(3, 0), (3, 0)], ["0 c x 0 3", "0 True", "1 c x 0 3", "1 True"], False),
+    ("decr", "subtract", [(None, -1), (None, -2)], ["0 c x 0 -1", "0 True", "1 c x -1 -2", "1 True"], True),
+    ("decrby", "subtract", [(3, -3), (2, -2)], ["0 c x 0 -3", "0 True", "1 c x 0 -2", "1 True"], False),
+    ("getdecr", "fetch-subtract", [(None, 0), (2, -1)],
+     ["0 c x 0 -1", "0 True", "1 c x -1 -3", "1 True"], True),
     ("getset", "swap", [(7, 0), (8, 7)], ["0 c x 0 7", "0 True", "1 c x 7 8", "1 True"], True),
     ("getset", "swap", [(7, 0), (8, 0)], ["0 c x 0 7", "0 True", "1 c x 0 8", "1 True"], False),
 ]
@@ -127,7 +131,9 @@ class Changes(unittest.TestCase):
         for source in (begin % "incr", end % ("incr", "info", "incr")):
             ran = run(source, "jepsen", "--ops", "incr=add")
             self.assertEqual(ran.status, 2)
-            self.assertIn("line 1: an addition of unknown outcome can't be said yet", ran.told)
+            self.assertIn("line 1: an addition of unknown outcome: nobody saw the value that it wrote, and",
+                          ran.told)
+            self.assertIn("NP-complete question. Record the value that the store answers", ran.told)
         ran = run(end % ("incr", "fail", "incr") + end.replace("0", "1") % ("write", "ok", "write"), "jepsen",
                   "--ops", "incr=add")
         self.assertEqual(short(ran.history), ["1 w x 7", "1 ."])
@@ -153,7 +159,8 @@ class Changes(unittest.TestCase):
                 self.assertEqual((ran.status, words in ran.told), (2, True), ran.told)
         for word in ("decr", "decrby", "subtract"):
             ran = run("", "csv", "--ops", f"{word}=add")
-            self.assertEqual((ran.status, f"{word} takes away" in ran.told), (3, True), ran.told)
+            self.assertEqual(ran.status, 3)
+            self.assertIn(f"{word} takes away, and add adds: say {word}=subtract", ran.told)
 
     def test_an_answer_that_is_not_there(self) -> None:
         for word, op in [("getset", "swap"), ("incr", "add")]:
@@ -173,12 +180,13 @@ ADVICE: List[Tuple[str, List[str], List[str]]] = [
     ("getset", ["--ops getset=swap if its reply has the old value"], ["=read", "=write", "=cas"]),
     ("incr", ["--ops incr=add if its reply has the new value", "incr=fetch-add if it has the old one"],
      ["=read", "=write", "=cas"]),
-    ("decr", ["an addition of a negative number"], ["=read", "=write", "=cas", "decr=add"]),
+    ("decr", ["--ops decr=subtract if its reply has the new value", "decr=fetch-subtract if"],
+     ["=read", "=write", "=cas", "decr=add"]),
+    ("rpush", ["--ops rpush=append if what is appended stands behind all"], ["=read", "=write", "=cas"]),
     ("acquire", ["that is a cas", "--initial 0"], ["=read", "=write", "=cas"]),
     ("release", ["that is a cas"], ["=read", "=write", "=cas"]),
     ("delete", ["may take a value away", "can't be said yet"], ["=read", "=write", "=cas"]),
     ("expire", ["may take a value away", "can't be said yet"], ["=read", "=write", "=cas"]),
-    ("append", ["reads and writes at once"], ["=read", "=write", "=cas"]),
     ("fetch", ["--ops fetch=read or --ops fetch=write or --ops fetch=cas if it is one"], []),
 ]
 

@@ -226,14 +226,15 @@ class Jepsen(unittest.TestCase):
             path.write_text(ran.history, encoding="utf-8")
             self.assertEqual(command("check", str(path)).status, 5)
 
-    def test_an_append_transaction_gets_one_refusal(self) -> None:
+    def test_an_append_transaction_of_several_operations_gets_one_refusal(self) -> None:
         """Even behind a transaction that is refused for another reason, and whatever the options say."""
-        longer = TXN % "[[:r 1 nil] [:r 2 nil]]" + TXN.replace(":process 0", ":process 1") % "[[:append 3 1]]"
+        longer = (TXN % "[[:r 1 nil] [:r 2 nil]]"
+                  + TXN.replace(":process 0", ":process 1") % "[[:append 3 1] [:r 3 nil]]")
         for options in [(), ("--cas", "skip-key"), ("--ops", "append=other"), ("--keys", "none")]:
             ran = run(longer, "jepsen", *options)
             self.assertEqual(ran.status, 2)
-            self.assertIn("line 2: a transaction appends to a list", ran.told)
-            self.assertIn("so no option converts it: check such histories with Elle", ran.told)
+            self.assertIn("line 2: a transaction of 2 operations appends to a list", ran.told)
+            self.assertIn("so no option converts it: let each transaction have one operation", ran.told)
 
 
 def row(process: object, op: str, value: object, *times: object, **others: str) -> str:
@@ -629,10 +630,9 @@ REFUSALS: List[Tuple[str, str, Sequence[str], str]] = [
      "line 1: the value [[1 2] [3 4]] may be a key with [from to], or from and to: say --keys independent"),
     ("jepsen", jepsen("0 invoke read nil", "0 fail read nil"), ("--outcomes", "fail=missed"),
      "line 2: by --outcomes it missed, and it is a read, not a cas: say what the word means of all"),
-    ("porcupine", '{:process 0, :type :invoke, :f :append, :key "5", :value "a"}', (),
-     "line 1: append reads and writes at once, and a register has reads, writes and cas only: leave append "
-     "out of the workload, leave out the keys that it touches with --skip-key, or check the history with "
-     "Porcupine and its key-value model"),
+    ("porcupine", '{:process 0, :type :invoke, :f :append, :key "5", :value "a"}', ("--cas", "refuse"),
+     "line 1: append reads and writes at once, and by --cas refuse only reads and writes are taken: keep it "
+     "for regsearch with --cas keep, leave it out of the workload, or leave out the keys that it touches"),
     ("porcupine", '{"Call":1,"Input":{"Op":"cas","From":1},"Output":{"Ok":true},"Return":2}', (),
      "line 1: the input of a cas has From and To, and no Value"),
     ("porcupine", '{"Call":1,"Input":{"Op":"cas","From":1,"To":2},"Output":{},"Return":2}', (),
@@ -722,10 +722,9 @@ REFUSALS: List[Tuple[str, str, Sequence[str], str]] = [
      "line 2: the value 3 is no key with"),
     ("jepsen", TXN % "[[:w 1 2] [:r 1 nil]]", (),
      "line 1: a transaction of 2 operations, and registers have single"),
-    ("jepsen", TXN % "[[:append 1 2]]", (),
-     "line 1: a transaction appends to a list, and regcheck judges registers, which are read and written "
-     "whole, so no option converts it"),
-    ("jepsen", TXN % "7", (), "line 1: 7 is no transaction of one read or write, such as [[:w 3 1]]"),
+    ("jepsen", TXN % "[[:append 1 2] [:append 1 3]]", (),
+     "line 1: a transaction of 2 operations appends to a list, and registers have single operations"),
+    ("jepsen", TXN % "7", (), "line 1: 7 is no transaction of one operation, such as [[:w 3 1]]"),
     ("jepsen", TXN % "[[:w 1 2]]" + "{:process 0, :type :ok, :f :txn, :value [[:r 1 2]]}", (),
      "line 2: the reply's transaction isn't"),
     ("jepsen", "", (), "the source has no operation to check: is it the right file, and of the form jepsen?"),

@@ -30,8 +30,10 @@ WAYS_OUT: List[Tuple[str, str, Dict[str, str], Dict[Words, Optional[bool]]]] = [
     ("jepsen", _JEPSEN % ("invoke", "store", "[1 4]") + _JEPSEN % ("ok", "store", "[1 4]")
      + _READ % ("[2 nil]", "[2 nil]"), {},
      {("--ops", "store=write"): True, ("--ops", "store=other", "--skip-key"): True}),
-    ("jepsen", _JEPSEN % ("invoke", "append", "[1 [4 5]]") + _READ % ("[2 nil]", "[2 nil]"), {},
-     {("--skip-key",): True}),
+    ("jepsen", _JEPSEN % ("invoke", "append", "[1 4]")
+     + (_JEPSEN % ("invoke", "append", "[1 4]")).replace(":process 0", ":process 5")
+     + _READ % ("[2 nil]", "[2 nil]"), {},
+     {("--ops", "append=other", "--skip-key"): True}),
     ("jepsen", _written("1", "1").replace(":ok, :f :write", ':ok, :err "late", :f :write'), {"WORD": "late"},
      {("--ok-when", "err=late"): True, ("--ignore-member", "err"): True}),
     ("jepsen", _written("1", "1").replace(":ok, :f :write", ":done, :f :write"), {},

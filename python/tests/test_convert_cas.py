@@ -124,14 +124,14 @@ _end("porcupine", _PUT % '{"Value":"","Version":0,"Err":"ErrMaybe"}', True, *VER
 _end("porcupine", _PUT % '{"Value":"","Version":0,"Err":"ErrVersion"}', True, *VERSIONS)
 _end("porcupine", _PUT % '{"Err":"ErrVersion"}', True, *VERSIONS, "--outcomes", "ErrVersion=fail")
 _end("porcupine", _PUT % '{"Err":"ErrVersion"}', False, *VERSIONS, "--outcomes", "ErrVersion=missed")
-_end("porcupine", _PUT % '{"Err":"OK","Version":7}', "the output of a put has the version 7, and the put",
+_end("porcupine", _PUT % '{"Err":"OK","Version":7}', "the answer to a put has the version 7, and the put",
      *VERSIONS)
 _end("porcupine", _PUT % '{"Err":"OK","Leader":7}', "the member Leader isn't understood", *VERSIONS)
-_end("porcupine", (_PUT % '{"Err":"OK"}').replace(',"Version":0', ""), "the input of a put has no version in",
+_end("porcupine", (_PUT % '{"Err":"OK"}').replace(',"Version":0', ""), "the put has no version in",
      *VERSIONS)
 _end("porcupine", (_PUT % '{"Err":"OK"}').replace("ErrNoKey", "OK").replace(',"Version":0,"Err"', ',"Err"'),
-     "the output of a get has no version in version", *VERSIONS)
-_end("porcupine", (_PUT % '{"Err":"OK"}').replace('"Version":0}', '"Version":"0"}'), "the input of a put has",
+     "the answer to a get has no version in version", *VERSIONS)
+_end("porcupine", (_PUT % '{"Err":"OK"}').replace('"Version":0}', '"Version":"0"}'), "the put has the version 0 in",
      *VERSIONS)
 _end("porcupine", _PUT % "{}", "the output of a cas has no Ok", "--versions", "Version", "--ignore-member",
      "Err")
@@ -219,7 +219,8 @@ PUTS = (*VERSIONS, "--outcomes", "ErrVersion=missed")
 SAMPLE_RUNS: List[Tuple[str, str, Tuple[str, ...]]] = [
     ("jepsen_cas.edn", "jepsen", MISSED), ("knossos_cas_register.edn", "jepsen", ()),
     ("maelstrom_cas.edn", "jepsen", MISSED), ("porcupine_etcd.log", "porcupine", MISSED),
-    ("porcupine_model.jsonl", "porcupine", ()), ("porcupine_puts.jsonl", "porcupine", PUTS),
+    ("porcupine_model.jsonl", "porcupine", ()), ("porcupine_puts.jsonl", "porcupine",
+                                                 (*PUTS, "--ignore-member", "Value")),
     ("jepsen_etcd.edn", "jepsen", ("--drop-versions", "--outcomes", "did-not-succeed=missed")),
     ("cas.csv", "csv", ()), ("cas_events.jsonl", "jsonl", ()),
 ]
@@ -294,18 +295,19 @@ class Words(unittest.TestCase):
     def test_versions_are_told_of(self) -> None:
         source = (SAMPLES / "porcupine_puts.jsonl").read_text(encoding="utf-8")
         self.assertIn("each register has the versions of its key, and a put is a cas from its version to the "
-                      "next: the values aren't checked", run(source, "porcupine", *PUTS).told)
+                      "next: the values aren't checked",
+                      run(source, "porcupine", *PUTS, "--ignore-member", "Value").told)
+        self.assertIn("each value of the history is [version value], and a put is a cas from the value of "
+                      "its version to the next\n", run(source, "porcupine", *PUTS).told)
         log = run('{:process 0, :type :invoke, :f :put, :key "x", :value "1"}', "porcupine", *PUTS)
         self.assertEqual((log.status, log.history), (3, ""))
-        self.assertIn("--versions is for Go's values as JSON (--from porcupine): here, record a put by "
-                      "version as a cas from its version to the next one, as in :f :cas, :value "
-                      '["3" "4"]\n', log.told)
+        self.assertIn("--versions and --revisions are for Go's values as JSON (--from porcupine), for tables "
+                      "and for operations as JSON: here, record a put by version as a cas from its version to "
+                      'the next one, as in :f :cas, :value ["3" "4"]\n', log.told)
         self.assertIn("isn't understood, and it may tell the outcome (here it is 0): say --versions Version "
                       "if a put takes place only if its key has this version, --ok-when Version=WORD,.. with",
                       run(source, "porcupine").told)
-        for form, example in [("jepsen", ":f :cas, :value [3 4]"), ("csv", "op cas, from 3, to 4"),
-                              ("operations", '"op":"cas","from":3,"to":4'),
-                              ("jsonl", '"op":"cas","from":3,"to":4')]:
+        for form, example in [("jepsen", ":f :cas, :value [3 4]"), ("jsonl", '"op":"cas","from":3,"to":4')]:
             ran = run("", form, "--versions", "Version")
             self.assertEqual((ran.status, ran.history), (3, ""))
             self.assertIn(f"a cas from its version to the next one, as in {example}\n", ran.told)

@@ -290,8 +290,8 @@ class Keys(unittest.TestCase):
                 self.assertRegex(ran.told, "there is a member key too|(column|member) key isn't understood")
 
     def test_keys_are_left_out_and_a_cas_stays(self) -> None:
-        source = jepsen("0 invoke cas [1 [2 3]]", "1 invoke append [2 [4]]", "2 invoke write [3 1]")
-        kept = run(source, "jepsen", "--skip-key", "--null=2").history
+        source = jepsen("0 invoke cas [1 [2 3]]", "1 invoke append [2 4]", "2 invoke write [3 1]")
+        kept = run(source, "jepsen", "--ops", "append=other", "--skip-key", "--null=2").history
         self.assertEqual(short(kept), ["0 c 1 None 3", "2 w 3 1"])
         self.assertEqual(short(run(source, "jepsen", "--cas", "skip-key").history), ["2 w 3 1"])
 

@@ -26,13 +26,16 @@ examples:
   regkit convert log.csv --columns process=worker,register=object -o history.jsonl --map history.map
   regkit convert merged.csv --clock-error 5ms --clock-unit us | regkit check
   regkit convert log.tsv --ops fetch=read,store=write --outcomes done=ok,timeout=unknown | regkit check
-  regkit convert counters.csv --ops incr=add,getset=swap,setnx=create --initial 0 | regkit check
+  regkit convert counters.csv --ops incr=add,decr=subtract,setnx=create --initial 0 | regkit check
+  regkit convert lists.csv --ops rpush=append,lrange=read | regkit check
 
 With compare-and-swap (cas) and values that repeat:
   regkit convert history.edn --failed-cas missed | regkit check        # Maelstrom's lin-kv
   regkit convert etcd_000.log --failed-cas missed | regkit check       # Porcupine's log of etcd
   regkit convert kv.jsonl --versions Version --ok-when Err=OK \\
     --outcomes ErrVersion=missed --null ,ErrNoKey | regkit check       # MIT 6.5840
+  regkit convert etcd.jsonl --revisions ModRevision --ok-when Succeeded=true \\
+    --outcomes false=missed | regkit check                             # etcd's mod revisions
 
 What needs no options needs no conversion: `regkit check`, `explain` and `draw` take these files themselves.
 

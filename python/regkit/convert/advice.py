@@ -1,7 +1,7 @@
 """What to do about an operation that is none of a register, as far as the options say."""
 import shlex
 
-from regkit.convert.model import CAS, OTHER, READS, READ_AND_WRITE, WRITES, folded
+from regkit.convert.model import OTHER, READS, READ_AND_WRITE, WRITES, folded
 
 # Words of stores for operations, by what they are.
 _CREATES = frozenset({"create", "insert", "insertifabsent", "insert-if-absent", "put-if-absent",
@@ -11,26 +11,23 @@ _SWAPS = frozenset({"exchange", "get-and-set", "get_and_set", "getandput", "geta
 _ADDS = frozenset({"add", "addandget", "fetch-add", "fetch_add", "fetchadd", "getandadd", "getandincrement",
                    "inc", "incr", "incrby", "increment", "incrementandget"})
 _TAKES = ("dec", "sub")  # how words begin for what takes away from a number
+_APPENDS = frozenset({"addlast", "concat", "push", "rpush", "strappend"})
 _LOCKS = frozenset({"acquire", "lock", "release", "try-lock", "trylock", "unlock"})
 _DELETES = frozenset({"clear", "del", "delete", "evict", "expire", "expireat", "flush", "flushall", "getdel",
                       "invalidate", "persist", "remove", "ttl", "unset"})
 
 
 def takes_away(word: str) -> bool:
-    """Whether a word of the source is one for an addition of a negative number."""
+    """Whether a word of the source is one for a subtraction."""
     return folded(word).startswith(_TAKES)
 
 
 def not_taken(kind: str) -> str:
     """What to say of it."""
-    if kind == CAS:
-        return ("cas reads and writes at once, and by --cas refuse only reads and writes are taken: keep it "
-                "for regsearch with --cas keep, leave it out of the workload, or leave out the keys that it "
-                "touches with --cas skip-key")
     if kind in READ_AND_WRITE:
-        return (f"{kind} reads and writes at once, and a register has reads, writes and cas only: leave "
-                f"{kind} out of the workload, leave out the keys that it touches with --skip-key, or "
-                "check the history with Porcupine and its key-value model")
+        return (f"{kind} reads and writes at once, and by --cas refuse only reads and writes are taken: keep "
+                "it for regsearch with --cas keep, leave it out of the workload, or leave out the keys that it "
+                "touches with --cas skip-key")
     if kind == OTHER:
         return ("by --ops this is neither a read nor a write nor a cas: leave out the keys that it touches "
                 "with --skip-key")
@@ -41,7 +38,7 @@ def not_taken(kind: str) -> str:
 
 
 def _is_known(word: str) -> bool:
-    return word in _CREATES | _SWAPS | _ADDS | _LOCKS | _DELETES or takes_away(word)
+    return word in _CREATES | _SWAPS | _ADDS | _APPENDS | _LOCKS | _DELETES or takes_away(word)
 
 
 def _what(word: str, option: str) -> str:
@@ -56,8 +53,11 @@ def _what(word: str, option: str) -> str:
         return (f"adds to a value, which is a cas from the old value to the new one: say {option}add if its "
                 f"reply has the new value, {option}fetch-add if it has the old one, or ")
     if takes_away(word):
-        return ("takes from a value, which is an addition of a negative number: record it as one, under a "
-                "word of its own and with what its reply has, or ")
+        return (f"takes from a value, which is a cas from the old value to the new one: say {option}subtract "
+                f"if its reply has the new value, {option}fetch-subtract if it has the old one, or ")
+    if word in _APPENDS:
+        return (f"may append to a text or a list: say {option}append if what is appended stands behind all "
+                "that was there, and reads give the whole, or ")
     if word in _LOCKS:
         return ("is of a lock, and that is a cas: record that a client takes it as a cas from 0 to the "
                 "client's number, and that it gives it back as one back to 0, with --initial 0, or ")

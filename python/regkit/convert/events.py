@@ -14,7 +14,7 @@ from regkit.base.limits import GREATEST_VALUE
 from regkit.convert import edn
 from regkit.convert.json_values import json_values
 from regkit.convert.members import KeyMember, Known, Outcomes, by_folded_name, same_key
-from regkit.convert.model import (ANSWERED, CAS, CONDITIONAL, ENDINGS, NO_KEY, WRITES, Choices, Client,
+from regkit.convert.model import (ANSWERED, CAS, CONDITIONAL, ENDINGS, NO_KEY, STATED, Choices, Client,
                                   Refused, Source, SourceOperation, folded)
 from regkit.convert.pairing import Pairing
 from regkit.convert.rows import client_of
@@ -97,7 +97,7 @@ class _EventLog:
             raise Refused(f"the cas ends by {edn.write(event['event'])}, and ok is {edn.write(event['ok'])}: "
                           "did it take place or not?", line)
         value = event.get("value")
-        asked = called.value if called.kind in WRITES else None
+        asked = called.value if called.kind in STATED else None
         if value is not None and edn.write(value) != edn.write(asked) and not self.choices.explains("value"):
             raise Refused(f"the {called.kind} ends by {edn.write(event['event'])}, and there is a value, "
                           f"{edn.write(value)[:40]}: say --ignore-member value if it means nothing", line)
@@ -148,7 +148,7 @@ class _EventLog:
         ending, found_nothing = self.outcomes.of(event, called.kind in ANSWERED)
         if called.kind in ANSWERED and not found_nothing and ending == "reply" and "value" not in event:
             raise Refused("a read's reply has no value: write null if the read found none", line)
-        told = called.kind not in WRITES or not self.choices.explains("value")
+        told = called.kind not in STATED or not self.choices.explains("value")
         called.answer = event.get("value") if told and not found_nothing else None
         return ending
 

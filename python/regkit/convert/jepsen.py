@@ -21,7 +21,7 @@ from regkit.convert.independent import are_independent, nothing_for, pair_of, pa
 from regkit.convert.jepsen_lines import NO_OPERATION, line_events
 from regkit.convert.json_values import as_edn, is_json, json_values
 from regkit.convert.members import Ended, KeyMember, Known, Outcomes, by_folded_name, same_key, word_of
-from regkit.convert.model import (ANSWERED, CONDITIONAL, ENDINGS, KNOWN, NO_KEY, OTHER, READS, WRITES,
+from regkit.convert.model import (ANSWERED, CONDITIONAL, ENDINGS, KNOWN, NO_KEY, OTHER, READS, STATED,
                                   Choices, Refused, Source, SourceOperation, folded)
 from regkit.convert.pairing import Pairing
 from regkit.convert.settle import settle
@@ -31,7 +31,7 @@ from regkit.convert.transactions import refuse_appends, refuse_transactions, tak
 _NO_KEY = "key-does-not-exist"  # Maelstrom's definite error of a read that found no such key
 _OTHER_VALUE = "precondition-failed"  # and that of a cas that missed
 _TYPES = {"ok": "reply", "fail": "fail", "info": "crash"}
-_TOLD = WRITES | CONDITIONAL  # whose calls have their values
+_TOLD = STATED | CONDITIONAL  # whose calls have their values
 _ERRORS = ("error", "exception")
 _LONGEST = 40  # characters of an error that is shown
 

@@ -8,7 +8,7 @@ import re
 from typing import Any, Iterable, Iterator, Optional
 
 from regkit.convert import edn
-from regkit.convert.model import (CAS, CHANGES, KNOWN, NO_KEY, OTHER, READ_AND_WRITE, Choices, Refused,
+from regkit.convert.model import (CHANGES, KNOWN, NO_KEY, OTHER, READ_AND_WRITE, Choices, Refused,
                                   Source, SourceOperation)
 from regkit.convert.spellings import bare, parsed
 from regkit.convert.values import readable, unsettled
@@ -117,8 +117,8 @@ def _skipped(operations: Iterable[SourceOperation], first: dict[str, SourceOpera
         return
     for operation in operations:
         key = operation.key
-        strange = operation.kind == OTHER or operation.kind in READ_AND_WRITE - {CAS}
-        is_cas = operation.kind in CHANGES | {CAS}
+        strange = operation.kind == OTHER
+        is_cas = operation.kind in CHANGES | READ_AND_WRITE
         if strange or key in several or (is_cas and choices.cas == "skip-key"):
             yield key
             yield from several.get(key, ())

@@ -55,6 +55,8 @@ WRITE_ANSWERS = {"jepsen": "value", "porcupine": "Output", "csv": "value", "oper
 _ANSWERS = frozenset({"value", "output"})  # a read's value, which is never its outcome
 _CALLS = frozenset({"call", "invoke"})  # what says that a line is a call
 _LONGEST = 40  # characters of a value that is shown
+_VERSIONS = {"version": "--versions", "revision": "--revisions", "modrevision": "--revisions",
+             "mod_revision": "--revisions"}  # by name of a member, the option that may say what it is
 
 
 class Known:
@@ -101,8 +103,8 @@ class Known:
         return ((f"--columns register={name} if it is the key, " if no_register else "")
                 + (f"--key {name} if it is the key, " if self._has_no_key(by_folded_name(members)) else "")
                 + (f"--columns outcome={name} if it is the outcome, " if self.what == "column" else "")
-                + (f"--versions {name} if a put takes place only if its key has this version, "
-                   if self.place == "input" and folded(name) == "version" else ""))
+                + (f"{_VERSIONS[folded(name)]} {name} if a put takes place only if its key has this version, "
+                   if self.place in ("input", "csv", "operations") and folded(name) in _VERSIONS else ""))
 
     def _has_no_key(self, members: Members) -> bool:
         """Whether it is a call whose key isn't known."""

@@ -10,13 +10,16 @@ Value = Union[None, int, str]
 
 READS = frozenset({"read", "r", "get"})
 WRITES = frozenset({"write", "w", "put", "set"})
-CAS = "cas"
-READ_AND_WRITE = frozenset({CAS, "append"})  # operations that read and write at once
+CAS, APPEND = "cas", "append"
+READ_AND_WRITE = frozenset({CAS, APPEND})  # operations that read and write at once
+STATED = WRITES | {APPEND}  # whose calls have their values, which replies at most repeat
 # What --ops makes a cas of: to write a value only where there is none, to write one and be answered the old
-# one, to add and be answered the new value, or the old one.
+# one, to add or to subtract and be answered the new value, or the old one.
 CREATE, SWAP, ADD, FETCH_ADD = "create", "swap", "add", "fetch-add"
-ANSWERED = READS | {SWAP, ADD, FETCH_ADD}  # whose reply has a value that the call doesn't have
-CHANGES = frozenset({CREATE, SWAP, ADD, FETCH_ADD})
+SUBTRACT, FETCH_SUBTRACT = "subtract", "fetch-subtract"
+ADDITIONS = frozenset({ADD, FETCH_ADD, SUBTRACT, FETCH_SUBTRACT})
+ANSWERED = READS | ADDITIONS | {SWAP}  # whose reply has a value that the call doesn't have
+CHANGES = ADDITIONS | {CREATE, SWAP}
 CONDITIONAL = frozenset({CAS, CREATE})  # that take place only if the key has what they ask for
 OTHER = "other"  # by --ops, an operation that is no read, no write and no cas
 NO_KEY: Any = object()  # the key of an operation that names none
@@ -41,7 +44,7 @@ class SourceOperation:
     """A call with what ended it, as the source has it. `kind` is crash for a crash without an open call."""
 
     __slots__ = ("line", "end_line", "client", "kind", "key", "value", "expected", "missed", "answer",
-                 "ending", "process", "time", "end_time", "name", "node")
+                 "ending", "process", "time", "end_time", "name", "node", "version", "told_version")
 
     def __init__(self, line: int, client: Client, kind: str, key: Any, value: Any) -> None:
         self.line = line
@@ -59,6 +62,8 @@ class SourceOperation:
         self.end_time: Optional[int] = None
         self.name = ""  # of its client, if the source has one beside `client`
         self.node = ""  # that was asked, if the source says which
+        self.version: Optional[int] = None  # that a put by version asks for, or that a read found
+        self.told_version: Optional[int] = None  # that a put's reply tells
 
 
 class Choices(NamedTuple):
@@ -75,6 +80,7 @@ class Choices(NamedTuple):
     skip_key: bool = False  # whether to leave out keys that something else touches than operations of one
     failed_cas: str = "fail"  # or missed
     versions: Optional[str] = None  # the member by which a put is a cas
+    revisions: bool = False  # whether versions may skip numbers
     drop_versions: bool = False  # whether each value is [version value]
     columns: dict[str, str] = {}
     delimiter: Optional[str] = None
@@ -118,6 +124,8 @@ class Source:
         self.left_out: dict[str, int] = Counter()  # which lines were left out -> how many
         self.skipped = ""  # which keys were left out, in words
         self.notes: list[str] = []  # what else a person should know
+        self.lists: set[str] = set()  # the keys to which something is appended
+        self.starts: dict[str, Value] = {}  # by key, the value with which alone it starts
 
     def moments(self) -> Iterator[tuple[SourceOperation, bool]]:
         """Each step, and whether it is the operation's call."""
@@ -134,3 +142,16 @@ class Source:
     def operations(self) -> Iterator[SourceOperation]:
         """Each operation once, in the order of the calls. A crash without an open call is none."""
         return (step for step, is_call in self.moments() if is_call and step.kind != "crash")
+
+    def leave_out(self, operations: set[SourceOperation]) -> None:
+        """Leaves out operations, but for the crashes that ended them."""
+        kept: list[SourceOperation] = []
+        for step, is_call in self.moments():
+            if step not in operations:
+                kept.append(step)
+            elif not is_call and step.ending == "crash":
+                crash = SourceOperation(step.end_line or step.line, step.client, "crash", None, None)
+                crash.process, crash.time, crash.name, crash.node = (
+                    step.process, step.end_time, step.name, step.node)
+                kept.append(crash)
+        self.steps = kept

@@ -19,8 +19,8 @@ from typing import Any, Iterable, Optional
 from regkit.convert import etcd, jepsen, versions
 from regkit.convert.json_values import is_json, json_values
 from regkit.convert.members import KeyMember, Known, Members, Outcomes, by_folded_name, ok_of
-from regkit.convert.model import (ANSWERED, CAS, CONDITIONAL, READS, WRITES, Choices, Refused, Source,
-                                  SourceOperation, WrongWords)
+from regkit.convert.model import (ANSWERED, CAS, CONDITIONAL, CREATE, READS, STATED, WRITES, Choices, Refused,
+                                  Source, SourceOperation, WrongWords)
 from regkit.convert.pairing import Pairing
 from regkit.convert.rows import client_of
 from regkit.convert.settle import settle
@@ -76,8 +76,6 @@ class _Values:
                 raise Refused("events and operations in one file: give each a file of its own", line)
         source = Source(self.pairing.steps) if self.pairing.steps else self.timed.source(self.choices)
         source.notes.extend(self.outcomes.notes())
-        if self.choices.versions is not None:
-            source.notes.append(versions.NOTE)
         settle(source, self.choices)
         return source
 
@@ -100,25 +98,44 @@ class _Values:
         if kind == CAS:
             return SourceOperation(line, client, kind, key, _swap(found, line))
         kind = _OPS.get(word, word) if kind == word else kind
+        if self.choices.versions is not None and kind in WRITES | {CREATE}:
+            return self._put(line, client, kind, found)
         if word in _READS_BY_HABIT and word not in self.choices.ops and not _is_zero(found.get("value")):
             raise Refused(f"Op {word} is a get in Porcupine's models, and this input has a value to write, "
                           f"{spelled(found['value'])[:40]}: say which operation each Op is, as in "
                           f"--ops {_READS_BY_HABIT[word]}", line)
         if self.choices.versions is not None:
-            if kind in WRITES:
-                change = versions.as_cas(found, self.choices.versions, line)
-                return SourceOperation(line, client, CAS, key, change)
-            versions.refuse_asked(found, self.choices.versions, line)
+            versions.refuse_asked(found.get(self.choices.versions), line)
         asked = None if kind in READS and _is_zero(found.get("value")) else found.get("value")
         return SourceOperation(line, client, kind, key, asked)
+
+    def _put(self, line: int, client: Any, kind: str, found: Members) -> SourceOperation:
+        """A put by version; to create is one by version 0."""
+        member, value = self.choices.versions or "", found.get("value")
+        value = None if "value" in self.choices.ignored else value
+        put = SourceOperation(line, client, "write", self.key.of(found, line), value)
+        given = found.get(member, 0 if kind == CREATE else None)
+        put.version = versions.asked(given, member, line)
+        if kind == CREATE and put.version:
+            raise Refused(f"the input of a create has the version {put.version}, and it takes place only if "
+                          "there is none", line)
+        return put
+
+    def _end_put(self, put: SourceOperation, ending: Optional[str], members: Members,
+                 line: int) -> Optional[str]:
+        """How a put by version ended, and which version it gave or found."""
+        if ending == "reply":
+            ending = self._end_cas(members, line)
+        given = members.get(self.choices.versions or "")
+        put.told_version = versions.told(given, put.version or 0, ending, self.choices, line)
+        return ending
 
     def _end(self, operation: SourceOperation, output: Any, beside: Members, line: int) -> Optional[str]:
         """Gives an operation its answer, the output or its member Value. Returns the operation's ending."""
         members: Members = {} if output is None else {"output": output}
         is_etcd, is_cas = operation in self.etcd, operation.kind in CONDITIONAL
-        version = self.choices.versions
         if isinstance(output, dict):
-            place = "etcd output" if is_etcd else "cas output" if is_cas and version is None else "output"
+            place = "etcd output" if is_etcd else "cas output" if is_cas else "output"
             self.known[place].check(output, line)
             members = by_folded_name(output, line)
         _agree(beside, members, line)
@@ -126,18 +143,25 @@ class _Values:
         ending, found_nothing = self.outcomes.of({**beside, **members}, is_read)
         if ending == "reply" and is_etcd:
             ending, members = etcd.ended(operation, members, self.etcd_said, line)
+        if operation.version is not None:
+            return self._end_put(operation, ending, {**beside, **members}, line)
         if ending != "reply":
             return ending
         if is_cas:
-            if version is not None:
-                versions.agree(members, version, operation.value, line)
             return self._end_cas({**beside, **members}, line)
         if is_read and not found_nothing:
-            operation.answer = (self._read(members, line) if version is None
-                                else versions.found(members, version, line))
-        elif operation.kind in WRITES and not self.choices.explains("output", "value"):
+            self._answer(operation, members, line)
+        elif operation.kind in STATED and not self.choices.explains("output", "value"):
             operation.answer = _written(members)
         return ending
+
+    def _answer(self, get: SourceOperation, members: Members, line: int) -> None:
+        """What a get gave, with its version."""
+        version = self.choices.versions
+        if version is None or "value" not in self.choices.ignored:
+            get.answer = self._read(members, line)
+        if version is not None:
+            get.version = versions.found(members.get(version), version, line)
 
     def _refuse_answer(self, operation: SourceOperation, members: Members, line: int) -> None:
         """An operation without Return may have an output, but none that says what it found."""

@@ -3,10 +3,11 @@ import re
 import shlex
 from typing import Any, NamedTuple, Optional
 
+from regkit.convert import versions
 from regkit.convert.columns import Used
 from regkit.convert.members import Known, Members, Outcomes, ok_of
-from regkit.convert.model import (ANSWERED, CAS, CONDITIONAL, CREATE, ENDINGS, NO_KEY, READS, Choices, Client,
-                                  Refused, Source, SourceOperation, folded)
+from regkit.convert.model import (ANSWERED, CAS, CONDITIONAL, CREATE, ENDINGS, NO_KEY, READS, STATED, WRITES,
+                                  Choices, Client, Refused, Source, SourceOperation, folded)
 from regkit.convert.settle import settle
 from regkit.convert.spellings import spelled
 from regkit.convert.timed import TimedOperations, Times
@@ -67,7 +68,9 @@ class Rows:
                 operation.ending in ("reply", "missed")):
             operation.ending = None
         found_nothing = self._found_nothing(operation, row.members)
-        if kind in CONDITIONAL:
+        if self.choices.versions is not None:
+            self._take_version(operation, row, found_nothing)
+        if operation.kind in CONDITIONAL:
             self._take_cas(operation, row)
         else:
             self._refuse_cas_members(row)
@@ -75,6 +78,26 @@ class Rows:
         self.timed.add_times(operation, times, self.choices)
         if operation.end_line is not None:
             operation.end_line = row.end_line or row.line
+
+    def _take_version(self, operation: SourceOperation, row: Row, found_nothing: bool) -> None:
+        """The version that a put asks for, or that a read found. To create is to put by version 0.
+
+        A read that found no value needn't have one.
+        """
+        member = self.choices.versions or ""
+        given = _or_nothing(row.members.get(member))
+        if self.is_csv:
+            given = settled(given, frozenset(), True)
+        if operation.kind in READS and operation.ending == "reply" and not found_nothing:
+            if given is not None or "value" in self.choices.ignored:
+                operation.version = versions.found(given, member, row.line)
+        elif operation.kind in WRITES or operation.kind == CREATE:
+            operation.version = versions.asked(
+                0 if operation.kind == CREATE and given is None else given, member, row.line)
+            operation.kind = "write"
+            if operation.ending == "reply" and not self._says_ok(row):
+                raise Refused("the row of a put by version doesn't say whether it took place: write ok, "
+                              "missed, fail or unknown as its outcome", row.line)
 
     def _take_values(self, operation: SourceOperation, row: Row, found_nothing: bool) -> None:
         """What a read or a write asked, and what it was answered."""
@@ -86,7 +109,7 @@ class Rows:
             self._refuse_unused(row, "input", [row.register, answer])
         else:
             asked, answer = self._agreed(row, "input", "value"), row.output
-            if not answers:
+            if operation.kind in STATED:
                 self._refuse_unused(row, "output", [asked])
         if answers and answer is ABSENT and not found_nothing and operation.ending == "reply":
             column = "value" if is_read else "output"

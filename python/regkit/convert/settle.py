@@ -2,13 +2,13 @@
 from functools import partial
 from typing import Any, Callable, Optional
 
-from regkit.convert import edn
+from regkit.convert import edn, lists
 from regkit.convert.advice import not_taken
-from regkit.convert.changes import as_cas, leave_out_failed, refuse_repeated
+from regkit.convert.changes import as_cas, leave_out_failed, meet_nothing, refuse_repeated
 from regkit.convert.keys import settle_keys
 from regkit.convert.members import WRITE_ANSWERS
-from regkit.convert.model import (CAS, CHANGES, CONDITIONAL, READS, WRITES, Choices, Refused, Source,
-                                  SourceOperation, Value)
+from regkit.convert.model import (ADDITIONS, APPEND, CAS, CHANGES, CONDITIONAL, READS, WRITES, Choices,
+                                  Refused, Source, SourceOperation, Value)
 from regkit.convert.values import ALL_TEXTS, settled, shown
 
 _OPAQUE = frozenset({"object", "error"})  # tags of values that can't be compared by how they are written
@@ -21,19 +21,28 @@ def settle(source: Source, choices: Choices) -> None:
     read_value = partial(settled, nulls=choices.nulls, numeric_texts=choices.form in ALL_TEXTS,
                          alike=choices.values == "alike")
     refuse_repeated(operations, choices.form, read_value)
-    for operation in operations:
-        if operation.key not in skipped:
-            _settle_kind(operation, choices.cas == "keep")
-            _settle_ending(operation)
-            if operation.kind in CHANGES:
-                as_cas(operation, read_value)
-            elif operation.kind == CAS:
-                _settle_cas(operation, read_value, choices.form)
-            elif operation.kind == "read":
-                _settle_read(operation, read_value, "value" in choices.ignored)
-            else:
-                _settle_write(operation, read_value, choices.form)
+    kept = [operation for operation in operations if operation.key not in skipped]
+    source.lists = lists.keys_of(kept, read_value)
+    added = [operation for operation in kept if operation.kind in ADDITIONS]
+    for operation in kept:
+        is_list = operation.key in source.lists
+        _settle_one(operation, partial(lists.raw, nulls=choices.nulls) if is_list else read_value, choices)
+    meet_nothing(added, source, choices)
     leave_out_failed(source)
+    lists.fold(source, kept, choices)
+
+
+def _settle_one(operation: SourceOperation, read_value: Callable[[Any], Any], choices: Choices) -> None:
+    _settle_kind(operation, choices.cas == "keep")
+    _settle_ending(operation)
+    if operation.kind in CHANGES:
+        as_cas(operation, read_value)
+    elif operation.kind == CAS:
+        _settle_cas(operation, read_value, choices.form)
+    elif operation.kind == "read":
+        _settle_read(operation, read_value, "value" in choices.ignored)
+    else:
+        _settle_write(operation, read_value, choices.form)
 
 
 def _settle_kind(operation: SourceOperation, takes_cas: bool) -> None:
@@ -41,14 +50,14 @@ def _settle_kind(operation: SourceOperation, takes_cas: bool) -> None:
         operation.kind = "read"
     elif operation.kind in WRITES:
         operation.kind = "write"
-    elif operation.kind not in CHANGES | {CAS} or not takes_cas:
+    elif operation.kind not in CHANGES | {APPEND, CAS} or not takes_cas:
         raise Refused(not_taken(operation.kind), operation.line)
 
 
 def _settle_ending(operation: SourceOperation) -> None:
     if operation.ending != "missed":
         return
-    if operation.kind not in CONDITIONAL:
+    if operation.kind not in CONDITIONAL and operation.version is None:
         raise Refused(f"by --outcomes it missed, and it is a {operation.kind}, not a cas: say what the word "
                       "means of all operations, such as WORD=fail or WORD=unknown", operation.end_line)
     operation.ending, operation.missed = "reply", True
@@ -114,10 +123,10 @@ def _settle_write(operation: SourceOperation, read_value: Callable[[Any], Value]
     answer = read_value(operation.answer) if operation.ending == "reply" else None
     called, operation.value = operation.value, read_value(operation.value)
     if answer is not None and answer != operation.value:
-        name = WRITE_ANSWERS[form]
+        name, kind = WRITE_ANSWERS[form], "an append" if operation.kind == APPEND else "a write"
         versioned = form == "jepsen" and _differ_in_version(called, operation.answer)
-        raise Refused(f"the reply of a write has the value {shown(answer)}, and its call, at line "
+        raise Refused(f"the reply of {kind} has the value {shown(answer)}, and its call, at line "
                       f"{operation.line}, {shown(operation.value)}: say "
                       f"{'--drop-versions if each value is [version value], ' if versioned else ''}"
-                      f"--ok-when {name}=WORD,.. with the words by which the write took place, or "
-                      f"--ignore-member {name} if what a write answers means nothing", operation.end_line)
+                      f"--ok-when {name}=WORD,.. with the words by which it took place, or "
+                      f"--ignore-member {name} if what it answers means nothing", operation.end_line)

@@ -33,6 +33,8 @@ def look_at_reads(source: Source, written: Written, choices: Choices) -> Iterato
     begun: set[tuple[str, Value]] = set()  # what was written so far, by key
     unwritten = failed = 0
     for each, is_call in source.moments():
+        if each.key in source.lists:
+            continue
         if is_call:
             if each.kind != "read" and not each.missed:
                 begun.add((each.key, each.value))
@@ -69,7 +71,7 @@ def _find(operation: SourceOperation) -> Value:
 
 def _refuse_suspect(read: SourceOperation, found: Value, spellings: "_Spellings", choices: Choices) -> None:
     value = unsettled(found)
-    why = None if spellings.has_twin(read.key, found) else _spells_null(value, choices)
+    why = None if spellings.has_twin(read.key, found) else spells_null(value, choices)
     if why is None and choices.values != "exact":
         why = spellings.why(read.key, found, choices)
     if why is not None:
@@ -81,7 +83,7 @@ def _refuse_suspect(read: SourceOperation, found: Value, spellings: "_Spellings"
         raise Refused(f"{what}: {why}", read.end_line or read.line)
 
 
-def _spells_null(value: Any, choices: Choices) -> Optional[str]:
+def spells_null(value: Any, choices: Choices) -> Optional[str]:
     """What to say of a value that may be none, or the one before any write."""
     start = None if choices.initial is None else initial_value(choices.initial, choices.form)
     starts, spells = bare(value) in STARTS and choices.initial is None, unquoted(value).lower() in SPELL_NULL

@@ -22,7 +22,7 @@ from regkit.convert.columns import COLUMNS, HEADER, OBJECT, Used, known_columns,
 from regkit.convert.event_rows import operations_of
 from regkit.convert.json_values import json_values
 from regkit.convert.members import Known
-from regkit.convert.model import Choices, Refused, Source, folded
+from regkit.convert.model import Choices, Refused, Source, WrongWords, folded
 from regkit.convert.rows import ABSENT, Row, Rows
 from regkit.words.phrases import counted
 
@@ -82,13 +82,16 @@ def _numbered(reader: Any, width: int) -> Iterator[tuple[int, list[str]]]:
 
 def _table_rows(numbered: Iterable[tuple[int, list[str]]], header: Sequence[str], used: Used,
                 choices: Choices) -> Iterator[Row]:
-    known = Known(choices, "csv", used.names.values(), "column")
+    if used.is_events and choices.versions is not None:
+        raise WrongWords("--versions and --revisions are for rows of operations, and the table has a row for "
+                         "each event: give each operation one row")
+    known = Known(choices, "csv", [*used.names.values(), *_version_of(choices)], "column")
     folds = [folded(name) for name in header]
     places = [header.index(used.names[column]) if column in used.names else None for column in COLUMNS]
     for line, row in numbered:
         if not known.seen:  # the columns of the first row are those of all
             known.check(dict(zip(header, row)), line)
-        members = dict(zip(folds, row)) if choices.ok_when else {}
+        members = dict(zip(folds, row)) if _needs_members(choices) else {}
         yield Row(line, members, used, *[ABSENT if place is None else row[place] for place in places])
 
 
@@ -100,15 +103,24 @@ def _json_rows(lines: Iterable[str], choices: Choices) -> Iterator[Row]:
         names = tuple(row)
         if names not in uses:
             used = used_columns(names, choices.columns, OBJECT, line)
-            uses[names] = (used, Known(choices, "operations", used.names.values()),
+            uses[names] = (used, Known(choices, "operations", [*used.names.values(), *_version_of(choices)]),
                            [used.names.get(column) for column in COLUMNS])
         used, known, members_of = uses[names]
         known.check(row, line)
         for column in ("process", "op"):
             if row[used.names[column]] is None:
                 raise Refused(missing(column, choices.columns, names, OBJECT), line)
-        members = {folded(name): value for name, value in row.items()} if choices.ok_when else {}
+        members = {folded(name): value for name, value in row.items()} if _needs_members(choices) else {}
         yield Row(line, members, used, *[ABSENT if name is None else row[name] for name in members_of])
+
+
+def _needs_members(choices: Choices) -> bool:
+    """Whether the options ask for a column that has no meaning by itself."""
+    return bool(choices.ok_when) or choices.versions is not None
+
+
+def _version_of(choices: Choices) -> list[str]:
+    return [] if choices.versions is None else [choices.versions]
 
 
 def _source(rows: Iterable[Row], choices: Choices) -> Source:

@@ -1,4 +1,4 @@
-"""Transactions of one read or one write, as Elle's rw-register has them: [[:w 3 1]]."""
+"""Transactions of one operation, as Elle's rw-register and list-append have them: [[:w 3 1]]."""
 from typing import Any, Iterable, Optional
 
 from regkit.convert import edn
@@ -8,12 +8,14 @@ _FUNCTIONS = frozenset({"r", "w", "read", "write", "append", "cas"})
 
 
 def refuse_appends(operations: Iterable[SourceOperation]) -> None:
-    """Raises Refused if any transaction appends to a list: no option makes registers of lists."""
+    """Raises Refused if any transaction of several operations appends to a list: no option takes it apart."""
     for operation in operations:
-        if operation.kind == "txn" and "append" in map(_function, _parts(operation.value)):
-            raise Refused("a transaction appends to a list, and regcheck judges registers, which are read "
-                          "and written whole, so no option converts it: check such histories with Elle, as "
-                          "in `elle-cli --model list-append history.edn`", operation.line)
+        parts = _parts(operation.value) if operation.kind == "txn" else []
+        if len(parts) > 1 and "append" in map(_function, parts):
+            raise Refused(f"a transaction of {len(parts)} operations appends to a list, and registers have "
+                          "single operations, so no option converts it: let each transaction have one "
+                          "operation (:max-txn-length 1), or check such histories with Elle, as in "
+                          "`elle-cli --model list-append history.edn`", operation.line)
 
 
 def refuse_transactions(operation: SourceOperation) -> None:
@@ -68,4 +70,4 @@ def _single(value: Any, line: int) -> list[Any]:
         raise Refused(f"a transaction of {len(parts)} operations, and registers have single reads and "
                       "writes: let each transaction have one operation (:max-txn-length 1, "
                       "docs/recipes.md), or check the history with Elle", line)
-    raise Refused(f"{edn.write(value)[:60]} is no transaction of one read or write, such as [[:w 3 1]]", line)
+    raise Refused(f"{edn.write(value)[:60]} is no transaction of one operation, such as [[:w 3 1]]", line)

@@ -63,7 +63,7 @@ def readable(texts: Iterable[str]) -> dict[str, str]:
 
 
 def _unquoted(text: str) -> str:
-    if text[0] != '"' or text == '""':
+    if text[:1] != '"' or text == '""':
         return text
     return str(unsettled(text)) if "\\" in text else text[1:-1]
 
@@ -111,7 +111,7 @@ def all_written(operations: Iterable[SourceOperation]) -> Written:
     for operation in operations:
         if operation.kind == "read":
             continue
-        if operation.value is None:
+        if operation.value is None and operation.version is None:
             raise Refused(f"a {operation.kind} of null to {shown(operation.key)}: only the initial value is "
                           "null. Let the workload delete nothing, or go on with another key; or name fewer "
                           "spellings of null with --null", operation.line)

@@ -1,7 +1,7 @@
 """The whole way from a source's lines to a history that can be written."""
 from typing import Callable, Iterable, NamedTuple
 
-from regkit.convert import events, jepsen, porcupine, tables
+from regkit.convert import events, jepsen, porcupine, tables, versions
 from regkit.convert.model import Choices, Refused, Source, SourceOperation, Value
 from regkit.convert.names import names
 from regkit.convert.processes import Given, give_processes
@@ -33,11 +33,14 @@ def convert(lines: Iterable[str], choices: Choices, number: bool = True) -> Conv
     if not read:
         raise Refused(_nothing_left(source, choices.form))
     given = give_processes(source)
+    start = None
     if choices.initial is not None:
         start = initial_value(choices.initial, choices.form, choices.values == "alike")
-        if start is not None:
-            _begin(source, read, start)
+    _begin(source, read, start)
     source.notes.extend(look_at_reads(source, all_written(source.operations()), choices))
+    versions.fold(source, read, choices)
+    left = set(source.operations())
+    read = [operation for operation in read if operation in left]
     named = names(read)
     numbers = number_texts(source.operations()) if number else {}
     return Converted(source, read, named, numbers, given)
@@ -50,8 +53,8 @@ def _nothing_left(source: Source, form: str) -> str:
                       *source.notes])
 
 
-def _begin(source: Source, operations: list[SourceOperation], value: Value) -> None:
-    """Puts a completed write of a value to each register before all else.
+def _begin(source: Source, operations: list[SourceOperation], start: Value) -> None:
+    """Puts a completed write of a value to each register before all else, if it starts with one.
 
     The process that first writes a register later writes its initial value too, so that a single writer stays
     one.
@@ -63,6 +66,9 @@ def _begin(source: Source, operations: list[SourceOperation], value: Value) -> N
             first[operation.key] = operation
     steps: list[SourceOperation] = []
     for key, operation in first.items():
+        value = source.starts.get(key) if start is None else start
+        if value is None:
+            continue
         write = SourceOperation(0, operation.client, "write", key, value)
         write.ending, write.end_line, write.process = "reply", 0, operation.process
         steps += [write, write]

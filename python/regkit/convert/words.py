@@ -6,14 +6,14 @@ from typing import Collection, Optional
 from regkit.convert import versions, write_back
 from regkit.convert.advice import takes_away
 from regkit.convert.columns import COLUMNS, columns
-from regkit.convert.model import (ADD, CAS, CREATE, ENDINGS, FETCH_ADD, OTHER, READ_AND_WRITE, SWAP, Choices,
-                                  WrongWords, folded)
+from regkit.convert.model import (ADD, APPEND, CAS, CREATE, ENDINGS, FETCH_ADD, FETCH_SUBTRACT, OTHER,
+                                  READ_AND_WRITE, SUBTRACT, SWAP, Choices, WrongWords, folded)
 from regkit.convert.whole import READERS
 
 AUTO = "auto"  # the form is what the source's beginning says
 TIMED = ("porcupine", "csv", "operations")
 NULLS = {"porcupine": "", "csv": ""}  # by form, what spells null if --null doesn't say
-OPS = ("read", "write", CAS, CREATE, SWAP, ADD, FETCH_ADD, OTHER)
+OPS = ("read", "write", CAS, CREATE, SWAP, ADD, FETCH_ADD, SUBTRACT, FETCH_SUBTRACT, APPEND, OTHER)
 DELIMITERS = {"comma": ",", "semicolon": ";", "tab": "\t", "\\t": "\t", "pipe": "|", "bar": "|"}
 
 
@@ -41,14 +41,17 @@ def add_arguments(parser: argparse.ArgumentParser) -> None:
     add("--cas", choices=["keep", "skip-key", "refuse"], default="keep",
         help="keep compare-and-swap for regsearch (default), leave out the keys that have any operation but "
         "reads and writes, or refuse it")
-    add("--skip-key", action="store_true", help="leave out the keys that anything but a read, a write or a "
-                                                "cas of one key touches, such as mget x,y or what --ops "
-                                                "calls other")
+    add("--skip-key", action="store_true", help="leave out the keys that anything but a read, a write, an "
+                                                "append or a cas of one key touches, such as mget x,y or "
+                                                "what --ops calls other")
     add("--failed-cas", choices=["fail", "missed"], default="fail",
         help="what a failed cas says: nothing, since it had no effect (fail, the default), or that the store "
         "looked and found another value (missed)")
-    add("--versions", metavar="MEMBER", help="porcupine, as JSON: a put takes place only if its key has the "
-        "version in this member, and then the key has the next one; only versions are checked")
+    add("--versions", metavar="MEMBER", help="porcupine as JSON, csv, operations: a put takes place only if "
+        "its key has the version in this member, and then the key has the next one; a get is answered the "
+        "version there. Values and versions are checked at once, versions alone with --ignore-member Value")
+    add("--revisions", metavar="MEMBER", help="the same for versions that may skip numbers, if each put "
+        "gives a greater one, as etcd's revisions and memcached's cas tokens")
     add("--drop-versions", action="store_true", help="jepsen: each value is [version value], as in Jepsen's "
         "test of etcd; only the values are checked")
     add("--keys", choices=["auto", "independent", "none"], default="auto",
@@ -69,8 +72,8 @@ def _add_meanings(parser: argparse.ArgumentParser) -> None:
         "semicolon or tab (default: whichever the header has)")
     add("--ops", metavar="WORD=OP,..", action="append", default=[],
         help="what the source's words for operations mean: read, write, cas; create (a put-if-absent), swap "
-        "(a get-and-set), add (an increment that is answered the new value), fetch-add (the old one); or "
-        "other, whose keys --skip-key leaves out")
+        "(a get-and-set), append; add and subtract (answered the new value), fetch-add and fetch-subtract (the "
+        "old one); or other, whose keys --skip-key leaves out")
     add("--outcomes", metavar="WORD=OUTCOME,..", action="append", default=[],
         help="what the source's words for outcomes mean: ok, fail (it certainly had no effect), unknown, or "
              "of a cas missed (the store found another value)")
@@ -98,20 +101,36 @@ def choices_of(arguments: argparse.Namespace, form: str) -> Choices:
                                  ("--clock-unit", arguments.clock_unit, TIMED)):
         if value is not None and form not in forms:
             raise WrongWords(f"{option} is for {', '.join(forms)}, not for {form}")
-    if arguments.versions is not None and form != "porcupine":
-        raise WrongWords(versions.not_of(form))
+    _look_at_versions(arguments, form)
     if arguments.map and arguments.to != "history":
         raise WrongWords("--map describes a history for regcheck: leave out --to, or --map")
     return Choices(
         form=form, register=arguments.register, keys=arguments.keys, nulls=_nulls(form, arguments.null),
         initial=arguments.initial, values=arguments.values, key=arguments.key and folded(arguments.key),
         cas=arguments.cas, skip_key=arguments.skip_key, failed_cas=arguments.failed_cas,
-        versions=arguments.versions and folded(arguments.versions), drop_versions=arguments.drop_versions,
-        columns=_columns(arguments),
+        versions=_version_member(arguments), revisions=arguments.revisions is not None,
+        drop_versions=arguments.drop_versions, columns=_columns(arguments),
         delimiter=_delimiter(arguments.delimiter), ops=_meanings("--ops", arguments.ops, OPS),
         outcomes=_meanings("--outcomes", arguments.outcomes, ENDINGS), ok_when=_ok_when(arguments.ok_when),
         ignored=frozenset(map(folded, arguments.ignore_member)), clock_error=arguments.clock_error,
         clock_unit=arguments.clock_unit, duration_unit=arguments.duration_unit)
+
+
+def _version_member(arguments: argparse.Namespace) -> Optional[str]:
+    named = arguments.revisions if arguments.versions is None else arguments.versions
+    return None if named is None else folded(named)
+
+
+def _look_at_versions(arguments: argparse.Namespace, form: str) -> None:
+    if _version_member(arguments) is None:
+        return
+    if form not in TIMED:
+        raise WrongWords(versions.not_of(form))
+    if None not in (arguments.versions, arguments.revisions):
+        raise WrongWords("--versions and --revisions: say one of them, whether versions go up by 1 or not")
+    if arguments.initial not in (None, "null", "nil"):
+        raise WrongWords(f"--initial {arguments.initial}: by --versions and --revisions a key starts without "
+                         "a value, as version 0")
 
 
 def _columns(arguments: argparse.Namespace) -> dict[str, str]:
@@ -151,9 +170,8 @@ def _meanings(option: str, given: list[str], known: Collection[str]) -> dict[str
                 raise WrongWords(f"{option} {said}={meaning}: {said} reads and writes at once, so it is "
                                  f"{'cas or other' if folded(said) == CAS else OTHER}")
             if meaning in (ADD, FETCH_ADD) and takes_away(said):
-                raise WrongWords(f"{option} {said}={meaning}: {said} takes away, and {meaning} adds what is "
-                                 "asked, or 1: record it as an addition of a negative number, under another "
-                                 "word")
+                raise WrongWords(f"{option} {said}={meaning}: {said} takes away, and {meaning} adds: say "
+                                 f"{said}={SUBTRACT if meaning == ADD else FETCH_SUBTRACT}")
             if meanings.setdefault(folded(said), meaning) != meaning:
                 raise WrongWords(f"{option}: {said} is given two meanings")
     return meanings
