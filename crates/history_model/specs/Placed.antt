@@ -1,7 +1,7 @@
 -- The points of an order (this project's profile; points as in Herlihy and Wing, Linearizability: A
 -- Correctness Condition for Concurrent Objects, 1990, section 2).
 use Rattle.std.specs.Prelude.{ℕ, max, map, List, [], ◌∷◌}
-use Rattle.history_model.specs.Operations.{Operation}
+use Rattle.history_model.specs.declared.operation.Operation.{Operation}
 
 -- an operation in its place of an order, with its point
 pub record PlacedOperation : Type 0 where

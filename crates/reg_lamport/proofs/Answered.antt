@@ -11,7 +11,8 @@ use Rattle.history_text.specs.declared.event.OpKind.TheVariants.{ReadOp, WriteOp
 use Rattle.history_model.specs.Lists.{In, Before}
 use Rattle.history_model.specs.History.{History, IsRecorded}
 use Rattle.history_model.specs.Lamport.{is_completed_read}
-use Rattle.history_model.specs.Operations.{Operation, calls, is_a_reply, is_write}
+use Rattle.history_model.specs.Operations.{calls, is_a_reply, is_write}
+use Rattle.history_model.specs.declared.operation.Operation.{Operation}
 use Rattle.history_model.specs.Operations.{of_register, operations, writes}
 use Rattle.history_model.specs.Naming.{IsEventIn, begins_at}
 use Rattle.history_model.specs.Walking.{by_register}

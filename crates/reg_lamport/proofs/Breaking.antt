@@ -8,7 +8,8 @@ use Rattle.history_text.specs.declared.event.Val.{Val}
 use Rattle.history_model.specs.Lists.{In}
 use Rattle.history_model.specs.History.{History, IsRecorded}
 use Rattle.history_model.specs.Lamport.{HasSingleWriter, HasOldValue, HasOverlappedValue, IsOldWrite}
-use Rattle.history_model.specs.Operations.{Operation, IsCompletedRead, Overlaps}
+use Rattle.history_model.specs.Operations.{IsCompletedRead, Overlaps}
+use Rattle.history_model.specs.declared.operation.Operation.{Operation}
 use Rattle.history_model.specs.Operations.{is_write, of_register, operations}
 use Rattle.history_model.specs.Walking.{by_value, key_at}
 use Rattle.history_model.specs.Naming.{IsNamed, op_shown}

@@ -5,7 +5,8 @@ use Rattle.std.proofs.lemmas.List.Elements.{filter-append}
 use Rattle.history_model.specs.Lists.{In, Before}
 use Rattle.history_model.specs.History.{History}
 use Rattle.history_model.specs.Lamport.{is_completed_read, completed_reads}
-use Rattle.history_model.specs.Operations.{Operation, operation, operations, next_of, reply_in}
+use Rattle.history_model.specs.Operations.{operation, operations, next_of, reply_in}
+use Rattle.history_model.specs.declared.operation.Operation.{Operation}
 use Rattle.history_model.specs.Operations.{begins, kind_in, number_in, calls, calls_from}
 use Rattle.history_model.specs.Operations.{initial_write, initial_writes, of_register}
 use Rattle.history_model.specs.Walking.{called_at}

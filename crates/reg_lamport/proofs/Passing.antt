@@ -8,7 +8,8 @@ use Rattle.std.proofs.lemmas.List.Elements.{filter-append}
 use Rattle.history_model.specs.Lists.{In, Before}
 use Rattle.history_model.specs.History.{History, IsRecorded}
 use Rattle.history_model.specs.Lamport.{is_completed_read, completed_reads}
-use Rattle.history_model.specs.Operations.{Operation, operations, calls, initial_write}
+use Rattle.history_model.specs.Operations.{operations, calls, initial_write}
+use Rattle.history_model.specs.declared.operation.Operation.{Operation}
 use Rattle.history_model.specs.Operations.{initial_writes, of_register, is_write}
 use Rattle.history_model.specs.Walking.{IsFirstOf, IsNextOf, by_register, called_at, calls_at, IsOnWalk}
 use Rattle.history_model.specs.Naming.{IsNamed, begins_at, op_shown}

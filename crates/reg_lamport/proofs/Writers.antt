@@ -5,7 +5,8 @@ use Rattle.std.proofs.lemmas.Bool.{eqb-true, eq-eqb, false≢true, and_parts}
 use Rattle.history_model.specs.Lists.{In}
 use Rattle.history_model.specs.History.{History, IsRecorded}
 use Rattle.history_model.specs.Lamport.{HasSingleWriter}
-use Rattle.history_model.specs.Operations.{Operation, operations, calls, calls_from}
+use Rattle.history_model.specs.Operations.{operations, calls, calls_from}
+use Rattle.history_model.specs.declared.operation.Operation.{Operation}
 use Rattle.history_model.specs.Operations.{of_register, IsWrite, kind_in, writes}
 use Rattle.history_model.specs.Walking.{IsFirstOf, IsNextOf, by_register, called_at, calls_at, IsOnWalk}
 use Rattle.history_model.specs.Naming.{begins_at}

@@ -4,7 +4,8 @@ use Rattle.std.proofs.Common.{◌⊎◌, ◌↔◌, inl, inr, sym, subst, ◌∙
 use Rattle.std.proofs.lemmas.Bool.{cases_order}
 use Rattle.history_model.specs.Lists.{In, Before}
 use Rattle.history_model.specs.History.{History}
-use Rattle.history_model.specs.Operations.{Operation, IsHistory, of_register, operations, register_of}
+use Rattle.history_model.specs.Operations.{IsHistory, of_register, operations, register_of}
+use Rattle.history_model.specs.declared.operation.Operation.{Operation}
 use Rattle.history_model.specs.Legal.{IsLegal, IsAtomic}
 use Rattle.reg_zones.specs.Order.{PlacedOperation, placed, operations_of}
 use Rattle.history_model.proofs.Lists.{Before-total, Before-trans, In-left, In-right, append-In}

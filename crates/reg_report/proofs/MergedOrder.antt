@@ -1,7 +1,8 @@
 -- The merged order of legal orders is a legal order of the whole history.
 use Rattle.std.proofs.Common.{◌≡◌, ℕ, List, inl, inr, refl, sym, ap, subst, ◌∙◌, arith}
 use Rattle.history_model.specs.Lists.{In, Before}
-use Rattle.history_model.specs.Operations.{Operation, Precedes, IsHistory, of_register}
+use Rattle.history_model.specs.Operations.{Precedes, IsHistory, of_register}
+use Rattle.history_model.specs.declared.operation.Operation.{Operation}
 use Rattle.history_model.specs.Legal.{IsLegal}
 use Rattle.reg_zones.specs.Order.{PlacedOperation, placed, operations_of}
 use Rattle.history_model.proofs.Lists.{In-map, map-In, Before-first, Before-second}

@@ -4,7 +4,8 @@ use Rattle.std.proofs.Common.{Option, Some, inl, inr, refl, sym, ap, subst, â—Œâ
 use Rattle.std.proofs.lemmas.Bool.{cases_order}
 use Rattle.history_model.specs.Lists.{In, Before}
 use Rattle.history_model.specs.History.{History}
-use Rattle.history_model.specs.Operations.{Operation, IsHistory, operations, register_of}
+use Rattle.history_model.specs.Operations.{IsHistory, operations, register_of}
+use Rattle.history_model.specs.declared.operation.Operation.{Operation}
 use Rattle.history_model.specs.Naming.{IsNamed, name_of}
 use Rattle.history_model.specs.declared.ids.Oper.{Oper}
 use Rattle.reg_lamport.specs.Levels.{IsFirstBadRead}

@@ -1,7 +1,8 @@
 -- A legal order of the whole, kept to one register, is a legal order of the register.
 use Rattle.std.proofs.Common.{ℕ, ◌==◌, List, ◌∙◌}
 use Rattle.std.proofs.lemmas.Bool.{eq-eqb}
-use Rattle.history_model.specs.Operations.{Operation, of_register}
+use Rattle.history_model.specs.Operations.{of_register}
+use Rattle.history_model.specs.declared.operation.Operation.{Operation}
 use Rattle.history_model.specs.Legal.{IsLegal}
 use Rattle.history_model.proofs.Lists.{Before-filter, filter-Before}
 use Rattle.history_model.proofs.Recorded.{of_register-In, In-of_register}

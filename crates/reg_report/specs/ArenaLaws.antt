@@ -6,7 +6,8 @@ use Rattle.history_model.specs.declared.event.What.TheVariants.{Call}
 use Rattle.history_model.specs.declared.ids.Oper.{Oper}
 use Rattle.history_model.specs.Lists.{In}
 use Rattle.history_model.specs.History.{History}
-use Rattle.history_model.specs.Operations.{Operation, IsHistory, of_register, operations}
+use Rattle.history_model.specs.Operations.{IsHistory, of_register, operations}
+use Rattle.history_model.specs.declared.operation.Operation.{Operation}
 use Rattle.history_model.specs.Naming.{IsEventIn, IsNamed, IsOper, name_of}
 
 -- its registers and events are few, and its operations belong to numbered registers and, but for the

@@ -4,7 +4,8 @@ use Rattle.std.specs.Prelude.{Bool, true, false, not, Option, Some, None, is_som
 use Rattle.std.specs.List.{filter}
 use Rattle.history_model.specs.History.{History}
 use Rattle.history_model.specs.Legal.{IsLegal, IsAtomic}
-use Rattle.history_model.specs.Operations.{Operation, operations, calls, of_register, is_write, register_of}
+use Rattle.history_model.specs.Operations.{operations, calls, of_register, is_write, register_of}
+use Rattle.history_model.specs.declared.operation.Operation.{Operation}
 use Rattle.history_model.specs.declared.event.Event.{Event}
 use Rattle.history_model.specs.Lamport.{HasSingleWriter}
 use Rattle.history_model.specs.Naming.{IsNamed, name_of}

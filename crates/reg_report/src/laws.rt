@@ -3,7 +3,8 @@
 ghost use Rattle.std.specs.Prelude.{◌≡◌, ◌↔◌, ℕ, List};
 ghost use Rattle.history_model.specs.History.{History, IsRecorded};
 ghost use Rattle.history_model.specs.Legal.{IsLegal, IsAtomic};
-ghost use Rattle.history_model.specs.Operations.{Operation, IsHistory, of_register, operations};
+ghost use Rattle.history_model.specs.Operations.{IsHistory, of_register, operations};
+ghost use Rattle.history_model.specs.declared.operation.Operation.{Operation};
 ghost use Rattle.reg_zones.specs.Order.{PlacedOperation, operations_of};
 ghost use Rattle.reg_report.specs.First.{IsFirstReport};
 ghost use Rattle.reg_report.specs.Meaning.{IsEachAtomic, IsReport};

@@ -6,7 +6,8 @@ use Rattle.history_text.specs.declared.event.OpKind.TheVariants.{WriteOp}
 use Rattle.history_model.specs.declared.op.Op.{Op}
 use Rattle.history_model.specs.Lists.{In}
 use Rattle.history_model.specs.History.{History}
-use Rattle.history_model.specs.Operations.{Operation, IsWrite, IsCompletedRead, IsReadOf}
+use Rattle.history_model.specs.Operations.{IsWrite, IsCompletedRead, IsReadOf}
+use Rattle.history_model.specs.declared.operation.Operation.{Operation}
 use Rattle.history_model.specs.Operations.{of_register, operations, writes, is_write}
 use Rattle.history_model.specs.declared.ids.Oper.{Oper}
 use Rattle.history_model.specs.Naming.{IsNamed, name_by}

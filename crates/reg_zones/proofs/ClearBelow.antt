@@ -1,7 +1,8 @@
 -- What a pass over low ends keeps, and what it finds.
 use Rattle.std.proofs.Common.{◌≡◌, ℕ, ◌+◌, ◌<◌, List, inl, inr, sym, subst, ◌∙◌, arith}
 use Rattle.std.proofs.lemmas.Bool.{cases_lt, cases_Bool}
-use Rattle.history_model.specs.Operations.{Operation, IsCompleted, IsHistory}
+use Rattle.history_model.specs.Operations.{IsCompleted, IsHistory}
+use Rattle.history_model.specs.declared.operation.Operation.{Operation}
 use Rattle.reg_zones.specs.Clusters.{low_end, IsKept, IsForward, IsConflict, IsLastForward}
 use Rattle.reg_zones.specs.Clusters.{IsClearBelow, IsFirstConflict, HasFirstReply, HasLastCall}
 use Rattle.reg_zones.proofs.Ends.{kept-member, first_reply-le}

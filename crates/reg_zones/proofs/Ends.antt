@@ -6,7 +6,8 @@ use Rattle.std.proofs.lemmas.Bool.{false≢true, or_cases, or_left, or_right}
 use Rattle.history_text.specs.Values.{same_value}
 use Rattle.history_text.specs.declared.event.Val.{Val}
 use Rattle.history_model.specs.Lists.{In}
-use Rattle.history_model.specs.Operations.{Operation, IsHistory, IsReadOf, is_write}
+use Rattle.history_model.specs.Operations.{IsHistory, IsReadOf, is_write}
+use Rattle.history_model.specs.declared.operation.Operation.{Operation}
 use Rattle.history_model.proofs.Lists.{In-map, map-In, In-filter, filter-In}
 use Rattle.reg_zones.proofs.Values.{same-true, eq-same}
 use Rattle.reg_zones.specs.Clusters.{least, least_from, greatest, IsKept, IsInCluster}

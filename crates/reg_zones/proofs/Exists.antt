@@ -3,7 +3,8 @@ use Rattle.std.proofs.Common.{◌≡◌, List, [], ◌∷◌, ◌⊎◌, ◌↔�
 use Rattle.std.proofs.lemmas.Bool.{cases_Bool, cases_order, false≢true}
 use Rattle.history_model.specs.Legal.{IsAtomic}
 use Rattle.history_model.specs.Lists.{In}
-use Rattle.history_model.specs.Operations.{Operation, IsWrite, IsCompleted, IsCompletedRead}
+use Rattle.history_model.specs.Operations.{IsWrite, IsCompleted, IsCompletedRead}
+use Rattle.history_model.specs.declared.operation.Operation.{Operation}
 use Rattle.history_model.specs.Operations.{IsReadOf, IsHistory, is_write}
 use Rattle.reg_zones.proofs.Complete.{listed-in, listed-member, legal}
 use Rattle.reg_zones.proofs.LowEnds.{low_apart}

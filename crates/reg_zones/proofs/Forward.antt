@@ -1,7 +1,8 @@
 -- The first conflict is with the last forward zone.
 use Rattle.std.proofs.Common.{◌≡◌, ◌<◌, List, inl, inr, ap, arith}
 use Rattle.std.proofs.lemmas.Bool.{cases_lt}
-use Rattle.history_model.specs.Operations.{Operation, IsHistory}
+use Rattle.history_model.specs.Operations.{IsHistory}
+use Rattle.history_model.specs.declared.operation.Operation.{Operation}
 use Rattle.reg_zones.proofs.LowEnds.{same_low}
 use Rattle.reg_zones.specs.Clusters.{first_reply, last_call, low_end, IsConflict}
 use Rattle.reg_zones.specs.Clusters.{IsLastForward, IsClearBelow, IsFirstConflict}

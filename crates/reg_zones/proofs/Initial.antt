@@ -3,7 +3,8 @@ use Rattle.std.proofs.Common.{◌≡◌, List, None, inl, inr, refl, sym, ap, �
 use Rattle.std.proofs.lemmas.Bool.{cases_eq, cases_Bool}
 use Rattle.history_model.specs.Legal.{IsLegal}
 use Rattle.history_model.specs.Lists.{In, Before}
-use Rattle.history_model.specs.Operations.{Operation, IsHistory, IsWrite, IsCompleted}
+use Rattle.history_model.specs.Operations.{IsHistory, IsWrite, IsCompleted}
+use Rattle.history_model.specs.declared.operation.Operation.{Operation}
 use Rattle.history_model.specs.Operations.{Precedes, is_write, initial_write}
 use Rattle.reg_zones.proofs.Complete.{listed-member}
 use Rattle.reg_zones.proofs.Ends.{first_reply-le, first_reply-at, last_call-at}

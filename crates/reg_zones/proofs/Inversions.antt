@@ -5,7 +5,8 @@ use Rattle.std.proofs.lemmas.Bool.{cases_Bool, cases_lt}
 use Rattle.history_model.specs.Lamport.{IsOldWrite, IsOverlappedWrite}
 use Rattle.history_model.specs.Legal.{IsAtomic, IsLegal}
 use Rattle.history_model.specs.Lists.{In, Before}
-use Rattle.history_model.specs.Operations.{Operation, Precedes, IsCompletedRead, IsHistory, IsReadOf, IsWrite}
+use Rattle.history_model.specs.Operations.{Precedes, IsCompletedRead, IsHistory, IsReadOf, IsWrite}
+use Rattle.history_model.specs.declared.operation.Operation.{Operation}
 use Rattle.history_model.specs.Naming.{name_of}
 use Rattle.reg_zones.specs.Clusters.{IsConflict, IsInCluster, IsKept, HasFirstReply, HasLastCall, low_end}
 use Rattle.reg_zones.specs.Faults.{HasNoFault, IsFault}

@@ -9,7 +9,8 @@ use Rattle.history_model.specs.declared.event.Event.{Event}
 use Rattle.history_model.specs.declared.ids.RegId.{RegId}
 use Rattle.history_model.specs.Lists.{In}
 use Rattle.history_model.specs.History.{History, IsRecorded}
-use Rattle.history_model.specs.Operations.{Operation, IsHistory, IsWrite, IsCompleted}
+use Rattle.history_model.specs.Operations.{IsHistory, IsWrite, IsCompleted}
+use Rattle.history_model.specs.declared.operation.Operation.{Operation}
 use Rattle.history_model.specs.Operations.{register_of, operations, initial_write}
 use Rattle.history_model.specs.Walking.{by_register, by_value, key_at}
 use Rattle.history_model.specs.Naming.{IsEventIn, IsEventOf}

@@ -6,7 +6,8 @@ use Rattle.history_model.specs.declared.event.Event.{Event}
 use Rattle.history_model.specs.declared.ids.EvId.{EvId}
 use Rattle.history_model.specs.Lists.{In, Before}
 use Rattle.history_model.specs.History.{History}
-use Rattle.history_model.specs.Operations.{Operation, of_register, operations, is_write, initial_write}
+use Rattle.history_model.specs.Operations.{of_register, operations, is_write, initial_write}
+use Rattle.history_model.specs.declared.operation.Operation.{Operation}
 use Rattle.history_model.specs.Walking.{IsFirstOf, IsNextOf, by_register, key_at}
 use Rattle.reg_zones.specs.declared.entry.Entry.{Entry}
 use Rattle.reg_zones.specs.Clusters.{low_end}

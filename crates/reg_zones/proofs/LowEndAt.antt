@@ -4,7 +4,8 @@ use Rattle.history_text.specs.declared.event.Val.{Val}
 use Rattle.history_model.specs.declared.ids.Oper.{Oper}
 use Rattle.history_model.specs.Lists.{In}
 use Rattle.history_model.specs.History.{History}
-use Rattle.history_model.specs.Operations.{Operation, of_register, operations}
+use Rattle.history_model.specs.Operations.{of_register, operations}
+use Rattle.history_model.specs.declared.operation.Operation.{Operation}
 use Rattle.history_model.specs.Naming.{IsEventOf}
 use Rattle.history_model.specs.OfValue.{IsWriteOf}
 use Rattle.reg_zones.specs.declared.zone.Zone.{Zone}

@@ -2,7 +2,8 @@
 use Rattle.std.proofs.Common.{◌≡◌, Option, List, inl, inr, sym, ap, ◌∙◌, arith}
 use Rattle.std.proofs.lemmas.Bool.{cases_Bool, cases_lt}
 use Rattle.history_text.specs.declared.event.Val.{Val}
-use Rattle.history_model.specs.Operations.{Operation, IsHistory}
+use Rattle.history_model.specs.Operations.{IsHistory}
+use Rattle.history_model.specs.declared.operation.Operation.{Operation}
 use Rattle.reg_zones.specs.Clusters.{IsInCluster, IsKept, first_reply, last_call, low_end}
 use Rattle.reg_zones.proofs.Ends.{kept-member, first_reply-at, last_call-at}
 

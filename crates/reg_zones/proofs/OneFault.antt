@@ -1,7 +1,8 @@
 -- A register has one fault at most, and none where it has a legal order.
 use Rattle.std.proofs.Common.{◌≡◌, List, sym, ap, subst, ◌∙◌, arith}
 use Rattle.history_model.specs.declared.ids.Oper.{Oper}
-use Rattle.history_model.specs.Operations.{Operation, IsHistory}
+use Rattle.history_model.specs.Operations.{IsHistory}
+use Rattle.history_model.specs.declared.operation.Operation.{Operation}
 use Rattle.history_model.specs.Naming.{name_of}
 use Rattle.reg_zones.specs.Clusters.{IsKept, HasFirstReply, HasLastCall}
 use Rattle.reg_zones.specs.Faults.{IsFirstUnwritten, IsFirstEarly, IsWitness, IsFault, HasNoFault}

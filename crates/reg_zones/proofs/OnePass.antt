@@ -2,7 +2,8 @@
 use Rattle.std.proofs.Common.{◌≡◌, ℕ, ◌+◌, ◌<◌, ◌≤◌, Option, Some, None, List}
 use Rattle.std.proofs.Common.{inl, inr, refl, sym, ap, subst, ◌∙◌, arith}
 use Rattle.std.proofs.lemmas.Bool.{cases_lt}
-use Rattle.history_model.specs.Operations.{Operation, IsHistory}
+use Rattle.history_model.specs.Operations.{IsHistory}
+use Rattle.history_model.specs.declared.operation.Operation.{Operation}
 use Rattle.reg_zones.specs.declared.zone.Cluster.{Cluster}
 use Rattle.reg_zones.specs.Clusters.{IsKept, IsConflict, IsForward, IsClearBelow, IsFirstConflict, low_end}
 use Rattle.reg_zones.specs.Sweep.{IsClusterOf, IsLowEndAt, IsLastMet, AreClear, IsConflictWith, ZonesConflict}

@@ -8,7 +8,8 @@ use Rattle.history_model.specs.declared.ids.Oper.{Oper}
 use Rattle.history_model.specs.declared.ids.Oper.TheVariants.{Initial, Called}
 use Rattle.history_model.specs.Lists.{In}
 use Rattle.history_model.specs.History.{History}
-use Rattle.history_model.specs.Operations.{Operation, IsWrite, IsCompleted, is_write}
+use Rattle.history_model.specs.Operations.{IsWrite, IsCompleted, is_write}
+use Rattle.history_model.specs.declared.operation.Operation.{Operation}
 use Rattle.history_model.specs.Operations.{of_register, operations, initial_write}
 use Rattle.history_model.specs.Walking.{by_register, key_at}
 use Rattle.history_model.specs.Naming.{IsEventOf, IsNamed, IsOperOf, name_by, name_of}

@@ -7,7 +7,8 @@ use Rattle.history_text.specs.declared.event.OpKind.TheVariants.{ReadOp, WriteOp
 use Rattle.history_model.specs.declared.event.Event.{Event}
 use Rattle.history_model.specs.declared.event.What.TheVariants.{Call, Reply}
 use Rattle.history_model.specs.declared.ids.Oper.TheVariants.{Initial, Called}
-use Rattle.history_model.specs.Operations.{Operation, of_register, operations, initial_write}
+use Rattle.history_model.specs.Operations.{of_register, operations, initial_write}
+use Rattle.history_model.specs.declared.operation.Operation.{Operation}
 use Rattle.reg_zones.specs.declared.placed.Placed.{Placed}
 use Rattle.reg_zones.specs.Clusters.{first_reply, last_call, low_end, IsConflict}
 use Rattle.reg_zones.specs.Order.{placed, shown}

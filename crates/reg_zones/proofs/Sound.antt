@@ -3,7 +3,8 @@
 use Rattle.std.proofs.Common.{◌<◌, List, inl, inr, sym, ap, subst, ◌∙◌, arith}
 use Rattle.std.proofs.lemmas.Bool.{false≢true}
 use Rattle.history_model.specs.Lists.{In, Before}
-use Rattle.history_model.specs.Operations.{Operation, Precedes, IsWrite, IsReadOf, IsHistory, is_write}
+use Rattle.history_model.specs.Operations.{Precedes, IsWrite, IsReadOf, IsHistory, is_write}
+use Rattle.history_model.specs.declared.operation.Operation.{Operation}
 use Rattle.history_model.specs.Legal.{IsLegal, IsNearestWrite}
 use Rattle.reg_zones.specs.Clusters.{IsInCluster, first_reply, last_call, IsKept, IsConflict}
 use Rattle.reg_zones.specs.Faults.{IsEarly, HasNoFault}

@@ -6,7 +6,8 @@ use Rattle.history_text.specs.declared.event.Val.{Val}
 use Rattle.history_model.specs.declared.op.Op.{Op}
 use Rattle.history_model.specs.Lists.{In}
 use Rattle.history_model.specs.History.{History}
-use Rattle.history_model.specs.Operations.{Operation, IsWrite, IsCompleted, IsCompletedRead}
+use Rattle.history_model.specs.Operations.{IsWrite, IsCompleted, IsCompletedRead}
+use Rattle.history_model.specs.declared.operation.Operation.{Operation}
 use Rattle.history_model.specs.Operations.{is_write, of_register, operations}
 use Rattle.history_model.specs.Walking.{by_value, key_at}
 use Rattle.history_model.specs.Naming.{IsEventOf, op_shown}

@@ -5,7 +5,8 @@ use Rattle.std.specs.List.{filter}
 use Rattle.history_text.specs.declared.event.Val.{Val}
 use Rattle.history_text.specs.Values.{same_value}
 use Rattle.history_model.specs.Lists.{In}
-use Rattle.history_model.specs.Operations.{Operation, IsWrite, IsCompleted, IsReadOf, is_write}
+use Rattle.history_model.specs.Operations.{IsWrite, IsCompleted, IsReadOf, is_write}
+use Rattle.history_model.specs.declared.operation.Operation.{Operation}
 
 -- a write that is initial or completed, or pending with a completed read of its
 -- value (the initial write counts as completed)

@@ -3,7 +3,8 @@ use Rattle.std.specs.Prelude.{◌≡◌, ℕ, ◌<◌, ◌==◌, ◌&&◌, ◌�
 use Rattle.std.specs.Prelude.{List, [], ◌∷◌, AllPairs, Option, Some, None}
 use Rattle.std.specs.List.Sorted.{IsPermutation}
 use Rattle.history_model.specs.Lists.{In}
-use Rattle.history_model.specs.Operations.{Operation, is_write}
+use Rattle.history_model.specs.Operations.{is_write}
+use Rattle.history_model.specs.declared.operation.Operation.{Operation}
 use Rattle.history_model.specs.Naming.{name_of}
 use Rattle.reg_zones.specs.Clusters.{low_end}
 use Rattle.reg_zones.specs.Order.{IsListed}

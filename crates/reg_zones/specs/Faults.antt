@@ -2,7 +2,8 @@
 -- Korach, Testing Shared Memories, 1997, section 3; which one is named is this project's profile).
 use Rattle.std.specs.Prelude.{◌≡◌, ◌≤◌, List}
 use Rattle.history_model.specs.Lists.{In}
-use Rattle.history_model.specs.Operations.{Operation, IsWrite, IsCompletedRead, IsReadOf, Precedes}
+use Rattle.history_model.specs.Operations.{IsWrite, IsCompletedRead, IsReadOf, Precedes}
+use Rattle.history_model.specs.declared.operation.Operation.{Operation}
 use Rattle.history_model.specs.Naming.{name_of}
 use Rattle.reg_zones.specs.Clusters.{IsConflict, IsFirstConflict, HasFirstReply, HasLastCall}
 use Rattle.reg_zones.specs.declared.fault.Fault.{Fault}

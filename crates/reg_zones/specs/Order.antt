@@ -3,7 +3,8 @@
 -- Condition for Concurrent Objects, 1990, section 2).
 use Rattle.std.specs.Prelude.{◌≡◌, ℕ, ◌<◌, ◌≤◌, ◌⊎◌, max, map, true, false, List, [], ◌∷◌}
 use Rattle.history_model.specs.Lists.{In, Before}
-use Rattle.history_model.specs.Operations.{Operation, IsCompletedRead, is_write}
+use Rattle.history_model.specs.Operations.{IsCompletedRead, is_write}
+use Rattle.history_model.specs.declared.operation.Operation.{Operation}
 use Rattle.history_model.specs.Legal.{IsLegal}
 use Rattle.history_model.specs.Naming.{name_of}
 use Rattle.reg_zones.specs.Clusters.{IsKept, low_end}

@@ -2,7 +2,8 @@
 //! contract of a function that does nothing.
 ghost use Rattle.std.specs.Prelude.{◌≡◌, ◌↔◌, ◌≤◌, ◌<◌, List, None, Some};
 ghost use Rattle.history_model.specs.Lists.{In, Before};
-ghost use Rattle.history_model.specs.Operations.{Operation, IsHistory};
+ghost use Rattle.history_model.specs.Operations.{IsHistory};
+ghost use Rattle.history_model.specs.declared.operation.Operation.{Operation};
 ghost use Rattle.history_model.specs.Lamport.{HasSingleWriter};
 ghost use Rattle.history_model.specs.Legal.{IsLegal, IsAtomic};
 ghost use Rattle.history_model.specs.Naming.{name_of};

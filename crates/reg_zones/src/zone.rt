@@ -1,7 +1,8 @@
 //! Kept writes, their clusters, and the zones of these.
 ghost use Rattle.std.specs.Prelude.{◌≡◌, ◌↔◌, ◌<◌, ℕ, IsTrue, Some, length, min};
 ghost use Rattle.history_text.specs.declared.event.Val.{Val as AVal};
-ghost use Rattle.history_model.specs.Operations.{Operation, of_register, operations};
+ghost use Rattle.history_model.specs.Operations.{of_register, operations};
+ghost use Rattle.history_model.specs.declared.operation.Operation.{Operation};
 ghost use Rattle.history_model.specs.Walking.{by_value, key_at};
 ghost use Rattle.history_model.specs.Naming.{IsNamed, IsOper};
 ghost use Rattle.reg_zones.specs.Clusters.{IsKept};

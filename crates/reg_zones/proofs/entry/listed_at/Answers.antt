@@ -1,5 +1,6 @@
 use Rattle.std.proofs.Common.{◌≡◌, ◌+◌, ◌⊎◌, ◌∙◌, cond, ap, sym, subst}
-use Rattle.history_model.specs.Operations.{Operation, IsWrite, IsCompleted, writes}
+use Rattle.history_model.specs.Operations.{IsWrite, IsCompleted, writes}
+use Rattle.history_model.specs.declared.operation.Operation.{Operation}
 use Rattle.history_model.specs.declared.op.Op.{Op}
 use Rattle.reg_zones.specs.Entries.{IsListedAt, turn}
 use Rattle.reg_zones.specs.Register.{operations_of}

@@ -1,5 +1,5 @@
 use Rattle.std.proofs.Common.{refl, sym, ap, ◌∙◌, arith}
-use Rattle.history_model.specs.Operations.{Operation}
+use Rattle.history_model.specs.declared.operation.Operation.{Operation}
 use Rattle.history_model.proofs.Named.{named-oper}
 use Rattle.reg_zones.proofs.Known.{facts}
 use Rattle.reg_zones.proofs.CalledReads.{the_write, no_write, read_of, one_write, call_written, named-call}

@@ -1,7 +1,8 @@
 use Rattle.std.proofs.Common.{◌↔◌, IsTrue, inl, inr, sym, ap, subst, ◌∙◌}
 use Rattle.std.proofs.lemmas.Bool.{false≢true}
 use Rattle.history_model.specs.declared.op.Op.{Op}
-use Rattle.history_model.specs.Operations.{Operation, writes, of_register, operations}
+use Rattle.history_model.specs.Operations.{writes, of_register, operations}
+use Rattle.history_model.specs.declared.operation.Operation.{Operation}
 use Rattle.history_model.specs.OfValue.{IsFirstReply}
 use Rattle.reg_zones.specs.Clusters.{IsKept}
 use Rattle.reg_zones.proofs.Kept.{with-register, the_one, kept-found, unkept}

@@ -1,7 +1,8 @@
 use Rattle.std.proofs.Common.{Option, unwrap_or, sym, ap, subst, ◌∙◌}
 use Rattle.history_text.specs.declared.event.Val.{Val}
 use Rattle.history_model.specs.History.{History}
-use Rattle.history_model.specs.Operations.{Operation, of_register, operations}
+use Rattle.history_model.specs.Operations.{of_register, operations}
+use Rattle.history_model.specs.declared.operation.Operation.{Operation}
 use Rattle.history_model.proofs.Named.{named-oper}
 use Rattle.reg_zones.specs.declared.zone.Zone.{Zone}
 use Rattle.reg_zones.specs.Clusters.{IsKept}
