@@ -12,13 +12,13 @@ use Rattle.reg_lamport.specs.Levels.{IsFirstBadRead}
 use Rattle.reg_lamport.specs.declared.level.Level.{Level}
 use Rattle.reg_lamport.specs.declared.level.Level.TheVariants.{Safe, Regular}
 use Rattle.reg_zones.specs.Inversions.{inversion_named}
-use Rattle.reg_zones.specs.Order.{PlacedOperation, placed}
+use Rattle.history_model.specs.Placed.{PlacedOperation, placed}
 use Rattle.reg_zones.specs.declared.fault.Fault.{Fault}
 use Rattle.reg_zones.specs.declared.fault.Fault.TheVariants as fault
 use Rattle.reg_zones.proofs.OneFault.{one_fault}
 use Rattle.reg_zones.proofs.Unique.{ascending_one, one_canonical, sooner_one_way}
 use Rattle.history_model.proofs.Lists.{Before-map}
-use Rattle.reg_zones.proofs.Points.{operations_of-placed}
+use Rattle.history_model.proofs.Placed.{operations_of-placed}
 use Rattle.reg_report.specs.First.{AreFoundLines, IsFirstReport}
 use Rattle.reg_report.specs.Meaning.{IsVerdict, HasLine, HaveLines, ShowsFault, IsAtomicity}
 use Rattle.reg_report.specs.Meaning.{IsInversionShown, IsInversionAnswer, IsWholeAtomicity}

@@ -15,9 +15,10 @@ use Rattle.history_model.specs.declared.ids.RegId.{RegId}
 use Rattle.history_model.specs.declared.ids.Oper.{Oper}
 use Rattle.history_model.specs.declared.ids.Oper.TheVariants.{Initial, Called}
 use Rattle.reg_zones.specs.declared.placed.Placed.{Placed}
-use Rattle.reg_zones.specs.Order.{PlacedOperation, placed, shown}
+use Rattle.reg_zones.specs.Order.{shown}
+use Rattle.history_model.specs.Placed.{PlacedOperation, placed}
 use Rattle.history_model.proofs.Lists.{map-In, Before-first, slice_get-In}
-use Rattle.reg_zones.proofs.Points.{after_call, reached, placed-In}
+use Rattle.history_model.proofs.Placed.{after_call, reached, placed-In}
 use Rattle.reg_zones.proofs.Registers.{cases_process}
 use Rattle.reg_report.specs.Lines.{HasCall, HasPoint, HaveCalls, HavePoints, call_of}
 use Rattle.reg_report.specs.Lines.{line_if_called, call_line, point_line, lines_by}

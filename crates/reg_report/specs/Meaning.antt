@@ -15,7 +15,8 @@ use Rattle.reg_lamport.specs.declared.level.Level.{Level}
 use Rattle.reg_lamport.specs.declared.level.Level.TheVariants.{Safe, Regular}
 use Rattle.reg_zones.specs.Faults.{IsFault}
 use Rattle.reg_zones.specs.Inversions.{IsInversion, inversion_named}
-use Rattle.reg_zones.specs.Order.{PlacedOperation, IsCanonical, placed}
+use Rattle.reg_zones.specs.Order.{IsCanonical}
+use Rattle.history_model.specs.Placed.{PlacedOperation, placed}
 use Rattle.reg_zones.specs.declared.fault.Fault.{Fault}
 use Rattle.reg_zones.specs.declared.fault.Fault.TheVariants as fault
 use Rattle.reg_report.specs.Merged.{IsWholeOrder}
