@@ -111,7 +111,7 @@ module _ (h : History) (t : ObeysLaws h) where
         → (2 ≤ x.point) × (x.point - 2 < length h.events)
     point-call x p i e =
         let late : 2 ≤ x.point =
-        omega (arith, (called x.operation p (placed-inside x i) e).1, after_call 0 order x i) in
+        omega (arith, (called x.operation p (placed-inside x i) e).1, after_call order x i) in
         let at : (b : Operation) → In b order → x.point ≡ b.call → x.point - 2 < length h.events =
         λ b j q. elim (cases_process b.process) [
           | inl n ↦ absurd (omega (
