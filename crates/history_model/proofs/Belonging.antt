@@ -11,10 +11,10 @@ use Rattle.history_model.specs.Acts.{is_plain}
 use Rattle.history_model.specs.Operations.{operation, next_of, reply_in, has_failed, begins}
 use Rattle.history_model.specs.declared.operation.Operation.{Operation}
 use Rattle.history_model.specs.Operations.{is_a_call, is_a_reply, is_a_fail, kind_in, number_in, calls_from}
-use Rattle.history_model.specs.Operations.{calls, writes, IsWrite, is_write, IsCompleted, kind_of, value_of}
+use Rattle.history_model.specs.Operations.{calls, writes, IsWrite, is_write, IsCompleted, op_kind, value_of}
 use Rattle.history_model.specs.declared.event.Event.{Event}
 use Rattle.history_model.proofs.Walking.{is-called, begins-call}
-use Rattle.history_model.proofs.Plain.{plain-changes, plain-kind, plain-plain, read-value, written-value}
+use Rattle.history_model.proofs.Plain.{plain-changes, plain-kind, plain-plain, read-gives, written-value}
 
 -- ---- the next event of a process
 
@@ -148,7 +148,7 @@ pub record IsCallOf (evs : List Event) (o : Operation) (k : ℕ) (e : Event) : T
   pub call : o.call ≡ k + 2
   pub process : o.process ≡ Some e.process
   pub register : o.register ≡ number_in e.register
-  pub kind : kind_of o ≡ kind_in e.what
+  pub kind : op_kind o ≡ kind_in e.what
   pub plain : is_plain o.act ≡ true
   pub writes_as : is_write o ≡ writes (kind_in e.what)
   pub value : (v : Val) → IsWrite o → e.value ≡ Some v → value_of o ≡ Some v
@@ -178,12 +178,12 @@ module _ (evs : List Event) (o : Operation) (k : ℕ) (e : Event) (at : slice_ge
     call = ap (λ (x : Operation). x.call) q ∙ omega arith;
     process = ap (λ (x : Operation). x.process) q;
     register = ap (λ (x : Operation). x.register) q;
-    kind = ap kind_of q ∙ plain-kind (kind_in e.what) e.value;
+    kind = ap op_kind q ∙ plain-kind (kind_in e.what) e.value;
     plain = ap (λ (x : Operation). is_plain x.act) q ∙ plain-plain (kind_in e.what) e.value;
     writes_as = ap is_write q ∙ plain-changes (kind_in e.what) e.value;
     unread =
         λ r c. ap value_of q
-        ∙ read-value (kind_in e.what) e.value
+        ∙ read-gives (kind_in e.what) e.value
         (sym (plain-changes (kind_in e.what) e.value) ∙ (sym (ap is_write q) ∙ r));
     value =
         λ v w s. ap value_of q
@@ -206,7 +206,7 @@ module _ (evs : List Event) (o : Operation) (k : ℕ) (e : Event) (at : slice_ge
     call = ap (λ (y : Operation). y.call) q ∙ omega arith;
     process = ap (λ (y : Operation). y.process) q;
     register = ap (λ (y : Operation). y.register) q;
-    kind = ap kind_of q ∙ plain-kind kind value;
+    kind = ap op_kind q ∙ plain-kind kind value;
     plain = ap (λ (y : Operation). is_plain y.act) q ∙ plain-plain kind value;
     writes_as = same;
     unread = λ r c. absurd (false≢true (sym c ∙ ap (λ (y : Operation). y.completed) q));
@@ -227,7 +227,7 @@ module _ (evs : List Event) (o : Operation) (k : ℕ) (e : Event) (at : slice_ge
         between = x.between;
         value =
             λ r. ap value_of q
-            ∙ (read-value kind value (sym same ∙ r) ∙ ap (λ b. cond b e.value g.value) (sym same ∙ r));
+            ∙ (read-gives kind value (sym same ∙ r) ∙ ap (λ b. cond b e.value g.value) (sym same ∙ r));
       },
     );
   }

@@ -68,10 +68,10 @@ module _ (ops order : List Operation) (y : IsHistory ops) where
   pub latest : IsLegal ops order → (r : Operation) → In r order → IsCompletedRead r → HasLatest order r
   latest l = latest-of ops order y.plain y.reads l.completion l.met
 
-  pub met : IsCompletion ops order
+  pub latest-met : IsCompletion ops order
       → ((r : Operation) → In r order → IsCompletedRead r → HasLatest order r) → (r : Operation)
       → In r order → IsAsking r → IsMet order r
-  met c = met-of ops order y.plain y.reads c
+  latest-met c = met-of ops order y.plain y.reads c
 
   pub met-latest : IsCompletion ops order
       → (((r : Operation) → In r order → IsAsking r → IsMet order r)

@@ -14,7 +14,8 @@ use Rattle.history_model.specs.History.{History, IsRecorded, events_after, regis
 use Rattle.history_model.specs.Operations.{operation, next_of, reply_in, has_failed, begins}
 use Rattle.history_model.specs.declared.operation.Operation.{Operation}
 use Rattle.history_model.specs.Operations.{is_a_call, is_a_reply, is_a_fail, kind_in, number_in, calls}
-use Rattle.history_model.specs.Operations.{writes, is_write, IsWrite, IsCompleted, IsHistory, Precedes, kind_of, value_of}
+use Rattle.history_model.specs.Operations.{writes, is_write, IsWrite, IsCompleted}
+use Rattle.history_model.specs.Operations.{IsHistory, Precedes, op_kind, value_of}
 use Rattle.history_model.specs.Operations.{initial_write, initial_writes, operations, of_register}
 use Rattle.history_model.specs.Lamport.{HasSingleWriter}
 use Rattle.history_model.specs.Walking.{by_register, key_at}
@@ -174,7 +175,7 @@ module _ (es : List LineEvent) (acc : AreAccepted es) where
       → IsCallOf (events_after [] es) o k e
       → IsEventIn (record { names = register_names es; events = events_after [] es }) k e o
   call-in o k e i c =
-      let what : e.what ≡ Call (kind_of o) = what-call e.what c.is_call ∙ ap Call (sym c.kind) in
+      let what : e.what ≡ Call (op_kind o) = what-call e.what c.is_call ∙ ap Call (sym c.kind) in
       record {
         at = c.there;
         one = In-right o (initial_writes (length (register_names es))) (calls (events_after [] es)) i;
@@ -188,7 +189,7 @@ module _ (es : List LineEvent) (acc : AreAccepted es) where
               let n = called-value k e c.there c.is_call (sym c.writes_as ∙ w) in
               c.value n.0 w n.1 ∙ sym n.1,
         );
-        reply = λ r. absurd (let q : Call (kind_of o) ≡ Reply (kind_of o) = sym what ∙ r in cc (q));
+        reply = λ r. absurd (let q : Call (op_kind o) ≡ Reply (op_kind o) = sym what ∙ r in cc (q));
       }
 
   -- and so does the reply's
@@ -197,14 +198,14 @@ module _ (es : List LineEvent) (acc : AreAccepted es) where
       → IsEventIn (record { names = register_names es; events = events_after [] es }) j g o
   reply-in o k j e g i c r =
       let t = replied-to es acc o k j e g c r in
-      let what : g.what ≡ Reply (kind_of o) = what-reply g.what r.is_reply ∙ ap Reply (t.kind ∙ sym c.kind) in
+      let what : g.what ≡ Reply (op_kind o) = what-reply g.what r.is_reply ∙ ap Reply (t.kind ∙ sym c.kind) in
       record {
         at = r.there;
         one = In-right o (initial_writes (length (register_names es))) (calls (events_after [] es)) i;
         register = reply-register k j e g t ∙ ap Some (sym c.register);
         process = c.process ∙ ap Some (sym r.process);
         is = inr what;
-        call = λ d. absurd (let q : Reply (kind_of o) ≡ Call (kind_of o) = sym what ∙ d in cc (q));
+        call = λ d. absurd (let q : Reply (op_kind o) ≡ Call (op_kind o) = sym what ∙ d in cc (q));
         reply = λ _. (
           r.completed,
           r.reply,
@@ -385,7 +386,7 @@ module _ (es : List LineEvent) (acc : AreAccepted es) where
       → In o (operations (record { names = register_names es; events = events_after [] es }))
       → o.process ≡ Some p
       → (e : Event) × IsEventIn (record { names = register_names es; events = events_after [] es })
-      (o.call - 2) e o × (e.what ≡ Call (kind_of o))
+      (o.call - 2) e o × (e.what ≡ Call (op_kind o))
   has-call o p a q = elim (split (length (register_names es)) (events_after [] es) o a) [
     | inl s ↦ absurd (none-called o s.0 p s.2 q)
     | inr c ↦
@@ -403,7 +404,7 @@ module _ (es : List LineEvent) (acc : AreAccepted es) where
       → In o (operations (record { names = register_names es; events = events_after [] es }))
       → o.process ≡ Some p → IsCompleted o
       → (e : Event) × IsEventIn (record { names = register_names es; events = events_after [] es })
-      (o.reply - 2) e o × (e.what ≡ Reply (kind_of o))
+      (o.reply - 2) e o × (e.what ≡ Reply (op_kind o))
   has-reply o p a q done = elim (split (length (register_names es)) (events_after [] es) o a) [
     | inl s ↦ absurd (none-called o s.0 p s.2 q)
     | inr c ↦
@@ -521,18 +522,18 @@ event-has-one h rec i o p =
     → o ≡ p) (sym rec.is) (event-one rec.events rec.accepted i o p)
 
 pub operation-has-call : (h : History) → IsRecorded h → (o : Operation) (p : ℕ) → In o (operations h)
-    → o.process ≡ Some p → (e : Event) × IsEventIn h (o.call - 2) e o × (e.what ≡ Call (kind_of o))
+    → o.process ≡ Some p → (e : Event) × IsEventIn h (o.call - 2) e o × (e.what ≡ Call (op_kind o))
 operation-has-call h rec o p =
     subst (λ (g : History). In o (operations g) → o.process ≡ Some p
-    → (e : Event) × IsEventIn g (o.call - 2) e o × (e.what ≡ Call (kind_of o))) (sym rec.is)
+    → (e : Event) × IsEventIn g (o.call - 2) e o × (e.what ≡ Call (op_kind o))) (sym rec.is)
     (has-call rec.events rec.accepted o p)
 
 pub operation-has-reply : (h : History) → IsRecorded h → (o : Operation) (p : ℕ) → In o (operations h)
     → o.process ≡ Some p → IsCompleted o → (e : Event) × IsEventIn h (o.reply - 2) e o
-    × (e.what ≡ Reply (kind_of o))
+    × (e.what ≡ Reply (op_kind o))
 operation-has-reply h rec o p =
     subst (λ (g : History). In o (operations g) → o.process ≡ Some p → IsCompleted o
-    → (e : Event) × IsEventIn g (o.reply - 2) e o × (e.what ≡ Reply (kind_of o))) (sym rec.is)
+    → (e : Event) × IsEventIn g (o.reply - 2) e o × (e.what ≡ Reply (op_kind o))) (sym rec.is)
     (has-reply rec.events rec.accepted o p)
 
 pub initial-there : (h : History) (r : ℕ) → r < length h.names

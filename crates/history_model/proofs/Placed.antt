@@ -102,5 +102,5 @@ within_life ops order y l x i = record {
   unreplied = before_reply ops order y l x i;
 }
 
-pub timed : (ops : List Operation) → IsHistory ops → AreTimed ops
-timed ops y = record { life = y.life; apart = y.apart }
+pub history-timed : (ops : List Operation) → IsHistory ops → AreTimed ops
+history-timed ops y = record { life = y.life; apart = y.apart }

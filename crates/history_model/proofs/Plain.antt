@@ -32,9 +32,9 @@ reading ReadOp r = refl
 reading WriteOp r = absurd (false≢true (sym r))
 
 -- a read has the value that there is, and a write, where there is one
-pub read-value : (k : OpKind) (v : Option Val) → writes k ≡ false → value_of_act (plain_act k v) ≡ v
-read-value ReadOp v r = refl
-read-value WriteOp v r = absurd (false≢true (sym r))
+pub read-gives : (k : OpKind) (v : Option Val) → writes k ≡ false → value_of_act (plain_act k v) ≡ v
+read-gives ReadOp v r = refl
+read-gives WriteOp v r = absurd (false≢true (sym r))
 
 pub written-value : (k : OpKind) (v : Option Val) (u : Val) → writes k ≡ true → v ≡ Some u
     → value_of_act (plain_act k v) ≡ Some u

@@ -5,7 +5,7 @@ use Rattle.history_model.specs.Lists.{In}
 use Rattle.history_model.specs.History.{History}
 use Rattle.history_model.specs.Operations.{operations, next_of, begins}
 use Rattle.history_model.specs.declared.operation.Operation.{Operation}
-use Rattle.history_model.specs.Operations.{is_a_reply, IsWrite, IsCompleted, kind_of, reply_of, value_of}
+use Rattle.history_model.specs.Operations.{is_a_reply, IsWrite, IsCompleted, op_kind, reply_of, value_of}
 use Rattle.history_model.specs.Walking.{by_register}
 use Rattle.history_model.specs.declared.ids.Oper.{Oper}
 use Rattle.history_model.specs.declared.ids.Oper.TheVariants.{Initial, Called}
@@ -47,7 +47,7 @@ op_shown o = record {
   reply = reply_of o;
   process = o.process;
   register = record { 0 = o.register };
-  kind = kind_of o;
+  kind = op_kind o;
   value = value_of o;
 }
 
@@ -66,8 +66,9 @@ pub record IsEventIn (h : History) (i : ℕ) (e : Event) (o : Operation) : Type 
   pub one : In o (operations h)
   pub register : by_register e ≡ Some o.register
   pub process : o.process ≡ Some e.process
-  pub is : (e.what ≡ Call (kind_of o)) ⊎ (e.what ≡ Reply (kind_of o))
+  pub is : (e.what ≡ Call (op_kind o)) ⊎ (e.what ≡ Reply (op_kind o))
   -- a call has its operation's line and time, and a write's call its value
-  pub call : e.what ≡ Call (kind_of o) → (o.line ≡ e.line) × (o.call ≡ i + 2) × (IsWrite o → value_of o ≡ e.value)
+  pub call : e.what ≡ Call (op_kind o) → (o.line ≡ e.line) × (o.call ≡ i + 2) × (IsWrite o
+      → value_of o ≡ e.value)
   -- a reply has its operation's last time and its value
-  pub reply : e.what ≡ Reply (kind_of o) → IsCompleted o × (o.reply ≡ i + 2) × (value_of o ≡ e.value)
+  pub reply : e.what ≡ Reply (op_kind o) → IsCompleted o × (o.reply ≡ i + 2) × (value_of o ≡ e.value)

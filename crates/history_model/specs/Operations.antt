@@ -151,8 +151,8 @@ IsAsking a = asks a.act ≡ true
 abbrev pub reply_of : Operation → Option ℕ
 reply_of a = cond a.completed (Some a.reply) None
 
-abbrev pub kind_of : Operation → OpKind
-kind_of a = kind_of_act a.act
+abbrev pub op_kind : Operation → OpKind
+op_kind a = kind_of_act a.act
 
 -- the value that it writes or reads
 abbrev pub value_of : Operation → Option Val

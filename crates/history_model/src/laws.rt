@@ -13,7 +13,7 @@ ghost use Rattle.history_model.specs.Cut.{cut_at};
 ghost use Rattle.history_model.specs.InTurn.{Meets};
 ghost use Rattle.history_model.specs.Legal.{HasLatest, IsAtomic, IsCompletion, IsLegal, IsMet};
 ghost use Rattle.history_model.specs.Operations.{AreTimed, IsAsking, IsCompleted, IsCompletedRead, IsHistory};
-ghost use Rattle.history_model.specs.Operations.{IsWrite, kind_of, value_of};
+ghost use Rattle.history_model.specs.Operations.{IsWrite, op_kind, value_of};
 ghost use Rattle.history_model.specs.declared.operation.Operation.{Operation as AnOperation};
 ghost use Rattle.history_model.specs.Operations.{Precedes, initial_write, of_register, operations};
 ghost use Rattle.history_model.specs.Naming.{IsEventIn, IsEventOf, IsNamed, IsOper, belongs_at, name_of};
@@ -51,15 +51,16 @@ pub fn events_have_operations()
 /// Each operation that a process called has its call among the events, and its reply if it is completed.
 pub fn operations_have_events()
     ensures call { (h : History) → IsRecorded h → (o : AnOperation) (p : ℕ) → In o (operations h)
-        → o.process ≡ Some p → (e : Event) × IsEventIn h (o.call - 2) e o × (e.what ≡ Call (kind_of o)) }
+        → o.process ≡ Some p → (e : Event) × IsEventIn h (o.call - 2) e o × (e.what ≡ Call (op_kind o)) }
     ensures reply { (h : History) → IsRecorded h → (o : AnOperation) (p : ℕ) → In o (operations h)
         → o.process ≡ Some p → IsCompleted o → (e : Event) × IsEventIn h (o.reply - 2) e o
-        × (e.what ≡ Reply (kind_of o)) }
+        × (e.what ≡ Reply (op_kind o)) }
 {}
 
 /// A write and a completed operation have a value.
 pub fn values_are_there()
-    ensures { (h : History) → IsRecorded h → (o : AnOperation) → In o (operations h) → IsWrite o ⊎ IsCompleted o
+    ensures { (h : History) → IsRecorded h → (o : AnOperation) → In o (operations h) → IsWrite o
+        ⊎ IsCompleted o
         → (v : AVal) × (value_of o ≡ Some v) }
 {}
 

@@ -114,7 +114,8 @@ plain-value WriteOp v w = let u = w refl in written-value WriteOp v u.0 refl u.1
 
 module _ (e : Event) (t : ℕ) (u : Option ℕ) (r : RegId) (k : OpKind) (v : Option Val) (w : IsValued k v) where
   -- an operation is shown with its kind and value
-  as-shown : op_with e t u r k v ≡ op_with e t u r (kind_of_act (plain_act k v)) (value_of_act (plain_act k v))
+  as-shown : op_with e t u r k v
+      ≡ op_with e t u r (kind_of_act (plain_act k v)) (value_of_act (plain_act k v))
   as-shown =
       ap (λ l. op_with e t u r l v) (sym (plain-kind k v))
       ∙ ap (op_with e t u r (kind_of_act (plain_act k v))) (sym (plain-value k v w))

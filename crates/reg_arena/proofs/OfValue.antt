@@ -11,7 +11,7 @@ use Rattle.history_text.specs.declared.event.OpKind.{OpKind}
 use Rattle.history_text.specs.declared.event.OpKind.TheVariants.{ReadOp, WriteOp}
 use Rattle.history_model.specs.Events.{Asked}
 use Rattle.history_model.specs.History.{History, IsRecorded, history_of}
-use Rattle.history_model.specs.Operations.{calls, operations, is_a_call, kind_of, value_of}
+use Rattle.history_model.specs.Operations.{calls, operations, is_a_call, op_kind, value_of}
 use Rattle.history_model.specs.declared.operation.Operation.{Operation}
 use Rattle.history_model.specs.Operations.{is_a_reply, kind_in, initial_write, initial_writes}
 use Rattle.history_model.specs.Operations.{writes, is_write, IsWrite, IsCompleted}
@@ -232,7 +232,7 @@ module _ (h : History) (rec : IsRecorded h) where
 
   pub reply-event : (k : ℕ × Val) (o : Operation) (p : ℕ) → IsMember h k.0 k.1 o → o.process ≡ Some p
       → IsCompleted o
-      → (i : ℕ) × (e : Event) × IsEventIn h i e o × (e.what ≡ Reply (kind_of o))
+      → (i : ℕ) × (e : Event) × IsEventIn h i e o × (e.what ≡ Reply (op_kind o))
       × (key_at by_reply h.events i ≡ Some k) × (key_at by_value h.events i ≡ Some k) × (o.reply ≡ i + 2)
   reply-event k o p m q d =
       let x = operation-has-reply h rec o p m.there q d in
@@ -522,7 +522,7 @@ module _ (h : History) (rec : IsRecorded h) where
         event-member id.0 k e.0 e.1 (reply-value e.0 k e.2)
         (ap (λ b. b || begins_at h.events id.0 e.0) reply) in
         let y = x.1 in
-        let what : e.0.what ≡ Reply (kind_of x.0) =
+        let what : e.0.what ≡ Reply (op_kind x.0) =
         elim y.is [ inl q ↦ absurd (false≢true (sym (ap is_a_reply q) ∙ reply)) | inr q ↦ q ] in
         let r = y.reply what in (
           (x.0, x.2, r.0, r.1),

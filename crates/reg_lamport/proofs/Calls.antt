@@ -7,7 +7,7 @@ use Rattle.history_model.specs.History.{History}
 use Rattle.history_model.specs.Lamport.{is_completed_read, completed_reads}
 use Rattle.history_model.specs.Operations.{operation, operations, next_of, reply_in}
 use Rattle.history_model.specs.declared.operation.Operation.{Operation}
-use Rattle.history_model.specs.Operations.{begins, kind_in, kind_of, number_in, calls, calls_from, writes}
+use Rattle.history_model.specs.Operations.{begins, kind_in, op_kind, number_in, calls, calls_from, writes}
 use Rattle.history_model.specs.Operations.{initial_write, initial_writes, of_register}
 use Rattle.history_model.specs.Walking.{called_at}
 use Rattle.history_model.specs.declared.event.Event.{Event}
@@ -43,11 +43,11 @@ called_at-process es i e =
     go n t None = refl
     go n t (Some r) = refl
 
-pub called_at-kind : (es : List Event) (i : ℕ) (e : Event) → kind_of (called_at es i e) ≡ kind_in e.what
+pub called_at-kind : (es : List Event) (i : ℕ) (e : Event) → op_kind (called_at es i e) ≡ kind_in e.what
 called_at-kind es i e =
     go (length es + 2) (i + 2) (reply_in (next_of e.process (suc (i + 2)) (drop (suc i) es)))
   where
-    go : (n t : ℕ) (r : Option (ℕ × Event)) → kind_of (operation n t e r) ≡ kind_in e.what
+    go : (n t : ℕ) (r : Option (ℕ × Event)) → op_kind (operation n t e r) ≡ kind_in e.what
     go n t None = plain-kind (kind_in e.what) e.value
     go n t (Some r) = plain-kind (kind_in e.what) (cond (writes (kind_in e.what)) e.value r.1.value)
 

@@ -10,7 +10,7 @@ use Rattle.history_model.specs.History.{History, IsRecorded}
 use Rattle.history_model.specs.Lamport.{is_completed_read, completed_reads}
 use Rattle.history_model.specs.Operations.{operations, calls, initial_write}
 use Rattle.history_model.specs.declared.operation.Operation.{Operation}
-use Rattle.history_model.specs.Operations.{initial_writes, is_write, kind_of, of_register, writes}
+use Rattle.history_model.specs.Operations.{initial_writes, is_write, op_kind, of_register, writes}
 use Rattle.history_model.specs.Walking.{IsFirstOf, IsNextOf, by_register, called_at, calls_at, IsOnWalk}
 use Rattle.history_model.specs.Naming.{IsNamed, begins_at, op_shown}
 use Rattle.history_model.specs.declared.ids.EvId.{EvId}
@@ -321,7 +321,7 @@ module _ (h : History) (rec : IsRecorded h) (r : ℕ) where
 
       pub gathering-adds : (end : ℕ) → end ≡ length h.events + 2
           → IsGathering h r (call_met end g i (op_shown o)) next
-      gathering-adds end final = go (writes (kind_of o)) (changes-kind o.act) o.completed refl
+      gathering-adds end final = go (writes (op_kind o)) (changes-kind o.act) o.completed refl
         where
           reply-is : (c : Bool) → o.completed ≡ c → unwrap_or (cond c (Some o.reply) None) end ≡ o.reply
           reply-is true d = refl

@@ -5,7 +5,7 @@ use Rattle.std.proofs.lemmas.Bool.{eqb-true, eq-eqb, false≢true, and_parts}
 use Rattle.history_model.specs.Lists.{In}
 use Rattle.history_model.specs.History.{History, IsRecorded}
 use Rattle.history_model.specs.Lamport.{HasSingleWriter}
-use Rattle.history_model.specs.Operations.{operations, calls, calls_from, kind_of}
+use Rattle.history_model.specs.Operations.{operations, calls, calls_from, op_kind}
 use Rattle.history_model.specs.declared.operation.Operation.{Operation}
 use Rattle.history_model.specs.Operations.{of_register, IsWrite, kind_in, writes}
 use Rattle.history_model.specs.Walking.{IsFirstOf, IsNextOf, by_register, called_at, calls_at, IsOnWalk}
@@ -125,7 +125,8 @@ module _ (h : History) (rec : IsRecorded h) (r : ℕ) (writer : Option ℕ) (i :
         | inl c ↦ absurd
             (false≢true (sym none
             ∙ writes-call c.0
-            (ap writes (sym (ap kind_of c.1 ∙ called_at-kind h.events i.0 e)) ∙ (sym (changes-kind o.act) ∙ w))))
+            (ap writes (sym (ap op_kind c.1 ∙ called_at-kind h.events i.0 e)) ∙ (sym (changes-kind o.act)
+                ∙ w))))
       ]
     ];
     known = so_far.known;

@@ -6,12 +6,12 @@ use Rattle.history_model.specs.Operations.{IsHistory, of_register, operations, r
 use Rattle.history_model.specs.declared.operation.Operation.{Operation}
 use Rattle.history_model.specs.Legal.{IsLegal, IsAtomic}
 use Rattle.history_model.proofs.Locality.{each_decides}
-use Rattle.history_model.proofs.Placed.{timed}
+use Rattle.history_model.proofs.Placed.{history-timed}
 use Rattle.history_model.proofs.Recorded.{of_register-In}
 
 pub each : (ops : List Operation) → ((r : ℕ) → IsHistory (of_register r ops))
     → (IsAtomic ops ↔ ((r : ℕ) → IsAtomic (of_register r ops)))
-each ops y = each_decides ops (λ r. timed (of_register r ops) (y r))
+each ops y = each_decides ops (λ r. history-timed (of_register r ops) (y r))
 
 -- a register that isn't there has no operation, and so a legal order
 pub nothing_legal : (h : History) (r : ℕ)

@@ -7,7 +7,7 @@ use Rattle.history_model.specs.Legal.{IsLegal}
 use Rattle.history_model.specs.Placed.{PlacedOperation, placed, operations_of}
 use Rattle.history_model.proofs.Lists.{In-map, map-In, Before-first, Before-second}
 use Rattle.history_model.proofs.Lists.{Before-total, Before-trans, Before-map, map-Before}
-use Rattle.history_model.proofs.Placed.{operations_of-placed, rising, placed-In, timed, within_life}
+use Rattle.history_model.proofs.Placed.{operations_of-placed, rising, placed-In, history-timed, within_life}
 use Rattle.reg_report.specs.Merged.{IsMerged}
 use Rattle.history_model.proofs.Recorded.{of_register-In, In-of_register}
 
@@ -99,10 +99,10 @@ module _ (ops : List Operation) (orders : ℕ → List Operation) (merged : List
       let kx = k.0.operation.register in
       let ky = k.1.operation.register in
       let from =
-      (within_life (of_register kx ops) (orders kx) (timed (of_register kx ops) (y kx)) (l kx) k.0
+      (within_life (of_register kx ops) (orders kx) (history-timed (of_register kx ops) (y kx)) (l kx) k.0
       (m.only k.0 (Before-first k.0 k.1 merged k.2))).called in
       let to =
-      (within_life (of_register ky ops) (orders ky) (timed (of_register ky ops) (y ky)) (l ky) k.1
+      (within_life (of_register ky ops) (orders ky) (history-timed (of_register ky ops) (y ky)) (l ky) k.1
       (m.only k.1 (Before-second k.0 k.1 merged k.2))).unreplied in
       let ca = ap (λ (o : Operation). o.call) k.3 in
       let rb = ap (λ (o : Operation). o.reply) k.4 in

@@ -6,7 +6,7 @@ use Rattle.history_text.specs.declared.event.OpKind.TheVariants.{WriteOp}
 use Rattle.history_model.specs.declared.op.Op.{Op}
 use Rattle.history_model.specs.Lists.{In}
 use Rattle.history_model.specs.History.{History}
-use Rattle.history_model.specs.Operations.{IsWrite, IsCompletedRead, IsReadOf, kind_of, value_of}
+use Rattle.history_model.specs.Operations.{IsWrite, IsCompletedRead, IsReadOf, op_kind, value_of}
 use Rattle.history_model.specs.declared.operation.Operation.{Operation}
 use Rattle.history_model.specs.Operations.{of_register, operations, writes, is_write}
 use Rattle.history_model.specs.declared.ids.Oper.{Oper}
@@ -55,7 +55,8 @@ module _ (h : History) (r : ℕ) (y : IsKnown h r) (v : Val) where
       → value_of w ≡ Some v → ⊥
   no_write f w i u e = f w (cluster-member h r y v w (record { within = i; value = e; counts = inl u })) u
 
-  pub read_of : (w a : Operation) → value_of w ≡ Some v → IsCompletedRead a → value_of a ≡ Some v → IsReadOf w a
+  pub read_of : (w a : Operation) → value_of w ≡ Some v → IsCompletedRead a → value_of a ≡ Some v
+      → IsReadOf w a
   read_of w a e d f = record { read = d.read; completed = d.completed; value = f ∙ sym e }
 
   -- two writes of the value are one

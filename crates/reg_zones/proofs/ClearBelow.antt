@@ -11,7 +11,8 @@ use Rattle.reg_zones.proofs.Forward.{last_forward}
 
 -- no zone with the low end n conflicts with the last forward one below n
 pub clear_more : (ops : List Operation) (n : ℕ) → IsClearBelow ops n
-    → ((v w : Operation) → IsLastForward ops v n → IsKept ops w → low_end ops (value_of w) ≡ n → IsConflict ops v w
+    → ((v w : Operation) → IsLastForward ops v n → IsKept ops w → low_end ops (value_of w) ≡ n
+    → IsConflict ops v w
     → ⊥) → IsClearBelow ops (n + 1)
 clear_more ops n clear here v w c lt b = elim (cases_lt (low_end ops (value_of w)) n) [
   | inl p ↦ clear v w c lt p
@@ -25,7 +26,8 @@ clear_more ops n clear here v w c lt b = elim (cases_lt (low_end ops (value_of w
 
 -- the first that conflicts
 pub first_found : (ops : List Operation) (v w : Operation) (n : ℕ) → IsClearBelow ops n → IsConflict ops v w
-    → low_end ops (value_of v) < low_end ops (value_of w) → low_end ops (value_of w) ≡ n → IsFirstConflict ops v w
+    → low_end ops (value_of v) < low_end ops (value_of w) → low_end ops (value_of w) ≡ n
+    → IsFirstConflict ops v w
 first_found ops v w n clear c lt e = record {
   conflict = c;
   order = lt;
@@ -57,13 +59,15 @@ one_first_reply ops v a b y k f g =
     y.replies a b f.member.within g.member.within (first_completed ops v a y k f)
     (first_completed ops v b y k g) (f.least ∙ sym g.least)
 
-pub one_last_call : (ops : List Operation) (v a b : Operation) → IsHistory ops → HasLastCall ops (value_of v) a
+pub one_last_call : (ops : List Operation) (v a b : Operation) → IsHistory ops
+    → HasLastCall ops (value_of v) a
     → HasLastCall ops (value_of v) b → a ≡ b
 one_last_call ops v a b y f g = y.calls a b f.member.within g.member.within (f.greatest ∙ sym g.greatest)
 
 -- what follows is of a pass that meets at n the kept write w, or no zone
 module _ (ops : List Operation) (y : IsHistory ops) where
-  pub last_here : (w : Operation) (n : ℕ) → IsKept ops w → low_end ops (value_of w) ≡ n → IsForward ops (value_of w)
+  pub last_here : (w : Operation) (n : ℕ) → IsKept ops w → low_end ops (value_of w) ≡ n
+      → IsForward ops (value_of w)
       → IsLastForward ops w (n + 1)
   last_here w n k e f = record {
     kept = k;
@@ -88,7 +92,8 @@ module _ (ops : List Operation) (y : IsHistory ops) where
         ];
   }
 
-  pub none_stays : (n : ℕ) → ((u : Operation) → IsKept ops u → IsForward ops (value_of u) → low_end ops (value_of u) < n
+  pub none_stays : (n : ℕ) → ((u : Operation) → IsKept ops u → IsForward ops (value_of u)
+      → low_end ops (value_of u) < n
       → ⊥) → Backward n → (u : Operation) → IsKept ops u → IsForward ops (value_of u)
       → low_end ops (value_of u) < n + 1 → ⊥
   none_stays n l none u k f b =

@@ -8,7 +8,7 @@ use Rattle.history_model.specs.Legal.{HasLatest, IsCompletion, IsLegal}
 use Rattle.reg_zones.specs.Clusters.{IsInCluster, IsKept, first_reply, last_call, low_end}
 use Rattle.reg_zones.specs.Faults.{HasNoFault}
 use Rattle.reg_zones.specs.Order.{IsListed, IsSooner, IsCanonical}
-use Rattle.history_model.proofs.Latest.{met}
+use Rattle.history_model.proofs.Latest.{latest-met}
 use Rattle.history_model.proofs.Lists.{Before-first, Before-second, Before-total}
 use Rattle.reg_zones.proofs.Values.{cases_value}
 use Rattle.reg_zones.proofs.Ends.{first_reply-le, last_call-le}
@@ -30,12 +30,14 @@ module _ (ops : List Operation) (y : IsHistory ops) (ok : HasNoFault ops) where
       let w = ok.written r i d in
       (w.0, record { within = w.1; write = w.2; kept = inr (r, i, w.3) }, sym w.3.value)
 
-  pub listed-write : (a : Operation) → IsListed ops a → (w : Operation) × IsKept ops w × (value_of w ≡ value_of a)
+  pub listed-write : (a : Operation) → IsListed ops a → (w : Operation) × IsKept ops w
+      × (value_of w ≡ value_of a)
   listed-write a (inl k) = (a, k, refl)
   listed-write a (inr r) = kept_write a r.0 r.1
 
   no_conflict : (a b : Operation) → IsListed ops a → IsListed ops b → (value_of a ≡ value_of b → ⊥)
-      → first_reply ops (value_of a) < last_call ops (value_of b) → first_reply ops (value_of b) < last_call ops (value_of a) → ⊥
+      → first_reply ops (value_of a) < last_call ops (value_of b)
+      → first_reply ops (value_of b) < last_call ops (value_of a) → ⊥
   no_conflict a b la lb ne p q =
       let v = listed-write a la in
       let w = listed-write b lb in
@@ -151,5 +153,5 @@ module _ (ops : List Operation) (y : IsHistory ops) (ok : HasNoFault ops) where
       keeps =
           λ a b s p. keeps a b (c.listed a (Before-first a b order s))
           (c.listed b (Before-second a b order s)) (c.ascending a b s) p;
-      met = met ops order y completion nearest;
+      met = latest-met ops order y completion nearest;
     }

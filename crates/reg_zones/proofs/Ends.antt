@@ -63,7 +63,11 @@ pub IsInCluster-from : (ops : List Operation) (v : Option Val) (a : Operation) â
 IsInCluster-from ops v a i =
     let r = filter-In (is_member v) a ops i in
     let p = and_parts (same_value (value_of a) v) (is_write a || a.completed) r.1 in
-    record { within = r.0; value = same-true (value_of a) v p.0; counts = or_cases (is_write a) a.completed p.1 }
+    record {
+      within = r.0;
+      value = same-true (value_of a) v p.0;
+      counts = or_cases (is_write a) a.completed p.1;
+    }
 
 module _ (ops : List Operation) (v : Option Val) (a : Operation) (m : IsInCluster ops v a) where
   pub first_reply-le : first_reply ops v â‰¤ a.reply

@@ -79,7 +79,8 @@ module _ (ops : List Operation) (y : IsHistory ops) where
   sooner_total a b la lb = elim (cases_order (low_end ops (value_of a)) (low_end ops (value_of b))) [
     | inr r ↦ inr (elim r [ inl lt ↦ inl (inl lt) | inr gt ↦ inr (inl gt) ])
     | inl e ↦
-        let v = low_apart ops y (value_of a) (value_of b) a b (listed-member ops a la) (listed-member ops b lb) e in
+        let v =
+        low_apart ops y (value_of a) (value_of b) a b (listed-member ops a la) (listed-member ops b lb) e in
         elim (cases_Bool (is_write a)) [
           | inl t ↦ elim (cases_Bool (is_write b)) [
             | inl u ↦ inl (y.values a b (listed-in ops a la) (listed-in ops b lb) t u v)

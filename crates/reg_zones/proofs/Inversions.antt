@@ -154,7 +154,8 @@ module _ (ops : List Operation) (y : IsHistory ops) (turns : TakeTurns ops) (reg
 
   -- the operation that replies first in the second cluster and the one
   -- called last in the first are an inversion
-  pub inverted : (v w c d : Operation) → IsConflict ops v w → low_end ops (value_of v) < low_end ops (value_of w)
+  pub inverted : (v w c d : Operation) → IsConflict ops v w
+      → low_end ops (value_of v) < low_end ops (value_of w)
       → HasFirstReply ops (value_of w) d → HasLastCall ops (value_of v) c → IsInversion ops d c
   inverted v w c d f lt fd lc =
       let other = f.other in
@@ -204,7 +205,8 @@ module _ (ops : List Operation) (y : IsHistory ops) (turns : TakeTurns ops) (reg
   ]
 
   -- a conflict of two clusters has an inversion, whichever has the lesser low end
-  conflict_inverted : (v w : Operation) → IsConflict ops v w → low_end ops (value_of v) < low_end ops (value_of w)
+  conflict_inverted : (v w : Operation) → IsConflict ops v w
+      → low_end ops (value_of v) < low_end ops (value_of w)
       → HasInversion ops
   conflict_inverted v w f lt =
       let d = first_reply-at ops (value_of w) w (kept-member ops w f.right) in

@@ -68,8 +68,10 @@ module _ (h : History) (r : ℕ) (y : IsKnown h r) (i : ℕ) (o : Operation) (op
         )
       ] in
       let a : ℕ → Entry = λ n. record { low = n; turn = t; call = op.call; oper = oper } in
-      let c : ℕ → Entry = λ n. record { low = low_end ops (value_of o); turn = n; call = op.call; oper = oper } in
-      let d : ℕ → Entry = λ n. record { low = low_end ops (value_of o); turn = turn o; call = n; oper = oper } in
+      let c : ℕ → Entry =
+      λ n. record { low = low_end ops (value_of o); turn = n; call = op.call; oper = oper } in
+      let d : ℕ → Entry =
+      λ n. record { low = low_end ops (value_of o); turn = turn o; call = n; oper = oper } in
       let e : Oper → Entry = λ n. record {
         low = low_end ops (value_of o);
         turn = turn o;

@@ -40,7 +40,8 @@ module _ (ops : List Operation) (y : IsHistory ops) where
   one_witness v w v' w' a b a' b' k ev ew f g = (
     one_first_reply ops v a a' y k f.reply
         (subst (λ (x : Operation). HasFirstReply ops (value_of x) a') (sym ev) g.reply),
-    one_last_call ops w b b' y f.call (subst (λ (x : Operation). HasLastCall ops (value_of x) b') (sym ew) g.call),
+    one_last_call ops w b b' y f.call
+        (subst (λ (x : Operation). HasLastCall ops (value_of x) b') (sym ew) g.call),
   )
 
   named : (a b a' b' : Operation) → a ≡ a' → b ≡ b'

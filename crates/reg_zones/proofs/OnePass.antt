@@ -18,7 +18,8 @@ module _ (ops : List Operation) where
       → cluster.zone.f < cluster.zone.s → IsForward ops (value_of w)
   forward-from w cluster k l = omega (arith, l, k.zone.reply, k.zone.call)
 
-  pub forward-to : (w : Operation) (cluster : Cluster) → IsClusterOf ops w cluster → IsForward ops (value_of w)
+  pub forward-to : (w : Operation) (cluster : Cluster) → IsClusterOf ops w cluster
+      → IsForward ops (value_of w)
       → cluster.zone.f < cluster.zone.s
   forward-to w cluster k l = omega (arith, l, k.zone.reply, k.zone.call)
 
@@ -107,7 +108,10 @@ gap ops n m None l none q = record {
         | inl p ↦ q.clear v w c lt p
         | inr p ↦ none w c.right p b
       ];
-  last = λ w k f b. elim (cases_lt (low_end ops (value_of w)) n) [ inl p ↦ q.last w k f p | inr p ↦ none w k p b ];
+  last = λ w k f b. elim (cases_lt (low_end ops (value_of w)) n) [
+    | inl p ↦ q.last w k f p
+    | inr p ↦ none w k p b
+  ];
 }
 gap ops n m (Some c) l none q =
     let v = q.last.2 in
@@ -135,7 +139,8 @@ gap ops n m (Some c) l none q =
 
 -- no low end is left
 pub ended : (ops : List Operation) (y : IsHistory ops) (n : ℕ) (last : Option Cluster)
-    → ((w : Operation) → IsKept ops w → n ≤ low_end ops (value_of w) → ⊥) → AreClear ops n last → (v w : Operation)
+    → ((w : Operation) → IsKept ops w → n ≤ low_end ops (value_of w) → ⊥) → AreClear ops n last
+    → (v w : Operation)
     → IsConflict ops v w → ⊥
 ended ops y n last none q v w c =
     let below : (u : Operation) → IsKept ops u → low_end ops (value_of u) < n =
@@ -151,7 +156,8 @@ ended ops y n last none q v w c =
           other = c.one;
         }) t (below v c.left)
         | inr t ↦ c.differ
-            (low_apart ops y (value_of v) (value_of w) v w (kept-member ops v c.left) (kept-member ops w c.right)
+            (low_apart ops y (value_of v) (value_of w) v w (kept-member ops v c.left)
+            (kept-member ops w c.right)
             (omega arith))
       ]
     ]

@@ -19,7 +19,7 @@ use Rattle.history_model.proofs.Indexes.{In-from_Contains, Contains-from_In, Bef
 use Rattle.reg_zones.proofs.Unique.{ascending_one}
 use Rattle.reg_zones.proofs.Exists.{canonical}
 use Rattle.reg_zones.proofs.Complete.{legal}
-use Rattle.history_model.proofs.Placed.{rising, timed, within_life}
+use Rattle.history_model.proofs.Placed.{rising, history-timed, within_life}
 use Rattle.reg_zones.proofs.Listing.{sooner-first}
 
 first_one_way : (x y : Entry) → ComesFirst x y → ComesFirst y x → ⊥
@@ -71,7 +71,7 @@ module _ (h : History) (r : ℕ) (y : IsKnown h r) (entries sorted : List Entry)
         order = o.0;
         canonical = o.1;
         legal = k;
-        within = within_life ops o.0 (timed ops y.history) k;
+        within = within_life ops o.0 (history-timed ops y.history) k;
         rising = rising o.0;
         is = e ∙ (ap (entries_placed 0) (sorted-is o.0 o.1) ∙ entries_placed-of ops 0 o.0);
       }

@@ -39,7 +39,8 @@ module _ (h : History) (r : ℕ) (y : IsKnown h r) where
   -- where the event at place i isn't of the register, no low end has its time
   none_at : (w : Operation) → IsKept (of_register r (operations h)) w
       → 2 ≤ low_end (of_register r (operations h)) (value_of w)
-      → (key_at by_register h.events (low_end (of_register r (operations h)) (value_of w) - 2) ≡ Some r → ⊥) → ⊥
+      → (key_at by_register h.events (low_end (of_register r (operations h)) (value_of w) - 2) ≡ Some r → ⊥)
+      → ⊥
   none_at w k l none =
       no_low_end h r y (low_end (of_register r (operations h)) (value_of w) - 2) w none k (omega arith)
 

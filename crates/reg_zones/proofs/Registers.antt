@@ -128,7 +128,8 @@ module _ (h : History) (r : ℕ) (y : IsKnown h r) where
       (λ b n. omega (arith, f.1 b (cluster-member v b n), a.2)) ∙ a.2)
 
   -- a kept write's cluster has a completed operation
-  pub kept-completed : (v : Val) (w : Operation) → IsKept (of_register r (operations h)) w → value_of w ≡ Some v
+  pub kept-completed : (v : Val) (w : Operation) → IsKept (of_register r (operations h)) w
+      → value_of w ≡ Some v
       → (o : Operation) × IsMember h r v o × IsCompleted o
   kept-completed v w k e = elim k.kept [
     | inl d ↦ (w, cluster-member v w (record { within = k.within; value = e; counts = inl k.write }), d)
@@ -197,7 +198,8 @@ module _ (h : History) (r : ℕ) (y : IsKnown h r) where
 
   -- where no event of the register is, no low end is
   pub no_low_end : (i : ℕ) (w : Operation) → (key_at by_register h.events i ≡ Some r → ⊥)
-      → IsKept (of_register r (operations h)) w → low_end (of_register r (operations h)) (value_of w) ≡ i + 2 → ⊥
+      → IsKept (of_register r (operations h)) w
+      → low_end (of_register r (operations h)) (value_of w) ≡ i + 2 → ⊥
   no_low_end i w none k e = unmet_low_end i w (λ a j t counts. none (event-key i a j t)) k e
 
   -- before all events there is the initial cluster's low end alone

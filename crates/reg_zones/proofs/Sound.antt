@@ -33,7 +33,8 @@ module _ (ops order : List Operation) (y : IsHistory ops) (l : IsLegal ops order
       ]
 
   -- all of one cluster stands before the other write
-  front : (v w a : Operation) → IsKept ops v → IsKept ops w → Before v w order → IsInCluster ops (value_of v) a
+  front : (v w a : Operation) → IsKept ops v → IsKept ops w → Before v w order
+      → IsInCluster ops (value_of v) a
       → Before a w order
   front v w a kv kw b m = elim (member-is ops y v a kv m) [
     | inl e ↦ subst (λ x. Before x w order) (sym e) b
@@ -48,7 +49,8 @@ module _ (ops order : List Operation) (y : IsHistory ops) (l : IsLegal ops order
   ]
 
   -- so nothing of the later one precedes anything of the earlier
-  apart : (v w a b : Operation) → IsKept ops v → IsKept ops w → Before v w order → IsInCluster ops (value_of v) a
+  apart : (v w a b : Operation) → IsKept ops v → IsKept ops w → Before v w order
+      → IsInCluster ops (value_of v) a
       → IsInCluster ops (value_of w) b → Precedes b a → ⊥
   apart v w a b kv kw s m n p = elim (member-is ops y w b kw n) [
     | inl e ↦ l.keeps a b (subst (λ x. Before a x order) (sym e) (front v w a kv kw s m)) p

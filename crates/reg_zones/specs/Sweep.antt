@@ -123,7 +123,8 @@ IsLowEndAt ops n (Some cluster) = (w : Operation) × IsClusterOf ops w cluster �
 
 -- the last forward cluster whose low end is before time n, if there is one
 abbrev pub IsLastMet : List Operation → ℕ → Option Cluster → Type 0
-IsLastMet ops n None = (w : Operation) → IsKept ops w → IsForward ops (value_of w) → low_end ops (value_of w) < n → ⊥
+IsLastMet ops n None = (w : Operation) → IsKept ops w → IsForward ops (value_of w)
+    → low_end ops (value_of w) < n → ⊥
 IsLastMet ops n (Some cluster) = (w : Operation) × IsClusterOf ops w cluster × IsLastForward ops w n
 
 -- what a pass that has met each low end before time n knows: no conflict, and the last forward cluster

@@ -63,7 +63,8 @@ returns c =
     let kind = ap (λ (x : Op). x.kind) (sym b.1.shown) in
     let written = ap (λ w. cond w 0 b.0.call) (sym (changes-kind (b.0).act)) in
     let turn_is : c.match-op.turn ≡ turn b.0 = elim c.match-op.branch [
-      | in-WriteOp w ↦ w.turn-is ∙ (ap (λ k. cond (writes k) 0 b.0.call) (sym (kind ∙ w.in-WriteOp.is)) ∙ written)
+      | in-WriteOp w ↦ w.turn-is ∙ (ap (λ k. cond (writes k) 0 b.0.call) (sym (kind ∙ w.in-WriteOp.is))
+          ∙ written)
       | in-ReadOp w ↦ w.turn-is
           ∙ (ap (λ (x : Op). x.call) b.1.shown
           ∙ (ap (λ k. cond (writes k) 0 b.0.call) (sym (kind ∙ w.in-ReadOp.is)) ∙ written))
