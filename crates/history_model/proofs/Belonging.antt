@@ -8,7 +8,8 @@ use Rattle.history_text.specs.declared.event.OpKind.{OpKind}
 use Rattle.history_text.specs.declared.event.Val.{Val}
 use Rattle.history_model.specs.Lists.{In}
 use Rattle.history_model.specs.Acts.{is_plain}
-use Rattle.history_model.specs.Operations.{Operation, operation, next_of, reply_in, has_failed, begins}
+use Rattle.history_model.specs.Operations.{operation, next_of, reply_in, has_failed, begins}
+use Rattle.history_model.specs.declared.operation.Operation.{Operation}
 use Rattle.history_model.specs.Operations.{is_a_call, is_a_reply, is_a_fail, kind_in, number_in, calls_from}
 use Rattle.history_model.specs.Operations.{calls, writes, IsWrite, is_write, IsCompleted, kind_of, value_of}
 use Rattle.history_model.specs.declared.event.Event.{Event}

@@ -6,7 +6,7 @@ use Rattle.std.specs.List.{filter}
 use Rattle.history_model.specs.Lists.{In, Before}
 use Rattle.history_model.proofs.Lists.{In-map, map-In, In-filter, filter-In, Before-map, map-Before}
 use Rattle.history_model.proofs.Lists.{Before-first, Before-second, Before-across, append-In, In-left}
-use Rattle.history_model.specs.Operations.{Operation}
+use Rattle.history_model.specs.declared.operation.Operation.{Operation}
 use Rattle.history_model.specs.Cut.{is_over, known_at, is_called_by, cut_at}
 use Rattle.history_model.specs.Legal.{IsLegal, IsMet, IsAtomic}
 use Rattle.history_model.specs.Operations.{IsWrite, IsAsking, IsCompleted}

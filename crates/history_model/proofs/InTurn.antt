@@ -6,7 +6,7 @@ use Rattle.history_text.specs.declared.event.Val.{Val}
 use Rattle.history_text.specs.declared.event.Val.TheVariants.{Null}
 use Rattle.history_model.specs.Lists.{In, Before}
 use Rattle.history_model.proofs.Lists.{Before-first, Before-second}
-use Rattle.history_model.specs.Operations.{Operation}
+use Rattle.history_model.specs.declared.operation.Operation.{Operation}
 use Rattle.history_model.specs.Acts.{Suits, asks, changes, given_by, left_by}
 use Rattle.history_model.specs.InTurn.{Meets}
 use Rattle.history_model.specs.Legal.{IsMet}

@@ -5,7 +5,8 @@ use Rattle.std.proofs.lemmas.Bool.{false≢true, cases_Bool}
 use Rattle.history_text.specs.declared.event.Val.{Val}
 use Rattle.history_model.specs.Lists.{In}
 use Rattle.history_model.specs.Acts.{Suits, asks, changes, given_by, is_plain, suits, value_of_act}
-use Rattle.history_model.specs.Operations.{Operation, IsAsking, IsCompletedRead, IsHistory, is_write}
+use Rattle.history_model.specs.Operations.{IsAsking, IsCompletedRead, IsHistory, is_write}
+use Rattle.history_model.specs.declared.operation.Operation.{Operation}
 use Rattle.history_model.specs.Legal.{HasLatest, IsCompletion, IsLegal, IsMet}
 use Rattle.history_model.specs.declared.act.Act.{Act}
 use Rattle.history_model.specs.declared.act.Act.TheVariants.{Read, Write, Cas, Miss}

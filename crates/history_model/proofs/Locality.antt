@@ -5,7 +5,7 @@ use Rattle.std.proofs.lemmas.Bool.{eq-eqb}
 use Rattle.history_model.specs.Lists.{In, Before}
 use Rattle.history_model.proofs.Lists.{In-filter, Before-filter, filter-Before}
 use Rattle.history_model.proofs.Lists.{map-Before, map-In, Before-first, Before-second}
-use Rattle.history_model.specs.Operations.{Operation}
+use Rattle.history_model.specs.declared.operation.Operation.{Operation}
 use Rattle.history_model.specs.Legal.{IsLegal, IsMet, IsAtomic}
 use Rattle.history_model.specs.Operations.{AreTimed, Precedes, is_of, of_register}
 use Rattle.history_model.specs.Placed.{PlacedOperation, placed, operations_of}

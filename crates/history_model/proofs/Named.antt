@@ -11,7 +11,8 @@ use Rattle.history_text.specs.declared.event.LineEvent.{LineEvent}
 use Rattle.history_model.specs.Lists.{In}
 use Rattle.history_model.specs.Refusals.{AreAccepted}
 use Rattle.history_model.specs.History.{History, IsRecorded, events_after, register_names}
-use Rattle.history_model.specs.Operations.{Operation, operation, next_of, reply_in, has_failed, begins}
+use Rattle.history_model.specs.Operations.{operation, next_of, reply_in, has_failed, begins}
+use Rattle.history_model.specs.declared.operation.Operation.{Operation}
 use Rattle.history_model.specs.Operations.{is_a_call, is_a_reply, is_a_fail, kind_in, number_in, calls}
 use Rattle.history_model.specs.Operations.{writes, is_write, IsWrite, IsCompleted, IsHistory, Precedes, kind_of, value_of}
 use Rattle.history_model.specs.Operations.{initial_write, initial_writes, operations, of_register}
@@ -466,6 +467,13 @@ pub operation-has-value : (h : History) → IsRecorded h → (o : Operation) →
 operation-has-value h rec o =
     subst (λ (g : History). In o (operations g) → IsWrite o ⊎ IsCompleted o
     → (v : Val) × (value_of o ≡ Some v)) (sym rec.is) (has-value rec.events rec.accepted o)
+
+pub call-has-value : (h : History) → IsRecorded h → (i : ℕ) (e : Event) → slice_get h.events i ≡ Some e
+    → is_a_call e.what ≡ true → writes (kind_in e.what) ≡ true → (v : Val) × (e.value ≡ Some v)
+call-has-value h rec i e =
+    subst (λ (g : History). slice_get g.events i ≡ Some e → is_a_call e.what ≡ true
+    → writes (kind_in e.what) ≡ true → (v : Val) × (e.value ≡ Some v)) (sym rec.is)
+    (called-value rec.events rec.accepted i e)
 
 pub operation-has-register : (h : History) → IsRecorded h → (o : Operation) → In o (operations h)
     → o.register < length h.names

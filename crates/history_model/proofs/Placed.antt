@@ -4,10 +4,10 @@ use Rattle.std.proofs.Common.{◌⊎◌, inl, inr, refl, sym, ap, subst, arith}
 use Rattle.std.proofs.lemmas.Bool.{cases_lt}
 use Rattle.history_model.specs.Lists.{In, Before}
 use Rattle.history_model.proofs.Lists.{In-map, Before-first}
-use Rattle.history_model.specs.Operations.{Operation}
+use Rattle.history_model.specs.declared.operation.Operation.{Operation}
 use Rattle.history_model.specs.Legal.{IsLegal}
-use Rattle.history_model.specs.Operations.{AreTimed}
-use Rattle.history_model.specs.Placed.{PlacedOperation, placed_from, placed, operations_of}
+use Rattle.history_model.specs.Operations.{AreTimed, IsHistory}
+use Rattle.history_model.specs.Placed.{IsWithinLife, PlacedOperation, placed_from, placed, operations_of}
 
 operations_of-placed_from : (n : ℕ) (xs : List Operation) → operations_of (placed_from n xs) ≡ xs
 operations_of-placed_from n [] = refl
@@ -42,7 +42,7 @@ pub after_call : (xs : List Operation) (x : PlacedOperation) → In x (placed xs
 after_call xs x i = from_call 0 xs x i
 
 -- a point is a call of an operation that stands no later
-reached : (n : ℕ) (xs : List Operation) (x : PlacedOperation) → In x (placed_from n xs)
+pub reached : (n : ℕ) (xs : List Operation) (x : PlacedOperation) → In x (placed_from n xs)
     → (x.point ≡ n) ⊎ ((b : Operation) × (x.point ≡ b.call) × ((b ≡ x.operation) ⊎ Before b x.operation xs))
 reached n [] x h = elim h [ ]
 reached n (a ∷ xs) x (inl e) = elim (cases_lt n a.call) [
@@ -94,3 +94,13 @@ before_reply ops order y l x i =
         ]
       ]
     ]
+
+pub within_life : (ops order : List Operation) → AreTimed ops → IsLegal ops order → (x : PlacedOperation)
+    → In x (placed order) → IsWithinLife x
+within_life ops order y l x i = record {
+  called = after_call order x i;
+  unreplied = before_reply ops order y l x i;
+}
+
+pub timed : (ops : List Operation) → IsHistory ops → AreTimed ops
+timed ops y = record { life = y.life; apart = y.apart }

@@ -10,7 +10,8 @@ use Rattle.history_model.specs.Lists.{In}
 use Rattle.history_model.specs.Refusals.{AreAccepted}
 use Rattle.history_model.specs.History.{History, IsRecorded, events_after, event_after, register_names}
 use Rattle.history_model.specs.Acts.{asks, is_plain}
-use Rattle.history_model.specs.Operations.{Operation, calls, is_a_call, is_a_reply, is_a_fail, kind_in}
+use Rattle.history_model.specs.Operations.{calls, is_a_call, is_a_reply, is_a_fail, kind_in}
+use Rattle.history_model.specs.declared.operation.Operation.{Operation}
 use Rattle.history_model.specs.Operations.{IsWrite, IsCompleted, Precedes, IsHistory, is_write, value_of, writes}
 use Rattle.history_model.specs.Operations.{initial_write, initial_writes, is_of, operations, of_register}
 use Rattle.history_model.specs.declared.event.Event.{Event}

@@ -5,7 +5,7 @@ use Rattle.history_text.specs.declared.event.Val.{Val}
 use Rattle.history_text.specs.declared.event.Val.TheVariants.{Null, Int}
 use Rattle.history_model.specs.declared.act.Act.{Act}
 use Rattle.history_model.specs.declared.act.Act.TheVariants.{Read, Write, Cas, Miss}
-use Rattle.history_model.specs.Operations.{Operation}
+use Rattle.history_model.specs.declared.operation.Operation.{Operation}
 use Rattle.history_model.specs.InTurn.{Meets}
 
 abbrev number : ℕ → Val

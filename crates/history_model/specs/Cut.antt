@@ -2,7 +2,7 @@
 -- did is known, also if its reply tells it later (this project's profile).
 use Rattle.std.specs.Prelude.{ℕ, suc, Bool, cond, nat_le, ◌&&◌, List, map}
 use Rattle.std.specs.List.{filter}
-use Rattle.history_model.specs.Operations.{Operation}
+use Rattle.history_model.specs.declared.operation.Operation.{Operation}
 
 -- whether the reply came by time t
 abbrev pub is_over : ℕ → Operation → Bool

@@ -1,7 +1,7 @@
 -- The sequential specification, one operation after another.
 use Rattle.std.specs.Prelude.{List, [], ◌∷◌}
 use Rattle.history_text.specs.declared.event.Val.{Val}
-use Rattle.history_model.specs.Operations.{Operation}
+use Rattle.history_model.specs.declared.operation.Operation.{Operation}
 use Rattle.history_model.specs.Acts.{Suits, left_by}
 
 -- from the value v on, the operations take effect in turn, each at a value that suits it

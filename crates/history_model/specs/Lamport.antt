@@ -3,7 +3,8 @@
 use Rattle.std.specs.Prelude.{◌≡◌, ℕ, ◌≤◌, ◌⊎◌, ◌&&◌, not, Bool, List, Some}
 use Rattle.std.specs.List.{filter}
 use Rattle.history_model.specs.Lists.{In}
-use Rattle.history_model.specs.Operations.{Operation, Precedes, Overlaps, IsWrite, is_write, value_of}
+use Rattle.history_model.specs.Operations.{Precedes, Overlaps, IsWrite, is_write, value_of}
+use Rattle.history_model.specs.declared.operation.Operation.{Operation}
 
 -- at most one process calls writes
 abbrev pub HasSingleWriter : List Operation → Type 0

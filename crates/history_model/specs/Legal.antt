@@ -3,7 +3,8 @@
 use Rattle.std.specs.Prelude.{◌≡◌, List, IsSomeAnd}
 use Rattle.history_model.specs.Lists.{In, Before}
 use Rattle.history_model.specs.Acts.{Suits, given_by}
-use Rattle.history_model.specs.Operations.{Operation, Precedes, IsWrite, IsCompleted, IsAsking, value_of}
+use Rattle.history_model.specs.Operations.{Precedes, IsWrite, IsCompleted, IsAsking, value_of}
+use Rattle.history_model.specs.declared.operation.Operation.{Operation}
 
 -- A completion of the operations, in some order: each operation once, no other, and each completed one.
 -- Pending ones are there by choice: a cas without an outcome is there if it took place, and one whose outcome

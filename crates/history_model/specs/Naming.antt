@@ -3,7 +3,8 @@ use Rattle.std.specs.Prelude.{◌≡◌, ℕ, ◌+◌, ◌-◌, ◌<◌, ◌⊎�
 use Rattle.std.specs.Prelude.{List, length, drop, slice_get, Option, Some, None}
 use Rattle.history_model.specs.Lists.{In}
 use Rattle.history_model.specs.History.{History}
-use Rattle.history_model.specs.Operations.{Operation, operations, next_of, begins}
+use Rattle.history_model.specs.Operations.{operations, next_of, begins}
+use Rattle.history_model.specs.declared.operation.Operation.{Operation}
 use Rattle.history_model.specs.Operations.{is_a_reply, IsWrite, IsCompleted, kind_of, reply_of, value_of}
 use Rattle.history_model.specs.Walking.{by_register}
 use Rattle.history_model.specs.declared.ids.Oper.{Oper}

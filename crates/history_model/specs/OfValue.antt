@@ -3,7 +3,8 @@ use Rattle.std.specs.Prelude.{◌≡◌, ℕ, ◌≤◌, ◌⊎◌, Option, Some
 use Rattle.history_text.specs.declared.event.Val.{Val}
 use Rattle.history_model.specs.Lists.{In}
 use Rattle.history_model.specs.History.{History}
-use Rattle.history_model.specs.Operations.{Operation, operations, IsWrite, IsCompleted, value_of}
+use Rattle.history_model.specs.Operations.{operations, IsWrite, IsCompleted, value_of}
+use Rattle.history_model.specs.declared.operation.Operation.{Operation}
 use Rattle.history_model.specs.Naming.{IsNamed}
 use Rattle.history_model.specs.declared.ids.Oper.{Oper}
 

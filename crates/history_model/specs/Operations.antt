@@ -8,7 +8,7 @@ use Rattle.history_text.specs.declared.event.OpKind.{OpKind}
 use Rattle.history_text.specs.declared.event.OpKind.TheVariants.{ReadOp, WriteOp}
 use Rattle.history_model.specs.Acts.{asks, changes, is_plain, kind_of_act, plain_act, value_of_act}
 use Rattle.history_model.specs.declared.act.Act.TheVariants.{Write}
-pub use Rattle.history_model.specs.declared.operation.Operation.{Operation}
+use Rattle.history_model.specs.declared.operation.Operation.{Operation}
 use Rattle.history_model.specs.declared.ids.RegId.{RegId}
 use Rattle.history_model.specs.declared.event.Event.{Event}
 use Rattle.history_model.specs.declared.event.What.{What}

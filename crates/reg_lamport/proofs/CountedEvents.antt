@@ -12,7 +12,8 @@ use Rattle.history_text.specs.declared.limits.TheConstants.{MAX_EVENTS}
 use Rattle.history_model.specs.Lists.{In}
 use Rattle.history_model.specs.History.{History, IsRecorded}
 use Rattle.history_model.specs.Lamport.{HasSingleWriter, completed_reads, is_completed_read}
-use Rattle.history_model.specs.Operations.{Operation, operations, calls, of_register, kind_in, writes}
+use Rattle.history_model.specs.Operations.{operations, calls, of_register, kind_in, writes}
+use Rattle.history_model.specs.declared.operation.Operation.{Operation}
 use Rattle.history_model.specs.Naming.{begins_at}
 use Rattle.history_model.specs.Walking.{by_register, called_at}
 use Rattle.history_model.specs.declared.event.Event.{Event}
