@@ -11,7 +11,7 @@ use Rattle.history_text.specs.declared.event.ReplyParts.{ReplyParts}
 use Rattle.history_model.specs.declared.operation.Operation.{Operation}
 use Rattle.cas_history.specs.Events.{Called, called_by, replied_by}
 use Rattle.cas_history.specs.History.{calls_from, has_failed, next_of, operation}
-use Rattle.cas_history.specs.History.{operation_if, option_list, reply_in, reply_time}
+use Rattle.cas_history.specs.History.{operation_if, option_list, reply_in, time_of_reply}
 
 -- ---- the next event of a process
 
@@ -77,7 +77,8 @@ abbrev pub Ends : ℕ → ℕ → List AnyEvent → ℕ → AnyEvent → Bool �
 Ends n s es i e completed t = ((completed ≡ true) × IsReplyAt s es i e t) ⊎ ((completed ≡ false) × (t ≡ n))
 
 -- a is the operation of a call among the events, the first of which has time s; a missing reply has time n
-pub record IsCallAt (n : ℕ) (names : List (List ℕ)) (s : ℕ) (es : List AnyEvent) (a : Operation) : Type 0 where
+pub record IsCallAt (n : ℕ) (names : List (List ℕ)) (s : ℕ) (es : List AnyEvent) (a : Operation)
+    : Type 0 where
   pub place : ℕ
   pub event : AnyEvent
   pub there : slice_get es place ≡ Some event
@@ -94,8 +95,9 @@ record Begins (n : ℕ) (names : List (List ℕ)) (s : ℕ) (e : AnyEvent) (next
   calls : o ≡ Some call
   is : a ≡ operation n names s e call next
 
-begins-of : (n : ℕ) (names : List (List ℕ)) (s : ℕ) (e : AnyEvent) (next : Option (ℕ × AnyEvent)) (o : Option Called)
-    (a : Operation) → In a (option_list (operation_if o n names s e next)) → Begins n names s e next o a
+begins-of : (n : ℕ) (names : List (List ℕ)) (s : ℕ) (e : AnyEvent) (next : Option (ℕ × AnyEvent))
+    (o : Option Called) (a : Operation) → In a (option_list (operation_if o n names s e next))
+    → Begins n names s e next o a
 begins-of n names s e next None a h = absurd h
 begins-of n names s e next (Some call) a h = go (has_failed next) h
   where
@@ -112,7 +114,7 @@ record IsReplyIn (next : Option (ℕ × AnyEvent)) (t : ℕ) : Type 0 where
   replied : ReplyParts
   replies : replied_by found.1.kind ≡ Some replied
 
-reply-of : (next : Option (ℕ × AnyEvent)) (t : ℕ) → reply_time next ≡ Some t → IsReplyIn next t
+reply-of : (next : Option (ℕ × AnyEvent)) (t : ℕ) → time_of_reply next ≡ Some t → IsReplyIn next t
 reply-of None t h = absurd (cc (h))
 reply-of (Some n) t h = go (replied_by n.1.kind) refl h
   where
@@ -134,7 +136,7 @@ first-call n names s e es a b = record {
   called = b.call;
   calls = b.calls;
   register = ap (λ (a : Operation). a.register) b.is;
-  ends = by_reply (reply_time (next_of e.process (suc s) es)) refl;
+  ends = by_reply (time_of_reply (next_of e.process (suc s) es)) refl;
 }
   where
     by_next : (t : ℕ) → IsReplyIn (next_of e.process (suc s) es) t → IsReplyAt s (e ∷ es) zero e t
@@ -158,7 +160,7 @@ first-call n names s e es a b = record {
             earlier zero g l m at same = omega (arith, l)
             earlier (suc k) g l m at same = n.between k g (omega (arith, m)) at same
 
-    by_reply : (o : Option ℕ) → reply_time (next_of e.process (suc s) es) ≡ o
+    by_reply : (o : Option ℕ) → time_of_reply (next_of e.process (suc s) es) ≡ o
         → Ends n s (e ∷ es) zero e a.completed a.reply
     by_reply None h = inr (
       ap (λ (a : Operation). a.completed) b.is ∙ ap is_some h,

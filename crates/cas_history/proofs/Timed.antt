@@ -122,8 +122,8 @@ module _ (events : List AnyEvent) where
     ]
   ]
 
-  pub timed : (r : ℕ) → AreTimedCalls r (calls_of events r)
-  timed r = record {
+  pub calls-timed : (r : ℕ) → AreTimedCalls r (calls_of events r)
+  calls-timed r = record {
     register = λ a i. (own a i).1;
     called = λ a i. not_before 2 (calls events) ascending a (own a i).0;
     ascending = in_order 2 (calls_of events r) (ascends-filter (is_of r) 2 (calls events) ascending);

@@ -34,8 +34,8 @@ abbrev pub reply_in : Option (ℕ × AnyEvent) → Option (ℕ × ReplyParts)
 reply_in next = option_and_then (λ n. option_map (λ reply. (n.0, reply)) (replied_by n.1.kind)) next
 
 -- the time of that reply
-abbrev pub reply_time : Option (ℕ × AnyEvent) → Option ℕ
-reply_time next = option_map (λ reply. reply.0) (reply_in next)
+abbrev pub time_of_reply : Option (ℕ × AnyEvent) → Option ℕ
+time_of_reply next = option_map (λ reply. reply.0) (reply_in next)
 
 -- whether a call failed, by the next event of its process
 abbrev pub has_failed : Option (ℕ × AnyEvent) → Bool
@@ -69,8 +69,8 @@ abbrev pub operation : ℕ → List (List ℕ) → ℕ → AnyEvent → Called �
 operation n names s e call next = record {
   line = e.line;
   call = s;
-  reply = unwrap_or (reply_time next) n;
-  completed = is_some (reply_time next);
+  reply = unwrap_or (time_of_reply next) n;
+  completed = is_some (time_of_reply next);
   process = Some e.process;
   register = position_or_len (bytes_eq call.register) names;
   act = act_of call.asked (reply_in next);

@@ -93,7 +93,7 @@ fn has_failed(next: Option<(u32, &AnyEvent)>) -> bool
 }
 
 fn reply_time(next: Option<(u32, &AnyEvent)>) -> Option<u32>
-    ensures { result ≡ defined.reply_time (option_map (λ next. (next.0, next.1.now)) next.entry) }
+    ensures { result ≡ defined.time_of_reply (option_map (λ next. (next.0, next.1.now)) next.entry) }
 {
     let (time, event) = next?;
     let _reply = replied(&event.kind)?;

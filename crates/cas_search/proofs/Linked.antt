@@ -209,7 +209,8 @@ module _ (r : ℕ) (ops : List Operation) (events : List Moment) (t : IsTimeline
               λ k i. let s = stand-In ops ks rest k n.1 i in t.all (Call k) (s.0).call (call-time k s.0 s.2);
           all = λ k i.
               let x = reply-of k i in
-              let there = l.completion.all x.0 (inr (slice_get-In ops k x.0 x.2)) (reply_of-completed x.0 x.1 x.3).0 in
+              let own = slice_get-In ops k x.0 x.2 in
+              let there = l.completion.all x.0 (inr own) (reply_of-completed x.0 x.1 x.3).0 in
               elim (subst (In x.0) e there) [
                 | inl s ↦ absurd (let c = t.calls.called x.0 (slice_get-In ops k x.0 x.2) in
                     omega (arith, c, ap (λ (o : Operation). o.call) s))

@@ -35,6 +35,7 @@ module _ (t : ℕ) (a : Operation) where
   pub reply_of-known : (s : ℕ) → reply_of a ≡ Some s → s ≤ t → reply_of (known_at t a) ≡ Some s
   reply_of-known s h le =
       let r = reply_of-completed a s h in
-      let over : is_over t a ≡ true = ap (λ b. b && nat_le a.reply t) r.0 ∙ le-leb a.reply t (omega (arith, r.1)) in
+      let by_then : nat_le a.reply t ≡ true = le-leb a.reply t (omega (arith, r.1)) in
+      let over : is_over t a ≡ true = ap (λ b. b && nat_le a.reply t) r.0 ∙ by_then in
       completed-reply_of (known_at t a) over
       ∙ ap Some (ap (λ b. cond b a.reply (suc t)) over ∙ r.1)

@@ -14,7 +14,7 @@ use Rattle.history_model.proofs.Locality.{each_decides}
 use Rattle.cas_history.specs.History.{IsHistoryOf, calls_of, operations, register_names}
 use Rattle.cas_history.specs.Timed.{AreTimedCalls}
 use Rattle.cas_history.specs.declared.history.History.{History}
-use Rattle.cas_history.proofs.Timed.{timed as calls-timed}
+use Rattle.cas_history.proofs.Timed.{calls-timed}
 use Rattle.cas_history.proofs.Initials.{named as of-named, none as of-none}
 use Rattle.search_text.specs.declared.report.Outcome.{Outcome}
 use Rattle.search_text.specs.declared.report.Outcome.TheVariants as outcome

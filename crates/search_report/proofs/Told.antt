@@ -1,6 +1,6 @@
 -- What the verdict of a search says, by lines.
-use Rattle.std.proofs.Common.{◌≡◌, ℕ, ◌<◌, ◌-◌, inl, inr, arith, List, ◌∷◌, map, get_or, slice_get, Option, Some}
-use Rattle.std.proofs.Common.{None, Result, Ok, Err, Vec, Global, sym, ap, subst, ◌∙◌}
+use Rattle.std.proofs.Common.{◌≡◌, ℕ, ◌<◌, ◌-◌, List, ◌∷◌, map, get_or, slice_get, Option, Some}
+use Rattle.std.proofs.Common.{None, inl, inr, arith, Result, Ok, Err, Vec, Global, sym, ap, subst, ◌∙◌}
 use Rattle.std.specs.Prelude.{IfOk, IfSome}
 use Rattle.std.proofs.lemmas.Option.{same_Some, slice_get-get_or, slice_get_within}
 use Rattle.std.proofs.lemmas.Simd.{map-map}
