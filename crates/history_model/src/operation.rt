@@ -1,4 +1,7 @@
 //! An operation of a history.
+ghost use Rattle.std.specs.Prelude.{◌≡◌};
+ghost use Rattle.history_model.specs.Operations.{reply_of};
+
 use crate::act::Act;
 
 /// A read, a write or a cas, with its times. Event `i` has time `i + 2`; the
@@ -18,4 +21,17 @@ pub struct Operation {
     /// The number of its register.
     pub register: u32,
     pub act: Act,
+}
+
+impl Operation {
+    /// The time of the reply, if there is one.
+    pub fn reply_time(&self) -> Option<u32>
+        ensures { result ≡ reply_of self.now }
+    {
+        if self.completed {
+            Some(self.reply)
+        } else {
+            None
+        }
+    }
 }
