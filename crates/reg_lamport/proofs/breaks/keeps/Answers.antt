@@ -76,8 +76,8 @@ returns-in-Safe c r named =
     let p = one-named h (Called c.args.entry.now.read) x.0 q.operation x.1 q.entry.read in
     let differs =
     other-value c.is_same.result c.op.result.value c.op-read.result.value (value_of w.0)
-    (value_of q.operation) c.is_same.ensures c.if-is_same.false (ap (λ (y : Op). y.value) w.2) (ap (λ (y : Op). y.value) x.2
-    ∙ ap value_of p) in
+    (value_of q.operation) c.is_same.ensures c.if-is_same.false (ap (λ (y : Op). y.value) w.2)
+    (ap (λ (y : Op). y.value) x.2 ∙ ap value_of p) in
     decides (of_register c.args.register.0 (operations h)) c.args.level Safe c.args.entry.now.is_overlapped
     q.operation r c.in-Safe.is o
     (safe-keeps h q.recorded c.args.register.0 q.operation q.within q.read c.args.entry.now q.single q.entry
@@ -94,8 +94,8 @@ returns-in-Regular c r named =
     let p = one-named h (Called c.args.entry.now.read) x.0 q.operation x.1 q.entry.read in
     let differs =
     other-value c.is_same.result c.op.result.value c.op-read.result.value (value_of w.0)
-    (value_of q.operation) c.is_same.ensures c.if-is_same.false (ap (λ (y : Op). y.value) w.2) (ap (λ (y : Op). y.value) x.2
-    ∙ ap value_of p) in
+    (value_of q.operation) c.is_same.ensures c.if-is_same.false (ap (λ (y : Op). y.value) w.2)
+    (ap (λ (y : Op). y.value) x.2 ∙ ap value_of p) in
     let keeps =
     regular-keeps h q.recorded c.args.register.0 q.operation q.within q.read c.args.entry.now q.single
     q.entry w.0 w.1 differs in
