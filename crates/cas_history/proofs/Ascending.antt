@@ -5,7 +5,7 @@ use Rattle.std.specs.List.{filter}
 use Rattle.history_model.specs.Lists.{In}
 use Rattle.history_model.proofs.Lists.{slice_get-In}
 use Rattle.history_text.specs.declared.event.AnyEvent.{AnyEvent}
-use Rattle.cas_model.specs.declared.operation.Operation.{Operation}
+use Rattle.history_model.specs.declared.operation.Operation.{Operation}
 use Rattle.cas_history.specs.Events.{Called, called_by}
 use Rattle.cas_history.specs.History.{calls_from, has_failed, next_of, operation, operation_if, option_list}
 
@@ -60,19 +60,20 @@ ascends-filter test n (a ∷ ops) h = go (test a) (ascends-filter test (suc a.ca
     go false r = weaker n (suc a.call) (filter test ops) (omega (arith, h.0)) r
 
 -- the calls of events stand in the order of the events
-pub ascends-calls : (names : List (List ℕ)) (s : ℕ) (es : List AnyEvent) → Ascends s (calls_from names s es)
-ascends-calls names s [] = tt
-ascends-calls names s (e ∷ es) = go (called_by e.kind) (ascends-calls names (suc s) es)
+pub ascends-calls : (n : ℕ) (names : List (List ℕ)) (s : ℕ) (es : List AnyEvent)
+    → Ascends s (calls_from n names s es)
+ascends-calls n names s [] = tt
+ascends-calls n names s (e ∷ es) = go (called_by e.kind) (ascends-calls n names (suc s) es)
   where
-    one : (call : Called) (b : Bool) → Ascends (suc s) (calls_from names (suc s) es)
+    one : (call : Called) (b : Bool) → Ascends (suc s) (calls_from n names (suc s) es)
         → Ascends s (option_list
-        (cond b None (Some (operation names s e call (next_of e.process (suc s) es))))
-        ++ calls_from names (suc s) es)
-    one call true rest = weaker s (suc s) (calls_from names (suc s) es) (omega arith) rest
+        (cond b None (Some (operation n names s e call (next_of e.process (suc s) es))))
+        ++ calls_from n names (suc s) es)
+    one call true rest = weaker s (suc s) (calls_from n names (suc s) es) (omega arith) rest
     one call false rest = (omega arith, rest)
 
-    go : (o : Option Called) → Ascends (suc s) (calls_from names (suc s) es)
-        → Ascends s (option_list (operation_if o names s e (next_of e.process (suc s) es))
-        ++ calls_from names (suc s) es)
-    go None rest = weaker s (suc s) (calls_from names (suc s) es) (omega arith) rest
+    go : (o : Option Called) → Ascends (suc s) (calls_from n names (suc s) es)
+        → Ascends s (option_list (operation_if o n names s e (next_of e.process (suc s) es))
+        ++ calls_from n names (suc s) es)
+    go None rest = weaker s (suc s) (calls_from n names (suc s) es) (omega arith) rest
     go (Some call) rest = one call (has_failed (next_of e.process (suc s) es)) rest

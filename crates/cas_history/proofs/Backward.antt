@@ -4,7 +4,7 @@ use Rattle.std.proofs.Common.{slice_get, reverse, Option, Some, None, sym, ap, �
 use Rattle.std.specs.Ordering.{is_eq, nat_cmp}
 use Rattle.std.proofs.lemmas.List.{reverse-append}
 use Rattle.history_text.specs.declared.event.AnyEvent.{AnyEvent}
-use Rattle.cas_model.specs.declared.operation.Operation.{Operation}
+use Rattle.history_model.specs.declared.operation.Operation.{Operation}
 use Rattle.cas_history.specs.History.{calls_from, next_of, operation_at, option_list}
 use Rattle.cas_history.specs.Kept.{event_at}
 use Rattle.cas_history.proofs.Kept.{same_key}
@@ -15,7 +15,7 @@ drop-at [] i x h = absurd (cc (h))
 drop-at (y ∷ xs) zero x h = let same : y ≡ x = cc (h) in ap (λ z. z ∷ xs) same
 drop-at (y ∷ xs) (suc i) x h = drop-at xs i x h
 
-module _ (names : List (List ℕ)) (events : List AnyEvent) (i : ℕ) (e : AnyEvent)
+module _ (n : ℕ) (names : List (List ℕ)) (events : List AnyEvent) (i : ℕ) (e : AnyEvent)
     (at : slice_get events i ≡ Some e) where
   one_less : suc i ≡ i + 1
   one_less = omega arith
@@ -25,19 +25,19 @@ module _ (names : List (List ℕ)) (events : List AnyEvent) (i : ℕ) (e : AnyEv
 
   -- the calls with those of one event more at the front
   pub calls-step : (made : List Operation) (o : Option Operation)
-      → reverse made ≡ calls_from names (i + 1 + 2) (drop (i + 1) events)
-      → o ≡ operation_at names (i + 2) e (next_of e.process (i + 1 + 2) (drop (i + 1) events))
-      → reverse (made ++ option_list o) ≡ calls_from names (i + 2) (drop i events)
+      → reverse made ≡ calls_from n names (i + 1 + 2) (drop (i + 1) events)
+      → o ≡ operation_at n names (i + 2) e (next_of e.process (i + 1 + 2) (drop (i + 1) events))
+      → reverse (made ++ option_list o) ≡ calls_from n names (i + 2) (drop i events)
   calls-step made o so_far is =
       put o
       ∙ (ap (λ os. option_list o ++ os) (so_far
-      ∙ (ap (λ s. calls_from names s (drop (i + 1) events)) (sym later)
-      ∙ ap (λ n. calls_from names (suc (i + 2)) (drop n events)) (sym one_less)))
-      ∙ (ap (λ o. option_list o ++ calls_from names (suc (i + 2)) (drop (suc i) events)) (is
-      ∙ (ap (λ s. operation_at names (i + 2) e (next_of e.process s (drop (i + 1) events))) (sym later)
-      ∙ ap (λ n. operation_at names (i + 2) e (next_of e.process (suc (i + 2)) (drop n events)))
+      ∙ (ap (λ s. calls_from n names s (drop (i + 1) events)) (sym later)
+      ∙ ap (λ k. calls_from n names (suc (i + 2)) (drop k events)) (sym one_less)))
+      ∙ (ap (λ o. option_list o ++ calls_from n names (suc (i + 2)) (drop (suc i) events)) (is
+      ∙ (ap (λ s. operation_at n names (i + 2) e (next_of e.process s (drop (i + 1) events))) (sym later)
+      ∙ ap (λ k. operation_at n names (i + 2) e (next_of e.process (suc (i + 2)) (drop k events)))
       (sym one_less)))
-      ∙ ap (calls_from names (i + 2)) (sym (drop-at events i e at))))
+      ∙ ap (calls_from n names (i + 2)) (sym (drop-at events i e at))))
     where
       put : (o : Option Operation) → reverse (made ++ option_list o) ≡ option_list o ++ reverse made
       put None = reverse-append made []

@@ -1,17 +1,17 @@
 -- What stands where among the events: the next event of a process, and the events of a call and of its reply.
 use Rattle.std.proofs.Common.{◌≡◌, ℕ, zero, suc, ◌+◌, ◌<◌, cond, Bool, true, false}
-use Rattle.std.proofs.Common.{List, [], ◌∷◌, slice_get, Option, Some, None, option_map}
-use Rattle.std.proofs.Common.{inl, inr, refl, sym, ap, ◌∙◌, arith, eqb, bytes_eq}
+use Rattle.std.proofs.Common.{List, [], ◌∷◌, slice_get, is_some, unwrap_or, Option, Some, None, option_map}
+use Rattle.std.proofs.Common.{◌⊎◌, inl, inr, refl, sym, ap, subst, ◌∙◌, arith, eqb, bytes_eq}
 use Rattle.std.specs.List.{position_or_len}
 use Rattle.std.proofs.lemmas.Bool.{eqb-true, eq-eqb, false≢true}
 use Rattle.history_model.specs.Lists.{In}
 use Rattle.history_model.proofs.Lists.{append-In}
 use Rattle.history_text.specs.declared.event.AnyEvent.{AnyEvent}
 use Rattle.history_text.specs.declared.event.ReplyParts.{ReplyParts}
-use Rattle.cas_model.specs.declared.operation.Operation.{Operation}
+use Rattle.history_model.specs.declared.operation.Operation.{Operation}
 use Rattle.cas_history.specs.Events.{Called, called_by, replied_by}
 use Rattle.cas_history.specs.History.{calls_from, has_failed, next_of, operation}
-use Rattle.cas_history.specs.History.{operation_if, option_list, reply_in}
+use Rattle.cas_history.specs.History.{operation_if, option_list, reply_in, time_of_reply}
 
 -- ---- the next event of a process
 
@@ -72,31 +72,37 @@ pub record IsReplyAt (s : ℕ) (es : List AnyEvent) (i : ℕ) (e : AnyEvent) (t 
   pub between : (k : ℕ) (g : AnyEvent) → i < k → k < place → slice_get es k ≡ Some g
       → g.process ≡ e.process → ⊥
 
--- a is the operation of a call among the events, the first of which has time s
-pub record IsCallAt (names : List (List ℕ)) (s : ℕ) (es : List AnyEvent) (a : Operation) : Type 0 where
+-- the call at a place has its reply at time t, or none, and then t is n
+abbrev pub Ends : ℕ → ℕ → List AnyEvent → ℕ → AnyEvent → Bool → ℕ → Type 0
+Ends n s es i e completed t = ((completed ≡ true) × IsReplyAt s es i e t) ⊎ ((completed ≡ false) × (t ≡ n))
+
+-- a is the operation of a call among the events, the first of which has time s; a missing reply has time n
+pub record IsCallAt (n : ℕ) (names : List (List ℕ)) (s : ℕ) (es : List AnyEvent) (a : Operation)
+    : Type 0 where
   pub place : ℕ
   pub event : AnyEvent
   pub there : slice_get es place ≡ Some event
   pub time : a.call ≡ place + s
   pub called : Called
   pub calls : called_by event.kind ≡ Some called
-  pub register : a.register.0 ≡ position_or_len (bytes_eq called.register) names
-  pub reply : (t : ℕ) → a.reply ≡ Some t → IsReplyAt s es place event t
+  pub register : a.register ≡ position_or_len (bytes_eq called.register) names
+  pub ends : Ends n s es place event a.completed a.reply
 
 -- the operation that an event begins
-record Begins (names : List (List ℕ)) (s : ℕ) (e : AnyEvent) (next : Option (ℕ × AnyEvent))
+record Begins (n : ℕ) (names : List (List ℕ)) (s : ℕ) (e : AnyEvent) (next : Option (ℕ × AnyEvent))
     (o : Option Called) (a : Operation) : Type 0 where
   call : Called
   calls : o ≡ Some call
-  is : a ≡ operation names s e call next
+  is : a ≡ operation n names s e call next
 
-begins-of : (names : List (List ℕ)) (s : ℕ) (e : AnyEvent) (next : Option (ℕ × AnyEvent)) (o : Option Called)
-    (a : Operation) → In a (option_list (operation_if o names s e next)) → Begins names s e next o a
-begins-of names s e next None a h = absurd h
-begins-of names s e next (Some call) a h = go (has_failed next) h
+begins-of : (n : ℕ) (names : List (List ℕ)) (s : ℕ) (e : AnyEvent) (next : Option (ℕ × AnyEvent))
+    (o : Option Called) (a : Operation) → In a (option_list (operation_if o n names s e next))
+    → Begins n names s e next o a
+begins-of n names s e next None a h = absurd h
+begins-of n names s e next (Some call) a h = go (has_failed next) h
   where
-    go : (b : Bool) → In a (option_list (cond b None (Some (operation names s e call next))))
-        → Begins names s e next (Some call) a
+    go : (b : Bool) → In a (option_list (cond b None (Some (operation n names s e call next))))
+        → Begins n names s e next (Some call) a
     go true h = absurd h
     go false (inl q) = record { call = call; calls = refl; is = q }
     go false (inr h) = absurd h
@@ -108,8 +114,7 @@ record IsReplyIn (next : Option (ℕ × AnyEvent)) (t : ℕ) : Type 0 where
   replied : ReplyParts
   replies : replied_by found.1.kind ≡ Some replied
 
-reply-of : (next : Option (ℕ × AnyEvent)) (t : ℕ)
-    → option_map (λ (reply : ℕ × ReplyParts). reply.0) (reply_in next) ≡ Some t → IsReplyIn next t
+reply-of : (next : Option (ℕ × AnyEvent)) (t : ℕ) → time_of_reply next ≡ Some t → IsReplyIn next t
 reply-of None t h = absurd (cc (h))
 reply-of (Some n) t h = go (replied_by n.1.kind) refl h
   where
@@ -121,19 +126,17 @@ reply-of (Some n) t h = go (replied_by n.1.kind) refl h
     go (Some reply) d h = record { found = n; next_is = refl; time = cc (h); replied = reply; replies = d }
 
 -- the first event's call
-first-call : (names : List (List ℕ)) (s : ℕ) (e : AnyEvent) (es : List AnyEvent) (a : Operation)
-    → Begins names s e (next_of e.process (suc s) es) (called_by e.kind) a → IsCallAt names s (e ∷ es) a
-first-call names s e es a b = record {
+first-call : (n : ℕ) (names : List (List ℕ)) (s : ℕ) (e : AnyEvent) (es : List AnyEvent) (a : Operation)
+    → Begins n names s e (next_of e.process (suc s) es) (called_by e.kind) a → IsCallAt n names s (e ∷ es) a
+first-call n names s e es a b = record {
   place = zero;
   event = e;
   there = refl;
   time = ap (λ (a : Operation). a.call) b.is ∙ omega arith;
   called = b.call;
   calls = b.calls;
-  register = ap (λ (a : Operation). a.register.0) b.is;
-  reply =
-      λ t h. by_next t
-      (reply-of (next_of e.process (suc s) es) t (sym (ap (λ (a : Operation). a.reply) b.is) ∙ h));
+  register = ap (λ (a : Operation). a.register) b.is;
+  ends = by_reply (time_of_reply (next_of e.process (suc s) es)) refl;
 }
   where
     by_next : (t : ℕ) → IsReplyIn (next_of e.process (suc s) es) t → IsReplyAt s (e ∷ es) zero e t
@@ -157,6 +160,19 @@ first-call names s e es a b = record {
             earlier zero g l m at same = omega (arith, l)
             earlier (suc k) g l m at same = n.between k g (omega (arith, m)) at same
 
+    by_reply : (o : Option ℕ) → time_of_reply (next_of e.process (suc s) es) ≡ o
+        → Ends n s (e ∷ es) zero e a.completed a.reply
+    by_reply None h = inr (
+      ap (λ (a : Operation). a.completed) b.is ∙ ap is_some h,
+      ap (λ (a : Operation). a.reply) b.is ∙ ap (λ o. unwrap_or o n) h,
+    )
+    by_reply (Some t) h = inl (
+      ap (λ (a : Operation). a.completed) b.is ∙ ap is_some h,
+      subst (IsReplyAt s (e ∷ es) zero e)
+          (sym (ap (λ (a : Operation). a.reply) b.is ∙ ap (λ o. unwrap_or o n) h))
+          (by_next t (reply-of (next_of e.process (suc s) es) t h)),
+    )
+
 -- the calls of the later events stand one place further
 later-reply : (s : ℕ) (e : AnyEvent) (es : List AnyEvent) (i : ℕ) (c : AnyEvent) (t : ℕ)
     → IsReplyAt (suc s) es i c t → IsReplyAt s (e ∷ es) (suc i) c t
@@ -177,9 +193,9 @@ later-reply s e es i c t r = record {
     earlier zero g l m at same = omega (arith, l)
     earlier (suc k) g l m at same = r.between k g (omega (arith, l)) (omega (arith, m)) at same
 
-later-call : (names : List (List ℕ)) (s : ℕ) (e : AnyEvent) (es : List AnyEvent) (a : Operation)
-    → IsCallAt names (suc s) es a → IsCallAt names s (e ∷ es) a
-later-call names s e es a c = record {
+later-call : (n : ℕ) (names : List (List ℕ)) (s : ℕ) (e : AnyEvent) (es : List AnyEvent) (a : Operation)
+    → IsCallAt n names (suc s) es a → IsCallAt n names s (e ∷ es) a
+later-call n names s e es a c = record {
   place = suc c.place;
   event = c.event;
   there = c.there;
@@ -187,18 +203,21 @@ later-call names s e es a c = record {
   called = c.called;
   calls = c.calls;
   register = c.register;
-  reply = λ t h. later-reply s e es c.place c.event t (c.reply t h);
+  ends = elim c.ends [
+    | inl r ↦ inl (r.0, later-reply s e es c.place c.event a.reply r.1)
+    | inr r ↦ inr r
+  ];
 }
 
 -- each operation is that of a call
-pub described : (names : List (List ℕ)) (s : ℕ) (es : List AnyEvent) (a : Operation)
-    → In a (calls_from names s es) → IsCallAt names s es a
-described names s [] a h = absurd h
-described names s (e ∷ es) a h =
+pub described : (n : ℕ) (names : List (List ℕ)) (s : ℕ) (es : List AnyEvent) (a : Operation)
+    → In a (calls_from n names s es) → IsCallAt n names s es a
+described n names s [] a h = absurd h
+described n names s (e ∷ es) a h =
     elim (append-In a
-    (option_list (operation_if (called_by e.kind) names s e (next_of e.process (suc s) es)))
-    (calls_from names (suc s) es) h) [
-      | inl i ↦ first-call names s e es a
-          (begins-of names s e (next_of e.process (suc s) es) (called_by e.kind) a i)
-      | inr i ↦ later-call names s e es a (described names (suc s) es a i)
+    (option_list (operation_if (called_by e.kind) n names s e (next_of e.process (suc s) es)))
+    (calls_from n names (suc s) es) h) [
+      | inl i ↦ first-call n names s e es a
+          (begins-of n names s e (next_of e.process (suc s) es) (called_by e.kind) a i)
+      | inr i ↦ later-call n names s e es a (described n names (suc s) es a i)
     ]

@@ -1,5 +1,5 @@
 -- Each register has its initial write, and no other register has an operation.
-use Rattle.std.proofs.Common.{◌≡◌, ℕ, zero, suc, ◌<◌, ◌≤◌, cond, not, Bool, true, false, List}
+use Rattle.std.proofs.Common.{◌≡◌, ℕ, zero, suc, ◌+◌, ◌<◌, ◌≤◌, cond, not, Bool, true, false, List}
 use Rattle.std.proofs.Common.{[], ◌∷◌, ◌++◌, length, slice_get, Option, Some, None, option_map}
 use Rattle.std.proofs.Common.{inl, inr, refl, sym, ap, subst, ◌∙◌, arith, eqb}
 use Rattle.std.specs.Prelude.{bytes_eq, filter_map}
@@ -12,11 +12,11 @@ use Rattle.history_model.specs.Lists.{In}
 use Rattle.history_model.proofs.Lists.{In-filter}
 use Rattle.history_model.proofs.Numbers.{place-in}
 use Rattle.history_text.specs.declared.event.AnyEvent.{AnyEvent}
-use Rattle.cas_model.specs.declared.operation.Operation.{Operation}
-use Rattle.cas_model.specs.Operations.{initial_write, is_of, of_register}
-use Rattle.cas_model.proofs.Filters.{filter-none}
+use Rattle.history_model.specs.declared.operation.Operation.{Operation}
+use Rattle.history_model.specs.Operations.{initial_write, initial_writes, is_of, of_register}
+use Rattle.history_model.proofs.Filters.{filter-none}
 use Rattle.cas_history.specs.Events.{Called, called_by}
-use Rattle.cas_history.specs.History.{calls, calls_of, initial_writes, operations, register_names}
+use Rattle.cas_history.specs.History.{calls, calls_of, operations, register_names}
 use Rattle.cas_history.proofs.Described.{described}
 
 -- ---- the initial writes
@@ -82,9 +82,9 @@ called-In (x ∷ events) (suc i) e call at h = go (called_by x.kind) (called-In 
     go (Some c) k = inr k
 
 call-register : (events : List AnyEvent) (a : Operation) → In a (calls events)
-    → a.register.0 < length (register_names events)
+    → a.register < length (register_names events)
 call-register events a i =
-    let c = described (register_names events) 2 events a i in
+    let c = described (length events + 2) (register_names events) 2 events a i in
     let known = In-first _ c.called.register (called-In events c.place c.event c.called c.there c.calls) in
     omega (arith, c.register, (place-in c.called.register (register_names events) known).0)
 
@@ -106,5 +106,5 @@ none events r out =
   where
     go : (a : Operation) → In a (calls events) → (b : Bool) → is_of r a ≡ b → b ≡ false
     go a i true d =
-        absurd (out (let q = eqb-true a.register.0 r d in omega (arith, q, call-register events a i)))
+        absurd (out (let q = eqb-true a.register r d in omega (arith, q, call-register events a i)))
     go a i false d = refl

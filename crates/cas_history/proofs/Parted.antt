@@ -10,47 +10,47 @@ use Rattle.std.proofs.lemmas.List.Elements.{filter-append}
 use Rattle.std.proofs.lemmas.Option.{slice_get_within}
 use Rattle.history_model.proofs.Lists.{slice_get-set, slice_get-set_other}
 use Rattle.history_model.proofs.Lists.{slice_get-push, slice_get-push_other}
-use Rattle.cas_model.specs.declared.operation.Operation.{Operation}
-use Rattle.cas_model.specs.Operations.{is_of, of_register}
+use Rattle.history_model.specs.declared.operation.Operation.{Operation}
+use Rattle.history_model.specs.Operations.{is_of, of_register}
 use Rattle.cas_history.specs.Kept.{Adds}
 
-other-none : (r : ℕ) (a : Operation) → (a.register.0 ≡ r → ⊥) → of_register r (a ∷ []) ≡ []
-other-none r a h = go (eqb a.register.0 r) refl
+other-none : (r : ℕ) (a : Operation) → (a.register ≡ r → ⊥) → of_register r (a ∷ []) ≡ []
+other-none r a h = go (eqb a.register r) refl
   where
-    go : (b : Bool) → eqb a.register.0 r ≡ b → cond b (a ∷ []) [] ≡ []
-    go true d = absurd (h (eqb-true a.register.0 r d))
+    go : (b : Bool) → eqb a.register r ≡ b → cond b (a ∷ []) [] ≡ []
+    go true d = absurd (h (eqb-true a.register r d))
     go false d = refl
 
-own-one : (r : ℕ) (a : Operation) → a.register.0 ≡ r → of_register r (a ∷ []) ≡ a ∷ []
-own-one r a h = ap (λ b. cond b (a ∷ []) []) (eq-eqb a.register.0 r h)
+own-one : (r : ℕ) (a : Operation) → a.register ≡ r → of_register r (a ∷ []) ≡ a ∷ []
+own-one r a h = ap (λ b. cond b (a ∷ []) []) (eq-eqb a.register r h)
 
 module _ (old : List (Vec Operation Global)) (a : Operation) where
-  keeps : (r : ℕ) (own : Vec Operation Global) → slice_get old r ≡ Some own → (a.register.0 ≡ r → ⊥)
+  keeps : (r : ℕ) (own : Vec Operation Global) → slice_get old r ≡ Some own → (a.register ≡ r → ⊥)
       → (before : Vec Operation Global) × (slice_get old r ≡ Some before)
       × (own.items ≡ before.items ++ of_register r (a ∷ []))
   keeps r own h apart =
       (own, h, sym (ap (λ xs. own.items ++ xs) (other-none r a apart) ∙ append-nil own.items))
 
   -- an operation of no register that is there
-  pub adds-none : length old ≤ a.register.0 → Adds old old a
+  pub adds-none : length old ≤ a.register → Adds old old a
   adds-none out r own h = keeps r own h (λ e. omega (arith, out, e, slice_get_within old r own h))
 
   -- an operation behind those of its register
-  pub adds-one : (was now : Vec Operation Global) → slice_get old a.register.0 ≡ Some was
-      → now.items ≡ was.items ++ a ∷ [] → Adds old (set old a.register.0 now) a
-  adds-one was now there is r own h = go (eqb a.register.0 r) refl
+  pub adds-one : (was now : Vec Operation Global) → slice_get old a.register ≡ Some was
+      → now.items ≡ was.items ++ a ∷ [] → Adds old (set old a.register now) a
+  adds-one was now there is r own h = go (eqb a.register r) refl
     where
-      within : a.register.0 < length old
-      within = slice_get_within old a.register.0 was there
+      within : a.register < length old
+      within = slice_get_within old a.register was there
 
-      go : (b : Bool) → eqb a.register.0 r ≡ b
+      go : (b : Bool) → eqb a.register r ≡ b
           → (before : Vec Operation Global) × (slice_get old r ≡ Some before)
           × (own.items ≡ before.items ++ of_register r (a ∷ []))
       go true d =
-          let e : a.register.0 ≡ r = eqb-true a.register.0 r d in
+          let e : a.register ≡ r = eqb-true a.register r d in
           let got : Some now ≡ Some own =
-          sym (slice_get-set old a.register.0 now within)
-          ∙ (ap (slice_get (set old a.register.0 now)) e ∙ h) in
+          sym (slice_get-set old a.register now within)
+          ∙ (ap (slice_get (set old a.register now)) e ∙ h) in
           let same : now ≡ own = cc (got) in (
             was,
             ap (slice_get old) (sym e) ∙ there,
@@ -58,8 +58,8 @@ module _ (old : List (Vec Operation Global)) (a : Operation) where
                 ∙ (is ∙ ap (λ xs. was.items ++ xs) (sym (own-one r a e))),
           )
       go false d =
-          let apart = eqb-false a.register.0 r d in
-          keeps r own (sym (slice_get-set_other old a.register.0 r now (λ e. apart (sym e))) ∙ h) apart
+          let apart = eqb-false a.register r d in
+          keeps r own (sym (slice_get-set_other old a.register r now (λ e. apart (sym e))) ∙ h) apart
 
 -- an empty register more
 pub none-push : (old : List (Vec Operation Global)) (v : Vec Operation Global)

@@ -7,9 +7,9 @@ use Rattle.history_text.specs.declared.event.AnyKind.{AnyKind}
 use Rattle.history_text.specs.declared.event.AnyKind.TheVariants.{Plain, CallCas}
 use Rattle.history_text.specs.declared.event.Kind.TheVariants.{CallRead, CallWrite, Reply, Fail, Crash}
 use Rattle.history_text.specs.declared.event.OpWord.TheVariants as word
-use Rattle.cas_model.specs.declared.act.Act.{Act}
-use Rattle.cas_model.specs.declared.act.Act.TheVariants.{Read, Cas, Miss}
-use Rattle.cas_model.specs.declared.operation.Operation.{Operation}
+use Rattle.history_model.specs.declared.act.Act.{Act}
+use Rattle.history_model.specs.declared.act.Act.TheVariants.{Read, Cas, Miss}
+use Rattle.history_model.specs.declared.operation.Operation.{Operation}
 use Rattle.cas_history.specs.History.{calls_of, register_names}
 use Rattle.cas_history.specs.Refusals.{event_reason, event_refusal}
 use Rattle.cas_history.specs.declared.refusal.Reason.TheVariants.{OpenCall, NoOpenCall, Disagreement}
@@ -104,18 +104,23 @@ small =
 small_names : register_names small ≡ codes "y" ∷ codes "x" ∷ []
 small_names = refl
 
-abbrev done : ℕ → ℕ → Option ℕ → ℕ → Act → Operation
-done line call reply process act = record {
+abbrev called : ℕ → ℕ → ℕ → Bool → ℕ → Act → Operation
+called line call reply completed process act = record {
   line = line;
   call = call;
   reply = reply;
+  completed = completed;
   process = Some process;
-  register = record { 0 = 0 };
+  register = 0;
   act = act;
 }
 
-small_calls : calls_of small 0 ≡ done 1 2 (Some 4) 1 (Cas Null (pos 1)) ∷ done 2 3 (Some 6) 2 (Miss Null)
-    ∷ done 7 8 None 2 (Cas (Int (pos 1)) (pos 4)) ∷ done 8 9 (Some 10) 1 (Read (Some (Int (pos 1)))) ∷ []
+abbrev done : ℕ → ℕ → ℕ → ℕ → Act → Operation
+done line call reply process act = called line call reply true process act
+
+-- nine events have the times 2 to 10, so a missing reply has time 11
+small_calls : calls_of small 0 ≡ done 1 2 4 1 (Cas Null (pos 1)) ∷ done 2 3 6 2 (Miss Null)
+    ∷ called 7 8 11 false 2 (Cas (Int (pos 1)) (pos 4)) ∷ done 8 9 10 1 (Read (Some (Int (pos 1)))) ∷ []
 small_calls = refl
 
 failed_left_out : calls_of small 1 ≡ []

@@ -1,7 +1,7 @@
 -- The operations of the events of an accepted history: each register's initial write, and each call that
 -- didn't fail, with what its reply says that it did.
-use Rattle.std.specs.Prelude.{◌≡◌, ℕ, ℤ, suc, zero, ◌==◌, cond, Bool, true, false, bytes_eq, Vec}
-use Rattle.std.specs.Prelude.{is_some, List, [], ◌∷◌, ◌++◌, filter_map, length, map}
+use Rattle.std.specs.Prelude.{◌≡◌, ℕ, ℤ, suc, ◌+◌, ◌==◌, cond, Bool, true, false, bytes_eq, Vec}
+use Rattle.std.specs.Prelude.{is_some, unwrap_or, List, [], ◌∷◌, ◌++◌, filter_map, length, map}
 use Rattle.std.specs.Prelude.{slice_get, Option, Some, None, option_map, option_and_then}
 use Rattle.std.specs.Global.{Global}
 use Rattle.std.specs.List.{position_or_len}
@@ -12,10 +12,10 @@ use Rattle.cas_history.specs.declared.said.Asked.{Asked}
 use Rattle.cas_history.specs.declared.said.Asked.TheVariants as asked
 use Rattle.history_text.specs.declared.event.AnyEvent.{AnyEvent}
 use Rattle.history_text.specs.declared.event.ReplyParts.{ReplyParts}
-use Rattle.cas_model.specs.declared.act.Act.{Act}
-use Rattle.cas_model.specs.declared.act.Act.TheVariants.{Read, Write, Cas, Miss}
-use Rattle.cas_model.specs.declared.operation.Operation.{Operation}
-use Rattle.cas_model.specs.Operations.{initial_write, of_register}
+use Rattle.history_model.specs.declared.act.Act.{Act}
+use Rattle.history_model.specs.declared.act.Act.TheVariants.{Read, Write, Cas, Miss}
+use Rattle.history_model.specs.declared.operation.Operation.{Operation}
+use Rattle.history_model.specs.Operations.{initial_writes, of_register}
 use Rattle.cas_history.specs.Events.{Called, called_by, replied_by, failed_by}
 use Rattle.cas_history.specs.declared.history.History.{History}
 
@@ -32,6 +32,10 @@ next_of p s (e ∷ es) = cond (e.process == p) (Some (s, e)) (next_of p (suc s) 
 -- the next event of a call's process, if that is its reply
 abbrev pub reply_in : Option (ℕ × AnyEvent) → Option (ℕ × ReplyParts)
 reply_in next = option_and_then (λ n. option_map (λ reply. (n.0, reply)) (replied_by n.1.kind)) next
+
+-- the time of that reply
+abbrev pub time_of_reply : Option (ℕ × AnyEvent) → Option ℕ
+time_of_reply next = option_map (λ reply. reply.0) (reply_in next)
 
 -- whether a call failed, by the next event of its process
 abbrev pub has_failed : Option (ℕ × AnyEvent) → Bool
@@ -59,44 +63,43 @@ abbrev pub act_of : Asked → Option (ℕ × ReplyParts) → Act
 act_of asked None = pending_act asked
 act_of asked (Some reply) = replied_act asked reply.1.value reply.1.ok
 
--- the operation of the call e at time s, by the next event of its process; registers have these names
-abbrev pub operation : List (List ℕ) → ℕ → AnyEvent → Called → Option (ℕ × AnyEvent) → Operation
-operation names s e call next = record {
+-- the operation of the call e at time s, by the next event of its process; n is the time of a missing reply,
+-- and registers have these names
+abbrev pub operation : ℕ → List (List ℕ) → ℕ → AnyEvent → Called → Option (ℕ × AnyEvent) → Operation
+operation n names s e call next = record {
   line = e.line;
   call = s;
-  reply = option_map (λ reply. reply.0) (reply_in next);
+  reply = unwrap_or (time_of_reply next) n;
+  completed = is_some (time_of_reply next);
   process = Some e.process;
-  register = record { 0 = position_or_len (bytes_eq call.register) names };
+  register = position_or_len (bytes_eq call.register) names;
   act = act_of call.asked (reply_in next);
 }
 
 -- the operation that begins with an event, if that is a call that didn't fail
-abbrev pub operation_if : Option Called → List (List ℕ) → ℕ → AnyEvent → Option (ℕ × AnyEvent)
+abbrev pub operation_if : Option Called → ℕ → List (List ℕ) → ℕ → AnyEvent → Option (ℕ × AnyEvent)
     → Option Operation
-operation_if None names s e next = None
-operation_if (Some call) names s e next = cond (has_failed next) None (Some (operation names s e call next))
+operation_if None n names s e next = None
+operation_if (Some call) n names s e next =
+    cond (has_failed next) None (Some (operation n names s e call next))
 
-abbrev pub operation_at : List (List ℕ) → ℕ → AnyEvent → Option (ℕ × AnyEvent) → Option Operation
-operation_at names s e next = operation_if (called_by e.kind) names s e next
+abbrev pub operation_at : ℕ → List (List ℕ) → ℕ → AnyEvent → Option (ℕ × AnyEvent) → Option Operation
+operation_at n names s e next = operation_if (called_by e.kind) n names s e next
 
 abbrev pub option_list : Option Operation → List Operation
 option_list None = []
 option_list (Some a) = a ∷ []
 
 -- the operations of the calls among events, the first of which has time s
-abbrev pub calls_from : List (List ℕ) → ℕ → List AnyEvent → List Operation
-calls_from names s [] = []
-calls_from names s (e ∷ es) =
-    option_list (operation_at names s e (next_of e.process (suc s) es)) ++ calls_from names (suc s) es
+abbrev pub calls_from : ℕ → List (List ℕ) → ℕ → List AnyEvent → List Operation
+calls_from n names s [] = []
+calls_from n names s (e ∷ es) =
+    option_list (operation_at n names s e (next_of e.process (suc s) es)) ++ calls_from n names (suc s) es
 
--- the calls of a history that didn't fail, by time: event i has time i + 2
+-- the calls of a history that didn't fail, by time: event i has time i + 2,
+-- a missing reply the time after all events
 abbrev pub calls : List AnyEvent → List Operation
-calls events = calls_from (register_names events) 2 events
-
--- the initial writes of the registers below a number
-abbrev pub initial_writes : ℕ → List Operation
-initial_writes zero = []
-initial_writes (suc r) = initial_write r ∷ initial_writes r
+calls events = calls_from (length events + 2) (register_names events) 2 events
 
 -- all operations of a history
 abbrev pub operations : List AnyEvent → List Operation

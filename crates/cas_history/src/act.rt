@@ -3,7 +3,7 @@ ghost use Rattle.std.specs.Prelude.{◌≡◌};
 ghost use Rattle.cas_history.specs.History as defined;
 
 use crate::said::Asked;
-use cas_model::Act;
+use history_model::Act;
 use history_text::Val;
 
 /// What a call without a reply does, if it takes effect.

@@ -1,5 +1,5 @@
 //! The operations of the calls, each by the next event of its process.
-ghost use Rattle.std.specs.Prelude.{◌≡◌, ◌≤◌, length, reverse, IfOk, option_map};
+ghost use Rattle.std.specs.Prelude.{◌≡◌, ◌≤◌, ◌+◌, length, reverse, IfOk, option_map};
 ghost use Rattle.std.specs.Ordering.{nat_cmp};
 ghost use Rattle.std.specs.BTreeMap.{get};
 ghost use Rattle.cas_history.specs.History as defined;
@@ -8,7 +8,7 @@ ghost use Rattle.cas_history.specs.Kept.{event_at};
 use crate::act::{pending_act, replied_act};
 use crate::naming::Naming;
 use crate::said::{Asked, called, failed, replied};
-use cas_model::{Act, Operation};
+use history_model::{Act, Operation};
 use history_text::{AnyEvent, MAX_EVENTS};
 use std::alloc::{AllocError, Global};
 use std::collections::BTreeMap;
@@ -22,14 +22,16 @@ pub(crate) fn calls_backward(
 ) -> Result<Vec<Operation>, AllocError>
     requires events_few { length events.now ≤ MAX_EVENTS }
     requires names_few { length naming.now ≤ MAX_EVENTS }
-    ensures { IfOk result (λ calls. reverse calls.items ≡ defined.calls_from naming.now 2 events.now) }
+    ensures { IfOk result (λ calls. reverse calls.items
+        ≡ defined.calls_from (length events.now + 2) naming.now 2 events.now) }
 {
+    let after_all = events.len() as u32 + 2;
     let mut calls = Vec::new(alloc);
     let mut next_places = BTreeMap::new(alloc);
     for place in (0..events.len()).rev() {
         let event = &events[place];
         let next = next_event(events, &next_places, event.process);
-        if let Some(operation) = operation_at(naming, place as u32 + 2, event, next) {
+        if let Some(operation) = operation_at(after_all, naming, place as u32 + 2, event, next) {
             calls.push(operation)?;
         }
         next_places.insert(event.process, place)?;
@@ -53,25 +55,28 @@ fn next_event<'a>(
 }
 
 /// The operation that an event at this time begins, if it is a call that didn't fail: by the next event of
-/// its process.
+/// its process. A missing reply has the time `after_all`.
 fn operation_at(
+    after_all: u32,
     naming: &Naming,
     time: u32,
     event: &AnyEvent,
     next: Option<(u32, &AnyEvent)>,
 ) -> Option<Operation>
     requires { length naming.now ≤ MAX_EVENTS }
-    ensures { result ≡ defined.operation_at naming.now time event.now
+    ensures { result ≡ defined.operation_at after_all naming.now time event.now
         (option_map (λ next. (next.0, next.1.now)) next.entry) }
 {
     let (name, asked) = called(&event.kind)?;
     if has_failed(next) {
         return None;
     }
+    let reply = reply_time(next);
     Some(Operation {
         line: event.line,
         call: time,
-        reply: reply_time(next),
+        reply: reply.unwrap_or(after_all),
+        completed: reply.is_some(),
         process: Some(event.process),
         register: naming.register(name),
         act: act_of(asked, next),
@@ -88,8 +93,7 @@ fn has_failed(next: Option<(u32, &AnyEvent)>) -> bool
 }
 
 fn reply_time(next: Option<(u32, &AnyEvent)>) -> Option<u32>
-    ensures { result ≡ option_map (λ reply. reply.0)
-        (defined.reply_in (option_map (λ next. (next.0, next.1.now)) next.entry)) }
+    ensures { result ≡ defined.time_of_reply (option_map (λ next. (next.0, next.1.now)) next.entry) }
 {
     let (time, event) = next?;
     let _reply = replied(&event.kind)?;

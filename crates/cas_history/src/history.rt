@@ -1,5 +1,5 @@
 //! An accepted history: the operations of each register.
-use cas_model::Operation;
+use history_model::Operation;
 use history_text::Name;
 
 /// The registers of an accepted history.

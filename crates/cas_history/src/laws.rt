@@ -1,7 +1,7 @@
 //! Laws of the definitions, each proved as the contract of a function that does nothing.
 ghost use Rattle.std.specs.Prelude.{◌≡◌, ◌<◌, ◌∷◌, [], ℕ, List, length};
 ghost use Rattle.history_text.specs.declared.event.AnyEvent.{AnyEvent as AnEvent};
-ghost use Rattle.cas_model.specs.Operations.{initial_write, of_register};
+ghost use Rattle.history_model.specs.Operations.{initial_write, of_register};
 ghost use Rattle.cas_history.specs.History.{calls_of, operations, register_names};
 ghost use Rattle.cas_history.specs.Timed.{AreTimedCalls};
 

@@ -5,7 +5,6 @@ ghost use Rattle.cas_history.specs.History.{register_names};
 ghost use Rattle.cas_history.specs.Kept.{with_name};
 
 use crate::said::called;
-use history_model::RegId;
 use history_text::{AnyEvent, MAX_EVENTS, Name};
 use std::alloc::{AllocError, Global};
 use std::collections::BTreeMap;
@@ -78,14 +77,14 @@ impl Naming {
         }
     }
 
-    /// The register of this name; of a name that is not among them, the number past all.
-    pub(crate) fn register(&self, name: &Name) -> RegId
+    /// The number of the register of this name; of a name that is not among them, the number past all.
+    pub(crate) fn register(&self, name: &Name) -> u32
         requires { length self.now ≤ MAX_EVENTS }
-        ensures { result.0 ≡ position_or_len (bytes_eq name.now) self.now }
+        ensures { result ≡ position_or_len (bytes_eq name.now) self.now }
     {
         match self.numbers.get(name.as_str()) {
-            Some(number) => RegId(*number),
-            None => RegId(self.names.len() as u32),
+            Some(number) => *number,
+            None => self.names.len() as u32,
         }
     }
 

@@ -2,7 +2,7 @@
 ghost use Rattle.std.specs.Prelude.{◌≡◌, [], length, reverse, IfOk, OnOk};
 ghost use Rattle.cas_history.specs.Kept.{Adds, AreParted};
 
-use cas_model::Operation;
+use history_model::Operation;
 use std::alloc::{AllocError, Global};
 
 /// The operations of each of `count` registers. Those given are all operations, the last first.
@@ -37,7 +37,7 @@ fn add(registers: &mut Vec<Vec<Operation>>, operation: Operation) -> Result<(), 
     ensures count { OnOk result (length registers.new.items ≡ length registers.old.items) }
     ensures each { OnOk result (Adds registers.old.items registers.new.items operation) }
 {
-    let register = operation.register.0 as usize;
+    let register = operation.register as usize;
     if register < registers.len() {
         registers[register].push(operation)?;
     }

@@ -1,5 +1,5 @@
 -- Why a no names a reply: nothing explains the moments up to it, so what is known at it has no legal order.
-use Rattle.std.proofs.Common.{◌≡◌, ℕ, suc, ◌<◌, ◌≤◌, List, [], ◌∷◌, take, slice_get}
+use Rattle.std.proofs.Common.{◌≡◌, ℕ, suc, ◌<◌, ◌≤◌, cond, List, [], ◌∷◌, take, slice_get}
 use Rattle.std.proofs.Common.{Result, Ok, Err, IfOk, IfSome, Vec, Global, ◌-◌, Option}
 use Rattle.std.proofs.Common.{Some, None, inl, inr, refl, sym, ap, subst, ◌∙◌, arith}
 use Rattle.std.proofs.lemmas.Bool.{false≢true, cases_order, le-leb}
@@ -7,11 +7,11 @@ use Rattle.history_text.specs.declared.event.Val.{Val}
 use Rattle.history_text.specs.declared.event.Val.TheVariants.{Null}
 use Rattle.history_model.specs.Lists.{In}
 use Rattle.history_model.proofs.Lists.{slice_get-In}
-use Rattle.cas_model.specs.declared.operation.Operation.{Operation}
-use Rattle.cas_model.specs.Cut.{known_at, cut_at}
-use Rattle.cas_model.specs.Legal.{IsAtomic}
-use Rattle.cas_model.specs.Operations.{initial_write}
-use Rattle.cas_model.proofs.Cut.{by-there, cut-atomic}
+use Rattle.history_model.specs.declared.operation.Operation.{Operation}
+use Rattle.history_model.specs.Cut.{known_at, cut_at}
+use Rattle.history_model.specs.Legal.{IsAtomic}
+use Rattle.history_model.specs.Operations.{initial_write}
+use Rattle.history_model.proofs.Cut.{cut-atomic}
 use Rattle.configurations.specs.declared.moment.Moment.{Moment}
 use Rattle.configurations.specs.declared.moment.Moment.TheVariants.{Reply}
 use Rattle.configurations.specs.declared.op.Op.{Op}
@@ -27,6 +27,7 @@ use Rattle.cas_search.proofs.LegalOrder.{MeetsAt, IsNumbered}
 use Rattle.cas_search.proofs.Explained.{legal_explained}
 use Rattle.cas_search.proofs.Linked.{numbered, place-of, reply-of, reply-time}
 use Rattle.cas_search.proofs.ByNumbers.{explained}
+use Rattle.cas_search.proofs.Replies.{reply_of-completed}
 use Rattle.cas_search.proofs.InOrder.{timeline-in-order}
 use Rattle.cas_search.proofs.Known.{one-known, from-known, known-calls, known-timeline}
 
@@ -74,21 +75,19 @@ module _ (r : ℕ) (ops : List Operation) (events : List Moment) (line : IsTimel
   initial-known : (t : ℕ) → 1 ≤ t → cut_at t (initial_write r ∷ ops) ≡ initial_write r ∷ cut_at t ops
   initial-known t l =
       one-known t (initial_write r) ops (le-leb 0 t (omega arith))
-      ∙ ap (λ o. record {
+      ∙ ap (λ b. record {
         line = 0;
         call = 0;
-        reply = o;
+        reply = cond b 1 (suc t);
+        completed = b;
         process = None;
-        register = record { 0 = r };
+        register = r;
         act = (initial_write r).act;
-      } ∷ cut_at t ops) (by-there t 1 (Some 1) refl l)
+      } ∷ cut_at t ops) (le-leb 1 t l)
 
-  life : (a : Operation) (s : ℕ) → In a (initial_write r ∷ ops) → a.reply ≡ Some s → a.call < s
-  life a s (inl e) f =
-      let g : Some 1 ≡ Some s = sym (ap (λ (o : Operation). o.reply) e) ∙ f in
-      let h : 1 ≡ s = cc (g) in
-      omega (arith, ap (λ (o : Operation). o.call) e)
-  life a s (inr i) f = line.life a s i f
+  life : (a : Operation) → In a (initial_write r ∷ ops) → a.call < a.reply
+  life a (inl e) = omega (arith, ap (λ (o : Operation). o.call) e, ap (λ (o : Operation). o.reply) e)
+  life a (inr i) = line.life a i
 
   one-call : (a b : Operation) → In a (initial_write r ∷ ops) → In b (initial_write r ∷ ops)
       → a.call ≡ b.call → a ≡ b
@@ -114,7 +113,8 @@ module _ (r : ℕ) (ops : List Operation) (events : List Moment) (line : IsTimel
       let x = reply-of r ops events line k (slice_get-In events i (Reply k) at) in
       let t = x.1 in
       let a = x.0 in
-      let lt = line.life a t (slice_get-In ops k a x.2) x.3 in
+      let lt = line.life a (slice_get-In ops k a x.2) in
+      let same = (reply_of-completed a t x.3).1 in
       let is = reply-time r ops events line k a t x.2 x.3 in
       let known = initial-known t (omega arith) in
       let beginning : IsAtomic (cut_at t (initial_write r ∷ ops)) → ⊥ =

@@ -10,10 +10,10 @@ use Rattle.std.proofs.lemmas.Bool.Decides.{nat_tests}
 use Rattle.history_text.specs.declared.event.Val.{Val}
 use Rattle.history_text.specs.declared.event.Val.TheVariants.{Int}
 use Rattle.history_text.specs.Values.{value_eq}
-use Rattle.cas_model.specs.declared.act.Act.{Act}
-use Rattle.cas_model.specs.declared.act.Act.TheVariants.{Read, Write, Cas, Miss}
-use Rattle.cas_model.specs.declared.operation.Operation.{Operation}
-use Rattle.cas_model.specs.Acts.{suits, left_by}
+use Rattle.history_model.specs.declared.act.Act.{Act}
+use Rattle.history_model.specs.declared.act.Act.TheVariants.{Read, Write, Cas, Miss}
+use Rattle.history_model.specs.declared.operation.Operation.{Operation}
+use Rattle.history_model.specs.Acts.{suits, left_by}
 use Rattle.history_model.proofs.Values.{value-true, value-refl}
 use Rattle.configurations.specs.declared.moment.Moment.{Moment}
 use Rattle.configurations.specs.declared.moment.Moment.TheVariants.{Call, Reply}

@@ -4,19 +4,19 @@ use Rattle.std.proofs.Common.{length, take, drop, set, replicate, map, get_or, s
 use Rattle.std.proofs.Common.{Result, Ok, Err, IfOk, IfSome, Vec, Global, ◌⊎◌, inl, inr, refl, sym, ap}
 use Rattle.std.proofs.Common.{subst, ◌∙◌, add-one, append_assoc, append-nil, length-set, arith}
 use Rattle.std.proofs.Math.Seq.{drop-cons, take-suc}
-use Rattle.std.proofs.lemmas.Bool.{false≢true}
+use Rattle.std.proofs.lemmas.Bool.{cases_Bool, false≢true}
 use Rattle.history_text.specs.declared.event.Val.{Val}
 use Rattle.history_text.specs.declared.event.Val.TheVariants.{Null}
 use Rattle.history_model.specs.Lists.{In, Before}
 use Rattle.history_model.proofs.Lists.{Before-first, Before-second, map-Before, append-In, In-left, In-right}
 use Rattle.history_model.proofs.Lists.{slice_get-In, slice_get_inside, slice_get-set, slice_get-set_other}
-use Rattle.cas_model.specs.declared.operation.Operation.{Operation}
-use Rattle.cas_model.specs.Acts.{suits, left_by}
-use Rattle.cas_model.specs.InTurn.{Meets}
-use Rattle.cas_model.specs.Operations.{IsCompleted, Precedes, initial_write}
-use Rattle.cas_model.specs.Placed.{PlacedOperation, placed_from, placed}
-use Rattle.cas_model.proofs.InTurn.{in-turn}
-use Rattle.cas_model.proofs.Placed.{operations_of-placed, rising, after_call}
+use Rattle.history_model.specs.declared.operation.Operation.{Operation}
+use Rattle.history_model.specs.Acts.{suits, left_by}
+use Rattle.history_model.specs.InTurn.{Meets}
+use Rattle.history_model.specs.Operations.{IsCompleted, Precedes, initial_write}
+use Rattle.history_model.specs.Placed.{PlacedOperation, placed_from, placed}
+use Rattle.history_model.proofs.InTurn.{in-turn}
+use Rattle.history_model.proofs.Placed.{operations_of-placed, rising, after_call}
 use Rattle.configurations.proofs.Lists.{same_or}
 use Rattle.cas_search.specs.Checked.{IsMarked, ArePoints, IsCheckedOrder}
 use Rattle.cas_search.specs.Timeline.{AreCalls, operations_at}
@@ -72,7 +72,7 @@ abbrev pub points : List PlacedOperation → List ℕ
 points xs = map (λ (x : PlacedOperation). x.point) xs
 
 abbrev pub AreUnreplied : List PlacedOperation → Type 0
-AreUnreplied xs = (x : PlacedOperation) (t : ℕ) → In x xs → x.operation.reply ≡ Some t → x.point < t
+AreUnreplied xs = (x : PlacedOperation) → In x xs → IsCompleted x.operation → x.point < x.operation.reply
 
 pub points-more : (ops : List Operation) (order done after all : List ℕ) (i n m : ℕ) (a : Operation)
     → i < length order → slice_get ops (get_or order i 0) ≡ Some a → m ≡ max n a.call → after ≡ done ++ m ∷ []
@@ -88,22 +88,28 @@ points-more ops order done after all i n m a l e f g h =
     ∙ (ap (λ xs. done ++ xs) one ∙ (split ∙ ap (λ xs. xs ++ points (placed_from m rest)) (sym g))))
 
 pub unreplied-more : (ops : List Operation) (order : List ℕ) (i n m : ℕ) (a : Operation) → i < length order
-    → slice_get ops (get_or order i 0) ≡ Some a → m ≡ max n a.call → ((t : ℕ) → a.reply ≡ Some t → m < t)
+    → slice_get ops (get_or order i 0) ≡ Some a → m ≡ max n a.call → (IsCompleted a → m < a.reply)
     → AreUnreplied (placed_from m (operations_at ops (drop (i + 1) order)))
     → AreUnreplied (placed_from n (operations_at ops (drop i order)))
 unreplied-more ops order i n m a l e f u rest =
     let tail = operations_at ops (drop (i + 1) order) in
-    let both : AreUnreplied (placed_from n (a ∷ tail)) = λ x t j q. elim j [
-      | inl s ↦ let p = u t (ap (λ (z : PlacedOperation). z.operation.reply) (sym s) ∙ q) in
-          omega (arith, p, f, ap (λ (z : PlacedOperation). z.point) s)
-      | inr k ↦ rest x t (subst (λ c. In x (placed_from c tail)) (sym f) k) q
+    let both : AreUnreplied (placed_from n (a ∷ tail)) = λ x j q. elim j [
+      | inl s ↦ let p = u (ap (λ (z : PlacedOperation). z.operation.completed) (sym s) ∙ q) in
+          omega (
+            arith,
+            p,
+            f,
+            ap (λ (z : PlacedOperation). z.point) s,
+            ap (λ (z : PlacedOperation). z.operation.reply) s,
+          )
+      | inr k ↦ rest x (subst (λ c. In x (placed_from c tail)) (sym f) k) q
     ] in
     subst (λ xs. AreUnreplied (placed_from n xs)) (sym (at-place ops order i a l e)) both
 
 pub unreplied-end : (ops : List Operation) (order : List ℕ) (i n : ℕ) → length order ≤ i
     → AreUnreplied (placed_from n (operations_at ops (drop i order)))
 unreplied-end ops order i n l =
-    subst (λ xs. AreUnreplied (placed_from n xs)) (sym (at-end ops order i l)) (λ x t j. absurd j)
+    subst (λ xs. AreUnreplied (placed_from n xs)) (sym (at-end ops order i l)) (λ x j. absurd j)
 
 pub points-end : (ops : List Operation) (order done all : List ℕ) (i n : ℕ) → length order ≤ i
     → all ≡ done ++ points (placed_from n (operations_at ops (drop i order))) → done ≡ all
@@ -233,19 +239,33 @@ module _ (r : ℕ) (ops : List Operation) (order ps : List ℕ) (marks : List Bo
       let same = one-place r ops c k.0 k.1 a k.3 k.4 in
       m.once k.0 (subst (λ j. Before k.0 j order) (sym same) k.2)
 
-  -- where b precedes a but a stands first: b's point, b's reply, a's
+  -- where b precedes a but a stands first, b is completed, and b's point, b's reply, a's
   -- call, a's point and again b's point ascend
   keeps : (a b : Operation) → Before a b (initial_write r ∷ xs) → Precedes b a → ⊥
-  keeps a b (inl h) q = omega (arith, q.2, ap (λ (o : Operation). o.call) h.0)
+  keeps a b (inl h) q = omega (arith, q, ap (λ (o : Operation). o.call) h.0)
   keeps a b (inr h) q =
       let k =
       map-Before (λ (z : PlacedOperation). z.operation) a b (placed xs)
       (subst (Before a b) (sym (operations_of-placed xs)) h) in
       let from = after_call xs k.0 (Before-first k.0 k.1 (placed xs) k.2) in
-      let to =
-      p.unreplied k.1 q.0 (Before-second k.0 k.1 (placed xs) k.2)
-      (ap (λ (o : Operation). o.reply) (sym k.4) ∙ q.1) in
-      omega (arith, from, to, q.2, rising xs k.0 k.1 k.2, ap (λ (o : Operation). o.call) k.3)
+      let first = own a (Before-first a b xs h) in
+      let second = own b (Before-second a b xs h) in
+      elim (cases_Bool b.completed) [
+        | inl d ↦
+            let to =
+            p.unreplied k.1 (Before-second k.0 k.1 (placed xs) k.2)
+            (ap (λ (o : Operation). o.completed) (sym k.4) ∙ d) in
+            omega (
+              arith,
+              from,
+              to,
+              q,
+              rising xs k.0 k.1 k.2,
+              ap (λ (o : Operation). o.call) k.3,
+              ap (λ (o : Operation). o.reply) k.4,
+            )
+        | inr n ↦ omega (arith, q, c.pending b a second first n)
+      ]
 
   pub checked-order : IsCheckedOrder r ops order ps
   checked-order = record {

@@ -2,7 +2,7 @@
 use Rattle.std.proofs.Common.{ℕ, List, [], ◌∷◌, ◌⊎◌, inl, inr, refl, ap, subst}
 use Rattle.history_text.specs.declared.event.Val.{Val}
 use Rattle.history_text.specs.declared.event.Val.TheVariants.{Null}
-use Rattle.cas_model.specs.declared.operation.Operation.{Operation}
+use Rattle.history_model.specs.declared.operation.Operation.{Operation}
 use Rattle.configurations.specs.declared.moment.Moment.{Moment}
 use Rattle.configurations.specs.declared.moment.Moment.TheVariants.{Call, Reply}
 use Rattle.history_model.specs.Lists.{In, Before}

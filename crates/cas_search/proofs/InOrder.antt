@@ -5,7 +5,8 @@ use Rattle.std.specs.List.{AllZip}
 use Rattle.history_text.specs.declared.event.Val.{Val}
 use Rattle.history_model.specs.Lists.{In, Before}
 use Rattle.history_model.proofs.Lists.{slice_get-In}
-use Rattle.cas_model.specs.declared.operation.Operation.{Operation}
+use Rattle.history_model.specs.declared.operation.Operation.{Operation}
+use Rattle.history_model.specs.Operations.{reply_of}
 use Rattle.configurations.specs.declared.moment.Moment.{Moment}
 use Rattle.configurations.specs.declared.moment.Moment.TheVariants.{Call, Reply}
 use Rattle.configurations.specs.declared.op.Op.{Op}
@@ -16,6 +17,7 @@ use Rattle.configurations.proofs.Lists.{without-In}
 use Rattle.cas_search.specs.ByNumbers.{IsByNumber, IsRank}
 use Rattle.cas_search.specs.Timeline.{IsTimeline, time_by}
 use Rattle.cas_search.proofs.ByNumbers.{at-place}
+use Rattle.cas_search.proofs.Replies.{reply_of-completed}
 
 -- the moments from some time on: each later moment of the operations is among them too
 record AreLast (ops : List Operation) (es : List Moment) : Type 0 where
@@ -46,12 +48,12 @@ called-at ops k t h = go (slice_get ops k) refl h
     go (Some a) e h = (a, e)
 
 replied-at : (ops : List Operation) (k t : ℕ) → time_by ops (Reply k) ≡ Some t
-    → (a : Operation) × (slice_get ops k ≡ Some a) × (a.reply ≡ Some t)
+    → (a : Operation) × (slice_get ops k ≡ Some a) × (reply_of a ≡ Some t)
 replied-at ops k t h = go (slice_get ops k) refl h
   where
     go : (o : Option Operation) → slice_get ops k ≡ o
-        → option_and_then (λ (a : Operation). a.reply) o ≡ Some t
-        → (a : Operation) × (slice_get ops k ≡ Some a) × (a.reply ≡ Some t)
+        → option_and_then reply_of o ≡ Some t
+        → (a : Operation) × (slice_get ops k ≡ Some a) × (reply_of a ≡ Some t)
     go None e h = absurd (cc (h))
     go (Some a) e h = (a, e, h)
 
@@ -87,13 +89,13 @@ after-reply ops k numbers es o = record {
 
 module _ (number : Val
     → Option ℕ) (ops : List Operation) (numbered : List Op) (each : AllZip (IsByNumber number) ops numbered)
-    (life : (a : Operation) (t : ℕ) → In a ops → a.reply ≡ Some t → a.call < t) where
+    (life : (a : Operation) → In a ops → a.call < a.reply) where
   -- the rank of an operation goes by its reply
-  rank-of : (k : ℕ) (a : Operation) → slice_get ops k ≡ Some a → IsRank a.reply (rank_at numbered k)
+  rank-of : (k : ℕ) (a : Operation) → slice_get ops k ≡ Some a → IsRank (reply_of a) (rank_at numbered k)
   rank-of k a e =
       let x =
       at-place number ops numbered each k a e in
-      subst (IsRank a.reply) (sym (ap option_rank x.1)) (x.2).rank
+      subst (IsRank (reply_of a)) (sym (ap option_rank x.1)) (x.2).rank
 
   -- the rank of what replies is the time of its reply
   reply-rank : (k t : ℕ) → time_by ops (Reply k) ≡ Some t
@@ -106,8 +108,8 @@ module _ (number : Val
       → AreLast ops (Call k ∷ es)
       → (t : ℕ) → time_by ops (Reply k) ≡ Some t → In (Reply k) es
   replies-later k a es e l t h =
-      let f : a.reply ≡ Some t = sym (ap (option_and_then (λ (b : Operation). b.reply)) e) ∙ h in
-      let lt = life a t (slice_get-In ops k a e) f in
+      let f : reply_of a ≡ Some t = sym (ap (option_and_then reply_of) e) ∙ h in
+      let lt : a.call < t = omega (arith, life a (slice_get-In ops k a e), (reply_of-completed a t f).1) in
       elim (l.later (Call k) (Reply k) a.call t (inl refl)
       (ap (option_map (λ (b : Operation). b.call)) e) h lt) [
         | inl head ↦ absurd (cc (head))
@@ -119,19 +121,19 @@ module _ (number : Val
       → AreLast ops (Reply k ∷ es)
       → ((t : ℕ) → time_by ops (Reply i) ≡ Some t → In (Reply i) (Reply k ∷ es))
       → (i ≡ k) ⊎ (rank_at numbered k < rank_at numbered i)
-  ranked k i a es e l own = go a.reply refl (rank-of i a e)
+  ranked k i a es e l own = go (reply_of a) refl (rank-of i a e)
     where
       first : (t : ℕ) × (time_by ops (Reply k) ≡ Some t)
       first = l.only (Reply k) (inl refl)
 
-      go : (o : Option ℕ) → a.reply ≡ o → IsRank a.reply (rank_at numbered i)
+      go : (o : Option ℕ) → reply_of a ≡ o → IsRank (reply_of a) (rank_at numbered i)
           → (i ≡ k) ⊎ (rank_at numbered k < rank_at numbered i)
       go None f r =
           let never : rank_at numbered i ≡ NEVER = subst (λ o. IsRank o (rank_at numbered i)) f r in
           let below = (reply-rank k first.0 first.1).1 in
           inr (omega (arith, never, below))
       go (Some t) f r =
-          let is : time_by ops (Reply i) ≡ Some t = ap (option_and_then (λ (b : Operation). b.reply)) e ∙ f in
+          let is : time_by ops (Reply i) ≡ Some t = ap (option_and_then reply_of) e ∙ f in
           elim (own t is) [
             | inl head ↦ inl (cc (head))
             | inr j ↦ inr (

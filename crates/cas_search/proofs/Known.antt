@@ -7,14 +7,15 @@ use Rattle.std.proofs.lemmas.Bool.{cases_Bool, false≢true, leb-true, le-leb}
 use Rattle.std.specs.List.{filter}
 use Rattle.history_model.specs.Lists.{In, Before}
 use Rattle.history_model.proofs.Lists.{map-In, filter-In, slice_get-In}
-use Rattle.cas_model.specs.declared.operation.Operation.{Operation}
-use Rattle.cas_model.specs.Cut.{known_at, is_called_by, cut_at}
-use Rattle.cas_model.proofs.Cut.{by-back, by-there}
-use Rattle.cas_model.proofs.Filters.{filter-pass, filter-fail, filter-none}
+use Rattle.history_model.specs.declared.operation.Operation.{Operation}
+use Rattle.history_model.specs.Cut.{known_at, is_called_by, cut_at}
+use Rattle.history_model.proofs.Filters.{filter-pass, filter-fail, filter-none}
+use Rattle.history_model.specs.Operations.{reply_of}
 use Rattle.configurations.specs.declared.moment.Moment.{Moment}
 use Rattle.configurations.specs.declared.moment.Moment.TheVariants.{Call, Reply}
 use Rattle.cas_search.specs.Timeline.{AreCalls, IsTimeline, time_by}
 use Rattle.cas_search.proofs.Linked.{place-of}
+use Rattle.cas_search.proofs.Replies.{known-reply, known-reply_of, reply_of-completed, reply_of-known}
 
 -- ---- places
 
@@ -85,7 +86,7 @@ module _ (t : ℕ) where
   known-calls r ops c = record {
     register =
         λ a i. let k =
-        map-In (known_at t) a (filter (is_called_by t) ops) i in ap (λ (o : Operation). o.register.0) k.2
+        map-In (known_at t) a (filter (is_called_by t) ops) i in ap (λ (o : Operation). o.register) k.2
         ∙ c.register k.0 (filter-In (is_called_by t) k.0 ops k.1).0;
     called =
         λ a i. let k =
@@ -97,6 +98,21 @@ module _ (t : ℕ) where
         let y = from-known ops c.ascending k b f in
         let lt = c.ascending j k x.0 y.0 l x.1 y.1 in
         omega (arith, lt, ap (λ (o : Operation). o.call) x.2, ap (λ (o : Operation). o.call) y.2);
+    pending = λ a b i j n.
+        let k = map-In (known_at t) a (filter (is_called_by t) ops) i in
+        let m = map-In (known_at t) b (filter (is_called_by t) ops) j in
+        let le = leb-true m.0.call t (filter-In (is_called_by t) m.0 ops m.1).1 in
+        elim (known-reply t k.0) [
+          | inl y ↦ absurd
+              (false≢true (sym n ∙ (ap (λ (o : Operation). o.completed) k.2 ∙ y.0)))
+          | inr y ↦ omega (
+            arith,
+            le,
+            y.1,
+            ap (λ (o : Operation). o.reply) k.2,
+            ap (λ (o : Operation). o.call) m.2,
+          )
+        ];
   }
 
 -- ---- moments
@@ -121,12 +137,12 @@ module _ (t r : ℕ) (ops : List Operation) (events : List Moment) (line : IsTim
     where
       go : (o : Option Operation) → slice_get (cut_at t ops) k ≡ o
           → (time_by ops (Reply k) ≡ Some s) × (s ≤ t)
-      go None e = absurd (let f = sym (ap (option_and_then (λ (a : Operation). a.reply)) e) ∙ h in cc (f))
+      go None e = absurd (let f = sym (ap (option_and_then reply_of) e) ∙ h in cc (f))
       go (Some a) e =
           let b = from-known t ops line.calls.ascending k a e in
-          let f : a.reply ≡ Some s = sym (ap (option_and_then (λ (a : Operation). a.reply)) e) ∙ h in
-          let y = by-back t s (b.0).reply (sym (ap (λ (o : Operation). o.reply) b.2) ∙ f) in
-          (ap (option_and_then (λ (a : Operation). a.reply)) b.1 ∙ y.0, y.1)
+          let f : reply_of a ≡ Some s = sym (ap (option_and_then reply_of) e) ∙ h in
+          let y = known-reply_of t b.0 s (sym (ap reply_of b.2) ∙ f) in
+          (ap (option_and_then reply_of) b.1 ∙ y.0, y.1)
 
   -- one that came by then is known
   to-time : (e : Moment) (s : ℕ) → time_by ops e ≡ Some s → s ≤ t → time_by (cut_at t ops) e ≡ Some s
@@ -142,12 +158,13 @@ module _ (t r : ℕ) (ops : List Operation) (events : List Moment) (line : IsTim
   to-time (Reply k) s h l = go (slice_get ops k) refl
     where
       go : (o : Option Operation) → slice_get ops k ≡ o → time_by (cut_at t ops) (Reply k) ≡ Some s
-      go None e = absurd (let f = sym (ap (option_and_then (λ (a : Operation). a.reply)) e) ∙ h in cc (f))
+      go None e = absurd (let f = sym (ap (option_and_then reply_of) e) ∙ h in cc (f))
       go (Some b) e =
-          let f : b.reply ≡ Some s = sym (ap (option_and_then (λ (a : Operation). a.reply)) e) ∙ h in
-          let lt = line.life b s (slice_get-In ops k b e) f in
-          ap (option_and_then (λ (a : Operation). a.reply))
-          (to-known t ops line.calls.ascending k b e (omega arith)) ∙ by-there t s b.reply f l
+          let f : reply_of b ≡ Some s = sym (ap (option_and_then reply_of) e) ∙ h in
+          let lt = line.life b (slice_get-In ops k b e) in
+          let same = (reply_of-completed b s f).1 in
+          ap (option_and_then reply_of)
+          (to-known t ops line.calls.ascending k b e (omega arith)) ∙ reply_of-known t b s f l
 
 In-split : {A : Type 0} (i : ℕ) (x a : A) (xs : List A) → slice_get xs i ≡ Some x → In a xs
     → In a (take (suc i) xs) ⊎ Before x a xs
@@ -185,11 +202,15 @@ pub known-timeline : (r : ℕ) (ops : List Operation) (events : List Moment) →
     → IsTimeline r (cut_at t ops) (take (suc i) events)
 known-timeline r ops events line i t last at is = record {
   calls = known-calls t r ops line.calls;
-  life = λ a s h e.
+  life = λ a h.
       let k = map-In (known_at t) a (filter (is_called_by t) ops) h in
-      let y = by-back t s (k.0).reply (sym (ap (λ (o : Operation). o.reply) k.2) ∙ e) in
-      let lt = line.life k.0 s (filter-In (is_called_by t) k.0 ops k.1).0 y.0 in
-      omega (arith, lt, ap (λ (o : Operation). o.call) k.2);
+      let f = filter-In (is_called_by t) k.0 ops k.1 in
+      let call = ap (λ (o : Operation). o.call) k.2 in
+      let reply = ap (λ (o : Operation). o.reply) k.2 in
+      elim (known-reply t k.0) [
+        | inl y ↦ omega (arith, line.life k.0 f.0, y.1, call, reply)
+        | inr y ↦ omega (arith, leb-true k.0.call t f.1, y.1, call, reply)
+      ];
   all = λ e s h.
       let y = from-time t r ops events line e s h in
       elim (In-split i last e events at (line.all e s y.0)) [

@@ -3,6 +3,7 @@ pub mod Explained
 pub mod Numbers
 pub mod ByNumbers
 pub mod InOrder
+pub mod Replies
 pub mod Linked
 pub mod Known
 pub mod Beginnings

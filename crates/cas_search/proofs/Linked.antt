@@ -1,21 +1,22 @@
 -- A legal order of a register's operations, by the numbers of its calls.
-use Rattle.std.proofs.Common.{◌≡◌, ℕ, suc, ◌≤◌, is_some, List, [], ◌∷◌, slice_get, Option, Some, None}
+use Rattle.std.proofs.Common.{◌≡◌, ℕ, suc, ◌≤◌, List, [], ◌∷◌, slice_get, Option, Some, None}
 use Rattle.std.proofs.Common.{option_map, option_and_then, inl, inr, refl, sym, ap, subst, ◌∙◌, arith}
 use Rattle.std.proofs.lemmas.Bool.{cases_order}
 use Rattle.history_text.specs.declared.event.Val.{Val}
 use Rattle.history_text.specs.declared.event.Val.TheVariants.{Null}
 use Rattle.history_model.specs.Lists.{In, Before}
 use Rattle.history_model.proofs.Lists.{Before-first, Before-second, slice_get-In}
-use Rattle.cas_model.specs.declared.operation.Operation.{Operation}
-use Rattle.cas_model.specs.InTurn.{Meets}
-use Rattle.cas_model.specs.Legal.{IsLegal, IsMet, IsAtomic}
-use Rattle.cas_model.specs.Operations.{IsAsking, Precedes, initial_write}
-use Rattle.cas_model.proofs.InTurn.{in-turn}
+use Rattle.history_model.specs.declared.operation.Operation.{Operation}
+use Rattle.history_model.specs.InTurn.{Meets}
+use Rattle.history_model.specs.Legal.{IsLegal, IsMet, IsAtomic}
+use Rattle.history_model.specs.Operations.{IsAsking, Precedes, initial_write, reply_of}
+use Rattle.history_model.proofs.InTurn.{in-turn}
 use Rattle.configurations.specs.declared.moment.Moment.{Moment}
 use Rattle.configurations.specs.declared.moment.Moment.TheVariants.{Call, Reply}
 use Rattle.cas_search.specs.Taking.{option_suits, option_left_by, left_at}
 use Rattle.cas_search.specs.Timeline.{AreCalls, IsTimeline, time_by}
 use Rattle.cas_search.proofs.LegalOrder.{MeetsAt, IsNumbered}
+use Rattle.cas_search.proofs.Replies.{reply_of-completed}
 
 -- ---- numbers and what they stand for
 
@@ -129,7 +130,7 @@ module _ (r : ℕ) (ops order : List Operation) (called : (a : Operation) → In
             (l.completion.once x (subst (Before x x) (sym e) (inl (refl, subst (λ y. In y xs) (sym s) f))))
         | inr k ↦ let c = called x k in
             absurd (l.keeps x (initial_write r) (subst (Before x (initial_write r)) (sym e) (inl (refl, f)))
-            (1, refl, omega arith))
+            (omega arith))
       ]
 
 -- ---- the events
@@ -144,20 +145,20 @@ module _ (r : ℕ) (ops : List Operation) (events : List Moment) (t : IsTimeline
       go (Some a) e x = (a, e)
 
   pub reply-of : (k : ℕ) → In (Reply k) events → (a : Operation) × (s : ℕ) × (slice_get ops k ≡ Some a)
-      × (a.reply ≡ Some s)
+      × (reply_of a ≡ Some s)
   reply-of k i = go (slice_get ops k) refl (t.only (Reply k) i)
     where
       go : (o : Option Operation) → slice_get ops k ≡ o → (s : ℕ) × (time_by ops (Reply k) ≡ Some s)
-          → (a : Operation) × (s : ℕ) × (slice_get ops k ≡ Some a) × (a.reply ≡ Some s)
-      go None e x = absurd (let f = sym (ap (option_and_then (λ (a : Operation). a.reply)) e) ∙ x.1 in cc)
-      go (Some a) e x = (a, x.0, e, sym (ap (option_and_then (λ (a : Operation). a.reply)) e) ∙ x.1)
+          → (a : Operation) × (s : ℕ) × (slice_get ops k ≡ Some a) × (reply_of a ≡ Some s)
+      go None e x = absurd (let f = sym (ap (option_and_then reply_of) e) ∙ x.1 in cc)
+      go (Some a) e x = (a, x.0, e, sym (ap (option_and_then reply_of) e) ∙ x.1)
 
   call-time : (k : ℕ) (a : Operation) → slice_get ops k ≡ Some a → time_by ops (Call k) ≡ Some a.call
   call-time k a e = ap (option_map (λ (a : Operation). a.call)) e
 
-  pub reply-time : (k : ℕ) (a : Operation) (s : ℕ) → slice_get ops k ≡ Some a → a.reply ≡ Some s
+  pub reply-time : (k : ℕ) (a : Operation) (s : ℕ) → slice_get ops k ≡ Some a → reply_of a ≡ Some s
       → time_by ops (Reply k) ≡ Some s
-  reply-time k a s e f = ap (option_and_then (λ (a : Operation). a.reply)) e ∙ f
+  reply-time k a s e f = ap (option_and_then reply_of) e ∙ f
 
   called-once : (k : ℕ) → Before (Call k) (Call k) events → ⊥
   called-once k b =
@@ -172,15 +173,15 @@ module _ (r : ℕ) (ops : List Operation) (events : List Moment) (t : IsTimeline
   reply-precedes j k a b e f h =
       let x = reply-of j (Before-first (Reply j) (Call k) events h) in
       let same : x.0 ≡ a = cc (x.2, e) in
-      let s : a.reply ≡ Some x.1 = subst (λ (o : Operation). o.reply ≡ Some x.1) same x.3 in
-      (x.1, s, t.ascending (Reply j) (Call k) x.1 b.call h (reply-time j a x.1 e s) (call-time k b f))
+      let s : reply_of a ≡ Some x.1 = subst (λ o. reply_of o ≡ Some x.1) same x.3 in
+      let lt = t.ascending (Reply j) (Call k) x.1 b.call h (reply-time j a x.1 e s) (call-time k b f) in
+      omega (arith, lt, (reply_of-completed a x.1 s).1)
 
   replied-later : (k : ℕ) → Before (Reply k) (Call k) events → ⊥
   replied-later k h =
       let x = in-range k (Before-second (Reply k) (Call k) events h) in
       let p = reply-precedes k k x.0 x.0 x.1 x.1 h in
-      let lt = t.life x.0 p.0 (slice_get-In ops k x.0 x.1) p.1 in
-      omega (arith, p.2)
+      omega (arith, p, t.life x.0 (slice_get-In ops k x.0 x.1))
 
   -- a legal order, by numbers
   pub numbered : IsAtomic (initial_write r ∷ ops) → (ks : List ℕ) × IsNumbered ops events ks
@@ -208,7 +209,8 @@ module _ (r : ℕ) (ops : List Operation) (events : List Moment) (t : IsTimeline
               λ k i. let s = stand-In ops ks rest k n.1 i in t.all (Call k) (s.0).call (call-time k s.0 s.2);
           all = λ k i.
               let x = reply-of k i in
-              let there = l.completion.all x.0 (inr (slice_get-In ops k x.0 x.2)) (ap is_some x.3) in
+              let own = slice_get-In ops k x.0 x.2 in
+              let there = l.completion.all x.0 (inr own) (reply_of-completed x.0 x.1 x.3).0 in
               elim (subst (In x.0) e there) [
                 | inl s ↦ absurd (let c = t.calls.called x.0 (slice_get-In ops k x.0 x.2) in
                     omega (arith, c, ap (λ (o : Operation). o.call) s))

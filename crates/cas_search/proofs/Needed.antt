@@ -1,5 +1,5 @@
 -- Which numbers are given, and why a needed one that nobody gives leaves no legal order.
-use Rattle.std.proofs.Common.{◌≡◌, ◌↔◌, ℕ, ◌+◌, ◌<◌, ℤ, cond, not, is_some, Bool, true, false}
+use Rattle.std.proofs.Common.{◌≡◌, ◌↔◌, ℕ, ◌+◌, ◌<◌, ℤ, cond, not, Bool, true, false}
 use Rattle.std.proofs.Common.{List, [], ◌∷◌, ◌++◌, take, length, get_or, slice_get, ◌≤◌}
 use Rattle.std.proofs.Common.{arith, Result, Ok, Err, IfOk, Option, Some, None, IsTrue}
 use Rattle.std.proofs.Common.{IsSomeAnd, inl, inr, refl, sym, ap, subst, ◌∙◌, add-one}
@@ -15,12 +15,12 @@ use Rattle.history_text.specs.declared.event.Val.{Val}
 use Rattle.history_text.specs.declared.event.Val.TheVariants.{Null, Int}
 use Rattle.history_model.specs.Lists.{In}
 use Rattle.history_model.proofs.Lists.{In-left, In-right, append-In, Before-first, slice_get-In}
-use Rattle.cas_model.specs.declared.act.Act.{Act}
-use Rattle.cas_model.specs.declared.act.Act.TheVariants.{Read, Write, Cas, Miss}
-use Rattle.cas_model.specs.declared.operation.Operation.{Operation}
-use Rattle.cas_model.specs.Acts.{Suits, suits, asks, given_by}
-use Rattle.cas_model.specs.Legal.{IsAtomic}
-use Rattle.cas_model.specs.Operations.{initial_write}
+use Rattle.history_model.specs.declared.act.Act.{Act}
+use Rattle.history_model.specs.declared.act.Act.TheVariants.{Read, Write, Cas, Miss}
+use Rattle.history_model.specs.declared.operation.Operation.{Operation}
+use Rattle.history_model.specs.Acts.{Suits, suits, asks, given_by}
+use Rattle.history_model.specs.Legal.{IsAtomic}
+use Rattle.history_model.specs.Operations.{initial_write}
 use Rattle.history_model.proofs.Values.{value-true}
 use Rattle.cas_search.specs.Unwritten.{number_given, number_asked, number_needed}
 use Rattle.cas_search.specs.Unwritten.{IsGiven, IsUnwritten, HasGiven}
@@ -136,7 +136,7 @@ pub unwritten-refutes : (r : ℕ) (ops : List Operation) (a : Operation) → In 
 unwritten-refutes r ops a i u atomic =
     let order = atomic.0 in
     let l = atomic.1 in
-    let c = some-cond (is_some a.reply) (number_asked a.act) u.0 u.1 in
+    let c = some-cond a.completed (number_asked a.act) u.0 u.1 in
     let m = l.met a (l.completion.all a (inr i) c.0) (asked-asks a.act u.0 c.1) in
     let w = m.0 in
     let gives = given-number w.act u.0 (asked-given (given_by w.act) a.act u.0 c.1 m.2) in

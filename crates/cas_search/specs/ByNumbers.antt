@@ -6,9 +6,10 @@ use Rattle.std.specs.List.{AllZip}
 use Rattle.std.specs.Ordering.{int_cmp}
 use Rattle.history_text.specs.declared.event.Val.{Val}
 use Rattle.history_text.specs.declared.event.Val.TheVariants.{Null, Int}
-use Rattle.cas_model.specs.declared.act.Act.{Act}
-use Rattle.cas_model.specs.declared.act.Act.TheVariants.{Read, Write, Cas, Miss}
-use Rattle.cas_model.specs.declared.operation.Operation.{Operation}
+use Rattle.history_model.specs.declared.act.Act.{Act}
+use Rattle.history_model.specs.declared.act.Act.TheVariants.{Read, Write, Cas, Miss}
+use Rattle.history_model.specs.declared.operation.Operation.{Operation}
+use Rattle.history_model.specs.Operations.{reply_of}
 use Rattle.configurations.specs.declared.op.Op.{Op}
 use Rattle.configurations.specs.declared.op.Kind.{Kind}
 use Rattle.configurations.specs.declared.op.Kind.TheVariants as kinds
@@ -71,7 +72,7 @@ IsRank (Some t) n = (n ≡ t) × (n < NEVER)
 
 pub record IsByNumber (number : Val → Option ℕ) (a : Operation) (o : Op) : Type 0 where
   pub act : DoesAs number a.act o
-  pub rank : IsRank a.reply o.rank
+  pub rank : IsRank (reply_of a) o.rank
 
 -- each operation by numbers, in their order
 pub record AreByNumbers (ops : List Operation) (numbered : List Op) : Type 0 where

@@ -1,8 +1,8 @@
 -- What it means for the call of a number to take effect: calls go by the places of their operations.
 use Rattle.std.specs.Prelude.{ℕ, Bool, false, List, slice_get, Option, Some, None}
 use Rattle.history_text.specs.declared.event.Val.{Val}
-use Rattle.cas_model.specs.Acts.{suits, left_by}
-use Rattle.cas_model.specs.declared.operation.Operation.{Operation}
+use Rattle.history_model.specs.Acts.{suits, left_by}
+use Rattle.history_model.specs.declared.operation.Operation.{Operation}
 
 abbrev pub option_suits : Option Operation → Val → Bool
 option_suits None v = false

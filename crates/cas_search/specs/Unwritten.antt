@@ -1,12 +1,12 @@
 -- Values that some operation needs and none gives (this project's profile).
-use Rattle.std.specs.Prelude.{◌≡◌, ◌↔◌, ℕ, ◌<◌, ℤ, cond, true, is_some, List, slice_get, Option, Some, None}
+use Rattle.std.specs.Prelude.{◌≡◌, ◌↔◌, ℕ, ◌<◌, ℤ, cond, true, List, slice_get, Option, Some, None}
 use Rattle.std.specs.Ordering.{int_cmp}
 use Rattle.std.specs.BTreeSet.{BTreeSet, contains}
 use Rattle.history_text.specs.declared.event.Val.TheVariants.{Null, Int}
 use Rattle.history_model.specs.Lists.{In}
-use Rattle.cas_model.specs.declared.act.Act.{Act}
-use Rattle.cas_model.specs.declared.act.Act.TheVariants.{Read, Write, Cas, Miss}
-use Rattle.cas_model.specs.declared.operation.Operation.{Operation}
+use Rattle.history_model.specs.declared.act.Act.{Act}
+use Rattle.history_model.specs.declared.act.Act.TheVariants.{Read, Write, Cas, Miss}
+use Rattle.history_model.specs.declared.operation.Operation.{Operation}
 
 -- the number that an act gives the register
 abbrev pub number_given : Act → Option ℤ
@@ -28,7 +28,7 @@ number_asked (Miss from) = None
 
 -- an operation needs the number that it asks for, if it is completed
 abbrev pub number_needed : Operation → Option ℤ
-number_needed a = cond (is_some a.reply) (number_asked a.act) None
+number_needed a = cond a.completed (number_asked a.act) None
 
 -- one of the operations gives the number
 abbrev pub IsGiven : List Operation → ℤ → Type 0

@@ -1,9 +1,9 @@
 -- What a search says of a register.
 use Rattle.std.specs.Prelude.{◌≡◌, ℕ, ◌-◌, ◌∷◌, List, slice_get, Some, IfSome}
-use Rattle.cas_model.specs.declared.operation.Operation.{Operation}
-use Rattle.cas_model.specs.Cut.{cut_at}
-use Rattle.cas_model.specs.Legal.{IsAtomic}
-use Rattle.cas_model.specs.Operations.{initial_write}
+use Rattle.history_model.specs.declared.operation.Operation.{Operation}
+use Rattle.history_model.specs.Cut.{cut_at}
+use Rattle.history_model.specs.Legal.{IsAtomic}
+use Rattle.history_model.specs.Operations.{initial_write, reply_of}
 use Rattle.cas_search.specs.declared.forward.Found.{Found}
 use Rattle.cas_search.specs.declared.forward.Found.TheVariants.{Hopeless, Order, Stopped}
 use Rattle.cas_search.specs.declared.verdict.Verdict.{Verdict}
@@ -12,7 +12,7 @@ use Rattle.cas_search.specs.Checked.{IsCheckedOrder}
 
 -- the operation at place k replies at time t
 abbrev pub RepliesAt : List Operation → ℕ → ℕ → Type 0
-RepliesAt ops k t = (a : Operation) × (slice_get ops k ≡ Some a) × (a.reply ≡ Some t)
+RepliesAt ops k t = (a : Operation) × (slice_get ops k ≡ Some a) × (reply_of a ≡ Some t)
 
 -- What is known of register r at the reply of the operation at place k, its initial write among it, has no
 -- legal order, and so neither have all its operations.

@@ -1,13 +1,13 @@
 //! Whether an order is legal, by the definitions.
 ghost use Rattle.std.specs.Prelude.{◌≡◌, ◌<◌, true, false, slice_get, IfOk, IfSome, IsTrue, Some, ℕ};
 ghost use Rattle.history_text.specs.declared.event.Val.TheVariants.{Null};
-ghost use Rattle.cas_model.specs.declared.operation.Operation.{Operation as AnOperation};
-ghost use Rattle.cas_model.specs.InTurn.{Meets};
-ghost use Rattle.cas_model.specs.Operations.{IsCompleted};
+ghost use Rattle.history_model.specs.declared.operation.Operation.{Operation as AnOperation};
+ghost use Rattle.history_model.specs.InTurn.{Meets};
+ghost use Rattle.history_model.specs.Operations.{IsCompleted};
 ghost use Rattle.cas_search.specs.Checked.{ArePoints, IsCheckedOrder, IsMarked};
 ghost use Rattle.cas_search.specs.Timeline.{AreCalls, operations_at};
 
-use cas_model::Operation;
+use history_model::Operation;
 use history_text::Val;
 use std::alloc::{AllocError, Global};
 
@@ -68,7 +68,7 @@ fn has_completed(ops: &[Operation], marks: &[bool]) -> bool
 fn is_left_out(op: &Operation, marks: &[bool], place: usize) -> bool
     ensures { result ≡ false → IsCompleted op.now → slice_get marks.now place ≡ Some true }
 {
-    if op.reply.is_some() {
+    if op.completed {
         !is_marked(marks, place)
     } else {
         false
@@ -125,7 +125,7 @@ fn points_of(
 
 /// Whether the operation has replied by this time.
 fn is_over(op: &Operation, time: u32) -> bool
-    ensures { result ≡ false → (t : ℕ) → op.now.reply ≡ Some t → time < t }
+    ensures { result ≡ false → IsCompleted op.now → time < op.now.reply }
 {
-    op.reply.is_some_and(|reply| reply <= time)
+    op.completed && op.reply <= time
 }

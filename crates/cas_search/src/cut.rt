@@ -1,12 +1,13 @@
 //! What is known of operations at a time.
-ghost use Rattle.std.specs.Prelude.{◌≡◌, IfOk};
-ghost use Rattle.cas_model.specs.Cut.{cut_at, is_called_by, known_at, reply_by};
+ghost use Rattle.std.specs.Prelude.{◌≡◌, ◌<◌, ◌+◌, ◌^◌, IfOk};
+ghost use Rattle.history_model.specs.Cut.{cut_at, is_called_by, is_over as is_over_by, known_at};
 
-use cas_model::Operation;
+use history_model::Operation;
 use std::alloc::{AllocError, Global};
 
 /// The operations that were called up to a time, without later replies.
 pub(crate) fn cut(alloc: Global, ops: &[Operation], time: u32) -> Result<Vec<Operation>, AllocError>
+    requires { time + 1 < 2 ^ 32 }
     ensures { IfOk result (λ v. v.items ≡ cut_at time ops.now) }
 {
     ops.iter()
@@ -17,17 +18,20 @@ pub(crate) fn cut(alloc: Global, ops: &[Operation], time: u32) -> Result<Vec<Ope
 
 /// The operation without a later reply.
 fn known(op: &Operation, time: u32) -> Operation
+    requires { time + 1 < 2 ^ 32 }
     ensures { result ≡ known_at time op.now }
 {
+    let completed = is_over(op, time);
     Operation {
-        reply: replied(op.reply, time),
+        reply: if completed { op.reply } else { time + 1 },
+        completed,
         ..*op
     }
 }
 
-/// The reply if it came by then.
-fn replied(reply: Option<u32>, time: u32) -> Option<u32>
-    ensures { result ≡ reply_by time reply }
+/// Whether the reply came by then.
+fn is_over(op: &Operation, time: u32) -> bool
+    ensures { result ≡ is_over_by time op.now }
 {
-    reply.filter(|at| *at <= time)
+    op.completed && op.reply <= time
 }

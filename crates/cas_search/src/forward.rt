@@ -7,8 +7,8 @@ ghost use Rattle.cas_search.specs.Verdicts.{IsFound};
 
 use crate::numbered::by_numbers;
 use crate::order::order_of;
-use cas_model::Operation;
 use configurations::{Bound, Bounds, Moment, Reached, Taken, go_forward};
+use history_model::Operation;
 use std::alloc::{AllocError, Global};
 
 /// What a search found.

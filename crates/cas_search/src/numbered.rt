@@ -4,8 +4,8 @@ ghost use Rattle.history_text.specs.declared.event.Val.TheVariants.{Int};
 ghost use Rattle.cas_search.specs.ByNumbers.{AreByNumbers, IsByNumber, IsCas, IsMore, IsOfOne, IsRank};
 ghost use Rattle.cas_search.specs.ByNumbers.{number_in};
 
-use cas_model::{Act, Operation};
 use configurations::{Kind, NEVER, Op};
+use history_model::{Act, Operation};
 use history_text::Val;
 use std::alloc::{AllocError, Global};
 use std::collections::BTreeMap;
@@ -46,23 +46,23 @@ fn by_number(numbers: &mut BTreeMap<i64, u32>, op: &Operation) -> Result<Op, All
     ensures op { IfOk result (λ o. IsByNumber (number_in numbers.new) op.now o) }
 {
     match op.act {
-        Act::Read(None) => Ok(of_one(Kind::Miss, NOTHING, op.reply)),
+        Act::Read(None) => Ok(of_one(Kind::Miss, NOTHING, op.reply_time())),
         Act::Read(Some(value)) => {
             let number = number_of(numbers, value)?;
-            Ok(of_one(Kind::Read, number, op.reply))
+            Ok(of_one(Kind::Read, number, op.reply_time()))
         }
         Act::Write(value) => {
             let number = number_of(numbers, value)?;
-            Ok(of_one(Kind::Write, number, op.reply))
+            Ok(of_one(Kind::Write, number, op.reply_time()))
         }
         Act::Cas { from, to } => {
             let from = number_of(numbers, from)?;
             let to = number_of(numbers, Val::Int(to))?;
-            Ok(cas(from, to, op.reply))
+            Ok(cas(from, to, op.reply_time()))
         }
         Act::Miss { from } => {
             let number = number_of(numbers, from)?;
-            Ok(of_one(Kind::Miss, number, op.reply))
+            Ok(of_one(Kind::Miss, number, op.reply_time()))
         }
     }
 }

@@ -3,14 +3,14 @@ ghost use Rattle.std.specs.Prelude.{◌≡◌, ◌↔◌, ◌∷◌, ◌++◌, [
 ghost use Rattle.std.specs.Prelude.{IfOk, IfSome, IsTrue, List, ℕ, ℤ};
 ghost use Rattle.std.specs.BTreeSet.{contains};
 ghost use Rattle.std.specs.Ordering.{int_cmp, int_eq};
-ghost use Rattle.cas_model.specs.declared.operation.Operation.{Operation as AnOperation};
-ghost use Rattle.cas_model.specs.Legal.{IsAtomic};
-ghost use Rattle.cas_model.specs.Operations.{initial_write};
+ghost use Rattle.history_model.specs.declared.operation.Operation.{Operation as AnOperation};
+ghost use Rattle.history_model.specs.Legal.{IsAtomic};
+ghost use Rattle.history_model.specs.Operations.{initial_write};
 ghost use Rattle.cas_search.specs.Timeline.{AreCalls};
 ghost use Rattle.cas_search.specs.Unwritten.{HasGiven, IsFirstUnwritten, IsUnwritten};
 ghost use Rattle.cas_search.specs.Unwritten.{number_asked, number_given, number_needed};
 
-use cas_model::{Act, Operation};
+use history_model::{Act, Operation};
 use history_text::Val;
 use std::alloc::{AllocError, Global};
 use std::collections::BTreeSet;
@@ -89,11 +89,7 @@ fn is_unwritten(op: &Operation, given: &BTreeSet<i64>) -> bool
 fn needed(op: &Operation) -> Option<i64>
     ensures { result ≡ number_needed op.now }
 {
-    if op.reply.is_some() {
-        asked(op.act)
-    } else {
-        None
-    }
+    if op.completed { asked(op.act) } else { None }
 }
 
 /// The number that a read gives, or that a cas finds.

@@ -6,8 +6,8 @@ ghost use Rattle.cas_search.specs.Verdicts.{IsBefore, IsRefuted, IsVerdict, Repl
 use crate::check::check_order;
 use crate::cut::cut;
 use crate::forward::{Found, forward};
-use cas_model::Operation;
 use configurations::{Bound, Bounds, Moment};
+use history_model::Operation;
 use std::alloc::{AllocError, Global};
 
 /// Whether a register is atomic.
@@ -97,5 +97,5 @@ pub fn legal_before(
 pub fn reply_time(ops: &[Operation], place: u32) -> Option<u32>
     ensures { MatchOption result ((t : ℕ) → RepliesAt ops.now place t → ⊥) (λ t. RepliesAt ops.now place t) }
 {
-    ops.get(place as usize)?.reply
+    ops.get(place as usize)?.reply_time()
 }

@@ -1,9 +1,9 @@
 //! Registers whose written values are distinct: each is decided, whatever the bounds are. With one step the
 //! search gives up, so zones answer here.
 use crate::registers::{ONE, THREE, TWO, cas, operation, read, text_of, write};
-use cas_model::{Act, Operation};
 use cas_search::{Bounds, Verdict, timeline};
 use distinct_values::decide;
+use history_model::{Act, Operation};
 use history_text::Val;
 use std::alloc::{AllocError, Global};
 use std::process::Abort;

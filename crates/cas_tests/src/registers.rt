@@ -1,7 +1,6 @@
 //! Which registers with a cas are atomic: small ones, by the times of their calls and replies.
-use cas_model::{Act, Operation};
 use cas_search::{Bound, Bounds, Moment, Verdict, decide, first_unwritten, timeline};
-use history_model::RegId;
+use history_model::{Act, Operation};
 use history_text::Val;
 use std::alloc::{AllocError, Global};
 use std::process::Abort;
@@ -12,6 +11,9 @@ pub(crate) const ONE: Val = Val::Int(1);
 pub(crate) const TWO: Val = Val::Int(2);
 
 pub(crate) const THREE: Val = Val::Int(3);
+
+/// The time of a missing reply.
+pub(crate) const AFTER_ALL: u32 = u32::MAX;
 
 pub(crate) fn write(call: u32, reply: Option<u32>, value: Val) -> Operation {
     operation(call, reply, Act::Write(value))
@@ -33,9 +35,10 @@ pub(crate) fn operation(call: u32, reply: Option<u32>, act: Act) -> Operation {
     Operation {
         line: call,
         call,
-        reply,
+        reply: reply.unwrap_or(AFTER_ALL),
+        completed: reply.is_some(),
         process: Some(1),
-        register: RegId(0),
+        register: 0,
         act,
     }
 }

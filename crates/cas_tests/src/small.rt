@@ -1,9 +1,9 @@
 //! All registers of three operations with a few acts and times: the
 //! search, and zones, against each order of them.
 use crate::distinct;
-use crate::registers::{ONE, TWO, operation, verdict};
-use cas_model::{Act, Operation};
+use crate::registers::{AFTER_ALL, ONE, TWO, operation, verdict};
 use cas_search::{Bounds, Verdict, check_order};
+use history_model::{Act, Operation};
 use history_text::Val;
 use std::alloc::{AllocError, Global};
 use std::test::Fail;
@@ -45,8 +45,10 @@ fn known(alloc: Global, ops: &[Operation], time: u32) -> Result<Vec<Operation>, 
     let mut known = Vec::new(alloc);
     for op in ops {
         if op.call <= time {
+            let reply = op.reply_time().filter(|reply| *reply <= time);
             known.push(Operation {
-                reply: op.reply.filter(|reply| *reply <= time),
+                reply: reply.unwrap_or(AFTER_ALL),
+                completed: reply.is_some(),
                 ..*op
             })?;
         }
@@ -60,7 +62,7 @@ fn agrees(alloc: Global, ops: &[Operation], verdict: Verdict) -> Result<bool, Al
     match verdict {
         Verdict::Yes { .. } => has_order(alloc, ops),
         Verdict::No { reply, before } => {
-            let Some(time) = ops.get(reply as usize).and_then(|op| op.reply) else {
+            let Some(time) = ops.get(reply as usize).and_then(|op| op.reply_time()) else {
                 return Ok(false);
             };
             let at_reply = known(alloc, ops, time)?;

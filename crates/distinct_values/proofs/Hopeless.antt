@@ -4,13 +4,14 @@ use Rattle.std.proofs.Common.{◌≡◌, ℕ, Bool, List, ◌∷◌, Some, inl, 
 use Rattle.std.specs.List.{filter}
 use Rattle.history_text.specs.declared.event.Val.{Val}
 use Rattle.history_model.proofs.Lists.{map-In, filter-In}
-use Rattle.cas_model.specs.declared.operation.Operation.{Operation}
-use Rattle.cas_model.specs.Cut.{known_at, is_called_by, cut_at}
-use Rattle.cas_model.specs.Legal.{IsAtomic}
-use Rattle.cas_model.specs.Operations.{initial_write}
+use Rattle.history_model.specs.declared.operation.Operation.{Operation}
+use Rattle.history_model.specs.Cut.{known_at, is_called_by, cut_at}
+use Rattle.history_model.specs.Legal.{IsAtomic}
+use Rattle.history_model.specs.Operations.{initial_write, reply_of}
 use Rattle.cas_search.specs.Verdicts.{IsRefuted, RepliesAt}
 use Rattle.distinct_values.specs.Hopeless.{IsHopelessAt}
-use Rattle.distinct_values.specs.SomeOperations.{is_plain, ArePlain, null_or, kept_of}
+use Rattle.history_model.specs.Acts.{is_plain}
+use Rattle.distinct_values.specs.SomeOperations.{ArePlain, null_or, kept_of}
 use Rattle.distinct_values.proofs.SomeOperations.{kept-atomic, known-kept}
 
 initial-plain : (r : ℕ) (ops : List Operation) → ArePlain ops → ArePlain (initial_write r ∷ ops)
@@ -44,7 +45,7 @@ refuted-hopeless r k t ops y h =
     let x = h.replies in
     let one : Some x.0 ≡ Some y.0 = sym x.1 ∙ y.1 in
     let same : x.0 ≡ y.0 = cc (one) in
-    let times : Some h.time ≡ Some t = sym x.2 ∙ (ap (λ (o : Operation). o.reply) same ∙ y.2) in
+    let times : Some h.time ≡ Some t = sym x.2 ∙ (ap reply_of same ∙ y.2) in
     let e : h.time ≡ t = cc (times) in
     record {
       beginning = subst (λ n. IsAtomic (cut_at n (initial_write r ∷ ops)) → ⊥) e h.beginning;

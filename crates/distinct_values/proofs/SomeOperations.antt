@@ -7,15 +7,15 @@ use Rattle.std.specs.List.{filter}
 use Rattle.std.proofs.lemmas.Bool.{false≢true, cases_Bool}
 use Rattle.history_text.specs.declared.event.Val.{Val}
 use Rattle.history_model.proofs.Lists.{In-filter, filter-In, Before-filter, filter-Before, Before-first}
-use Rattle.cas_model.specs.declared.act.Act.{Act}
-use Rattle.cas_model.specs.declared.act.Act.TheVariants.{Read, Write, Cas, Miss}
-use Rattle.cas_model.specs.declared.operation.Operation.{Operation}
-use Rattle.cas_model.specs.Acts.{Suits, asks, given_by}
-use Rattle.cas_model.specs.Cut.{known_at, is_called_by, cut_at}
-use Rattle.cas_model.specs.Legal.{IsLegal, IsAtomic}
-use Rattle.cas_model.proofs.Filters.{filter-pass, filter-fail, filter-map}
+use Rattle.history_model.specs.declared.act.Act.{Act}
+use Rattle.history_model.specs.declared.act.Act.TheVariants.{Read, Write, Cas, Miss}
+use Rattle.history_model.specs.declared.operation.Operation.{Operation}
+use Rattle.history_model.specs.Acts.{Suits, asks, given_by, is_plain}
+use Rattle.history_model.specs.Cut.{known_at, is_called_by, cut_at}
+use Rattle.history_model.specs.Legal.{IsLegal, IsAtomic}
+use Rattle.history_model.proofs.Filters.{filter-pass, filter-fail, filter-map}
 use Rattle.history_model.proofs.Values.{value-true}
-use Rattle.distinct_values.specs.SomeOperations.{is_plain, ArePlain, is_kept, kept_of}
+use Rattle.distinct_values.specs.SomeOperations.{ArePlain, is_kept, kept_of}
 
 -- two filters, one after the other
 filter-swap : {A : Type 0} (p q : A → Bool) (xs : List A) → filter p (filter q xs) ≡ filter q (filter p xs)
@@ -77,7 +77,7 @@ module _ (values : Val → Bool) (times : ℕ → Bool) where
         let there = l.completion.only w (Before-first w r order n.1.before) in (
           w,
           record {
-            change = n.1.change;
+            write = n.1.write;
             register = n.1.register;
             before =
                 Before-filter stays w r order n.1.before

@@ -2,13 +2,16 @@
 use Rattle.std.proofs.Common.{◌≡◌, ℕ, zero, suc, ◌<◌, Bool, List, [], ◌∷◌, slice_get}
 use Rattle.std.proofs.Common.{Some, option_map, inl, inr, sym, ap, ◌∙◌, arith}
 use Rattle.std.specs.List.{filter}
+use Rattle.std.proofs.lemmas.Bool.{cases_Bool}
 use Rattle.history_model.specs.Lists.{In, Before}
 use Rattle.history_model.proofs.Lists.{filter-In, filter-Before, Before-total, slice_get-In}
-use Rattle.cas_model.specs.declared.operation.Operation.{Operation}
+use Rattle.history_model.specs.declared.operation.Operation.{Operation}
+use Rattle.history_model.specs.Operations.{IsCompleted}
 use Rattle.configurations.specs.declared.moment.Moment.{Moment}
 use Rattle.configurations.specs.declared.moment.Moment.TheVariants.{Call, Reply}
 use Rattle.cas_search.specs.Timeline.{AreCalls, AreTimes, IsTimeline, time_by}
 use Rattle.cas_search.proofs.Linked.{place-of, reply-time}
+use Rattle.cas_search.proofs.Replies.{completed-reply_of}
 
 -- ---- of all operations
 
@@ -16,11 +19,12 @@ module _ (r : ℕ) (ops : List Operation) (events : List Moment) (line : IsTimel
   call-time : (k : ℕ) (a : Operation) → slice_get ops k ≡ Some a → time_by ops (Call k) ≡ Some a.call
   call-time k a e = ap (option_map (λ (o : Operation). o.call)) e
 
-  reply-apart : (a b : Operation) (t : ℕ) → In a ops → In b ops → a.reply ≡ Some t → t ≡ b.call → ⊥
-  reply-apart a b t i j e s =
+  replied-apart : (a b : Operation) → In a ops → In b ops → IsCompleted a → a.reply ≡ b.call → ⊥
+  replied-apart a b i j d s =
+      let t = a.reply in
       let x = place-of ops a i in
       let y = place-of ops b j in
-      let replies = reply-time r ops events line x.0 a t x.1 e in
+      let replies = reply-time r ops events line x.0 a t x.1 (completed-reply_of a d) in
       let calls = call-time y.0 b y.1 in
       elim (Before-total (Reply x.0) (Call y.0) events (line.all (Reply x.0) t replies)
       (line.all (Call y.0) b.call calls)) [
@@ -31,12 +35,20 @@ module _ (r : ℕ) (ops : List Operation) (events : List Moment) (line : IsTimel
         ]
       ]
 
-  one-reply : (a b : Operation) (t : ℕ) → In a ops → In b ops → a.reply ≡ Some t → b.reply ≡ Some t → a ≡ b
-  one-reply a b t i j e f =
+  reply-apart : (a b : Operation) → In a ops → In b ops → a.reply ≡ b.call → ⊥
+  reply-apart a b i j s = elim (cases_Bool a.completed) [
+    | inl d ↦ replied-apart a b i j d s
+    | inr n ↦ let lt = line.calls.pending a b i j n in omega arith
+  ]
+
+  one-reply : (a b : Operation) → In a ops → In b ops → IsCompleted a → IsCompleted b → a.reply ≡ b.reply
+      → a ≡ b
+  one-reply a b i j d e s =
+      let t = b.reply in
       let x = place-of ops a i in
       let y = place-of ops b j in
-      let u = reply-time r ops events line x.0 a t x.1 e in
-      let v = reply-time r ops events line y.0 b t y.1 f in
+      let u = reply-time r ops events line x.0 a t x.1 (completed-reply_of a d ∙ ap Some s) in
+      let v = reply-time r ops events line y.0 b t y.1 (completed-reply_of b e) in
       elim (Before-total (Reply x.0) (Reply y.0) events (line.all (Reply x.0) t u)
       (line.all (Reply y.0) t v)) [
         | inl same ↦
@@ -82,13 +94,14 @@ module _ (p : Operation → Bool) (ops : List Operation) where
     ascending = λ j k a b l e f.
         let x = Before-get ops a b (filter-Before p a b ops (get-Before (filter p ops) j k a b l e f)) in
         c.ascending x.0 x.1 a b x.2 x.3 x.4;
+    pending = λ a b i j. c.pending a b (filter-In p a ops i).0 (filter-In p b ops j).0;
   }
 
   pub some-times : AreTimes ops → AreTimes (filter p ops)
   some-times t = record {
     timed = record {
-      life = λ a n i. t.timed.life a n (filter-In p a ops i).0;
-      apart = λ a b n i j. t.timed.apart a b n (filter-In p a ops i).0 (filter-In p b ops j).0;
+      life = λ a i. t.timed.life a (filter-In p a ops i).0;
+      apart = λ a b i j. t.timed.apart a b (filter-In p a ops i).0 (filter-In p b ops j).0;
     };
-    replies = λ a b n i j. t.replies a b n (filter-In p a ops i).0 (filter-In p b ops j).0;
+    replies = λ a b i j. t.replies a b (filter-In p a ops i).0 (filter-In p b ops j).0;
   }

@@ -2,7 +2,7 @@
 use Rattle.std.proofs.Common.{◌≡◌, ℕ, Bool, true, List, slice_get, Result, Ok, Err, IfOk}
 use Rattle.std.proofs.Common.{IfSome, IsTrue, Option, Some, None, Vec, Global, sym, subst}
 use Rattle.history_text.specs.declared.event.Val.{Val}
-use Rattle.cas_model.specs.declared.operation.Operation.{Operation}
+use Rattle.history_model.specs.declared.operation.Operation.{Operation}
 use Rattle.configurations.specs.declared.moment.Moment.{Moment}
 use Rattle.cas_search.specs.Timeline.{AreCalls, AreTimes, IsTimeline}
 use Rattle.cas_search.specs.Verdicts.{IsBefore, IsVerdict, RepliesAt}
@@ -10,7 +10,8 @@ use Rattle.cas_search.specs.declared.verdict.Verdict.{Verdict}
 use Rattle.cas_search.specs.declared.verdict.Verdict.TheVariants.{No}
 use Rattle.cas_search.proofs.Linked.{place-of}
 use Rattle.distinct_values.specs.Hopeless.{IsHopelessAt}
-use Rattle.distinct_values.specs.SomeOperations.{is_plain, ArePlain, is_kept, kept_of, null_or}
+use Rattle.history_model.specs.Acts.{is_plain}
+use Rattle.distinct_values.specs.SomeOperations.{ArePlain, is_kept, kept_of, null_or}
 use Rattle.distinct_values.proofs.Hopeless.{all-hopeless, hopeless-refuted}
 use Rattle.distinct_values.proofs.Times.{timeline-times, some-calls, some-times}
 

@@ -9,8 +9,8 @@ use Rattle.history_text.specs.declared.event.Val.{Val}
 use Rattle.history_text.specs.declared.event.Val.TheVariants.{Null, Int}
 use Rattle.history_model.specs.Lists.{Before, In}
 use Rattle.history_model.proofs.Lists.{append-In}
-use Rattle.cas_model.specs.declared.act.Act.TheVariants.{Write}
-use Rattle.cas_model.specs.declared.operation.Operation.{Operation}
+use Rattle.history_model.specs.declared.act.Act.TheVariants.{Write}
+use Rattle.history_model.specs.declared.operation.Operation.{Operation}
 use Rattle.distinct_values.specs.WrittenOnce.{AreWrittenOnce, HasWritten}
 
 -- what stands before what in a list with one more

@@ -1,9 +1,9 @@
 -- What has no order at a time.
 use Rattle.std.specs.Prelude.{ℕ, ◌∷◌, List}
-use Rattle.cas_model.specs.declared.operation.Operation.{Operation}
-use Rattle.cas_model.specs.Cut.{cut_at}
-use Rattle.cas_model.specs.Legal.{IsAtomic}
-use Rattle.cas_model.specs.Operations.{initial_write}
+use Rattle.history_model.specs.declared.operation.Operation.{Operation}
+use Rattle.history_model.specs.Cut.{cut_at}
+use Rattle.history_model.specs.Legal.{IsAtomic}
+use Rattle.history_model.specs.Operations.{initial_write}
 
 -- What is known of register r at time t, its initial write among it, has no legal
 -- order, and so neither have all its operations.

@@ -6,16 +6,10 @@ use Rattle.history_text.specs.Values.{value_eq}
 use Rattle.history_text.specs.declared.event.Val.{Val}
 use Rattle.history_text.specs.declared.event.Val.TheVariants.{Null}
 use Rattle.history_model.specs.Lists.{In}
-use Rattle.cas_model.specs.declared.act.Act.{Act}
-use Rattle.cas_model.specs.declared.act.Act.TheVariants.{Read, Write, Cas, Miss}
-use Rattle.cas_model.specs.declared.operation.Operation.{Operation}
-
--- a read or a write
-abbrev pub is_plain : Act → Bool
-is_plain (Read given) = true
-is_plain (Write written) = true
-is_plain (Cas from to) = false
-is_plain (Miss from) = false
+use Rattle.history_model.specs.Acts.{is_plain}
+use Rattle.history_model.specs.declared.act.Act.{Act}
+use Rattle.history_model.specs.declared.act.Act.TheVariants.{Read, Write, Cas, Miss}
+use Rattle.history_model.specs.declared.operation.Operation.{Operation}
 
 -- reads and writes alone
 abbrev pub ArePlain : List Operation → Type 0

@@ -4,8 +4,8 @@ use Rattle.std.specs.BTreeSet.{BTreeSet, contains}
 use Rattle.std.specs.Ordering.{int_cmp}
 use Rattle.history_text.specs.declared.event.Val.TheVariants.{Null, Int}
 use Rattle.history_model.specs.Lists.{Before, In}
-use Rattle.cas_model.specs.declared.act.Act.TheVariants.{Write}
-use Rattle.cas_model.specs.declared.operation.Operation.{Operation}
+use Rattle.history_model.specs.declared.act.Act.TheVariants.{Write}
+use Rattle.history_model.specs.declared.operation.Operation.{Operation}
 
 -- no value is written twice, nor null
 pub record AreWrittenOnce (ops : List Operation) : Type 0 where

@@ -3,12 +3,13 @@ ghost use Rattle.std.specs.Prelude.{◌≡◌, ◌∷◌, ◌++◌, [], if◌the
 ghost use Rattle.std.specs.Prelude.{slice_get, IfOk, IsTrue, Some, false, true};
 ghost use Rattle.std.specs.BTreeSet.{contains};
 ghost use Rattle.std.specs.Ordering.{int_cmp, int_eq};
-ghost use Rattle.cas_model.specs.declared.act.Act.TheVariants.{Write};
-ghost use Rattle.cas_model.specs.declared.operation.Operation.{Operation as AnOperation};
-ghost use Rattle.distinct_values.specs.SomeOperations.{ArePlain, is_plain};
+ghost use Rattle.history_model.specs.declared.act.Act.TheVariants.{Write};
+ghost use Rattle.history_model.specs.declared.operation.Operation.{Operation as AnOperation};
+ghost use Rattle.history_model.specs.Acts.{is_plain};
+ghost use Rattle.distinct_values.specs.SomeOperations.{ArePlain};
 ghost use Rattle.distinct_values.specs.WrittenOnce.{AreWrittenOnce, HasWritten};
 
-use cas_model::{Act, Operation};
+use history_model::{Act, Operation};
 use history_text::Val;
 use std::alloc::{AllocError, Global};
 use std::collections::BTreeSet;

@@ -3,8 +3,8 @@ ghost use Rattle.std.specs.Prelude.{◌≤◌, length};
 
 use crate::part::Shown;
 use crate::zones::{ByZones, ask_zones};
-use cas_model::Operation;
 use cas_search::Moment;
+use history_model::Operation;
 use std::alloc::{AllocError, Global};
 
 /// The fault that comes first.

@@ -1,9 +1,9 @@
 //! Laws of some of a register's operations, each proved as the contract of a function that does nothing.
 ghost use Rattle.std.specs.Prelude.{◌≡◌, Bool, ℕ, List};
 ghost use Rattle.history_text.specs.declared.event.Val.{Val as AVal};
-ghost use Rattle.cas_model.specs.declared.operation.Operation.{Operation as AnOperation};
-ghost use Rattle.cas_model.specs.Cut.{cut_at};
-ghost use Rattle.cas_model.specs.Legal.{IsAtomic};
+ghost use Rattle.history_model.specs.declared.operation.Operation.{Operation as AnOperation};
+ghost use Rattle.history_model.specs.Cut.{cut_at};
+ghost use Rattle.history_model.specs.Legal.{IsAtomic};
 ghost use Rattle.distinct_values.specs.SomeOperations.{ArePlain, kept_of};
 
 /// If reads and writes are atomic, so are the writes of some values with some of the reads of these: in an

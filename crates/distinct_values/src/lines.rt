@@ -1,6 +1,6 @@
 //! The calls and the replies of a register as lines of a history.
-use cas_model::{Act, Operation};
 use cas_search::Moment;
+use history_model::{Act, Operation};
 use history_text::{Kind, LineEvent, LineFault, Name, OptionalName, ReplyParts, Val};
 use std::alloc::{AllocError, Global};
 

@@ -2,7 +2,7 @@
 ghost use Rattle.std.specs.Prelude.{◌≡◌, IfOk};
 ghost use Rattle.distinct_values.specs.SomeOperations.{is_among, is_kept, kept_of, null_or};
 
-use cas_model::{Act, Operation};
+use history_model::{Act, Operation};
 use history_text::Val;
 use std::alloc::{AllocError, Global};
 

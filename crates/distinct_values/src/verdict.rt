@@ -9,8 +9,8 @@ use crate::distinct::has_distinct_values;
 use crate::first::{FirstFault, first_fault};
 use crate::part::{Shown, part_of};
 use crate::zones::{ByZones, ask_zones};
-use cas_model::Operation;
 use cas_search::{Bound, Bounds, Moment, Verdict, check_order, legal_before, reply_time, timeline};
+use history_model::Operation;
 use std::alloc::{AllocError, Global};
 
 /// Steps that decide common histories, for each register and for each of its events.

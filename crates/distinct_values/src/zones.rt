@@ -2,9 +2,8 @@
 //! searched for.
 use crate::lines::lines_of;
 use crate::part::Shown;
-use cas_model::{Act, Operation};
 use cas_search::Moment;
-use history_model::{BuildError, EvId, Oper, RegId};
+use history_model::{Act, BuildError, EvId, Oper, Operation, RegId};
 use history_text::Val;
 use reg_arena::Arena;
 use reg_zones::{Fault, Placed, order_or_fault};

@@ -4,12 +4,17 @@ use Rattle.std.proofs.Common.{◌≡◌, ℕ, zero, suc, ◌+◌, ◌-◌, ◌<�
 use Rattle.std.proofs.Common.{true, false, List, [], ◌∷◌, length, drop, slice_get, Option}
 use Rattle.std.proofs.Common.{Some, None, ◌⊎◌, inl, inr, refl, sym, ap, subst, ◌∙◌, arith}
 use Rattle.std.proofs.lemmas.Bool.{eqb-true, eqb-false, false≢true}
+use Rattle.history_text.specs.declared.event.OpKind.{OpKind}
+use Rattle.history_text.specs.declared.event.Val.{Val}
 use Rattle.history_model.specs.Lists.{In}
-use Rattle.history_model.specs.Operations.{Operation, operation, next_of, reply_in, has_failed, begins}
+use Rattle.history_model.specs.Acts.{is_plain}
+use Rattle.history_model.specs.Operations.{operation, next_of, reply_in, has_failed, begins}
+use Rattle.history_model.specs.declared.operation.Operation.{Operation}
 use Rattle.history_model.specs.Operations.{is_a_call, is_a_reply, is_a_fail, kind_in, number_in, calls_from}
-use Rattle.history_model.specs.Operations.{calls, writes, IsWrite, is_write, IsCompleted}
+use Rattle.history_model.specs.Operations.{calls, writes, IsWrite, is_write, IsCompleted, op_kind, value_of}
 use Rattle.history_model.specs.declared.event.Event.{Event}
 use Rattle.history_model.proofs.Walking.{is-called, begins-call}
+use Rattle.history_model.proofs.Plain.{plain-changes, plain-kind, plain-plain, read-gives, written-value}
 
 -- ---- the next event of a process
 
@@ -132,7 +137,7 @@ pub record IsReplied (evs : List Event) (o : Operation) (k p j : ℕ) (g : Event
   pub process : g.process ≡ p
   pub order : k < j
   pub between : (u : ℕ) (y : Event) → k < u → u < j → slice_get evs u ≡ Some y → y.process ≡ p → ⊥
-  pub value : is_write o ≡ false → o.value ≡ g.value
+  pub value : is_write o ≡ false → value_of o ≡ g.value
 
 -- the operation's call is the event e at place k
 pub record IsCallOf (evs : List Event) (o : Operation) (k : ℕ) (e : Event) : Type 0 where
@@ -143,8 +148,11 @@ pub record IsCallOf (evs : List Event) (o : Operation) (k : ℕ) (e : Event) : T
   pub call : o.call ≡ k + 2
   pub process : o.process ≡ Some e.process
   pub register : o.register ≡ number_in e.register
-  pub kind : o.kind ≡ kind_in e.what
-  pub value : IsWrite o → o.value ≡ e.value
+  pub kind : op_kind o ≡ kind_in e.what
+  pub plain : is_plain o.act ≡ true
+  pub writes_as : is_write o ≡ writes (kind_in e.what)
+  pub value : (v : Val) → IsWrite o → e.value ≡ Some v → value_of o ≡ Some v
+  pub unread : is_write o ≡ false → o.completed ≡ false → value_of o ≡ e.value
   pub ends : IsPending evs o k e.process ⊎ ((j : ℕ) × (g : Event) × IsReplied evs o k e.process j g)
 
 begins-kept : (e : Event) (next : Option (ℕ × Event)) → begins e next ≡ true → has_failed next ≡ false
@@ -170,8 +178,17 @@ module _ (evs : List Event) (o : Operation) (k : ℕ) (e : Event) (at : slice_ge
     call = ap (λ (x : Operation). x.call) q ∙ omega arith;
     process = ap (λ (x : Operation). x.process) q;
     register = ap (λ (x : Operation). x.register) q;
-    kind = ap (λ (x : Operation). x.kind) q;
-    value = λ _. ap (λ (x : Operation). x.value) q;
+    kind = ap op_kind q ∙ plain-kind (kind_in e.what) e.value;
+    plain = ap (λ (x : Operation). is_plain x.act) q ∙ plain-plain (kind_in e.what) e.value;
+    writes_as = ap is_write q ∙ plain-changes (kind_in e.what) e.value;
+    unread =
+        λ r c. ap value_of q
+        ∙ read-gives (kind_in e.what) e.value
+        (sym (plain-changes (kind_in e.what) e.value) ∙ (sym (ap is_write q) ∙ r));
+    value =
+        λ v w s. ap value_of q
+        ∙ written-value (kind_in e.what) e.value v
+        (sym (plain-changes (kind_in e.what) e.value) ∙ (sym (ap is_write q) ∙ w)) s;
     ends = inl (record {
       open_one = ap (λ (x : Operation). x.completed) q;
       reply = ap (λ (x : Operation). x.reply) q;
@@ -189,10 +206,14 @@ module _ (evs : List Event) (o : Operation) (k : ℕ) (e : Event) (at : slice_ge
     call = ap (λ (y : Operation). y.call) q ∙ omega arith;
     process = ap (λ (y : Operation). y.process) q;
     register = ap (λ (y : Operation). y.register) q;
-    kind = ap (λ (y : Operation). y.kind) q;
+    kind = ap op_kind q ∙ plain-kind kind value;
+    plain = ap (λ (y : Operation). is_plain y.act) q ∙ plain-plain kind value;
+    writes_as = same;
+    unread = λ r c. absurd (false≢true (sym c ∙ ap (λ (y : Operation). y.completed) q));
     value =
-        λ w. ap (λ (y : Operation). y.value) q
-        ∙ ap (λ b. cond b e.value g.value) (sym (ap (λ (y : Operation). writes y.kind) q) ∙ w);
+        λ v w s. ap value_of q
+        ∙ written-value kind value v (sym same ∙ w)
+        (ap (λ b. cond b e.value g.value) (sym same ∙ w) ∙ s);
     ends = inr (
       j,
       g,
@@ -205,11 +226,20 @@ module _ (evs : List Event) (o : Operation) (k : ℕ) (e : Event) (at : slice_ge
         order = x.order;
         between = x.between;
         value =
-            λ w. ap (λ (y : Operation). y.value) q
-            ∙ ap (λ b. cond b e.value g.value) (sym (ap (λ (y : Operation). writes y.kind) q) ∙ w);
+            λ r. ap value_of q
+            ∙ (read-gives kind value (sym same ∙ r) ∙ ap (λ b. cond b e.value g.value) (sym same ∙ r));
       },
     );
   }
+    where
+      kind : OpKind
+      kind = kind_in e.what
+
+      value : Option Val
+      value = cond (writes kind) e.value g.value
+
+      same : is_write o ≡ writes kind
+      same = ap is_write q ∙ plain-changes kind value
 
   call-of : o ≡ operation (length evs + 2) (2 + k) e
       (reply_in (next_of e.process (suc (2 + k)) (drop (suc k) evs))) → IsCallOf evs o k e

@@ -1,6 +1,9 @@
 pub mod Lists
 pub mod Indexes
 pub mod Values
+pub mod Acts
+pub mod Filters
+pub mod Plain
 pub mod Rows
 pub mod Numbers
 pub mod Accepted
@@ -9,3 +12,10 @@ pub mod Turns
 pub mod Belonging
 pub mod Recorded
 pub mod Named
+pub mod Placed
+pub mod Merging
+pub mod Locality
+pub mod InTurn
+pub mod Sequences
+pub mod Cut
+pub mod Latest

@@ -11,9 +11,11 @@ use Rattle.history_text.specs.declared.event.LineEvent.{LineEvent}
 use Rattle.history_model.specs.Lists.{In}
 use Rattle.history_model.specs.Refusals.{AreAccepted}
 use Rattle.history_model.specs.History.{History, IsRecorded, events_after, register_names}
-use Rattle.history_model.specs.Operations.{Operation, operation, next_of, reply_in, has_failed, begins}
+use Rattle.history_model.specs.Operations.{operation, next_of, reply_in, has_failed, begins}
+use Rattle.history_model.specs.declared.operation.Operation.{Operation}
 use Rattle.history_model.specs.Operations.{is_a_call, is_a_reply, is_a_fail, kind_in, number_in, calls}
-use Rattle.history_model.specs.Operations.{writes, is_write, IsWrite, IsCompleted, IsHistory, Precedes}
+use Rattle.history_model.specs.Operations.{writes, is_write, IsWrite, IsCompleted}
+use Rattle.history_model.specs.Operations.{IsHistory, Precedes, op_kind, value_of}
 use Rattle.history_model.specs.Operations.{initial_write, initial_writes, operations, of_register}
 use Rattle.history_model.specs.Lamport.{HasSingleWriter}
 use Rattle.history_model.specs.Walking.{by_register, key_at}
@@ -31,7 +33,7 @@ use Rattle.history_model.proofs.Turns.{IsReplyTo, reply-event, write-value, regi
 use Rattle.history_model.proofs.Belonging.{IsReplied, IsCallOf, next-at, called-one, same-call, call-In}
 use Rattle.history_model.proofs.Walking.{HaveRegisters, operation-call}
 use Rattle.history_model.proofs.Recorded.{initials-In, In-initials, In-of_register}
-use Rattle.history_model.proofs.Recorded.{one-event, apart-called, not_before}
+use Rattle.history_model.proofs.Recorded.{one-event, apart-called, not_before, replied-to}
 use Rattle.history_model.proofs.Lists.{append-In, In-left, In-right}
 
 -- ---- names
@@ -156,49 +158,38 @@ module _ (es : List LineEvent) (acc : AreAccepted es) where
   reply-register s t e g r =
       ap (option_map {U = ℕ} (λ (n : RegId). n.0)) r.register ∙ call-register s e r.there r.is_call
 
-  -- the reply of an operation is a reply to its call
-  pub replied-to : (o : Operation) (k j : ℕ) (e g : Event) → IsCallOf (events_after [] es) o k e
-      → IsReplied (events_after [] es) o k e.process j g → IsReplyTo es k j e g
-  replied-to o k j e g c r =
-      let second = line-at es acc j g r.there in
-      let x =
-      reply-event es acc j second.0 g second.1 (sym (reply-line (take j es) second.0 g second.1.is)
-      ∙ r.is_reply) in
-      let t = x.2 in
-      let first = line-at es acc k e c.there in
-      elim (cases_order x.0 k) [
-        | inl q ↦
-            let same : x.1 ≡ e =
-            let a =
-            t.there in let b =
-            c.there in let s = ap (slice_get (events_after [] es)) q in cc (a, b, s) in
-            subst (λ (v : Event). IsReplyTo es k j v g) same (subst (λ s. IsReplyTo es s j x.1 g) q t)
-        | inr w ↦ elim w [
-          | inl less ↦ absurd
-              (t.between k first.0 less r.order first.1.there (sym (ap (λ (v : Event). v.process) first.1.is)
-              ∙ sym r.process))
-          | inr more ↦ absurd (r.between x.0 x.1 more t.order t.there (t.process ∙ r.process))
-        ]
-      ]
-
   kind-cases : (k : OpKind) → (k ≡ WriteOp) ⊎ (k ≡ ReadOp)
   kind-cases ReadOp = inr refl
   kind-cases WriteOp = inl refl
+
+  -- a write's call has a value
+  called-value : (k : ℕ) (e : Event) → slice_get (events_after [] es) k ≡ Some e → is_a_call e.what ≡ true
+      → writes (kind_in e.what) ≡ true → (v : Val) × (e.value ≡ Some v)
+  called-value k e at call w =
+      let l = line-at es acc k e at in
+      let n = write-value es k l.0 e l.1 (sym (call-line (take k es) l.0 e l.1.is) ∙ call) w in
+      (Int n.0, n.1)
 
   -- the call's event says what the operation is
   call-in : (o : Operation) (k : ℕ) (e : Event) → In o (calls (events_after [] es))
       → IsCallOf (events_after [] es) o k e
       → IsEventIn (record { names = register_names es; events = events_after [] es }) k e o
   call-in o k e i c =
-      let what : e.what ≡ Call o.kind = what-call e.what c.is_call ∙ ap Call (sym c.kind) in
+      let what : e.what ≡ Call (op_kind o) = what-call e.what c.is_call ∙ ap Call (sym c.kind) in
       record {
         at = c.there;
         one = In-right o (initial_writes (length (register_names es))) (calls (events_after [] es)) i;
         register = call-register k e c.there c.is_call ∙ ap Some (sym c.register);
         process = c.process;
         is = inl what;
-        call = λ _. (c.line, c.call, c.value);
-        reply = λ r. absurd (let q : Call o.kind ≡ Reply o.kind = sym what ∙ r in cc (q));
+        call = λ _. (
+          c.line,
+          c.call,
+          λ w.
+              let n = called-value k e c.there c.is_call (sym c.writes_as ∙ w) in
+              c.value n.0 w n.1 ∙ sym n.1,
+        );
+        reply = λ r. absurd (let q : Call (op_kind o) ≡ Reply (op_kind o) = sym what ∙ r in cc (q));
       }
 
   -- and so does the reply's
@@ -206,21 +197,22 @@ module _ (es : List LineEvent) (acc : AreAccepted es) where
       → IsCallOf (events_after [] es) o k e → IsReplied (events_after [] es) o k e.process j g
       → IsEventIn (record { names = register_names es; events = events_after [] es }) j g o
   reply-in o k j e g i c r =
-      let t = replied-to o k j e g c r in
-      let what : g.what ≡ Reply o.kind = what-reply g.what r.is_reply ∙ ap Reply (t.kind ∙ sym c.kind) in
+      let t = replied-to es acc o k j e g c r in
+      let what : g.what ≡ Reply (op_kind o) = what-reply g.what r.is_reply ∙ ap Reply (t.kind ∙ sym c.kind) in
       record {
         at = r.there;
         one = In-right o (initial_writes (length (register_names es))) (calls (events_after [] es)) i;
         register = reply-register k j e g t ∙ ap Some (sym c.register);
         process = c.process ∙ ap Some (sym r.process);
         is = inr what;
-        call = λ d. absurd (let q : Reply o.kind ≡ Call o.kind = sym what ∙ d in cc (q));
+        call = λ d. absurd (let q : Reply (op_kind o) ≡ Call (op_kind o) = sym what ∙ d in cc (q));
         reply = λ _. (
           r.completed,
           r.reply,
           elim (kind-cases (kind_in e.what)) [
-            | inl w ↦ c.value (ap writes (c.kind ∙ w)) ∙ sym (t.written w)
-            | inr d ↦ r.value (ap writes (c.kind ∙ d))
+            | inl w ↦ let n = called-value k e c.there c.is_call (ap writes w) in
+                c.value n.0 (c.writes_as ∙ ap writes w) n.1 ∙ (sym n.1 ∙ sym (t.written w))
+            | inr d ↦ r.value (c.writes_as ∙ ap writes d)
           ],
         );
       }
@@ -394,7 +386,7 @@ module _ (es : List LineEvent) (acc : AreAccepted es) where
       → In o (operations (record { names = register_names es; events = events_after [] es }))
       → o.process ≡ Some p
       → (e : Event) × IsEventIn (record { names = register_names es; events = events_after [] es })
-      (o.call - 2) e o × (e.what ≡ Call o.kind)
+      (o.call - 2) e o × (e.what ≡ Call (op_kind o))
   has-call o p a q = elim (split (length (register_names es)) (events_after [] es) o a) [
     | inl s ↦ absurd (none-called o s.0 p s.2 q)
     | inr c ↦
@@ -412,7 +404,7 @@ module _ (es : List LineEvent) (acc : AreAccepted es) where
       → In o (operations (record { names = register_names es; events = events_after [] es }))
       → o.process ≡ Some p → IsCompleted o
       → (e : Event) × IsEventIn (record { names = register_names es; events = events_after [] es })
-      (o.reply - 2) e o × (e.what ≡ Reply o.kind)
+      (o.reply - 2) e o × (e.what ≡ Reply (op_kind o))
   has-reply o p a q done = elim (split (length (register_names es)) (events_after [] es) o a) [
     | inl s ↦ absurd (none-called o s.0 p s.2 q)
     | inr c ↦
@@ -421,7 +413,7 @@ module _ (es : List LineEvent) (acc : AreAccepted es) where
           | inl w ↦ absurd (false≢true (sym w.open_one ∙ done))
           | inr r ↦
               let place : r.0 ≡ o.reply - 2 = omega (arith, r.2.reply) in
-              let t = replied-to o x.0 r.0 x.1 r.1 x.2 r.2 in (
+              let t = replied-to es acc o x.0 r.0 x.1 r.1 x.2 r.2 in (
                 r.1,
                 subst (λ k. IsEventIn (record { names = register_names es; events = events_after [] es }) k
                     r.1 o) place (reply-in o x.0 r.0 x.1 r.1 c x.2 r.2),
@@ -433,24 +425,22 @@ module _ (es : List LineEvent) (acc : AreAccepted es) where
   -- a write and a completed operation have a value
   pub has-value : (o : Operation)
       → In o (operations (record { names = register_names es; events = events_after [] es }))
-      → IsWrite o ⊎ IsCompleted o → (v : Val) × (o.value ≡ Some v)
+      → IsWrite o ⊎ IsCompleted o → (v : Val) × (value_of o ≡ Some v)
   has-value o a full = elim (split (length (register_names es)) (events_after [] es) o a) [
-    | inl s ↦ (Null, ap (λ (z : Operation). z.value) s.2)
+    | inl s ↦ (Null, ap value_of s.2)
     | inr c ↦
         let x = called-one (events_after [] es) o c in
-        let l = line-at es acc x.0 x.1 x.2.there in
-        let call = sym (call-line (take x.0 es) l.0 x.1 l.1.is) ∙ x.2.is_call in
         elim (kind-cases (kind_in x.1.what)) [
           | inl w ↦
-              let n = write-value es x.0 l.0 x.1 l.1 call (ap writes w) in
-              (Int n.0, x.2.value (ap writes (x.2.kind ∙ w)) ∙ n.1)
+              let n = called-value x.0 x.1 x.2.there x.2.is_call (ap writes w) in
+              (n.0, x.2.value n.0 (x.2.writes_as ∙ ap writes w) n.1)
           | inr d ↦
-              let read : is_write o ≡ false = ap writes (x.2.kind ∙ d) in
+              let read : is_write o ≡ false = x.2.writes_as ∙ ap writes d in
               elim full [
                 | inl u ↦ absurd (false≢true (sym read ∙ u))
                 | inr done ↦ elim x.2.ends [
                   | inl w ↦ absurd (false≢true (sym w.open_one ∙ done))
-                  | inr r ↦ let t = replied-to o x.0 r.0 x.1 r.1 x.2 r.2 in let v = t.read d in
+                  | inr r ↦ let t = replied-to es acc o x.0 r.0 x.1 r.1 x.2 r.2 in let v = t.read d in
                       (v.0, r.2.value read ∙ v.1)
                 ]
               ]
@@ -474,10 +464,17 @@ module _ (es : List LineEvent) (acc : AreAccepted es) where
 -- ---- the same of a recorded history
 
 pub operation-has-value : (h : History) → IsRecorded h → (o : Operation) → In o (operations h)
-    → IsWrite o ⊎ IsCompleted o → (v : Val) × (o.value ≡ Some v)
+    → IsWrite o ⊎ IsCompleted o → (v : Val) × (value_of o ≡ Some v)
 operation-has-value h rec o =
     subst (λ (g : History). In o (operations g) → IsWrite o ⊎ IsCompleted o
-    → (v : Val) × (o.value ≡ Some v)) (sym rec.is) (has-value rec.events rec.accepted o)
+    → (v : Val) × (value_of o ≡ Some v)) (sym rec.is) (has-value rec.events rec.accepted o)
+
+pub call-has-value : (h : History) → IsRecorded h → (i : ℕ) (e : Event) → slice_get h.events i ≡ Some e
+    → is_a_call e.what ≡ true → writes (kind_in e.what) ≡ true → (v : Val) × (e.value ≡ Some v)
+call-has-value h rec i e =
+    subst (λ (g : History). slice_get g.events i ≡ Some e → is_a_call e.what ≡ true
+    → writes (kind_in e.what) ≡ true → (v : Val) × (e.value ≡ Some v)) (sym rec.is)
+    (called-value rec.events rec.accepted i e)
 
 pub operation-has-register : (h : History) → IsRecorded h → (o : Operation) → In o (operations h)
     → o.register < length h.names
@@ -525,18 +522,18 @@ event-has-one h rec i o p =
     → o ≡ p) (sym rec.is) (event-one rec.events rec.accepted i o p)
 
 pub operation-has-call : (h : History) → IsRecorded h → (o : Operation) (p : ℕ) → In o (operations h)
-    → o.process ≡ Some p → (e : Event) × IsEventIn h (o.call - 2) e o × (e.what ≡ Call o.kind)
+    → o.process ≡ Some p → (e : Event) × IsEventIn h (o.call - 2) e o × (e.what ≡ Call (op_kind o))
 operation-has-call h rec o p =
     subst (λ (g : History). In o (operations g) → o.process ≡ Some p
-    → (e : Event) × IsEventIn g (o.call - 2) e o × (e.what ≡ Call o.kind)) (sym rec.is)
+    → (e : Event) × IsEventIn g (o.call - 2) e o × (e.what ≡ Call (op_kind o))) (sym rec.is)
     (has-call rec.events rec.accepted o p)
 
 pub operation-has-reply : (h : History) → IsRecorded h → (o : Operation) (p : ℕ) → In o (operations h)
     → o.process ≡ Some p → IsCompleted o → (e : Event) × IsEventIn h (o.reply - 2) e o
-    × (e.what ≡ Reply o.kind)
+    × (e.what ≡ Reply (op_kind o))
 operation-has-reply h rec o p =
     subst (λ (g : History). In o (operations g) → o.process ≡ Some p → IsCompleted o
-    → (e : Event) × IsEventIn g (o.reply - 2) e o × (e.what ≡ Reply o.kind)) (sym rec.is)
+    → (e : Event) × IsEventIn g (o.reply - 2) e o × (e.what ≡ Reply (op_kind o))) (sym rec.is)
     (has-reply rec.events rec.accepted o p)
 
 pub initial-there : (h : History) (r : ℕ) → r < length h.names

@@ -1,6 +1,6 @@
 -- The operations of each register of an accepted history satisfy the facts on which the laws stand.
 use Rattle.std.proofs.Common.{◌≡◌, ℕ, zero, suc, ◌+◌, ◌<◌, ◌≤◌, ◌==◌, Bool, true, false}
-use Rattle.std.proofs.Common.{List, [], ◌++◌, length, take, slice_get, Some, None, ◌⊎◌}
+use Rattle.std.proofs.Common.{List, [], ◌++◌, is_some, length, take, slice_get, Some, None, ◌⊎◌}
 use Rattle.std.proofs.Common.{inl, inr, refl, sym, ap, subst, ◌∙◌, arith}
 use Rattle.std.proofs.lemmas.Bool.{cases_order, eqb-true, eq-eqb, false≢true}
 use Rattle.std.proofs.lemmas.Option.{slice_get_within}
@@ -9,26 +9,31 @@ use Rattle.history_text.specs.declared.event.LineEvent.{LineEvent}
 use Rattle.history_model.specs.Lists.{In}
 use Rattle.history_model.specs.Refusals.{AreAccepted}
 use Rattle.history_model.specs.History.{History, IsRecorded, events_after, event_after, register_names}
-use Rattle.history_model.specs.Operations.{Operation, calls, is_a_call, is_a_reply, is_a_fail}
-use Rattle.history_model.specs.Operations.{writes, IsWrite, IsCompleted, Precedes, IsHistory}
-use Rattle.history_model.specs.Operations.{initial_write, initial_writes, operations, of_register}
+use Rattle.history_model.specs.Acts.{asks, is_plain}
+use Rattle.history_model.specs.Operations.{calls, is_a_call, is_a_reply, is_a_fail, kind_in}
+use Rattle.history_model.specs.declared.operation.Operation.{Operation}
+use Rattle.history_model.specs.Operations.{IsWrite, IsCompleted, Precedes}
+use Rattle.history_model.specs.Operations.{IsHistory, is_write, value_of, writes}
+use Rattle.history_model.specs.Operations.{initial_write, initial_writes, is_of, operations, of_register}
 use Rattle.history_model.specs.declared.event.Event.{Event}
 use Rattle.history_model.specs.declared.event.What.{What}
 use Rattle.history_model.specs.declared.event.What.TheVariants.{Call, Reply, Fail, Crash}
-use Rattle.history_model.proofs.Accepted.{line-at, at-after, call-line, crash-line}
-use Rattle.history_model.proofs.Turns.{no-two-calls, none-after-crash, not-again, write-value}
-use Rattle.history_model.proofs.Belonging.{IsCallOf, IsPending, IsNextAt, IsLastAt}
+use Rattle.history_model.proofs.Accepted.{line-at, at-after, call-line, crash-line, reply-line}
+use Rattle.history_model.proofs.Turns.{no-two-calls, none-after-crash, not-again, read-call, write-value}
+use Rattle.history_model.proofs.Turns.{IsReplyTo, reply-event}
+use Rattle.history_model.proofs.Plain.{read-asks, reading}
+use Rattle.history_model.proofs.Belonging.{IsCallOf, IsPending, IsReplied, IsNextAt, IsLastAt}
 use Rattle.history_model.proofs.Belonging.{next-at, called-one, same-call}
 use Rattle.history_model.proofs.Lists.{filter-In, In-filter, append-In}
 
 pub of_register-In : (k : ℕ) (h : List Operation) (a : Operation) → In a (of_register k h)
     → In a h × (a.register ≡ k)
 of_register-In k h a i =
-    let r = filter-In (λ (a : Operation). a.register == k) a h i in (r.0, eqb-true _ _ r.1)
+    let r = filter-In (is_of k) a h i in (r.0, eqb-true _ _ r.1)
 
 pub In-of_register : (k : ℕ) (h : List Operation) (a : Operation) → In a h → a.register ≡ k
     → In a (of_register k h)
-In-of_register k h a i q = In-filter (λ (a : Operation). a.register == k) a h i (eq-eqb _ _ q)
+In-of_register k h a i q = In-filter (is_of k) a h i (eq-eqb _ _ q)
 
 pub initials-In : (m : ℕ) (a : Operation) → In a (initial_writes m)
     → (j : ℕ) × (j < m) × (a ≡ initial_write j)
@@ -226,6 +231,54 @@ module _ (es : List LineEvent) (acc : AreAccepted es) where
   apart a b (inr i) (inl (j, f)) q = omega (arith, q, ap (λ (o : Operation). o.call) f, (times a i).1)
   apart a b (inr i) (inr j) q = apart-called a b i j q
 
+  -- the reply of an operation is a reply to its call
+  pub replied-to : (o : Operation) (k j : ℕ) (e g : Event) → IsCallOf (events_after [] es) o k e
+      → IsReplied (events_after [] es) o k e.process j g → IsReplyTo es k j e g
+  replied-to o k j e g c r =
+      let second = line-at es acc j g r.there in
+      let x =
+      reply-event es acc j second.0 g second.1 (sym (reply-line (take j es) second.0 g second.1.is)
+      ∙ r.is_reply) in
+      let t = x.2 in
+      let first = line-at es acc k e c.there in
+      elim (cases_order x.0 k) [
+        | inl q ↦
+            let same : x.1 ≡ e =
+            let a =
+            t.there in let b =
+            c.there in let s = ap (slice_get (events_after [] es)) q in cc (a, b, s) in
+            subst (λ (v : Event). IsReplyTo es k j v g) same (subst (λ s. IsReplyTo es s j x.1 g) q t)
+        | inr w ↦ elim w [
+          | inl less ↦ absurd
+              (t.between k first.0 less r.order first.1.there (sym (ap (λ (v : Event). v.process) first.1.is)
+              ∙ sym r.process))
+          | inr more ↦ absurd (r.between x.0 x.1 more t.order t.there (t.process ∙ r.process))
+        ]
+      ]
+
+  -- they are reads and writes
+  plain : (a : Operation) → Known (events_after [] es) a → is_plain a.act ≡ true
+  plain a (inl (j, e)) = ap (λ (o : Operation). is_plain o.act) e
+  plain a (inr i) = (row a i).2.plain
+
+  -- a read has a value exactly if it is completed
+  reads : (a : Operation) → Known (events_after [] es) a → is_write a ≡ false → asks a.act ≡ a.completed
+  reads a (inl (j, e)) r = absurd (false≢true (sym r ∙ ap is_write e))
+  reads a (inr i) r =
+      let x = row a i in
+      let c = x.2 in
+      let l = line-at es acc x.0 x.1 c.there in
+      let read : writes (kind_in x.1.what) ≡ false = sym c.writes_as ∙ r in
+      read-asks a.act c.plain r ∙ elim c.ends [
+        | inl p ↦
+            ap is_some (c.unread r p.open_one
+            ∙ read-call es x.0 l.0 x.1 l.1 (sym (call-line (take x.0 es) l.0 x.1 l.1.is) ∙ c.is_call) read)
+            ∙ sym p.open_one
+        | inr y ↦
+            let t = replied-to a x.0 y.0 x.1 y.1 c y.2 in
+            ap is_some (y.2.value r ∙ (t.read (reading (kind_in x.1.what) read)).1) ∙ sym y.2.completed
+      ]
+
   -- a pending operation has the last time
   last : (a : Operation) → Known (events_after [] es) a → a.completed ≡ false
       → a.reply ≡ length (events_after [] es) + 2
@@ -249,37 +302,40 @@ module _ (es : List LineEvent) (acc : AreAccepted es) where
   call-below a (inr i) = (times a i).2
 
   -- no call writes null
-  not-null : (a : Operation) → In a (calls (events_after [] es)) → IsWrite a → a.value ≡ Some Null → ⊥
+  not-null : (a : Operation) → In a (calls (events_after [] es)) → IsWrite a → value_of a ≡ Some Null → ⊥
   not-null a i u q =
       let x = row a i in
       let l = line-at es acc x.0 x.1 x.2.there in
       let n =
       write-value es x.0 l.0 x.1 l.1 (sym (call-line (take x.0 es) l.0 x.1 l.1.is)
-      ∙ x.2.is_call) (sym (ap writes x.2.kind) ∙ u) in
-      let w = x.2.value u in
-      let z : Some Null ≡ Some (Int n.0) = sym q ∙ (w ∙ n.1) in
+      ∙ x.2.is_call) (sym x.2.writes_as ∙ u) in
+      let z : Some Null ≡ Some (Int n.0) = sym q ∙ x.2.value (Int n.0) u n.1 in
       cc (z)
 
   -- of two writes of a value the one isn't before the other
   not-twice : (a b : Operation) → In a (calls (events_after [] es)) → In b (calls (events_after [] es))
-      → a.register ≡ b.register → IsWrite a → IsWrite b → a.value ≡ b.value → a.call < b.call → ⊥
+      → a.register ≡ b.register → IsWrite a → IsWrite b → value_of a ≡ value_of b → a.call < b.call → ⊥
   not-twice a b i j r u v q lt =
       let x = row a i in
       let z = row b j in
       let l = line-at es acc x.0 x.1 x.2.there in
       let m = line-at es acc z.0 z.1 z.2.there in
-      not-again es acc x.0 z.0 l.0 m.0 x.1 z.1 l.1 m.1 (omega (arith, lt, x.2.call, z.2.call))
-      (sym (call-line (take x.0 es) l.0 x.1 l.1.is)
-      ∙ x.2.is_call) (sym (call-line (take z.0 es) m.0 z.1 m.1.is) ∙ z.2.is_call)
-      (sym (ap writes x.2.kind) ∙ u) (sym (ap writes z.2.kind) ∙ v)
-      (sym x.2.register ∙ (r ∙ z.2.register)) (sym (x.2.value u) ∙ (q ∙ z.2.value v))
+      let called = sym (call-line (take x.0 es) l.0 x.1 l.1.is) ∙ x.2.is_call in
+      let called' = sym (call-line (take z.0 es) m.0 z.1 m.1.is) ∙ z.2.is_call in
+      let written = write-value es x.0 l.0 x.1 l.1 called (sym x.2.writes_as ∙ u) in
+      let written' = write-value es z.0 m.0 z.1 m.1 called' (sym z.2.writes_as ∙ v) in
+      not-again es acc x.0 z.0 l.0 m.0 x.1 z.1 l.1 m.1 (omega (arith, lt, x.2.call, z.2.call)) called called'
+      (sym x.2.writes_as ∙ u) (sym z.2.writes_as ∙ v) (sym x.2.register ∙ (r ∙ z.2.register))
+      (written.1
+      ∙ (sym (x.2.value (Int written.0) u written.1) ∙ (q
+      ∙ (z.2.value (Int written'.0) v written'.1 ∙ sym written'.1))))
 
   values : (a b : Operation) → Known (events_after [] es) a → Known (events_after [] es) b
-      → a.register ≡ b.register → IsWrite a → IsWrite b → a.value ≡ b.value → a ≡ b
+      → a.register ≡ b.register → IsWrite a → IsWrite b → value_of a ≡ value_of b → a ≡ b
   values a b (inl (j, e)) (inl (k, f)) r u v q = initial-one j k a b e f r
   values a b (inl (i, e)) (inr j) r u v q =
-      absurd (not-null b j v (sym q ∙ ap (λ (o : Operation). o.value) e))
-  values a b (inr i) (inl (j, f)) r u v q = absurd (not-null a i u (q ∙ ap (λ (o : Operation). o.value) f))
+      absurd (not-null b j v (sym q ∙ ap value_of e))
+  values a b (inr i) (inl (j, f)) r u v q = absurd (not-null a i u (q ∙ ap value_of f))
   values a b (inr i) (inr j) r u v q = elim (cases_order a.call b.call) [
     | inl e ↦ same-call (events_after [] es) a b i j e
     | inr c ↦ elim c [
@@ -365,6 +421,8 @@ module _ (es : List LineEvent) (acc : AreAccepted es) where
         turns = λ a b p i j. turns a b p (known m k a i).0 (known m k b j).0;
         initial = λ a i. initial a (known m k a i).0;
         called = λ a p i. called-late a p (known m k a i).0;
+        plain = λ a i. plain a (known m k a i).0;
+        reads = λ a i. reads a (known m k a i).0;
       }
 
 pub accepted-history : (h : History) → IsRecorded h → (r : ℕ) → IsHistory (of_register r (operations h))

@@ -3,12 +3,12 @@ use Rattle.std.proofs.Common.{◌≡◌, ℕ, ◌<◌, zero, suc, pos, codes, Li
 use Rattle.std.proofs.Common.{Option, Some, None, Ok, Err, true, false, refl, arith}
 use Rattle.history_text.specs.declared.event.Val.{Val}
 use Rattle.history_text.specs.declared.event.Val.TheVariants.{Null, Int}
-use Rattle.history_text.specs.declared.event.OpKind.TheVariants.{ReadOp, WriteOp}
 use Rattle.history_text.specs.declared.event.OpWord.TheVariants as word
 use Rattle.history_text.specs.declared.event.Kind.{Kind}
 use Rattle.history_text.specs.declared.event.Kind.TheVariants.{CallRead, CallWrite, Reply}
 use Rattle.history_text.specs.declared.event.LineEvent.{LineEvent}
 use Rattle.history_text.specs.declared.fault.LineKind.TheVariants.{NotJson}
+use Rattle.history_model.specs.declared.act.Act.TheVariants.{Read, Write}
 use Rattle.history_model.specs.Refusals.{AreAccepted, IsRefusal, IsWellFormed, refusal_at}
 use Rattle.history_model.specs.History.{history_of}
 use Rattle.history_model.specs.Operations.{initial_write, operations}
@@ -135,8 +135,7 @@ inversion_operations : operations (history_of inversion) ≡
       completed = true;
       process = Some 1;
       register = 0;
-      kind = WriteOp;
-      value = Some (Int (pos 1));
+      act = Write (Int (pos 1));
     }
     ∷ record {
       line = 3;
@@ -145,8 +144,7 @@ inversion_operations : operations (history_of inversion) ≡
       completed = true;
       process = Some 1;
       register = 0;
-      kind = WriteOp;
-      value = Some (Int (pos 2));
+      act = Write (Int (pos 2));
     }
     ∷ record {
       line = 4;
@@ -155,8 +153,7 @@ inversion_operations : operations (history_of inversion) ≡
       completed = true;
       process = Some 2;
       register = 0;
-      kind = ReadOp;
-      value = Some (Int (pos 2));
+      act = Read (Some (Int (pos 2)));
     }
     ∷ record {
       line = 6;
@@ -165,8 +162,7 @@ inversion_operations : operations (history_of inversion) ≡
       completed = true;
       process = Some 2;
       register = 0;
-      kind = ReadOp;
-      value = Some (Int (pos 1));
+      act = Read (Some (Int (pos 1)));
     }
     ∷ []
 inversion_operations = refl
@@ -190,8 +186,7 @@ pending_operations : operations (history_of pending) ≡
       completed = true;
       process = Some 7;
       register = 0;
-      kind = WriteOp;
-      value = Some (Int (pos 5));
+      act = Write (Int (pos 5));
     }
     ∷ record {
       line = 3;
@@ -200,8 +195,7 @@ pending_operations : operations (history_of pending) ≡
       completed = false;
       process = Some 8;
       register = 1;
-      kind = ReadOp;
-      value = None;
+      act = Read None;
     }
     ∷ record {
       line = 6;
@@ -210,8 +204,7 @@ pending_operations : operations (history_of pending) ≡
       completed = false;
       process = Some 7;
       register = 0;
-      kind = WriteOp;
-      value = Some (Int (pos 6));
+      act = Write (Int (pos 6));
     }
     ∷ []
 pending_operations = refl

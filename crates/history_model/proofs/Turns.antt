@@ -28,6 +28,7 @@ use Rattle.history_model.specs.declared.ids.RegId.{RegId}
 use Rattle.history_model.specs.declared.event.Event.{Event}
 use Rattle.history_model.specs.Walking.{by_register}
 use Rattle.history_model.proofs.Walking.{number-known}
+use Rattle.history_model.proofs.Plain.{reading}
 use Rattle.history_model.proofs.Numbers.{is-In, place-in, place-out, keeps-push, called-known}
 use Rattle.history_model.proofs.Accepted.{take-get, take-of, take-push, take-past, IsLastPassing, last-none}
 use Rattle.history_model.proofs.Accepted.{last-some, first-none, IsLineAt, at-after, free-of, asked-value}
@@ -317,6 +318,14 @@ write-value es s c e at call w =
     let x = call-event es s c a.0 e at.is a.1 in
     let k = (asked-value c.kind a.0 a.1).1 (write-asked a.0 e x.says.kind w) in
     (k.0, x.value ∙ k.2)
+
+-- a read's call has no value
+pub read-call : (es : List LineEvent) (s : ℕ) (c : LineEvent) (e : Event) → IsLineAt es s e c
+    → is_call c ≡ true → writes (kind_in e.what) ≡ false → e.value ≡ None
+read-call es s c e at call r =
+    let a = call-asks c.kind call in
+    let x = call-event es s c a.0 e at.is a.1 in
+    x.value ∙ (asked-value c.kind a.0 a.1).0 (reading a.0.kind (ap writes (sym x.says.kind) ∙ r))
 
 -- ---- registers
 

@@ -8,7 +8,8 @@ use Rattle.std.proofs.lemmas.Option.{slice_get_within}
 use Rattle.history_text.specs.declared.event.Val.{Val}
 use Rattle.history_model.specs.Lists.{In}
 use Rattle.history_model.specs.History.{History}
-use Rattle.history_model.specs.Operations.{Operation, operation, next_of, reply_in}
+use Rattle.history_model.specs.Operations.{operation, next_of, reply_in}
+use Rattle.history_model.specs.declared.operation.Operation.{Operation}
 use Rattle.history_model.specs.Operations.{has_failed, begins, is_a_call, number_in}
 use Rattle.history_model.specs.Operations.{calls_from, calls, of_register, initial_writes}
 use Rattle.history_model.specs.Walking.{IsLeastFrom, IsFirstOf, IsNextOf, key_at, by_register}

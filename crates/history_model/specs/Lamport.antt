@@ -3,7 +3,8 @@
 use Rattle.std.specs.Prelude.{◌≡◌, ℕ, ◌≤◌, ◌⊎◌, ◌&&◌, not, Bool, List, Some}
 use Rattle.std.specs.List.{filter}
 use Rattle.history_model.specs.Lists.{In}
-use Rattle.history_model.specs.Operations.{Operation, Precedes, Overlaps, IsWrite, is_write}
+use Rattle.history_model.specs.Operations.{Precedes, Overlaps, IsWrite, is_write, value_of}
+use Rattle.history_model.specs.declared.operation.Operation.{Operation}
 
 -- at most one process calls writes
 abbrev pub HasSingleWriter : List Operation → Type 0
@@ -25,10 +26,10 @@ pub record IsOverlappedWrite (ops : List Operation) (r w : Operation) : Type 0 w
   pub overlaps : Overlaps w r
 
 abbrev pub HasOldValue : List Operation → Operation → Type 0
-HasOldValue ops r = (w : Operation) × IsOldWrite ops r w × (w.value ≡ r.value)
+HasOldValue ops r = (w : Operation) × IsOldWrite ops r w × (value_of w ≡ value_of r)
 
 abbrev pub HasOverlappedValue : List Operation → Operation → Type 0
-HasOverlappedValue ops r = (w : Operation) × IsOverlappedWrite ops r w × (w.value ≡ r.value)
+HasOverlappedValue ops r = (w : Operation) × IsOverlappedWrite ops r w × (value_of w ≡ value_of r)
 
 -- what a safe register owes a read: where no write overlaps it, the old write's value
 abbrev pub KeepsSafe : List Operation → Operation → Type 0

@@ -2,8 +2,12 @@ pub mod Lists
 pub mod Events
 pub mod Refusals
 pub mod History
+pub mod Acts
 pub mod Operations
 pub mod Legal
+pub mod InTurn
+pub mod Placed
+pub mod Cut
 pub mod Lamport
 pub mod Walking
 pub mod Naming

@@ -3,8 +3,9 @@ use Rattle.std.specs.Prelude.{◌≡◌, ℕ, ◌+◌, ◌-◌, ◌<◌, ◌⊎�
 use Rattle.std.specs.Prelude.{List, length, drop, slice_get, Option, Some, None}
 use Rattle.history_model.specs.Lists.{In}
 use Rattle.history_model.specs.History.{History}
-use Rattle.history_model.specs.Operations.{Operation, operations, next_of, begins}
-use Rattle.history_model.specs.Operations.{is_a_reply, IsWrite, IsCompleted}
+use Rattle.history_model.specs.Operations.{operations, next_of, begins}
+use Rattle.history_model.specs.declared.operation.Operation.{Operation}
+use Rattle.history_model.specs.Operations.{is_a_reply, IsWrite, IsCompleted, op_kind, reply_of, value_of}
 use Rattle.history_model.specs.Walking.{by_register}
 use Rattle.history_model.specs.declared.ids.Oper.{Oper}
 use Rattle.history_model.specs.declared.ids.Oper.TheVariants.{Initial, Called}
@@ -43,11 +44,11 @@ abbrev pub op_shown : Operation → Op
 op_shown o = record {
   line = o.line;
   call = o.call;
-  reply = cond o.completed (Some o.reply) None;
+  reply = reply_of o;
   process = o.process;
   register = record { 0 = o.register };
-  kind = o.kind;
-  value = o.value;
+  kind = op_kind o;
+  value = value_of o;
 }
 
 -- the event at place i belongs to the operation o: it is its call, or its reply
@@ -65,8 +66,9 @@ pub record IsEventIn (h : History) (i : ℕ) (e : Event) (o : Operation) : Type 
   pub one : In o (operations h)
   pub register : by_register e ≡ Some o.register
   pub process : o.process ≡ Some e.process
-  pub is : (e.what ≡ Call o.kind) ⊎ (e.what ≡ Reply o.kind)
+  pub is : (e.what ≡ Call (op_kind o)) ⊎ (e.what ≡ Reply (op_kind o))
   -- a call has its operation's line and time, and a write's call its value
-  pub call : e.what ≡ Call o.kind → (o.line ≡ e.line) × (o.call ≡ i + 2) × (IsWrite o → o.value ≡ e.value)
+  pub call : e.what ≡ Call (op_kind o) → (o.line ≡ e.line) × (o.call ≡ i + 2) × (IsWrite o
+      → value_of o ≡ e.value)
   -- a reply has its operation's last time and its value
-  pub reply : e.what ≡ Reply o.kind → IsCompleted o × (o.reply ≡ i + 2) × (o.value ≡ e.value)
+  pub reply : e.what ≡ Reply (op_kind o) → IsCompleted o × (o.reply ≡ i + 2) × (value_of o ≡ e.value)

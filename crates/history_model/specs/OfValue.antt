@@ -3,7 +3,8 @@ use Rattle.std.specs.Prelude.{◌≡◌, ℕ, ◌≤◌, ◌⊎◌, Option, Some
 use Rattle.history_text.specs.declared.event.Val.{Val}
 use Rattle.history_model.specs.Lists.{In}
 use Rattle.history_model.specs.History.{History}
-use Rattle.history_model.specs.Operations.{Operation, operations, IsWrite, IsCompleted}
+use Rattle.history_model.specs.Operations.{operations, IsWrite, IsCompleted, value_of}
+use Rattle.history_model.specs.declared.operation.Operation.{Operation}
 use Rattle.history_model.specs.Naming.{IsNamed}
 use Rattle.history_model.specs.declared.ids.Oper.{Oper}
 
@@ -11,7 +12,7 @@ use Rattle.history_model.specs.declared.ids.Oper.{Oper}
 pub record IsMember (h : History) (r : ℕ) (v : Val) (o : Operation) : Type 0 where
   pub there : In o (operations h)
   pub register : o.register ≡ r
-  pub value : o.value ≡ Some v
+  pub value : value_of o ≡ Some v
   pub full : IsWrite o ⊎ IsCompleted o
 
 -- the one write of a value to a register

@@ -6,24 +6,15 @@ use Rattle.history_text.specs.declared.event.Val.{Val}
 use Rattle.history_text.specs.declared.event.Val.TheVariants.{Null}
 use Rattle.history_text.specs.declared.event.OpKind.{OpKind}
 use Rattle.history_text.specs.declared.event.OpKind.TheVariants.{ReadOp, WriteOp}
+use Rattle.history_model.specs.Acts.{asks, changes, is_plain, kind_of_act, plain_act, value_of_act}
+use Rattle.history_model.specs.declared.act.Act.TheVariants.{Write}
+use Rattle.history_model.specs.declared.operation.Operation.{Operation}
 use Rattle.history_model.specs.declared.ids.RegId.{RegId}
 use Rattle.history_model.specs.declared.event.Event.{Event}
 use Rattle.history_model.specs.declared.event.What.{What}
 use Rattle.history_model.specs.declared.event.What.TheVariants.{Call, Reply, Fail, Crash}
 use Rattle.history_model.specs.Lists.{In}
 use Rattle.history_model.specs.History.{History}
-
--- A read or a write, from its call to its reply. A pending one has as its reply the time after the last
--- event; a pending read has no value. Nobody called an initial write.
-pub record Operation : Type 0 where
-  pub line : ℕ
-  pub call : ℕ
-  pub reply : ℕ
-  pub completed : Bool
-  pub process : Option ℕ
-  pub register : ℕ
-  pub kind : OpKind
-  pub value : Option Val
 
 -- ---- what an event is
 
@@ -91,8 +82,7 @@ operation n t e None = record {
   completed = false;
   process = Some e.process;
   register = number_in e.register;
-  kind = kind_in e.what;
-  value = e.value;
+  act = plain_act (kind_in e.what) e.value;
 }
 operation n t e (Some r) = record {
   line = e.line;
@@ -101,8 +91,7 @@ operation n t e (Some r) = record {
   completed = true;
   process = Some e.process;
   register = number_in e.register;
-  kind = kind_in e.what;
-  value = cond (writes (kind_in e.what)) e.value r.1.value;
+  act = plain_act (kind_in e.what) (cond (writes (kind_in e.what)) e.value r.1.value);
 }
 
 -- the operations of the calls among events, the first of which has time s
@@ -126,8 +115,7 @@ initial_write r = record {
   completed = true;
   process = None;
   register = r;
-  kind = WriteOp;
-  value = Some Null;
+  act = Write Null;
 }
 
 -- the initial writes of the registers below a number
@@ -149,11 +137,26 @@ Precedes a b = a.reply < b.call
 abbrev pub Overlaps : Operation → Operation → Type 0
 Overlaps a b = (Precedes a b → ⊥) × (Precedes b a → ⊥)
 
+-- whether it gives the register a value
 abbrev pub is_write : Operation → Bool
-is_write a = writes a.kind
+is_write a = changes a.act
 
 abbrev pub IsWrite : Operation → Type 0
 IsWrite a = is_write a ≡ true
+
+abbrev pub IsAsking : Operation → Type 0
+IsAsking a = asks a.act ≡ true
+
+-- the time of its reply, if there is one
+abbrev pub reply_of : Operation → Option ℕ
+reply_of a = cond a.completed (Some a.reply) None
+
+abbrev pub op_kind : Operation → OpKind
+op_kind a = kind_of_act a.act
+
+-- the value that it writes or reads
+abbrev pub value_of : Operation → Option Val
+value_of a = value_of_act a.act
 
 abbrev pub IsCompleted : Operation → Type 0
 IsCompleted a = a.completed ≡ true
@@ -166,15 +169,25 @@ pub record IsCompletedRead (a : Operation) : Type 0 where
 pub record IsReadOf (w r : Operation) : Type 0 where
   pub read : is_write r ≡ false
   pub completed : IsCompleted r
-  pub value : r.value ≡ w.value
+  pub value : value_of r ≡ value_of w
+
+abbrev pub is_of : ℕ → Operation → Bool
+is_of r a = a.register == r
 
 -- the operations of one register
 abbrev pub of_register : ℕ → List Operation → List Operation
-of_register r ops = filter (λ a. a.register == r) ops
+of_register r ops = filter (is_of r) ops
 
 -- all operations of register r of a history, its initial write among them
 abbrev pub register_of : History → ℕ → List Operation
 register_of h r = of_register r (operations h)
+
+-- The facts on which locality, points and beginnings stand, of the operations of one register.
+pub record AreTimed (ops : List Operation) : Type 0 where
+  -- each call comes before its reply
+  pub life : (a : Operation) → In a ops → a.call < a.reply
+  -- no reply comes at the time of a call
+  pub apart : (a b : Operation) → In a ops → In b ops → a.reply ≡ b.call → ⊥
 
 -- ---- what holds of the operations of one register of an accepted history
 
@@ -194,10 +207,14 @@ pub record IsHistory (h : List Operation) : Type 0 where
   -- and after every reply
   pub horizon : (a b : Operation) → In a h → In b h → a.completed ≡ false → IsCompleted b → b.reply < a.reply
   -- no value is written twice
-  pub values : (a b : Operation) → In a h → In b h → IsWrite a → IsWrite b → a.value ≡ b.value → a ≡ b
+  pub values : (a b : Operation) → In a h → In b h → IsWrite a → IsWrite b → value_of a ≡ value_of b → a ≡ b
   -- the operations of one process come one after another
   pub turns : (a b : Operation) (p : ℕ) → In a h → In b h → a.process ≡ Some p → b.process ≡ Some p
       → (a ≡ b) ⊎ (Precedes a b ⊎ Precedes b a)
   -- what nobody called is the initial write, and what somebody called comes after it
   pub initial : (a : Operation) → In a h → a.process ≡ None → a ≡ initial_write a.register
   pub called : (a : Operation) (p : ℕ) → In a h → a.process ≡ Some p → 2 ≤ a.call
+  -- they are reads and writes
+  pub plain : (a : Operation) → In a h → is_plain a.act ≡ true
+  -- a read has a value exactly if it is completed
+  pub reads : (a : Operation) → In a h → is_write a ≡ false → asks a.act ≡ a.completed

@@ -3,7 +3,8 @@
 use Rattle.std.specs.Prelude.{◌≡◌, ℕ, ◌+◌, ◌-◌, ◌<◌, ◌≤◌, suc, List, [], length, drop}
 use Rattle.std.specs.Prelude.{slice_get, Option, Some, None, option_map, option_and_then}
 use Rattle.history_text.specs.declared.event.Val.{Val}
-use Rattle.history_model.specs.Operations.{Operation, operation, next_of, reply_in, calls_from, of_register}
+use Rattle.history_model.specs.Operations.{operation, next_of, reply_in, calls_from, of_register}
+use Rattle.history_model.specs.declared.operation.Operation.{Operation}
 use Rattle.history_model.specs.declared.ids.EvId.{EvId}
 use Rattle.history_model.specs.declared.event.Event.{Event}
 

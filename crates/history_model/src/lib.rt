@@ -11,12 +11,15 @@
 //! `OfValue`, in whose words the calls of the crates above answer. `laws` is what these rely on.
 #![tactic(auto)]
 
+mod act;
 mod event;
 mod ids;
 mod laws;
 mod op;
+mod operation;
 mod refusal;
 
+pub use act::Act;
 pub use event::{Event, What};
 pub use ids::{EvId, Oper, RegId};
 pub use laws::{
@@ -24,4 +27,5 @@ pub use laws::{
     operations_have_events, registers_are_numbered, single_writer_takes_turns, values_are_there,
 };
 pub use op::Op;
+pub use operation::Operation;
 pub use refusal::{BuildError, LineRefusal, Reason};

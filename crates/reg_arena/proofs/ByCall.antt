@@ -7,17 +7,23 @@ use Rattle.history_model.specs.declared.event.Event.{Event}
 use Rattle.history_model.specs.declared.ids.EvId.{EvId}
 use Rattle.history_model.specs.declared.ids.RegId.{RegId}
 use Rattle.history_model.specs.Lists.{In}
-use Rattle.history_model.specs.History.{History}
-use Rattle.history_model.specs.Operations.{Operation, next_of, reply_in, operation, is_a_reply}
+use Rattle.history_model.specs.History.{History, IsRecorded}
+use Rattle.history_model.specs.Operations.{next_of, reply_in, operation, is_a_reply}
+use Rattle.history_model.specs.declared.operation.Operation.{Operation}
 use Rattle.history_model.specs.Operations.{kind_in, number_in, calls, initial_writes, writes}
+use Rattle.history_model.specs.Acts.{kind_of_act, plain_act, value_of_act}
 use Rattle.history_model.specs.declared.op.Op.{Op}
+use Rattle.history_text.specs.declared.event.OpKind.{OpKind}
+use Rattle.history_text.specs.declared.event.OpKind.TheVariants.{ReadOp, WriteOp}
 use Rattle.history_text.specs.declared.event.Val.{Val}
 use Rattle.history_model.specs.declared.ids.Oper.TheVariants.{Called}
 use Rattle.history_model.specs.Walking.{IsLeastFrom, IsNextOf, key_at, by_process, IsReplyOf, timed}
 use Rattle.history_model.specs.Naming.{IsNamed, begins_at, name_of, op_shown}
 use Rattle.history_model.proofs.Belonging.{IsNextAt, next-at, call-In}
-use Rattle.history_model.proofs.Named.{at-begun}
+use Rattle.history_model.proofs.Named.{at-begun, call-has-value}
+use Rattle.history_model.proofs.Walking.{begins-call}
 use Rattle.history_model.proofs.Lists.{In-right}
+use Rattle.history_model.proofs.Plain.{plain-kind, written-value}
 
 -- the next event of a process is the one that the link leads to
 pub next-linked : (evs : List Event) (i : ℕ) (e : Event) (o : Option EvId) → slice_get evs i ≡ Some e
@@ -87,16 +93,43 @@ reply-other evs i j r n there q e at =
 
 -- ---- the operation of a call
 
-abbrev op_with : Event → ℕ → Option ℕ → RegId → Option Val → Op
-op_with e t u r v = record {
+abbrev op_with : Event → ℕ → Option ℕ → RegId → OpKind → Option Val → Op
+op_with e t u r k v = record {
   line = e.line;
   call = t;
   reply = u;
   process = Some e.process;
   register = r;
-  kind = kind_in e.what;
+  kind = k;
   value = v;
 }
+
+-- a write has a value
+abbrev pub IsValued : OpKind → Option Val → Type 0
+IsValued k v = writes k ≡ true → (u : Val) × (v ≡ Some u)
+
+plain-value : (k : OpKind) (v : Option Val) → IsValued k v → value_of_act (plain_act k v) ≡ v
+plain-value ReadOp v w = refl
+plain-value WriteOp v w = let u = w refl in written-value WriteOp v u.0 refl u.1 ∙ sym u.1
+
+module _ (e : Event) (t : ℕ) (u : Option ℕ) (r : RegId) (k : OpKind) (v : Option Val) (w : IsValued k v) where
+  -- an operation is shown with its kind and value
+  as-shown : op_with e t u r k v
+      ≡ op_with e t u r (kind_of_act (plain_act k v)) (value_of_act (plain_act k v))
+  as-shown =
+      ap (λ l. op_with e t u r l v) (sym (plain-kind k v))
+      ∙ ap (op_with e t u r (kind_of_act (plain_act k v))) (sym (plain-value k v w))
+
+-- the call of a write has a value
+pub call-valued : (h : History) → IsRecorded h → (i : ℕ) (e : Event) → slice_get h.events i ≡ Some e
+    → ((f : Event) × (slice_get h.events i ≡ Some f) × (begins_at h.events i f ≡ true))
+    → IsValued (kind_in e.what) e.value
+call-valued h rec i e at c w =
+    let a = c.1 in
+    let same : c.0 ≡ e = cc (a, at) in
+    let begun = ap (begins_at h.events i) (sym same) ∙ c.2 in
+    call-has-value h rec i e at
+    (begins-call e (next_of e.process (suc (i + 2)) (drop (suc i) h.events)) begun) w
 
 -- the operation of a call has its event's name
 named : (n i : ℕ) (e : Event) (o : Option (ℕ × Event))
@@ -110,7 +143,8 @@ register-is (Some r) = refl
 
 module _ (h : History) (i : EvId) (e : Event) (at : slice_get h.events i.0 ≡ Some e) (c : (f : Event)
     × (slice_get h.events i.0 ≡ Some f) × (begins_at h.events i.0 f ≡ true)) (register : RegId)
-    (reg : register ≡ unwrap_or e.register (record { 0 = 0 })) where
+    (reg : register ≡ unwrap_or e.register (record { 0 = 0 }))
+    (valued : IsValued (kind_in e.what) e.value) where
   begun : begins_at h.events i.0 e ≡ true
   begun = let a = c.1 in let same : c.0 ≡ e = cc (a, at) in ap (begins_at h.events i.0) (sym same) ∙ c.2
 
@@ -146,6 +180,9 @@ module _ (h : History) (i : EvId) (e : Event) (at : slice_get h.events i.0 ≡ S
     value = v;
   }
 
+  abbrev k : OpKind
+  k = kind_in e.what
+
   same-register : register ≡ record { 0 = number_in e.register }
   same-register = reg ∙ register-is e.register
 
@@ -156,8 +193,10 @@ module _ (h : History) (i : EvId) (e : Event) (at : slice_get h.events i.0 ≡ S
       let t : i.0 + 2 ≡ 2 + i.0 = omega arith in (
         x.0,
         x.1,
-        ap (λ m. op_with e m None register e.value) t
-            ∙ (ap (λ g. op_with e (2 + i.0) None g e.value) same-register ∙ ap op_shown (sym x.2)),
+        ap (λ m. op_with e m None register k e.value) t
+            ∙ (ap (λ g. op_with e (2 + i.0) None g k e.value) same-register
+            ∙ (as-shown e (2 + i.0) None (record { 0 = number_in e.register }) k e.value valued
+            ∙ ap op_shown (sym x.2))),
       )
 
   pub replied : (j : EvId) (r : Event) (v : Option Val) → IsReplyOf h.events i.0 (Some j)
@@ -168,8 +207,11 @@ module _ (h : History) (i : EvId) (e : Event) (at : slice_get h.events i.0 ≡ S
       let t : i.0 + 2 ≡ 2 + i.0 = omega arith in (
         x.0,
         x.1,
-        ap (λ m. op_with e m (Some (j.0 + 2)) register v) t
-            ∙ (ap (λ g. op_with e (2 + i.0) (Some (j.0 + 2)) g v) same-register
-            ∙ (ap (op_with e (2 + i.0) (Some (j.0 + 2)) (record { 0 = number_in e.register })) q
-            ∙ ap op_shown (sym x.2))),
+        ap (λ m. op_with e m (Some (j.0 + 2)) register k v) t
+            ∙ (ap (λ g. op_with e (2 + i.0) (Some (j.0 + 2)) g k v) same-register
+            ∙ (ap (op_with e (2 + i.0) (Some (j.0 + 2)) (record { 0 = number_in e.register }) k) q
+            ∙ (as-shown e (2 + i.0) (Some (j.0 + 2)) (record { 0 = number_in e.register }) k
+            (cond (writes k) e.value r.value) (λ w.
+            let u = valued w in (u.0, ap (λ b. cond b e.value r.value) w ∙ u.1))
+            ∙ ap op_shown (sym x.2)))),
       )

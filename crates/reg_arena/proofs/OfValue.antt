@@ -11,7 +11,8 @@ use Rattle.history_text.specs.declared.event.OpKind.{OpKind}
 use Rattle.history_text.specs.declared.event.OpKind.TheVariants.{ReadOp, WriteOp}
 use Rattle.history_model.specs.Events.{Asked}
 use Rattle.history_model.specs.History.{History, IsRecorded, history_of}
-use Rattle.history_model.specs.Operations.{Operation, calls, operations, is_a_call}
+use Rattle.history_model.specs.Operations.{calls, operations, is_a_call, op_kind, value_of}
+use Rattle.history_model.specs.declared.operation.Operation.{Operation}
 use Rattle.history_model.specs.Operations.{is_a_reply, kind_in, initial_write, initial_writes}
 use Rattle.history_model.specs.Operations.{writes, is_write, IsWrite, IsCompleted}
 use Rattle.history_model.specs.Walking.{IsFirstOf, key_at, by_process, by_register, by_value}
@@ -36,6 +37,7 @@ use Rattle.history_model.proofs.Recorded.{In-initials, initials-In}
 use Rattle.history_model.proofs.Belonging.{IsCallOf, IsReplied, called-one}
 use Rattle.history_model.proofs.Accepted.{line-at, call-asks, asked-value, call-line}
 use Rattle.history_model.proofs.Turns.{call-event, not-again}
+use Rattle.history_model.proofs.Plain.{changes-kind}
 use Rattle.history_model.proofs.Named.{begun-at, event-has-operation, event-has-no-operation}
 use Rattle.history_model.proofs.Named.{operation-has-call, operation-has-reply}
 use Rattle.history_model.proofs.Lists.{In-left, append-In, slice_get_inside}
@@ -195,8 +197,9 @@ module _ (h : History) (rec : IsRecorded h) where
           elim x.is [
             | inl q ↦
                 let w : IsWrite o =
-                sym (ap (λ (z : What). writes (kind_in z)) q)
-                ∙ call-writes i e k.1 at (ap is_a_call q) v in
+                changes-kind o.act
+                ∙ (sym (ap (λ (z : What). writes (kind_in z)) q)
+                ∙ call-writes i e k.1 at (ap is_a_call q) v) in
                 record { there = x.one; register = register; value = (x.call q).2 w ∙ v; full = inl w }
             | inr q ↦ record {
               there = x.one;
@@ -208,7 +211,7 @@ module _ (h : History) (rec : IsRecorded h) where
 
   -- the keys of the events of a member
   value-key : (k : ℕ × Val) (o : Operation) (i : ℕ) (e : Event) → IsMember h k.0 k.1 o → IsEventIn h i e o
-      → o.value ≡ e.value → by_value e ≡ Some k
+      → value_of o ≡ e.value → by_value e ≡ Some k
   value-key k o i e m x v = key-both e k (x.register ∙ ap Some m.register) (sym v ∙ m.value)
 
   pub write-event : (k : ℕ × Val) (o : Operation) (p : ℕ) → IsMember h k.0 k.1 o → o.process ≡ Some p
@@ -229,7 +232,7 @@ module _ (h : History) (rec : IsRecorded h) where
 
   pub reply-event : (k : ℕ × Val) (o : Operation) (p : ℕ) → IsMember h k.0 k.1 o → o.process ≡ Some p
       → IsCompleted o
-      → (i : ℕ) × (e : Event) × IsEventIn h i e o × (e.what ≡ Reply o.kind)
+      → (i : ℕ) × (e : Event) × IsEventIn h i e o × (e.what ≡ Reply (op_kind o))
       × (key_at by_reply h.events i ≡ Some k) × (key_at by_value h.events i ≡ Some k) × (o.reply ≡ i + 2)
   reply-event k o p m q d =
       let x = operation-has-reply h rec o p m.there q d in
@@ -248,7 +251,7 @@ module _ (h : History) (rec : IsRecorded h) where
   -- the initial write is the member of null that nobody called
   pub initial-null : (k : ℕ × Val) (o : Operation) (r : ℕ) → IsMember h k.0 k.1 o → o ≡ initial_write r
       → k.1 ≡ Null
-  initial-null k o r m q = let a = m.value in let b = ap (λ (o : Operation). o.value) q in cc (a, b)
+  initial-null k o r m q = let a = m.value in let b = ap value_of q in cc (a, b)
 
   pub initial-member : (r : ℕ) → r < length h.names → IsMember h r Null (initial_write r)
   initial-member r l = record {
@@ -274,8 +277,9 @@ module _ (h : History) (rec : IsRecorded h) where
       elim y.is [
         | inl q ↦
             let w : IsWrite x.0 =
-            sym (ap (λ (z : What). writes (kind_in z)) q)
-            ∙ call-writes id.0 e.0 k.1 e.1 call (key-parts e.0 k value).1 in
+            changes-kind (x.0).act
+            ∙ (sym (ap (λ (z : What). writes (kind_in z)) q)
+            ∙ call-writes id.0 e.0 k.1 e.1 call (key-parts e.0 k value).1) in
             (x.0, called-named h x.0 e.0.process id.0 y.one y.process (y.call q).1, x.2, w, (y.call q).1)
         | inr q ↦ absurd (false≢true (sym (ap is_a_call q) ∙ call))
       ]
@@ -365,7 +369,7 @@ module _ (h : History) (rec : IsRecorded h) where
         let key : key_at by_read h.events y.0 ≡ Some k =
         ap (option_and_then by_read) y.2.at
         ∙ (ap (λ (z : What). cond (is_a_reply z && not (writes (kind_in z))) (by_value y.1) None) y.3
-        ∙ (ap (λ b. cond (true && not b) (by_value y.1) None) u ∙ value)) in
+        ∙ (ap (λ b. cond (true && not b) (by_value y.1) None) (sym (changes-kind o.act) ∙ u) ∙ value)) in
         let c = column-call y.0 y.1 o y.2 (ap (λ b. b || begins_at h.events y.0 y.1) reply) in
         go l r y.0 key c.0 c.1 c.2
       where
@@ -518,7 +522,7 @@ module _ (h : History) (rec : IsRecorded h) where
         event-member id.0 k e.0 e.1 (reply-value e.0 k e.2)
         (ap (λ b. b || begins_at h.events id.0 e.0) reply) in
         let y = x.1 in
-        let what : e.0.what ≡ Reply x.0.kind =
+        let what : e.0.what ≡ Reply (op_kind x.0) =
         elim y.is [ inl q ↦ absurd (false≢true (sym (ap is_a_reply q) ∙ reply)) | inr q ↦ q ] in
         let r = y.reply what in (
           (x.0, x.2, r.0, r.1),

@@ -3,7 +3,8 @@ ghost use Rattle.std.specs.Prelude.{◌≡◌, ◌<◌, ◌≤◌, ◌↔◌, le
 ghost use Rattle.history_text.specs.declared.limits.TheConstants.{MAX_EVENTS};
 ghost use Rattle.history_text.specs.Limits.{IsName};
 ghost use Rattle.history_model.specs.History.{IsRecorded};
-ghost use Rattle.history_model.specs.Operations.{Operation, Precedes};
+ghost use Rattle.history_model.specs.Operations.{Precedes};
+ghost use Rattle.history_model.specs.declared.operation.Operation.{Operation};
 ghost use Rattle.history_model.specs.Walking.{IsFirstOf, IsNextOf, by_process, by_register, by_value, key_at};
 ghost use Rattle.history_model.specs.Naming.{IsNamed, IsOper, IsOperOf, begins_at, op_shown};
 ghost use Rattle.history_model.specs.OfValue.{IsWriteOf};
@@ -67,6 +68,7 @@ impl Arena {
         requires { id.0 < length self.now.events }
         ensures at { slice_get self.now.events id.0 ≡ Some result }
         ensures bound { length self.now.events ≤ MAX_EVENTS }
+        ensures recorded { IsRecorded self.now }
     {
         self.lists.event(id)
     }

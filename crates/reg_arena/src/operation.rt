@@ -1,6 +1,7 @@
 //! The operation of a call.
 ghost use Rattle.std.specs.Prelude.{◌≡◌, ◌<◌, Some, length};
-ghost use Rattle.history_model.specs.Operations.{Operation, is_a_reply, kind_in};
+ghost use Rattle.history_model.specs.Operations.{is_a_reply, kind_in};
+ghost use Rattle.history_model.specs.declared.operation.Operation.{Operation};
 ghost use Rattle.history_model.specs.declared.ids.EvId.{EvId as AnEvId};
 ghost use Rattle.history_model.specs.declared.ids.Oper.TheVariants.{Called};
 ghost use Rattle.history_model.specs.Naming.{IsNamed, IsOper, op_shown};

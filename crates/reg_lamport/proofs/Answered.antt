@@ -11,7 +11,8 @@ use Rattle.history_text.specs.declared.event.OpKind.TheVariants.{ReadOp, WriteOp
 use Rattle.history_model.specs.Lists.{In, Before}
 use Rattle.history_model.specs.History.{History, IsRecorded}
 use Rattle.history_model.specs.Lamport.{is_completed_read}
-use Rattle.history_model.specs.Operations.{Operation, calls, is_a_reply, is_write}
+use Rattle.history_model.specs.Operations.{calls, is_a_reply, is_write, op_kind}
+use Rattle.history_model.specs.declared.operation.Operation.{Operation}
 use Rattle.history_model.specs.Operations.{of_register, operations, writes}
 use Rattle.history_model.specs.Naming.{IsEventIn, begins_at}
 use Rattle.history_model.specs.Walking.{by_register}
@@ -21,6 +22,7 @@ use Rattle.history_model.specs.declared.event.What.TheVariants.{Call, Reply, Fai
 use Rattle.history_model.proofs.Belonging.{called-one}
 use Rattle.history_model.proofs.Named.{event-has-one, event-has-operation, operation-has-reply}
 use Rattle.history_model.proofs.Recorded.{of_register-In, In-of_register}
+use Rattle.history_model.proofs.Plain.{changes-kind}
 use Rattle.reg_lamport.specs.Counts.{is_reply_to_read}
 use Rattle.reg_lamport.proofs.Calls.{In-called, called-In, calls-ascend}
 
@@ -115,7 +117,7 @@ module _ (h : History) (rec : IsRecorded h) (r : ℕ) where
       let y =
       operation-has-reply h rec o x.1.process (of_register-In r (operations h) o (In-called h r o i)).0
       x.2.process parts.1 in
-      let kind = read-kind o.kind (no-write (is_write o) parts.0) in
+      let kind = read-kind (op_kind o) (sym (changes-kind o.act) ∙ no-write (is_write o) parts.0) in
       let what : y.0.what ≡ Reply ReadOp = y.2 ∙ ap Reply kind in
       let late = (y.1.reply y.2).1 in
       (y.0, y.1, what, omega (arith, late))
@@ -197,14 +199,14 @@ module _ (h : History) (rec : IsRecorded h) (r : ℕ) where
         o : Operation
         o = found.0
 
-        replies : e.what ≡ Reply found.0.kind
-        replies = elim found.1.is [ inl c ↦ absurd (no-call found.0.kind e.what what c) | inr c ↦ c ]
+        replies : e.what ≡ Reply (op_kind found.0)
+        replies = elim found.1.is [ inl c ↦ absurd (no-call (op_kind found.0) e.what what c) | inr c ↦ c ]
 
         facts : (found.0.completed ≡ true) × (found.0.reply ≡ n + 2)
         facts = let x = found.1.reply replies in (x.0, x.1)
 
-        kind : found.0.kind ≡ ReadOp
-        kind = same-kind found.0.kind (sym what ∙ replies)
+        kind : op_kind found.0 ≡ ReadOp
+        kind = same-kind (op_kind found.0) (sym what ∙ replies)
 
         inside : In found.0 (of_register r (calls h.events))
         inside =
@@ -214,7 +216,8 @@ module _ (h : History) (rec : IsRecorded h) (r : ℕ) where
 
         read : is_completed_read found.0 ≡ true
         read =
-            ap (λ k. not (writes k) && found.0.completed) kind ∙ facts.0
+            ap (λ w. not w && found.0.completed) (changes-kind (found.0).act)
+            ∙ (ap (λ k. not (writes k) && found.0.completed) kind ∙ facts.0)
 
         late : (c : Bool) → nat_lt found.0.reply (n + 2) ≡ c → c ≡ false
         late false p = refl

@@ -8,7 +8,8 @@ use Rattle.history_text.specs.declared.event.Val.{Val}
 use Rattle.history_model.specs.Lists.{In}
 use Rattle.history_model.specs.History.{History, IsRecorded}
 use Rattle.history_model.specs.Lamport.{HasSingleWriter, HasOldValue, HasOverlappedValue, IsOldWrite}
-use Rattle.history_model.specs.Operations.{Operation, IsCompletedRead, Overlaps}
+use Rattle.history_model.specs.Operations.{IsCompletedRead, Overlaps, value_of}
+use Rattle.history_model.specs.declared.operation.Operation.{Operation}
 use Rattle.history_model.specs.Operations.{is_write, of_register, operations}
 use Rattle.history_model.specs.Walking.{by_value, key_at}
 use Rattle.history_model.specs.Naming.{IsNamed, op_shown}
@@ -26,7 +27,7 @@ use Rattle.history_model.proofs.Walking.{keyed}
 
 module _ (h : History) (rec : IsRecorded h) (r : ℕ) (o : Operation) (i : In o (of_register r (operations h)))
     (read : IsCompletedRead o) where
-  pub value-there : (v : Val) × (o.value ≡ Some v)
+  pub value-there : (v : Val) × (value_of o ≡ Some v)
   value-there = operation-has-value h rec o (of_register-In r (operations h) o i).0 (inr read.completed)
 
   -- ---- its reply
@@ -66,14 +67,14 @@ module _ (h : History) (rec : IsRecorded h) (r : ℕ) (o : Operation) (i : In o 
 
   -- ---- the write of its value
 
-  pub none-written : (v : Val) → o.value ≡ Some v → IsWriteOf h r v None
+  pub none-written : (v : Val) → value_of o ≡ Some v → IsWriteOf h r v None
       → HasOverlappedValue (of_register r (operations h)) o → ⊥
   none-written v q none x =
       let w = x.0 in
       let y = of_register-In r (operations h) w x.1.within in
       none w (record { there = y.0; register = y.1; value = x.2 ∙ q; full = inl x.1.write }) x.1.write
 
-  pub one-written : (v : Val) → o.value ≡ Some v → (name : Oper) → IsWriteOf h r v (Some name)
+  pub one-written : (v : Val) → value_of o ≡ Some v → (name : Oper) → IsWriteOf h r v (Some name)
       → (w : Operation) × IsNamed h name w
       × (Overlaps w o ↔ HasOverlappedValue (of_register r (operations h)) o)
   one-written v q name x =
@@ -101,24 +102,24 @@ module _ (h : History) (rec : IsRecorded h) (r : ℕ) (o : Operation) (i : In o 
         subst (IsOldWrite (of_register r (operations h)) o)
         (one-named h e.old_write x.0 w x.1 named) x.2
 
-    has-old : w.value ≡ o.value → HasOldValue (of_register r (operations h)) o
+    has-old : (value_of w) ≡ value_of o → HasOldValue (of_register r (operations h)) o
     has-old q = (w, is-old, q)
 
-    old-value : HasOldValue (of_register r (operations h)) o → w.value ≡ o.value
+    old-value : HasOldValue (of_register r (operations h)) o → value_of w ≡ (value_of o)
     old-value x =
         let a = is-old in
         let b = x.1 in
         let u = b.last w a.within a.write a.before in
         let v = a.last x.0 b.within b.write b.before in
         let same : x.0 ≡ w = (accepted-history h rec r).calls x.0 w b.within a.within (omega (arith, u, v)) in
-        sym (ap (λ (z : Operation). z.value) same) ∙ x.2
+        sym (ap value_of same) ∙ x.2
 
-    pub old-keeps : (level : Level) → w.value ≡ o.value → Keeps level (of_register r (operations h)) o
+    pub old-keeps : (level : Level) → value_of w ≡ value_of o → Keeps level (of_register r (operations h)) o
     old-keeps Safe q = λ none. has-old q
     old-keeps Regular q = inl (has-old q)
 
     -- a safe register gives a read of another value only where a write overlaps it
-    pub safe-keeps : (w.value ≡ o.value → ⊥)
+    pub safe-keeps : (value_of w ≡ value_of o → ⊥)
         → IsTrue e.is_overlapped ↔ Keeps Safe (of_register r (operations h)) o
     safe-keeps differs = (
       λ t none. absurd (let x = (entry.overlapped single).0 t in none x.0 x.1),
@@ -132,7 +133,7 @@ module _ (h : History) (rec : IsRecorded h) (r : ℕ) (o : Operation) (i : In o 
             absurd (differs
             (old-value (keeps (λ v over. false≢true (sym q ∙ (entry.overlapped single).1 (v, over))))))
 
-    pub regular-keeps : (w.value ≡ o.value → ⊥) → HasOverlappedValue (of_register r (operations h)) o
+    pub regular-keeps : (value_of w ≡ value_of o → ⊥) → HasOverlappedValue (of_register r (operations h)) o
         ↔ Keeps Regular (of_register r (operations h)) o
     regular-keeps differs =
         (λ x. inr x, λ keeps. elim keeps [ inl old ↦ absurd (differs (old-value old)) | inr x ↦ x ])

@@ -5,14 +5,16 @@ use Rattle.std.proofs.lemmas.List.Elements.{filter-append}
 use Rattle.history_model.specs.Lists.{In, Before}
 use Rattle.history_model.specs.History.{History}
 use Rattle.history_model.specs.Lamport.{is_completed_read, completed_reads}
-use Rattle.history_model.specs.Operations.{Operation, operation, operations, next_of, reply_in}
-use Rattle.history_model.specs.Operations.{begins, kind_in, number_in, calls, calls_from}
+use Rattle.history_model.specs.Operations.{operation, operations, next_of, reply_in}
+use Rattle.history_model.specs.declared.operation.Operation.{Operation}
+use Rattle.history_model.specs.Operations.{begins, kind_in, op_kind, number_in, calls, calls_from, writes}
 use Rattle.history_model.specs.Operations.{initial_write, initial_writes, of_register}
 use Rattle.history_model.specs.Walking.{called_at}
 use Rattle.history_model.specs.declared.event.Event.{Event}
 use Rattle.history_model.proofs.Recorded.{of_register-In, In-of_register, initials-In}
 use Rattle.history_model.proofs.Walking.{is-called, operation-call}
 use Rattle.history_model.proofs.Lists.{append-In, In-right, filter-Before}
+use Rattle.history_model.proofs.Plain.{plain-kind}
 
 -- ---- among the operations
 
@@ -41,13 +43,13 @@ called_at-process es i e =
     go n t None = refl
     go n t (Some r) = refl
 
-pub called_at-kind : (es : List Event) (i : ℕ) (e : Event) → (called_at es i e).kind ≡ kind_in e.what
+pub called_at-kind : (es : List Event) (i : ℕ) (e : Event) → op_kind (called_at es i e) ≡ kind_in e.what
 called_at-kind es i e =
     go (length es + 2) (i + 2) (reply_in (next_of e.process (suc (i + 2)) (drop (suc i) es)))
   where
-    go : (n t : ℕ) (r : Option (ℕ × Event)) → (operation n t e r).kind ≡ kind_in e.what
-    go n t None = refl
-    go n t (Some r) = refl
+    go : (n t : ℕ) (r : Option (ℕ × Event)) → op_kind (operation n t e r) ≡ kind_in e.what
+    go n t None = plain-kind (kind_in e.what) e.value
+    go n t (Some r) = plain-kind (kind_in e.what) (cond (writes (kind_in e.what)) e.value r.1.value)
 
 pub called_at-register : (es : List Event) (i : ℕ) (e : Event)
     → (called_at es i e).register ≡ number_in e.register

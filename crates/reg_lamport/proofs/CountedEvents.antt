@@ -12,7 +12,8 @@ use Rattle.history_text.specs.declared.limits.TheConstants.{MAX_EVENTS}
 use Rattle.history_model.specs.Lists.{In}
 use Rattle.history_model.specs.History.{History, IsRecorded}
 use Rattle.history_model.specs.Lamport.{HasSingleWriter, completed_reads, is_completed_read}
-use Rattle.history_model.specs.Operations.{Operation, operations, calls, of_register, kind_in, writes}
+use Rattle.history_model.specs.Operations.{operations, calls, of_register, kind_in, writes}
+use Rattle.history_model.specs.declared.operation.Operation.{Operation}
 use Rattle.history_model.specs.Naming.{begins_at}
 use Rattle.history_model.specs.Walking.{by_register, called_at}
 use Rattle.history_model.specs.declared.event.Event.{Event}
@@ -21,6 +22,7 @@ use Rattle.history_model.proofs.Lists.{slice_get-set, slice_get-set_other}
 use Rattle.history_model.proofs.Named.{calls-have-registers}
 use Rattle.history_model.proofs.Recorded.{of_register-In}
 use Rattle.history_model.proofs.Walking.{begins-call, calls-few, number-known}
+use Rattle.history_model.proofs.Plain.{changes-kind}
 use Rattle.reg_lamport.specs.Counts.{AreCounted, IsReadCount, count_by_writer, count_shown}
 use Rattle.reg_lamport.specs.Counts.{counted, is_reply_to_read, nothing_counted, with_write}
 use Rattle.reg_lamport.specs.Writers.{begins_write}
@@ -109,8 +111,8 @@ module _ (h : History) (rec : IsRecorded h) (n : ℕ) (e : Event) (at : slice_ge
           left-call h r n e at q ∙ ap (λ b. cond b (o ∷ rest) rest) d in
           let by : caller o ≡ e.process =
           ap (λ p. unwrap_or p 0) (called_at-process h.events n e) in
-          sym (ap (λ k. writer_after (cond (writes k) (with_write c.writer (caller o)) c.writer) rest)
-          (called_at-kind h.events n e)
+          sym (ap (λ w. writer_after (cond w (with_write c.writer (caller o)) c.writer) rest)
+          (changes-kind o.act ∙ ap writes (called_at-kind h.events n e))
           ∙ ap (λ p. writer_after (cond (writes (kind_in e.what)) (with_write c.writer p) c.writer) rest) by)
           ∙ (sym (ap (writer_after c.writer) left) ∙ i.writer)
 

@@ -8,7 +8,8 @@ use Rattle.std.proofs.lemmas.Option.{slice_get_within}
 use Rattle.history_model.specs.Lists.{In, Before}
 use Rattle.history_model.specs.History.{History}
 use Rattle.history_model.specs.Lamport.{is_completed_read, completed_reads}
-use Rattle.history_model.specs.Operations.{Operation, IsCompletedRead, of_register, operations, calls}
+use Rattle.history_model.specs.Operations.{IsCompletedRead, of_register, operations, calls}
+use Rattle.history_model.specs.declared.operation.Operation.{Operation}
 use Rattle.history_model.specs.Naming.{IsNamed}
 use Rattle.history_model.specs.declared.ids.EvId.{EvId}
 use Rattle.history_model.specs.declared.ids.Oper.TheVariants.{Called}

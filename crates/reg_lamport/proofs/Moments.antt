@@ -6,7 +6,8 @@ use Rattle.std.proofs.lemmas.Bool.{or_cases, or_left, or_right, cases_order}
 use Rattle.history_model.specs.Lists.{In}
 use Rattle.history_model.specs.History.{History}
 use Rattle.history_model.specs.Lamport.{HasSingleWriter, IsOldWrite}
-use Rattle.history_model.specs.Operations.{Operation, IsHistory, IsWrite, is_write, Precedes, Overlaps}
+use Rattle.history_model.specs.Operations.{IsHistory, IsWrite, is_write, Precedes, Overlaps}
+use Rattle.history_model.specs.declared.operation.Operation.{Operation}
 use Rattle.history_model.specs.Naming.{IsNamed}
 use Rattle.history_model.specs.declared.ids.EvId.{EvId}
 use Rattle.history_model.specs.declared.ids.Oper.{Oper}

@@ -8,7 +8,8 @@ use Rattle.std.proofs.lemmas.Option.{slice_get-get_or}
 use Rattle.history_model.specs.Lists.{In}
 use Rattle.history_model.specs.History.{History}
 use Rattle.history_model.specs.Lamport.{HasSingleWriter, is_completed_read, completed_reads}
-use Rattle.history_model.specs.Operations.{Operation, IsCompletedRead, is_write, of_register, operations}
+use Rattle.history_model.specs.Operations.{IsCompletedRead, is_write, of_register, operations}
+use Rattle.history_model.specs.declared.operation.Operation.{Operation}
 use Rattle.history_model.specs.Naming.{IsNamed}
 use Rattle.history_model.specs.declared.ids.Oper.TheVariants.{Called}
 use Rattle.reg_lamport.specs.Levels.{Keeps, AllKeep, IsFirstBadNamed}

@@ -4,7 +4,8 @@ use Rattle.std.proofs.Common.{Some, ◌⊎◌, inl, inr, refl, sym, ap, subst, �
 use Rattle.std.proofs.lemmas.Bool.{eqb-true, eq-eqb, false≢true}
 use Rattle.history_model.specs.Lists.{In}
 use Rattle.history_model.specs.Lamport.{HasSingleWriter}
-use Rattle.history_model.specs.Operations.{Operation, IsWrite, is_write}
+use Rattle.history_model.specs.Operations.{IsWrite, is_write}
+use Rattle.history_model.specs.declared.operation.Operation.{Operation}
 use Rattle.reg_lamport.specs.Counts.{with_write}
 use Rattle.reg_lamport.specs.declared.counts.Writer.{Writer}
 use Rattle.reg_lamport.specs.declared.counts.Writer.TheVariants.{Nobody, One, Several}

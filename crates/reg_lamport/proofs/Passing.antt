@@ -8,8 +8,9 @@ use Rattle.std.proofs.lemmas.List.Elements.{filter-append}
 use Rattle.history_model.specs.Lists.{In, Before}
 use Rattle.history_model.specs.History.{History, IsRecorded}
 use Rattle.history_model.specs.Lamport.{is_completed_read, completed_reads}
-use Rattle.history_model.specs.Operations.{Operation, operations, calls, initial_write}
-use Rattle.history_model.specs.Operations.{initial_writes, of_register, is_write}
+use Rattle.history_model.specs.Operations.{operations, calls, initial_write}
+use Rattle.history_model.specs.declared.operation.Operation.{Operation}
+use Rattle.history_model.specs.Operations.{initial_writes, is_write, op_kind, of_register, writes}
 use Rattle.history_model.specs.Walking.{IsFirstOf, IsNextOf, by_register, called_at, calls_at, IsOnWalk}
 use Rattle.history_model.specs.Naming.{IsNamed, begins_at, op_shown}
 use Rattle.history_model.specs.declared.ids.EvId.{EvId}
@@ -29,6 +30,7 @@ use Rattle.reg_lamport.proofs.Moments.{IsMoment, IsLastTwo, IsEntrySoFar, IsSett
 use Rattle.reg_lamport.proofs.Moments.{entry-stays, settled-stays, last-stays, read-entry}
 use Rattle.reg_lamport.proofs.Moments.{entry-told, settled-told, last-moves}
 use Rattle.history_model.proofs.Lists.{Before-across, Before-right, append-In, In-left, In-right}
+use Rattle.history_model.proofs.Plain.{changes-kind}
 
 -- The calls seen are those before the walk's place. The entries in front were called before the
 -- last write, and the fresh ones after it.
@@ -319,7 +321,7 @@ module _ (h : History) (rec : IsRecorded h) (r : ℕ) where
 
       pub gathering-adds : (end : ℕ) → end ≡ length h.events + 2
           → IsGathering h r (call_met end g i (op_shown o)) next
-      gathering-adds end final = go (is_write o) refl o.completed refl
+      gathering-adds end final = go (writes (op_kind o)) (changes-kind o.act) o.completed refl
         where
           reply-is : (c : Bool) → o.completed ≡ c → unwrap_or (cond c (Some o.reply) None) end ≡ o.reply
           reply-is true d = refl

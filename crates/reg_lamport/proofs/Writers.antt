@@ -5,7 +5,8 @@ use Rattle.std.proofs.lemmas.Bool.{eqb-true, eq-eqb, false≢true, and_parts}
 use Rattle.history_model.specs.Lists.{In}
 use Rattle.history_model.specs.History.{History, IsRecorded}
 use Rattle.history_model.specs.Lamport.{HasSingleWriter}
-use Rattle.history_model.specs.Operations.{Operation, operations, calls, calls_from}
+use Rattle.history_model.specs.Operations.{operations, calls, calls_from, op_kind}
+use Rattle.history_model.specs.declared.operation.Operation.{Operation}
 use Rattle.history_model.specs.Operations.{of_register, IsWrite, kind_in, writes}
 use Rattle.history_model.specs.Walking.{IsFirstOf, IsNextOf, by_register, called_at, calls_at, IsOnWalk}
 use Rattle.history_model.specs.Naming.{begins_at}
@@ -16,6 +17,7 @@ use Rattle.history_model.proofs.Walking.{HaveRegisters, number-known, drop-at, w
 use Rattle.history_model.proofs.Walking.{walk-goes, walk-first, walk-next, event-at}
 use Rattle.history_model.specs.declared.ids.EvId.{EvId}
 use Rattle.history_model.specs.declared.event.Event.{Event}
+use Rattle.history_model.proofs.Plain.{changes-kind}
 use Rattle.reg_lamport.specs.Writers.{begins_write, is_another}
 use Rattle.reg_lamport.proofs.Calls.{called-In, In-called, called_at-process}
 use Rattle.reg_lamport.proofs.Calls.{called_at-register, called_at-kind}
@@ -105,7 +107,7 @@ module _ (h : History) (rec : IsRecorded h) (r : ℕ) (writer : Option ℕ) (i :
   is-met w =
       let x = and_parts (begins_at h.events i.0 e) (writes (kind_in e.what)) w in (
         so_far.inside (called_at h.events i.0 e) (met r h.events i e at own-event x.0),
-        ap writes (called_at-kind h.events i.0 e) ∙ x.1,
+        changes-kind (called_at h.events i.0 e).act ∙ (ap writes (called_at-kind h.events i.0 e) ∙ x.1),
       )
 
   -- an event that begins no write leaves the writer
@@ -123,7 +125,8 @@ module _ (h : History) (rec : IsRecorded h) (r : ℕ) (writer : Option ℕ) (i :
         | inl c ↦ absurd
             (false≢true (sym none
             ∙ writes-call c.0
-            (ap writes (sym (ap (λ (z : Operation). z.kind) c.1 ∙ called_at-kind h.events i.0 e)) ∙ w)))
+            (ap writes (sym (ap op_kind c.1 ∙ called_at-kind h.events i.0 e)) ∙ (sym (changes-kind o.act)
+                ∙ w))))
       ]
     ];
     known = so_far.known;

@@ -3,7 +3,8 @@ use Rattle.std.specs.Prelude.{◌≡◌, ◌↔◌, ℕ, IsTrue, List}
 use Rattle.std.specs.List.{AllZip}
 use Rattle.history_model.specs.Lists.{In}
 use Rattle.history_model.specs.History.{History, IsRecorded}
-use Rattle.history_model.specs.Operations.{Operation, IsCompletedRead, operations, of_register}
+use Rattle.history_model.specs.Operations.{IsCompletedRead, operations, of_register}
+use Rattle.history_model.specs.declared.operation.Operation.{Operation}
 use Rattle.history_model.specs.Lamport.{HasSingleWriter, IsOldWrite, IsOverlappedWrite, completed_reads}
 use Rattle.history_model.specs.Naming.{IsNamed, op_shown}
 use Rattle.history_model.specs.declared.ids.Oper.{Oper}

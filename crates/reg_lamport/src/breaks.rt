@@ -1,7 +1,8 @@
 //! The first read that breaks a level.
 ghost use Rattle.std.specs.Prelude.{◌≡◌, ◌≤◌, ◌↔◌, length, IsTrue};
 ghost use Rattle.history_model.specs.Lamport.{HasOverlappedValue, HasSingleWriter};
-ghost use Rattle.history_model.specs.Operations.{Operation, Overlaps, of_register, operations};
+ghost use Rattle.history_model.specs.Operations.{Overlaps, of_register, operations};
+ghost use Rattle.history_model.specs.declared.operation.Operation.{Operation};
 ghost use Rattle.history_model.specs.Naming.{IsNamed, IsOper};
 ghost use Rattle.reg_lamport.specs.Levels.{IsFirstBadNamed, Keeps};
 ghost use Rattle.reg_lamport.specs.Reads.{IsListed, IsReadList, IsReadShown};

@@ -2,7 +2,8 @@
 ghost use Rattle.std.specs.Prelude.{◌≡◌, ◌≤◌, ℕ, List, length, Option};
 ghost use Rattle.std.specs.Option.{option_or};
 ghost use Rattle.history_model.specs.History.{History};
-ghost use Rattle.history_model.specs.Operations.{Operation, of_register, operations};
+ghost use Rattle.history_model.specs.Operations.{of_register, operations};
+ghost use Rattle.history_model.specs.declared.operation.Operation.{Operation};
 ghost use Rattle.history_model.specs.Naming.{IsNamed};
 ghost use Rattle.history_model.specs.declared.ids.EvId.{EvId};
 ghost use Rattle.history_model.specs.declared.ids.Oper.TheVariants.{Called};

@@ -5,7 +5,8 @@ use Rattle.std.proofs.lemmas.Bool.{eqb-true}
 use Rattle.std.proofs.lemmas.List.Sums.{length-filter, count_by-le-length}
 use Rattle.history_model.specs.History.{History}
 use Rattle.history_model.specs.Lamport.{is_completed_read}
-use Rattle.history_model.specs.Operations.{Operation, operations, of_register}
+use Rattle.history_model.specs.Operations.{operations, of_register}
+use Rattle.history_model.specs.declared.operation.Operation.{Operation}
 use Rattle.history_model.specs.Operations.{initial_writes, calls, register_of}
 use Rattle.reg_lamport.specs.Counts.{AreReadCounts, IsReadCount}
 use Rattle.reg_pieces.specs.Plan.{AreCutsOf, AreTasks}

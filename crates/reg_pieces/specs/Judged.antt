@@ -1,7 +1,7 @@
 -- Whether a register is atomic.
 use Rattle.std.specs.Prelude.{List, [], Bool, true, false}
 use Rattle.history_model.specs.Legal.{IsAtomic}
-use Rattle.history_model.specs.Operations.{Operation}
+use Rattle.history_model.specs.declared.operation.Operation.{Operation}
 use Rattle.reg_zones.specs.Faults.{IsFault}
 use Rattle.reg_zones.specs.Order.{IsOrder}
 use Rattle.reg_pieces.specs.declared.judgement.Judgement.{Judgement}

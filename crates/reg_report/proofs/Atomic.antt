@@ -7,7 +7,8 @@ use Rattle.std.proofs.lemmas.List.Concat.{flat_map-append}
 use Rattle.history_model.specs.Lists.{In}
 use Rattle.history_model.specs.History.{History}
 use Rattle.history_model.specs.Operations.{operations, register_of}
-use Rattle.reg_zones.specs.Order.{PlacedOperation, IsOrder, placed, operations_of}
+use Rattle.reg_zones.specs.Order.{IsOrder}
+use Rattle.history_model.specs.Placed.{PlacedOperation, placed, operations_of}
 use Rattle.reg_zones.specs.declared.placed.Placed.{Placed}
 use Rattle.history_model.proofs.Lists.{In-map}
 use Rattle.reg_pieces.specs.Judged.{IsJudged}

@@ -3,7 +3,6 @@ mod Tallying
 mod Naming
 mod MergedLines
 mod MergedOrder
-mod Restrict
 mod Locality
 mod Elements
 mod Chaining

@@ -1,16 +1,17 @@
 -- The merged order of legal orders is a legal order of the whole history.
 use Rattle.std.proofs.Common.{◌≡◌, ℕ, List, inl, inr, refl, sym, ap, subst, ◌∙◌, arith}
 use Rattle.history_model.specs.Lists.{In, Before}
-use Rattle.history_model.specs.Operations.{Operation, Precedes, IsHistory, of_register}
+use Rattle.history_model.specs.Operations.{Precedes, IsHistory, of_register}
+use Rattle.history_model.specs.declared.operation.Operation.{Operation}
 use Rattle.history_model.specs.Legal.{IsLegal}
-use Rattle.reg_zones.specs.Order.{PlacedOperation, placed, operations_of}
+use Rattle.history_model.specs.Placed.{PlacedOperation, placed, operations_of}
 use Rattle.history_model.proofs.Lists.{In-map, map-In, Before-first, Before-second}
 use Rattle.history_model.proofs.Lists.{Before-total, Before-trans, Before-map, map-Before}
-use Rattle.reg_zones.proofs.Points.{operations_of-placed, rising, placed-In, within_life}
+use Rattle.history_model.proofs.Placed.{operations_of-placed, rising, placed-In, history-timed, within_life}
 use Rattle.reg_report.specs.Merged.{IsMerged}
 use Rattle.history_model.proofs.Recorded.{of_register-In, In-of_register}
 
-pub placed-once : (ops order : List Operation) → IsLegal ops order → (x : PlacedOperation)
+placed-once : (ops order : List Operation) → IsLegal ops order → (x : PlacedOperation)
     → Before x x (placed order) → ⊥
 placed-once ops order l x b =
     l.completion.once x.operation
@@ -98,10 +99,10 @@ module _ (ops : List Operation) (orders : ℕ → List Operation) (merged : List
       let kx = k.0.operation.register in
       let ky = k.1.operation.register in
       let from =
-      (within_life (of_register kx ops) (orders kx) (y kx) (l kx) k.0
+      (within_life (of_register kx ops) (orders kx) (history-timed (of_register kx ops) (y kx)) (l kx) k.0
       (m.only k.0 (Before-first k.0 k.1 merged k.2))).called in
       let to =
-      (within_life (of_register ky ops) (orders ky) (y ky) (l ky) k.1
+      (within_life (of_register ky ops) (orders ky) (history-timed (of_register ky ops) (y ky)) (l ky) k.1
       (m.only k.1 (Before-second k.0 k.1 merged k.2))).unreplied in
       let ca = ap (λ (o : Operation). o.call) k.3 in
       let rb = ap (λ (o : Operation). o.reply) k.4 in
@@ -120,8 +121,8 @@ module _ (ops : List Operation) (orders : ℕ → List Operation) (merged : List
           ((l a.register).completion.all a (In-of_register a.register ops a i refl) d);
     };
     keeps = keeps;
-    latest = λ r i d.
-        let n = (l r.register).latest r (merged-In r i) d in (
+    met = λ r i d.
+        let n = (l r.register).met r (merged-In r i) d in (
           n.0,
           record {
             write = n.1.write;

@@ -3,7 +3,8 @@
 use Rattle.std.proofs.Common.{◌≡◌, ℕ, Some, refl, sym, ap, subst, ◌∙◌}
 use Rattle.history_model.specs.Lists.{In}
 use Rattle.history_model.specs.History.{History}
-use Rattle.history_model.specs.Operations.{Operation, operations, of_register}
+use Rattle.history_model.specs.Operations.{operations, of_register}
+use Rattle.history_model.specs.declared.operation.Operation.{Operation}
 use Rattle.history_model.specs.Naming.{IsNamed, IsOper, name_of}
 use Rattle.history_model.specs.declared.ids.Oper.{Oper}
 use Rattle.history_model.proofs.Named.{has-oper, one-named}

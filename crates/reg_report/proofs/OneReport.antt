@@ -4,20 +4,21 @@ use Rattle.std.proofs.Common.{Option, Some, inl, inr, refl, sym, ap, subst, â—Œâ
 use Rattle.std.proofs.lemmas.Bool.{cases_order}
 use Rattle.history_model.specs.Lists.{In, Before}
 use Rattle.history_model.specs.History.{History}
-use Rattle.history_model.specs.Operations.{Operation, IsHistory, operations, register_of}
+use Rattle.history_model.specs.Operations.{IsHistory, operations, register_of}
+use Rattle.history_model.specs.declared.operation.Operation.{Operation}
 use Rattle.history_model.specs.Naming.{IsNamed, name_of}
 use Rattle.history_model.specs.declared.ids.Oper.{Oper}
 use Rattle.reg_lamport.specs.Levels.{IsFirstBadRead}
 use Rattle.reg_lamport.specs.declared.level.Level.{Level}
 use Rattle.reg_lamport.specs.declared.level.Level.TheVariants.{Safe, Regular}
 use Rattle.reg_zones.specs.Inversions.{inversion_named}
-use Rattle.reg_zones.specs.Order.{PlacedOperation, placed}
+use Rattle.history_model.specs.Placed.{PlacedOperation, placed}
 use Rattle.reg_zones.specs.declared.fault.Fault.{Fault}
 use Rattle.reg_zones.specs.declared.fault.Fault.TheVariants as fault
 use Rattle.reg_zones.proofs.OneFault.{one_fault}
 use Rattle.reg_zones.proofs.Unique.{ascending_one, one_canonical, sooner_one_way}
 use Rattle.history_model.proofs.Lists.{Before-map}
-use Rattle.reg_zones.proofs.Points.{operations_of-placed}
+use Rattle.history_model.proofs.Placed.{operations_of-placed}
 use Rattle.reg_report.specs.First.{AreFoundLines, IsFirstReport}
 use Rattle.reg_report.specs.Meaning.{IsVerdict, HasLine, HaveLines, ShowsFault, IsAtomicity}
 use Rattle.reg_report.specs.Meaning.{IsInversionShown, IsInversionAnswer, IsWholeAtomicity}

@@ -6,7 +6,8 @@ use Rattle.std.proofs.lemmas.Option.{slice_get_within, slice_get-get_or}
 use Rattle.std.proofs.lemmas.List.{drop_more}
 use Rattle.history_model.specs.Lists.{In}
 use Rattle.history_model.specs.History.{History}
-use Rattle.history_model.specs.Operations.{Operation, operations, register_of}
+use Rattle.history_model.specs.Operations.{operations, register_of}
+use Rattle.history_model.specs.declared.operation.Operation.{Operation}
 use Rattle.history_model.specs.Naming.{name_by, name_of}
 use Rattle.history_model.specs.declared.event.Event.{Event}
 use Rattle.history_model.specs.declared.ids.EvId.{EvId}
@@ -14,9 +15,10 @@ use Rattle.history_model.specs.declared.ids.RegId.{RegId}
 use Rattle.history_model.specs.declared.ids.Oper.{Oper}
 use Rattle.history_model.specs.declared.ids.Oper.TheVariants.{Initial, Called}
 use Rattle.reg_zones.specs.declared.placed.Placed.{Placed}
-use Rattle.reg_zones.specs.Order.{PlacedOperation, placed, shown}
+use Rattle.reg_zones.specs.Order.{shown}
+use Rattle.history_model.specs.Placed.{PlacedOperation, placed}
 use Rattle.history_model.proofs.Lists.{map-In, Before-first, slice_get-In}
-use Rattle.reg_zones.proofs.Points.{after_call, reached, placed-In}
+use Rattle.history_model.proofs.Placed.{after_call, reached, placed-In}
 use Rattle.reg_zones.proofs.Registers.{cases_process}
 use Rattle.reg_report.specs.Lines.{HasCall, HasPoint, HaveCalls, HavePoints, call_of}
 use Rattle.reg_report.specs.Lines.{line_if_called, call_line, point_line, lines_by}
@@ -109,7 +111,7 @@ module _ (h : History) (t : ObeysLaws h) where
         → (2 ≤ x.point) × (x.point - 2 < length h.events)
     point-call x p i e =
         let late : 2 ≤ x.point =
-        omega (arith, (called x.operation p (placed-inside x i) e).1, after_call 0 order x i) in
+        omega (arith, (called x.operation p (placed-inside x i) e).1, after_call order x i) in
         let at : (b : Operation) → In b order → x.point ≡ b.call → x.point - 2 < length h.events =
         λ b j q. elim (cases_process b.process) [
           | inl n ↦ absurd (omega (

@@ -9,10 +9,12 @@ use Rattle.std.proofs.lemmas.List.{length-set, length-replicate}
 use Rattle.std.proofs.lemmas.List.Sums.{sum_by-cons, length-filter, count_by-le-length}
 use Rattle.history_text.specs.declared.limits.TheConstants.{MAX_EVENTS}
 use Rattle.history_model.specs.History.{History}
-use Rattle.history_model.specs.Operations.{Operation, calls, is_write, writes}
+use Rattle.history_model.specs.Operations.{calls, is_write, writes}
+use Rattle.history_model.specs.declared.operation.Operation.{Operation}
 use Rattle.history_model.specs.Naming.{IsNamed, begins_at, op_shown}
 use Rattle.history_model.specs.Walking.{called_at}
 use Rattle.history_model.proofs.Walking.{named-is-called, calls-few}
+use Rattle.history_model.proofs.Plain.{changes-kind}
 use Rattle.history_model.specs.declared.ids.Oper.TheVariants.{Called}
 use Rattle.history_model.specs.declared.event.Event.{Event}
 use Rattle.history_model.specs.declared.op.Op.{Op}
@@ -93,7 +95,8 @@ more : (h : History) (r n : ℕ) (t : Tally) (a : Operation) (p : Op)
     → IsCounting h r (n + 1) (counted p t)
 more h r n t a p q shown c =
     let rest = calls_left h r (n + 1) in
-    let w : is_write a ≡ writes p.kind = sym (ap (λ (x : Op). writes x.kind) shown) in
+    let w : is_write a ≡ writes p.kind =
+    changes-kind a.act ∙ sym (ap (λ (x : Op). writes x.kind) shown) in
     let u : is_pending a ≡ is_none p.reply = sym (ap (λ (x : Op). is_none x.reply) shown ∙ pending-shown a) in
     record {
       write =

@@ -1,7 +1,7 @@
 -- What a register's line says of whether it is atomic.
 use Rattle.std.specs.Prelude.{List, true, false, Some, None}
 use Rattle.history_model.specs.History.{History}
-use Rattle.history_model.specs.Operations.{Operation}
+use Rattle.history_model.specs.declared.operation.Operation.{Operation}
 use Rattle.reg_report.specs.Meaning.{IsAtomicity, IsInversionAnswer}
 use Rattle.reg_report.specs.declared.register.Atomicity.{Atomicity}
 use Rattle.reg_report.specs.declared.register.Atomicity.TheVariants.{Yes, No}

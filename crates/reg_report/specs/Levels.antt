@@ -1,6 +1,6 @@
 -- What is said of the two levels of a register's operations.
 use Rattle.std.specs.Prelude.{List}
-use Rattle.history_model.specs.Operations.{Operation}
+use Rattle.history_model.specs.declared.operation.Operation.{Operation}
 use Rattle.reg_lamport.specs.declared.level.Level.{Level}
 use Rattle.reg_lamport.specs.declared.level.Level.TheVariants.{Safe, Regular}
 use Rattle.reg_report.specs.Meaning.{IsVerdict}

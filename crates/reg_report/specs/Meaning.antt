@@ -4,7 +4,8 @@ use Rattle.std.specs.Prelude.{Bool, true, false, not, Option, Some, None, is_som
 use Rattle.std.specs.List.{filter}
 use Rattle.history_model.specs.History.{History}
 use Rattle.history_model.specs.Legal.{IsLegal, IsAtomic}
-use Rattle.history_model.specs.Operations.{Operation, operations, calls, of_register, is_write, register_of}
+use Rattle.history_model.specs.Operations.{operations, calls, of_register, is_write, register_of}
+use Rattle.history_model.specs.declared.operation.Operation.{Operation}
 use Rattle.history_model.specs.declared.event.Event.{Event}
 use Rattle.history_model.specs.Lamport.{HasSingleWriter}
 use Rattle.history_model.specs.Naming.{IsNamed, name_of}
@@ -14,7 +15,8 @@ use Rattle.reg_lamport.specs.declared.level.Level.{Level}
 use Rattle.reg_lamport.specs.declared.level.Level.TheVariants.{Safe, Regular}
 use Rattle.reg_zones.specs.Faults.{IsFault}
 use Rattle.reg_zones.specs.Inversions.{IsInversion, inversion_named}
-use Rattle.reg_zones.specs.Order.{PlacedOperation, IsCanonical, placed}
+use Rattle.reg_zones.specs.Order.{IsCanonical}
+use Rattle.history_model.specs.Placed.{PlacedOperation, placed}
 use Rattle.reg_zones.specs.declared.fault.Fault.{Fault}
 use Rattle.reg_zones.specs.declared.fault.Fault.TheVariants as fault
 use Rattle.reg_report.specs.Merged.{IsWholeOrder}

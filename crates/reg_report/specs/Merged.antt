@@ -5,8 +5,10 @@ use Rattle.std.specs.List.{flat_map}
 use Rattle.history_model.specs.Lists.{In, Before}
 use Rattle.history_model.specs.History.{History}
 use Rattle.history_model.specs.Legal.{IsLegal}
-use Rattle.history_model.specs.Operations.{Operation, operations, register_of}
-use Rattle.reg_zones.specs.Order.{PlacedOperation, IsCanonical, IsOrder, placed, operations_of, shown}
+use Rattle.history_model.specs.Operations.{operations, register_of}
+use Rattle.history_model.specs.declared.operation.Operation.{Operation}
+use Rattle.reg_zones.specs.Order.{IsCanonical, IsOrder, shown}
+use Rattle.history_model.specs.Placed.{PlacedOperation, placed, operations_of}
 use Rattle.reg_zones.specs.declared.placed.Placed.{Placed}
 
 -- by point, then by register, then as in the register's order

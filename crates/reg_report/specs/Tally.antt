@@ -2,7 +2,8 @@
 use Rattle.std.specs.Prelude.{◌≡◌, ◌+◌, ◌^◌, ◌<◌, ℕ, List, length, slice_get}
 use Rattle.std.specs.Prelude.{Some, count_by, not, cond, is_none}
 use Rattle.history_model.specs.History.{History}
-use Rattle.history_model.specs.Operations.{Operation, calls, is_write, writes}
+use Rattle.history_model.specs.Operations.{calls, is_write, writes}
+use Rattle.history_model.specs.declared.operation.Operation.{Operation}
 use Rattle.history_model.specs.declared.op.Op.{Op}
 use Rattle.reg_report.specs.Meaning.{calls_of, is_pending}
 use Rattle.reg_report.specs.declared.tally.CallCounts.{CallCounts}

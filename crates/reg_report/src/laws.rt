@@ -3,8 +3,9 @@
 ghost use Rattle.std.specs.Prelude.{◌≡◌, ◌↔◌, ℕ, List};
 ghost use Rattle.history_model.specs.History.{History, IsRecorded};
 ghost use Rattle.history_model.specs.Legal.{IsLegal, IsAtomic};
-ghost use Rattle.history_model.specs.Operations.{Operation, IsHistory, of_register, operations};
-ghost use Rattle.reg_zones.specs.Order.{PlacedOperation, operations_of};
+ghost use Rattle.history_model.specs.Operations.{IsHistory, of_register, operations};
+ghost use Rattle.history_model.specs.declared.operation.Operation.{Operation};
+ghost use Rattle.history_model.specs.Placed.{PlacedOperation, operations_of};
 ghost use Rattle.reg_report.specs.First.{IsFirstReport};
 ghost use Rattle.reg_report.specs.Meaning.{IsEachAtomic, IsReport};
 ghost use Rattle.reg_report.specs.Merged.{IsMerged};
@@ -17,13 +18,6 @@ pub fn merged_is_legal()
     ensures { (ops : List Operation) (orders : ℕ → List Operation) (merged : List PlacedOperation)
         → ((r : ℕ) → IsHistory (of_register r ops)) → ((r : ℕ) → IsLegal (of_register r ops) (orders r))
         → IsMerged orders merged → IsLegal ops (operations_of merged) }
-{}
-
-/// A legal order of the whole history, kept to one register's operations, is a legal order of the register
-/// (Herlihy and Wing, 1990, section 3.1: locality).
-pub fn restricted_is_legal()
-    ensures { (ops order : List Operation) (r : ℕ) → IsLegal ops order
-        → IsLegal (of_register r ops) (of_register r order) }
 {}
 
 /// A history is atomic exactly if each of its registers is.

@@ -1,7 +1,8 @@
 -- What a pass over low ends keeps, and what it finds.
 use Rattle.std.proofs.Common.{◌≡◌, ℕ, ◌+◌, ◌<◌, List, inl, inr, sym, subst, ◌∙◌, arith}
 use Rattle.std.proofs.lemmas.Bool.{cases_lt, cases_Bool}
-use Rattle.history_model.specs.Operations.{Operation, IsCompleted, IsHistory}
+use Rattle.history_model.specs.Operations.{IsCompleted, IsHistory, value_of}
+use Rattle.history_model.specs.declared.operation.Operation.{Operation}
 use Rattle.reg_zones.specs.Clusters.{low_end, IsKept, IsForward, IsConflict, IsLastForward}
 use Rattle.reg_zones.specs.Clusters.{IsClearBelow, IsFirstConflict, HasFirstReply, HasLastCall}
 use Rattle.reg_zones.proofs.Ends.{kept-member, first_reply-le}
@@ -10,12 +11,13 @@ use Rattle.reg_zones.proofs.Forward.{last_forward}
 
 -- no zone with the low end n conflicts with the last forward one below n
 pub clear_more : (ops : List Operation) (n : ℕ) → IsClearBelow ops n
-    → ((v w : Operation) → IsLastForward ops v n → IsKept ops w → low_end ops w.value ≡ n → IsConflict ops v w
+    → ((v w : Operation) → IsLastForward ops v n → IsKept ops w → low_end ops (value_of w) ≡ n
+    → IsConflict ops v w
     → ⊥) → IsClearBelow ops (n + 1)
-clear_more ops n clear here v w c lt b = elim (cases_lt (low_end ops w.value) n) [
+clear_more ops n clear here v w c lt b = elim (cases_lt (low_end ops (value_of w)) n) [
   | inl p ↦ clear v w c lt p
   | inr p ↦
-      let e : low_end ops w.value ≡ n = omega arith in
+      let e : low_end ops (value_of w) ≡ n = omega arith in
       let k =
       subst (IsLastForward ops v) e
       (last_forward ops v w c lt (subst (IsClearBelow ops) (sym e) clear)) in
@@ -24,7 +26,8 @@ clear_more ops n clear here v w c lt b = elim (cases_lt (low_end ops w.value) n)
 
 -- the first that conflicts
 pub first_found : (ops : List Operation) (v w : Operation) (n : ℕ) → IsClearBelow ops n → IsConflict ops v w
-    → low_end ops v.value < low_end ops w.value → low_end ops w.value ≡ n → IsFirstConflict ops v w
+    → low_end ops (value_of v) < low_end ops (value_of w) → low_end ops (value_of w) ≡ n
+    → IsFirstConflict ops v w
 first_found ops v w n clear c lt e = record {
   conflict = c;
   order = lt;
@@ -33,15 +36,15 @@ first_found ops v w n clear c lt e = record {
 
 -- the operation that replies first in a kept write's cluster is completed
 pub first_completed : (ops : List Operation) (v a : Operation) → IsHistory ops → IsKept ops v
-    → HasFirstReply ops v.value a → IsCompleted a
+    → HasFirstReply ops (value_of v) a → IsCompleted a
 first_completed ops v a y k f = elim (cases_Bool a.completed) [
   | inl d ↦ d
   | inr n ↦ absurd (elim k.kept [
     | inl d ↦
-        let le = first_reply-le ops v.value v (kept-member ops v k) in
+        let le = first_reply-le ops (value_of v) v (kept-member ops v k) in
         omega (arith, y.horizon a v f.member.within k.within n d, f.least)
     | inr r ↦
-        let le = first_reply-le ops v.value r.0 (record {
+        let le = first_reply-le ops (value_of v) r.0 (record {
           within = r.1;
           value = r.2.value;
           counts = inr r.2.completed;
@@ -51,18 +54,20 @@ first_completed ops v a y k f = elim (cases_Bool a.completed) [
 ]
 
 pub one_first_reply : (ops : List Operation) (v a b : Operation) → IsHistory ops → IsKept ops v
-    → HasFirstReply ops v.value a → HasFirstReply ops v.value b → a ≡ b
+    → HasFirstReply ops (value_of v) a → HasFirstReply ops (value_of v) b → a ≡ b
 one_first_reply ops v a b y k f g =
     y.replies a b f.member.within g.member.within (first_completed ops v a y k f)
     (first_completed ops v b y k g) (f.least ∙ sym g.least)
 
-pub one_last_call : (ops : List Operation) (v a b : Operation) → IsHistory ops → HasLastCall ops v.value a
-    → HasLastCall ops v.value b → a ≡ b
+pub one_last_call : (ops : List Operation) (v a b : Operation) → IsHistory ops
+    → HasLastCall ops (value_of v) a
+    → HasLastCall ops (value_of v) b → a ≡ b
 one_last_call ops v a b y f g = y.calls a b f.member.within g.member.within (f.greatest ∙ sym g.greatest)
 
 -- what follows is of a pass that meets at n the kept write w, or no zone
 module _ (ops : List Operation) (y : IsHistory ops) where
-  pub last_here : (w : Operation) (n : ℕ) → IsKept ops w → low_end ops w.value ≡ n → IsForward ops w.value
+  pub last_here : (w : Operation) (n : ℕ) → IsKept ops w → low_end ops (value_of w) ≡ n
+      → IsForward ops (value_of w)
       → IsLastForward ops w (n + 1)
   last_here w n k e f = record {
     kept = k;
@@ -73,7 +78,7 @@ module _ (ops : List Operation) (y : IsHistory ops) where
 
   -- nothing forward at n
   abbrev pub Backward : ℕ → Type 0
-  Backward n = (u : Operation) → IsKept ops u → low_end ops u.value ≡ n → IsForward ops u.value → ⊥
+  Backward n = (u : Operation) → IsKept ops u → low_end ops (value_of u) ≡ n → IsForward ops (value_of u) → ⊥
 
   pub last_stays : (v : Operation) (n : ℕ) → IsLastForward ops v n → Backward n → IsLastForward ops v (n + 1)
   last_stays v n l none = record {
@@ -81,22 +86,23 @@ module _ (ops : List Operation) (y : IsHistory ops) where
     forward = l.forward;
     below = let b = l.below in omega arith;
     last =
-        λ u k f b. elim (cases_lt (low_end ops u.value) n) [
+        λ u k f b. elim (cases_lt (low_end ops (value_of u)) n) [
           | inl p ↦ l.last u k f p
           | inr p ↦ absurd (none u k (omega arith) f)
         ];
   }
 
-  pub none_stays : (n : ℕ) → ((u : Operation) → IsKept ops u → IsForward ops u.value → low_end ops u.value < n
-      → ⊥) → Backward n → (u : Operation) → IsKept ops u → IsForward ops u.value
-      → low_end ops u.value < n + 1 → ⊥
+  pub none_stays : (n : ℕ) → ((u : Operation) → IsKept ops u → IsForward ops (value_of u)
+      → low_end ops (value_of u) < n
+      → ⊥) → Backward n → (u : Operation) → IsKept ops u → IsForward ops (value_of u)
+      → low_end ops (value_of u) < n + 1 → ⊥
   none_stays n l none u k f b =
-      elim (cases_lt (low_end ops u.value) n) [ inl p ↦ l u k f p | inr p ↦ none u k (omega arith) f ]
+      elim (cases_lt (low_end ops (value_of u)) n) [ inl p ↦ l u k f p | inr p ↦ none u k (omega arith) f ]
 
-  pub backward_from : (w : Operation) (n : ℕ) → IsKept ops w → low_end ops w.value ≡ n
-      → (IsForward ops w.value → ⊥) → Backward n
+  pub backward_from : (w : Operation) (n : ℕ) → IsKept ops w → low_end ops (value_of w) ≡ n
+      → (IsForward ops (value_of w) → ⊥) → Backward n
   backward_from w n k e no_f u a q f =
-      no_f (subst (λ (x : Operation). IsForward ops x.value) (same_low ops y u w a k (q ∙ sym e)) f)
+      no_f (subst (λ (x : Operation). IsForward ops (value_of x)) (same_low ops y u w a k (q ∙ sym e)) f)
 
   pub last_one : (v u : Operation) (n : ℕ) → IsLastForward ops v n → IsLastForward ops u n → v ≡ u
   last_one v u n a b =

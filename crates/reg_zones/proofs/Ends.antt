@@ -6,7 +6,8 @@ use Rattle.std.proofs.lemmas.Bool.{false≢true, or_cases, or_left, or_right}
 use Rattle.history_text.specs.Values.{same_value}
 use Rattle.history_text.specs.declared.event.Val.{Val}
 use Rattle.history_model.specs.Lists.{In}
-use Rattle.history_model.specs.Operations.{Operation, IsHistory, IsReadOf, is_write}
+use Rattle.history_model.specs.Operations.{IsHistory, IsReadOf, is_write, value_of}
+use Rattle.history_model.specs.declared.operation.Operation.{Operation}
 use Rattle.history_model.proofs.Lists.{In-map, map-In, In-filter, filter-In}
 use Rattle.reg_zones.proofs.Values.{same-true, eq-same}
 use Rattle.reg_zones.specs.Clusters.{least, least_from, greatest, IsKept, IsInCluster}
@@ -52,7 +53,7 @@ pub IsInCluster-in : (ops : List Operation) (v : Option Val) (a : Operation) →
     → In a (cluster ops v)
 IsInCluster-in ops v a m =
     In-filter (is_member v) a ops m.within
-    (and_from _ _ (eq-same a.value v m.value) (elim m.counts [
+    (and_from _ _ (eq-same (value_of a) v m.value) (elim m.counts [
       | inl w ↦ or_left (is_write a) a.completed w
       | inr d ↦ or_right (is_write a) a.completed d
     ]))
@@ -61,8 +62,12 @@ pub IsInCluster-from : (ops : List Operation) (v : Option Val) (a : Operation) �
     → IsInCluster ops v a
 IsInCluster-from ops v a i =
     let r = filter-In (is_member v) a ops i in
-    let p = and_parts (same_value a.value v) (is_write a || a.completed) r.1 in
-    record { within = r.0; value = same-true a.value v p.0; counts = or_cases (is_write a) a.completed p.1 }
+    let p = and_parts (same_value (value_of a) v) (is_write a || a.completed) r.1 in
+    record {
+      within = r.0;
+      value = same-true (value_of a) v p.0;
+      counts = or_cases (is_write a) a.completed p.1;
+    }
 
 module _ (ops : List Operation) (v : Option Val) (a : Operation) (m : IsInCluster ops v a) where
   pub first_reply-le : first_reply ops v ≤ a.reply
@@ -101,12 +106,12 @@ last_call-is ops v a m above =
     omega (arith, up, down, r.2)
 
 -- a kept write is of its own cluster
-pub kept-member : (ops : List Operation) (w : Operation) → IsKept ops w → IsInCluster ops w.value w
+pub kept-member : (ops : List Operation) (w : Operation) → IsKept ops w → IsInCluster ops (value_of w) w
 kept-member ops w k = record { within = k.within; value = refl; counts = inl k.write }
 
 -- a member of w's cluster is w, or a completed read of it
 pub member-is : (ops : List Operation) (y : IsHistory ops) (w a : Operation) → IsKept ops w
-    → IsInCluster ops w.value a → (a ≡ w) ⊎ IsReadOf w a
+    → IsInCluster ops (value_of w) a → (a ≡ w) ⊎ IsReadOf w a
 member-is ops y w a k m = elim (cases_Bool (is_write a)) [
   | inl u ↦ inl (y.values a w m.within k.within u k.write m.value)
   | inr u ↦ inr (record {

@@ -3,7 +3,8 @@ use Rattle.std.proofs.Common.{◌≡◌, List, [], ◌∷◌, ◌⊎◌, ◌↔�
 use Rattle.std.proofs.lemmas.Bool.{cases_Bool, cases_order, false≢true}
 use Rattle.history_model.specs.Legal.{IsAtomic}
 use Rattle.history_model.specs.Lists.{In}
-use Rattle.history_model.specs.Operations.{Operation, IsWrite, IsCompleted, IsCompletedRead}
+use Rattle.history_model.specs.Operations.{IsWrite, IsCompleted, IsCompletedRead, value_of}
+use Rattle.history_model.specs.declared.operation.Operation.{Operation}
 use Rattle.history_model.specs.Operations.{IsReadOf, IsHistory, is_write}
 use Rattle.reg_zones.proofs.Complete.{listed-in, listed-member, legal}
 use Rattle.reg_zones.proofs.LowEnds.{low_apart}
@@ -24,7 +25,7 @@ find_read (a ∷ ops) w =
     λ n m r i k. elim i [ inl s ↦ n (subst (IsReadOf w) s k) | inr j ↦ m r j k ] in
     elim (find_read ops w) [
       | inl r ↦ inl (r.0, inr r.1, r.2)
-      | inr m ↦ elim (cases_value a.value w.value) [
+      | inr m ↦ elim (cases_value (value_of a) (value_of w)) [
         | inr d ↦ inr (no (λ k. d k.value) m)
         | inl e ↦ elim (cases_Bool (is_write a)) [
           | inl t ↦ inr (no (λ k. false≢true (sym k.read ∙ t)) m)
@@ -75,10 +76,11 @@ listed-counts ops a (inr r) = inr r.1
 module _ (ops : List Operation) (y : IsHistory ops) where
   pub sooner_total : (a b : Operation) → IsListed ops a → IsListed ops b
       → (a ≡ b) ⊎ (IsSooner ops a b ⊎ IsSooner ops b a)
-  sooner_total a b la lb = elim (cases_order (low_end ops a.value) (low_end ops b.value)) [
+  sooner_total a b la lb = elim (cases_order (low_end ops (value_of a)) (low_end ops (value_of b))) [
     | inr r ↦ inr (elim r [ inl lt ↦ inl (inl lt) | inr gt ↦ inr (inl gt) ])
     | inl e ↦
-        let v = low_apart ops y a.value b.value a b (listed-member ops a la) (listed-member ops b lb) e in
+        let v =
+        low_apart ops y (value_of a) (value_of b) a b (listed-member ops a la) (listed-member ops b lb) e in
         elim (cases_Bool (is_write a)) [
           | inl t ↦ elim (cases_Bool (is_write b)) [
             | inl u ↦ inl (y.values a b (listed-in ops a la) (listed-in ops b lb) t u v)

@@ -6,7 +6,8 @@ use Rattle.history_model.specs.declared.ids.EvId.{EvId}
 use Rattle.history_model.specs.declared.ids.Oper.{Oper}
 use Rattle.history_model.specs.Lists.{In}
 use Rattle.history_model.specs.History.{History}
-use Rattle.history_model.specs.Operations.{Operation, IsCompletedRead, of_register, operations, is_write}
+use Rattle.history_model.specs.Operations.{IsCompletedRead, of_register, operations, is_write}
+use Rattle.history_model.specs.declared.operation.Operation.{Operation}
 use Rattle.history_model.specs.Walking.{IsNextOf, by_register, key_at}
 use Rattle.reg_zones.specs.declared.fault.Fault.TheVariants.{Unwritten}
 use Rattle.reg_zones.specs.Faults.{IsEarly, IsFault}

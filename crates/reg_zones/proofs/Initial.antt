@@ -3,7 +3,8 @@ use Rattle.std.proofs.Common.{◌≡◌, List, None, inl, inr, refl, sym, ap, �
 use Rattle.std.proofs.lemmas.Bool.{cases_eq, cases_Bool}
 use Rattle.history_model.specs.Legal.{IsLegal}
 use Rattle.history_model.specs.Lists.{In, Before}
-use Rattle.history_model.specs.Operations.{Operation, IsHistory, IsWrite, IsCompleted}
+use Rattle.history_model.specs.Operations.{IsHistory, IsWrite, IsCompleted, value_of}
+use Rattle.history_model.specs.declared.operation.Operation.{Operation}
 use Rattle.history_model.specs.Operations.{Precedes, is_write, initial_write}
 use Rattle.reg_zones.proofs.Complete.{listed-member}
 use Rattle.reg_zones.proofs.Ends.{first_reply-le, first_reply-at, last_call-at}
@@ -41,9 +42,9 @@ module _ (ops : List Operation) (y : IsHistory ops) (i : Operation) (j : In i op
 
   pub initial_sooner : (a : Operation) → IsListed ops a → (a ≡ i → ⊥) → IsSooner ops i a
   initial_sooner a l ne =
-      let mi : IsInCluster ops i.value i = record { within = j; value = refl; counts = inl written } in
+      let mi : IsInCluster ops (value_of i) i = record { within = j; value = refl; counts = inl written } in
       let ma = listed-member ops a l in
-      elim (cases_value a.value i.value) [
+      elim (cases_value (value_of a) (value_of i)) [
         | inl e ↦ inr (
           ap (low_end ops) (sym e),
           elim (cases_Bool (is_write a)) [
@@ -52,13 +53,13 @@ module _ (ops : List Operation) (y : IsHistory ops) (i : Operation) (j : In i op
           ],
         )
         | inr d ↦
-            let f = first_reply-at ops a.value a ma in
-            let s = last_call-at ops a.value a ma in
+            let f = first_reply-at ops (value_of a) a ma in
+            let s = last_call-at ops (value_of a) a ma in
             let nf : Precedes i f.0 =
-            after f.0 f.1.within (λ e. d (sym (ap (λ (o : Operation). o.value) (sym e) ∙ f.1.value))) in
+            after f.0 f.1.within (λ e. d (sym (ap value_of (sym e) ∙ f.1.value))) in
             let ns : Precedes i s.0 =
-            after s.0 s.1.within (λ e. d (sym (ap (λ (o : Operation). o.value) (sym e) ∙ s.1.value))) in
-            let le = first_reply-le ops i.value i mi in
+            after s.0 s.1.within (λ e. d (sym (ap value_of (sym e) ∙ s.1.value))) in
+            let le = first_reply-le ops (value_of i) i mi in
             let lives = y.life f.0 f.1.within in
             inl (omega (arith, f.2, s.2, replied))
       ]

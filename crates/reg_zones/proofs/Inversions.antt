@@ -5,7 +5,8 @@ use Rattle.std.proofs.lemmas.Bool.{cases_Bool, cases_lt}
 use Rattle.history_model.specs.Lamport.{IsOldWrite, IsOverlappedWrite}
 use Rattle.history_model.specs.Legal.{IsAtomic, IsLegal}
 use Rattle.history_model.specs.Lists.{In, Before}
-use Rattle.history_model.specs.Operations.{Operation, Precedes, IsCompletedRead, IsHistory, IsReadOf, IsWrite}
+use Rattle.history_model.specs.Operations.{Precedes, IsCompletedRead, IsHistory, IsReadOf, IsWrite, value_of}
+use Rattle.history_model.specs.declared.operation.Operation.{Operation}
 use Rattle.history_model.specs.Naming.{name_of}
 use Rattle.reg_zones.specs.Clusters.{IsConflict, IsInCluster, IsKept, HasFirstReply, HasLastCall, low_end}
 use Rattle.reg_zones.specs.Faults.{HasNoFault, IsFault}
@@ -15,6 +16,7 @@ use Rattle.reg_zones.specs.declared.fault.Fault.TheVariants.{Unwritten, Early, Z
 use Rattle.reg_zones.proofs.Ends.{first_reply-at, first_reply-le, kept-member, last_call-at, member-is}
 use Rattle.reg_zones.proofs.Exists.{decides}
 use Rattle.reg_zones.proofs.LowEnds.{same_low}
+use Rattle.history_model.proofs.Latest.{latest}
 use Rattle.history_model.proofs.Lists.{Before-first, Before-total, Before-trans}
 
 -- the writes come one after another
@@ -46,7 +48,7 @@ module _ (ops order : List Operation) (y : IsHistory ops) (turns : TakeTurns ops
   pub regular : IsRegular ops
   regular r i d =
       let here = l.completion.all r i d.completed in
-      let n = l.latest r here d in
+      let n = latest ops order y l r here d in
       let w = n.0 in
       let near = n.1 in
       let within = Before-first w r order near.before in
@@ -89,8 +91,8 @@ module _ (ops order : List Operation) (y : IsHistory ops) (turns : TakeTurns ops
       let ds : IsCompletedRead s = record { read = b.read.read; completed = b.read.completed } in
       let rin = l.completion.all r a.within a.read.completed in
       let sin = l.completion.all s b.within b.read.completed in
-      let n = l.latest r rin dr in
-      let m = l.latest s sin ds in
+      let n = latest ops order y l r rin dr in
+      let m = latest ops order y l s sin ds in
       let near_r = n.1 in
       let near_s = m.1 in
       let ev =
@@ -122,7 +124,7 @@ module _ (ops : List Operation) (y : IsHistory ops) (turns : TakeTurns ops) (reg
   ]
 
   -- no operation of a cluster precedes its write
-  not_early : (w a : Operation) → IsKept ops w → IsInCluster ops w.value a → Precedes a w → ⊥
+  not_early : (w a : Operation) → IsKept ops w → IsInCluster ops (value_of w) a → Precedes a w → ⊥
   not_early w a k m p = elim (member-is ops y w a k m) [
     | inl e ↦ let lives = y.life w k.within in omega (arith, ap (λ (o : Operation). o.reply) e)
     | inr r ↦ elim (near a w m.within r k.within k.write) [
@@ -132,15 +134,15 @@ module _ (ops : List Operation) (y : IsHistory ops) (turns : TakeTurns ops) (reg
   ]
 
   -- of two clusters in conflict, the one of the lesser low end has its write first
-  write_first : (v w : Operation) → IsConflict ops v w → low_end ops v.value < low_end ops w.value
+  write_first : (v w : Operation) → IsConflict ops v w → low_end ops (value_of v) < low_end ops (value_of w)
       → Precedes v w
   write_first v w f lt = elim (turns v w f.left.within f.right.within f.left.write f.right.write) [
-    | inl e ↦ absurd (f.differ (ap (λ (o : Operation). o.value) e))
+    | inl e ↦ absurd (f.differ (ap value_of e))
     | inr p ↦ elim p [
       | inl vw ↦ vw
       | inr wv ↦
-          let first = first_reply-at ops v.value v (kept-member ops v f.left) in
-          let least = first_reply-le ops w.value w (kept-member ops w f.right) in
+          let first = first_reply-at ops (value_of v) v (kept-member ops v f.left) in
+          let least = first_reply-le ops (value_of w) w (kept-member ops w f.right) in
           let one = f.one in
           let other = f.other in
           elim (cases_lt first.0.reply v.call) [
@@ -152,8 +154,9 @@ module _ (ops : List Operation) (y : IsHistory ops) (turns : TakeTurns ops) (reg
 
   -- the operation that replies first in the second cluster and the one
   -- called last in the first are an inversion
-  pub inverted : (v w c d : Operation) → IsConflict ops v w → low_end ops v.value < low_end ops w.value
-      → HasFirstReply ops w.value d → HasLastCall ops v.value c → IsInversion ops d c
+  pub inverted : (v w c d : Operation) → IsConflict ops v w
+      → low_end ops (value_of v) < low_end ops (value_of w)
+      → HasFirstReply ops (value_of w) d → HasLastCall ops (value_of v) c → IsInversion ops d c
   inverted v w c d f lt fd lc =
       let other = f.other in
       let vw = write_first v w f lt in
@@ -202,11 +205,12 @@ module _ (ops : List Operation) (y : IsHistory ops) (turns : TakeTurns ops) (reg
   ]
 
   -- a conflict of two clusters has an inversion, whichever has the lesser low end
-  conflict_inverted : (v w : Operation) → IsConflict ops v w → low_end ops v.value < low_end ops w.value
+  conflict_inverted : (v w : Operation) → IsConflict ops v w
+      → low_end ops (value_of v) < low_end ops (value_of w)
       → HasInversion ops
   conflict_inverted v w f lt =
-      let d = first_reply-at ops w.value w (kept-member ops w f.right) in
-      let c = last_call-at ops v.value v (kept-member ops v f.left) in (
+      let d = first_reply-at ops (value_of w) w (kept-member ops w f.right) in
+      let c = last_call-at ops (value_of v) v (kept-member ops v f.left) in (
         d.0,
         c.0,
         inverted v w c.0 d.0 f lt (record { member = d.1; least = d.2 }) (record {
@@ -226,9 +230,9 @@ module _ (ops : List Operation) (y : IsHistory ops) (turns : TakeTurns ops) (reg
         } in
         not_early w r kept (record { within = e.within; value = e.read.value; counts = inr e.read.completed })
         e.early;
-    compatible = λ v w f. elim (cases_lt (low_end ops v.value) (low_end ops w.value)) [
+    compatible = λ v w f. elim (cases_lt (low_end ops (value_of v)) (low_end ops (value_of w))) [
       | inl lt ↦ clear (conflict_inverted v w f lt)
-      | inr ge ↦ elim (cases_lt (low_end ops w.value) (low_end ops v.value)) [
+      | inr ge ↦ elim (cases_lt (low_end ops (value_of w)) (low_end ops (value_of v))) [
         | inl lt ↦ clear
             (conflict_inverted w v (record {
               left = f.right;
@@ -238,7 +242,7 @@ module _ (ops : List Operation) (y : IsHistory ops) (turns : TakeTurns ops) (reg
               other = f.one;
             }) lt)
         | inr le ↦ f.differ
-            (ap (λ (o : Operation). o.value) (same_low ops y v w f.left f.right (omega arith)))
+            (ap value_of (same_low ops y v w f.left f.right (omega arith)))
       ]
     ];
   }

@@ -7,7 +7,8 @@ use Rattle.history_text.specs.declared.event.OpKind.TheVariants.{ReadOp}
 use Rattle.history_model.specs.declared.ids.Oper.{Oper}
 use Rattle.history_model.specs.declared.op.Op.{Op}
 use Rattle.history_model.specs.History.{History}
-use Rattle.history_model.specs.Operations.{Operation, IsWrite, writes, of_register, operations}
+use Rattle.history_model.specs.Operations.{IsWrite, writes, of_register, operations, op_kind, value_of}
+use Rattle.history_model.specs.declared.operation.Operation.{Operation}
 use Rattle.history_model.specs.Naming.{IsNamed, op_shown}
 use Rattle.history_model.specs.OfValue.{IsFirstReply}
 use Rattle.reg_zones.specs.declared.zone.Zone.{Zone}
@@ -18,6 +19,7 @@ use Rattle.reg_zones.specs.Sweep.{IsZone, IsZoneFound}
 use Rattle.reg_zones.proofs.Registers.{first_reply-found, last_call-found, kept-completed, completed-kept}
 use Rattle.history_model.proofs.Named.{one-named}
 use Rattle.history_model.proofs.Recorded.{In-of_register}
+use Rattle.history_model.proofs.Plain.{changes-kind}
 
 -- the zone that was found of a kept write's value
 pub zone-found : (h : History) (r : ℕ) (y : IsKnown h r) (v : Val) (zone : Zone)
@@ -46,7 +48,7 @@ module _ (h : History) (name : Oper) (o : Operation) (op : Op) (p : IsOperation 
   pub the_one : (w : Operation) → IsNamed h name w → o ≡ w
   the_one w n = one-named h name o w p.named n
 
-  pub kept-found : (v : Val) (t : Option ℕ) → IsWrite o → o.value ≡ Some v → IsFirstReply h o.register v t
+  pub kept-found : (v : Val) (t : Option ℕ) → IsWrite o → value_of o ≡ Some v → IsFirstReply h o.register v t
       → (IsTrue (is_some t) ↔ IsKept (of_register o.register (operations h)) o)
   kept-found v None w e f = (
     λ q. absurd (false≢true q),
@@ -73,20 +75,21 @@ module _ (h : History) (name : Oper) (o : Operation) (op : Op) (p : IsOperation 
       subst (λ (x : Operation). IsKept (of_register x.register (operations h)) x) (sym (the_one w n)) k in
       elim e [
         | inl q ↦ let v = kept-value m in cc (v.1, q)
-        | inr q ↦ false≢true (sym (ap writes (ap (λ (x : Op). x.kind) (sym p.shown) ∙ q)) ∙ m.write)
+        | inr q ↦ false≢true
+            (sym (changes-kind o.act ∙ ap writes (ap (λ (x : Op). x.kind) (sym p.shown) ∙ q)) ∙ m.write)
       ]
 
   -- its zone is found by its value
   pub kept-zone : IsKept (of_register o.register (operations h)) o
       → (v : Val) (found : Option Zone) (zone : Zone) → op.value ≡ Some v → IsZoneFound h o.register v found
       → zone ≡ unwrap_or found (record { f = 0; s = 0 })
-      → IsZone (of_register o.register (operations h)) o.value zone
+      → IsZone (of_register o.register (operations h)) (value_of o) zone
   kept-zone k v found zone e f z =
-      let q : o.value ≡ Some v = ap (λ (x : Op). x.value) (sym p.shown) ∙ e in
+      let q : (value_of o) ≡ Some v = ap (λ (x : Op). x.value) (sym p.shown) ∙ e in
       subst (λ u. IsZone (of_register o.register (operations h)) u zone) (sym q) (go found f z q)
     where
       go : (found : Option Zone) → IsZoneFound h o.register v found
-          → zone ≡ unwrap_or found (record { f = 0; s = 0 }) → o.value ≡ Some v
+          → zone ≡ unwrap_or found (record { f = 0; s = 0 }) → value_of o ≡ Some v
           → IsZone (of_register o.register (operations h)) (Some v) zone
       go None g z q = let m = kept-completed h o.register p.register v o k q in absurd (g m.0 m.1 m.2)
       go (Some y) g z q =

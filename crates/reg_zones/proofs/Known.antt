@@ -9,7 +9,8 @@ use Rattle.history_model.specs.declared.event.Event.{Event}
 use Rattle.history_model.specs.declared.ids.RegId.{RegId}
 use Rattle.history_model.specs.Lists.{In}
 use Rattle.history_model.specs.History.{History, IsRecorded}
-use Rattle.history_model.specs.Operations.{Operation, IsHistory, IsWrite, IsCompleted}
+use Rattle.history_model.specs.Operations.{IsHistory, IsWrite, IsCompleted, value_of}
+use Rattle.history_model.specs.declared.operation.Operation.{Operation}
 use Rattle.history_model.specs.Operations.{register_of, operations, initial_write}
 use Rattle.history_model.specs.Walking.{by_register, by_value, key_at}
 use Rattle.history_model.specs.Naming.{IsEventIn, IsEventOf}
@@ -32,11 +33,11 @@ pub record IsKnown (h : History) (r : ℕ) : Type 0 where
   pub called : (o : Operation) (p : ℕ) → In o (operations h) → o.process ≡ Some p → 2 ≤ o.call
   -- a write's call has its value, and so has each reply
   pub written : (o : Operation) (p : ℕ) (v : Val) → In o (operations h) → o.process ≡ Some p → IsWrite o
-      → o.value ≡ Some v → key_at by_value h.events (o.call - 2) ≡ Some (o.register, v)
+      → value_of o ≡ Some v → key_at by_value h.events (o.call - 2) ≡ Some (o.register, v)
   pub replied : (o : Operation) (p : ℕ) (v : Val) → In o (operations h) → o.process ≡ Some p → IsCompleted o
-      → o.value ≡ Some v → key_at by_value h.events (o.reply - 2) ≡ Some (o.register, v)
+      → value_of o ≡ Some v → key_at by_value h.events (o.reply - 2) ≡ Some (o.register, v)
   pub value : (o : Operation) → In o (operations h) → IsWrite o ⊎ IsCompleted o
-      → (v : Val) × (o.value ≡ Some v)
+      → (v : Val) × (value_of o ≡ Some v)
 
 Operation-set : IsSet Operation
 Operation-set = hlevel props
@@ -92,13 +93,13 @@ module _ (h : History) (y : IsRecorded h) where
   value-key i e o v s q = ap (option_and_then by_value) s.at ∙ keyed e o.register v s.register q
 
   written : (o : Operation) (p : ℕ) (v : Val) → In o (operations h) → o.process ≡ Some p → IsWrite o
-      → o.value ≡ Some v → key_at by_value h.events (o.call - 2) ≡ Some (o.register, v)
+      → value_of o ≡ Some v → key_at by_value h.events (o.call - 2) ≡ Some (o.register, v)
   written o p v k q w t =
       let e =
       operation-has-call h y o p k q in value-key (o.call - 2) e.0 o v e.1 (sym ((e.1.call e.2).2 w) ∙ t)
 
   replied : (o : Operation) (p : ℕ) (v : Val) → In o (operations h) → o.process ≡ Some p → IsCompleted o
-      → o.value ≡ Some v → key_at by_value h.events (o.reply - 2) ≡ Some (o.register, v)
+      → value_of o ≡ Some v → key_at by_value h.events (o.reply - 2) ≡ Some (o.register, v)
   replied o p v k q d t =
       let e =
       operation-has-reply h y o p k q d in value-key (o.reply - 2) e.0 o v e.1 (sym (e.1.reply e.2).2 ∙ t)
@@ -134,13 +135,15 @@ module _ (h : History) (t : ∥ IsRecorded h ∥₁) where
     ];
     initial = so (hlevel (props, Operation-set)) (λ y. (accepted-history h y r).initial);
     called = so (hlevel props) (λ y. (accepted-history h y r).called);
+    plain = so (hlevel props) (λ y. (accepted-history h y r).plain);
+    reads = so (hlevel props) (λ y. (accepted-history h y r).reads);
   }
 
   known-value : (o : Operation) → In o (operations h) → IsWrite o ⊎ IsCompleted o
-      → (v : Val) × (o.value ≡ Some v)
-  known-value o k c = go o.value refl
+      → (v : Val) × (value_of o ≡ Some v)
+  known-value o k c = go (value_of o) refl
     where
-      go : (s : Option Val) → o.value ≡ s → (v : Val) × (o.value ≡ Some v)
+      go : (s : Option Val) → value_of o ≡ s → (v : Val) × (value_of o ≡ Some v)
       go (Some v) e = (v, e)
       go None e =
           absurd (so (hlevel props) (λ y. let v = operation-has-value h y o k c in let q = v.1 in cc (e, q)))

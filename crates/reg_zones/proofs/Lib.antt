@@ -9,7 +9,6 @@ pub mod Unique
 pub mod Forward
 pub mod ClearBelow
 pub mod OneFault
-pub mod Points
 pub mod Initial
 pub mod Inversions
 pub mod Known

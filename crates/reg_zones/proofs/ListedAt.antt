@@ -5,7 +5,8 @@ use Rattle.history_text.specs.declared.event.Val.{Val}
 use Rattle.history_model.specs.declared.ids.Oper.{Oper}
 use Rattle.history_model.specs.declared.op.Op.{Op}
 use Rattle.history_model.specs.History.{History}
-use Rattle.history_model.specs.Operations.{Operation, IsWrite, IsCompleted, of_register, operations, is_write}
+use Rattle.history_model.specs.Operations.{IsWrite, IsCompleted, of_register, operations, is_write, value_of}
+use Rattle.history_model.specs.declared.operation.Operation.{Operation}
 use Rattle.history_model.specs.Naming.{name_of}
 use Rattle.reg_zones.specs.declared.entry.Entry.{Entry}
 use Rattle.reg_zones.specs.declared.zone.Zone.{Zone}
@@ -32,10 +33,10 @@ module _ (h : History) (r : ℕ) (y : IsKnown h r) (i : ℕ) (o : Operation) (op
       n (subst (λ (x : Operation). IsWrite x ⊎ IsCompleted x) (sym (is a l e))
       (listed-member (of_register r (operations h)) a l).counts)
 
-  pub not_found : (v : Val) → o.value ≡ Some v → IsZoneFound h r v None
+  pub not_found : (v : Val) → value_of o ≡ Some v → IsZoneFound h r v None
       → IsListedAt (of_register r (operations h)) (i + 2) None
   not_found v q f a l e =
-      let w : a.value ≡ Some v = ap (λ (x : Operation). x.value) (sym (is a l e)) ∙ q in
+      let w : (value_of a) ≡ Some v = ap value_of (sym (is a l e)) ∙ q in
       elim l [
         | inl k ↦ let m = kept-completed h r y v a k w in f m.0 m.1 m.2
         | inr k ↦ f a (cluster-member h r y v a (record {
@@ -46,7 +47,7 @@ module _ (h : History) (r : ℕ) (y : IsKnown h r) (i : ℕ) (o : Operation) (op
       ]
 
   -- the entry that is made here is that of the event's operation
-  pub listed_here : (v : Val) (zone : Zone) (low t : ℕ) (oper : Oper) → o.value ≡ Some v
+  pub listed_here : (v : Val) (zone : Zone) (low t : ℕ) (oper : Oper) → value_of o ≡ Some v
       → IsWrite o ⊎ IsCompleted o → IsZoneFound h r v (Some zone) → o.call ≡ i + 2 → low ≡ min zone.f zone.s
       → t ≡ turn o → oper ≡ name_of o
       → IsListedAt (of_register r (operations h)) (i + 2)
@@ -54,7 +55,7 @@ module _ (h : History) (r : ℕ) (y : IsKnown h r) (i : ℕ) (o : Operation) (op
   listed_here v zone low t oper q counts f called l s n =
       let ops = of_register r (operations h) in
       let call : op.call ≡ o.call = ap (λ (x : Op). x.call) b.shown in
-      let low_is : low ≡ low_end ops o.value =
+      let low_is : low ≡ low_end ops (value_of o) =
       l ∙ sym (zone-low ops o v zone q (zone-found h r y v zone f)) in
       let listed : IsListed ops o = elim (cases_Bool (is_write o)) [
         | inl w ↦ let m = f.0.0 in inl (completed-kept h r y v o m.0 b.one w q m.1 m.2)
@@ -67,10 +68,12 @@ module _ (h : History) (r : ℕ) (y : IsKnown h r) (i : ℕ) (o : Operation) (op
         )
       ] in
       let a : ℕ → Entry = λ n. record { low = n; turn = t; call = op.call; oper = oper } in
-      let c : ℕ → Entry = λ n. record { low = low_end ops o.value; turn = n; call = op.call; oper = oper } in
-      let d : ℕ → Entry = λ n. record { low = low_end ops o.value; turn = turn o; call = n; oper = oper } in
+      let c : ℕ → Entry =
+      λ n. record { low = low_end ops (value_of o); turn = n; call = op.call; oper = oper } in
+      let d : ℕ → Entry =
+      λ n. record { low = low_end ops (value_of o); turn = turn o; call = n; oper = oper } in
       let e : Oper → Entry = λ n. record {
-        low = low_end ops o.value;
+        low = low_end ops (value_of o);
         turn = turn o;
         call = o.call;
         oper = n;

@@ -6,7 +6,8 @@ use Rattle.history_model.specs.declared.event.Event.{Event}
 use Rattle.history_model.specs.declared.ids.EvId.{EvId}
 use Rattle.history_model.specs.Lists.{In, Before}
 use Rattle.history_model.specs.History.{History}
-use Rattle.history_model.specs.Operations.{Operation, of_register, operations, is_write, initial_write}
+use Rattle.history_model.specs.Operations.{of_register, operations, is_write, initial_write, value_of}
+use Rattle.history_model.specs.declared.operation.Operation.{Operation}
 use Rattle.history_model.specs.Walking.{IsFirstOf, IsNextOf, by_register, key_at}
 use Rattle.reg_zones.specs.declared.entry.Entry.{Entry}
 use Rattle.reg_zones.specs.Clusters.{low_end}
@@ -68,7 +69,7 @@ module _ (h : History) (r : ℕ) (y : IsKnown h r) where
         | inr w ↦ omega (arith, turn-read a w, turn-read b (sym p.0 ∙ w), p.1)
         | inl w ↦
             let v =
-            low_apart ops y.history a.value b.value a b (listed-member ops a la)
+            low_apart ops y.history (value_of a) (value_of b) a b (listed-member ops a la)
             (listed-member ops b lb) s.0 in
             let e = y.history.values a b (listed-in ops a la) (listed-in ops b lb) w (sym p.0 ∙ w) v in
             absurd (omega (arith, p.1, ap (λ (o : Operation). o.call) e))
@@ -83,7 +84,8 @@ module _ (h : History) (r : ℕ) (y : IsKnown h r) where
       let p = and_parts _ _ e in
       let l = eqb-true _ _ p.0 in
       let t = eqb-true _ _ p.1 in
-      let no : (c d : Operation) → IsListed ops c → IsListed ops d → low_end ops c.value ≡ low_end ops d.value
+      let no : (c d : Operation) → IsListed ops c → IsListed ops d
+          → low_end ops (value_of c) ≡ low_end ops (value_of d)
       → turn c ≡ turn d → IsSooner ops c d → ⊥ =
       λ c d lc ld x z s. elim (sooner-first c d lc ld s) [
         | inl q ↦ omega (arith, x)

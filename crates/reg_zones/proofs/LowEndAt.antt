@@ -4,7 +4,8 @@ use Rattle.history_text.specs.declared.event.Val.{Val}
 use Rattle.history_model.specs.declared.ids.Oper.{Oper}
 use Rattle.history_model.specs.Lists.{In}
 use Rattle.history_model.specs.History.{History}
-use Rattle.history_model.specs.Operations.{Operation, of_register, operations}
+use Rattle.history_model.specs.Operations.{of_register, operations, value_of}
+use Rattle.history_model.specs.declared.operation.Operation.{Operation}
 use Rattle.history_model.specs.Naming.{IsEventOf}
 use Rattle.history_model.specs.OfValue.{IsWriteOf}
 use Rattle.reg_zones.specs.declared.zone.Zone.{Zone}
@@ -17,15 +18,15 @@ use Rattle.reg_zones.proofs.CalledReads.{the_write, no_write}
 use Rattle.history_model.proofs.Recorded.{of_register-In}
 
 -- the low end of a cluster by its zone
-pub zone-low : (ops : List Operation) (w : Operation) (v : Val) (zone : Zone) → w.value ≡ Some v
-    → IsZone ops (Some v) zone → low_end ops w.value ≡ min zone.f zone.s
+pub zone-low : (ops : List Operation) (w : Operation) (v : Val) (zone : Zone) → value_of w ≡ Some v
+    → IsZone ops (Some v) zone → low_end ops (value_of w) ≡ min zone.f zone.s
 zone-low ops w v zone e z = ap (low_end ops) e ∙ omega (arith, z.reply, z.call)
 
 module _ (h : History) (r : ℕ) (y : IsKnown h r) (i : ℕ) (o : Operation)
-    (j : In o (of_register r (operations h))) (t : IsEventOf i o) (v : Val) (e : o.value ≡ Some v) where
+    (j : In o (of_register r (operations h))) (t : IsEventOf i o) (v : Val) (e : (value_of o) ≡ Some v) where
   -- a cluster that has its low end here is that of the event's operation
   value : (w : Operation) → IsKept (of_register r (operations h)) w
-      → low_end (of_register r (operations h)) w.value ≡ i + 2 → w.value ≡ Some v
+      → low_end (of_register r (operations h)) (value_of w) ≡ i + 2 → value_of w ≡ Some v
   value w k l =
       let here = low_end-event h r y i o w (of_register-In r (operations h) o j).0 t k l in sym here.value ∙ e
 

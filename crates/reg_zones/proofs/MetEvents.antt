@@ -4,7 +4,8 @@ use Rattle.history_model.specs.declared.ids.Oper.{Oper}
 use Rattle.history_model.specs.declared.op.Op.{Op}
 use Rattle.history_model.specs.Lists.{In}
 use Rattle.history_model.specs.History.{History}
-use Rattle.history_model.specs.Operations.{Operation, of_register, operations}
+use Rattle.history_model.specs.Operations.{of_register, operations}
+use Rattle.history_model.specs.declared.operation.Operation.{Operation}
 use Rattle.history_model.specs.Naming.{IsEventOf, IsOperOf, op_shown}
 use Rattle.history_model.specs.Walking.{by_register, key_at}
 use Rattle.history_model.proofs.Recorded.{of_register-In}

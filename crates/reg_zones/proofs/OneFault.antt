@@ -1,7 +1,8 @@
 -- A register has one fault at most, and none where it has a legal order.
 use Rattle.std.proofs.Common.{◌≡◌, List, sym, ap, subst, ◌∙◌, arith}
 use Rattle.history_model.specs.declared.ids.Oper.{Oper}
-use Rattle.history_model.specs.Operations.{Operation, IsHistory}
+use Rattle.history_model.specs.Operations.{IsHistory, value_of}
+use Rattle.history_model.specs.declared.operation.Operation.{Operation}
 use Rattle.history_model.specs.Naming.{name_of}
 use Rattle.reg_zones.specs.Clusters.{IsKept, HasFirstReply, HasLastCall}
 use Rattle.reg_zones.specs.Faults.{IsFirstUnwritten, IsFirstEarly, IsWitness, IsFault, HasNoFault}
@@ -31,15 +32,16 @@ module _ (ops : List Operation) (y : IsHistory ops) where
       )) in (
         e,
         y.values w u a.fault.write_within b.fault.write_within a.fault.write b.fault.write
-            (sym a.fault.read.value ∙ (ap (λ (o : Operation). o.value) e ∙ b.fault.read.value)),
+            (sym a.fault.read.value ∙ (ap value_of e ∙ b.fault.read.value)),
       )
 
   one_witness : (v w v' w' a b a' b' : Operation) → IsKept ops v → v ≡ v' → w ≡ w' → IsWitness ops v w a b
       → IsWitness ops v' w' a' b' → (a ≡ a') × (b ≡ b')
   one_witness v w v' w' a b a' b' k ev ew f g = (
     one_first_reply ops v a a' y k f.reply
-        (subst (λ (x : Operation). HasFirstReply ops x.value a') (sym ev) g.reply),
-    one_last_call ops w b b' y f.call (subst (λ (x : Operation). HasLastCall ops x.value b') (sym ew) g.call),
+        (subst (λ (x : Operation). HasFirstReply ops (value_of x) a') (sym ev) g.reply),
+    one_last_call ops w b b' y f.call
+        (subst (λ (x : Operation). HasLastCall ops (value_of x) b') (sym ew) g.call),
   )
 
   named : (a b a' b' : Operation) → a ≡ a' → b ≡ b'

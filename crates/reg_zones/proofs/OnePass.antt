@@ -2,7 +2,8 @@
 use Rattle.std.proofs.Common.{◌≡◌, ℕ, ◌+◌, ◌<◌, ◌≤◌, Option, Some, None, List}
 use Rattle.std.proofs.Common.{inl, inr, refl, sym, ap, subst, ◌∙◌, arith}
 use Rattle.std.proofs.lemmas.Bool.{cases_lt}
-use Rattle.history_model.specs.Operations.{Operation, IsHistory}
+use Rattle.history_model.specs.Operations.{IsHistory, value_of}
+use Rattle.history_model.specs.declared.operation.Operation.{Operation}
 use Rattle.reg_zones.specs.declared.zone.Cluster.{Cluster}
 use Rattle.reg_zones.specs.Clusters.{IsKept, IsConflict, IsForward, IsClearBelow, IsFirstConflict, low_end}
 use Rattle.reg_zones.specs.Sweep.{IsClusterOf, IsLowEndAt, IsLastMet, AreClear, IsConflictWith, ZonesConflict}
@@ -14,16 +15,17 @@ use Rattle.reg_zones.proofs.ClearBelow.{none_stays, backward_from, last_one}
 module _ (ops : List Operation) where
   -- a cluster's zone is forward where its numbers say so
   pub forward-from : (w : Operation) (cluster : Cluster) → IsClusterOf ops w cluster
-      → cluster.zone.f < cluster.zone.s → IsForward ops w.value
+      → cluster.zone.f < cluster.zone.s → IsForward ops (value_of w)
   forward-from w cluster k l = omega (arith, l, k.zone.reply, k.zone.call)
 
-  pub forward-to : (w : Operation) (cluster : Cluster) → IsClusterOf ops w cluster → IsForward ops w.value
+  pub forward-to : (w : Operation) (cluster : Cluster) → IsClusterOf ops w cluster
+      → IsForward ops (value_of w)
       → cluster.zone.f < cluster.zone.s
   forward-to w cluster k l = omega (arith, l, k.zone.reply, k.zone.call)
 
   -- two clusters with different low ends conflict where their numbers say so
   conflict-from : (v w : Operation) (c d : Cluster) → IsClusterOf ops v c → IsClusterOf ops w d
-      → low_end ops v.value < low_end ops w.value → ZonesConflict c.zone d.zone → IsConflict ops v w
+      → low_end ops (value_of v) < low_end ops (value_of w) → ZonesConflict c.zone d.zone → IsConflict ops v w
   conflict-from v w c d kv kw l q = record {
     left = kv.kept;
     right = kw.kept;
@@ -88,7 +90,7 @@ module _ (ops : List Operation) (y : IsHistory ops) (n : ℕ) where
       × IsClusterOf ops v c × IsClusterOf ops w d
   step_found last c d f m k =
       let q = subst (IsLastMet ops n) k.0 m.last in
-      let lt : low_end ops q.0.value < low_end ops f.0.value = omega (arith, q.2.below, f.2) in (
+      let lt : low_end ops (value_of q.0) < low_end ops (value_of f.0) = omega (arith, q.2.below, f.2) in (
         q.0,
         f.0,
         first_found ops q.0 f.0 n m.clear (conflict-from ops q.0 f.0 c d q.1 f.1 lt k.1) lt f.2,
@@ -98,21 +100,24 @@ module _ (ops : List Operation) (y : IsHistory ops) (n : ℕ) where
 
 -- from n on to m there is no low end
 pub gap : (ops : List Operation) (n m : ℕ) (last : Option Cluster) → n ≤ m
-    → ((w : Operation) → IsKept ops w → n ≤ low_end ops w.value → low_end ops w.value < m → ⊥)
+    → ((w : Operation) → IsKept ops w → n ≤ low_end ops (value_of w) → low_end ops (value_of w) < m → ⊥)
     → AreClear ops n last → AreClear ops m last
 gap ops n m None l none q = record {
   clear =
-      λ v w c lt b. elim (cases_lt (low_end ops w.value) n) [
+      λ v w c lt b. elim (cases_lt (low_end ops (value_of w)) n) [
         | inl p ↦ q.clear v w c lt p
         | inr p ↦ none w c.right p b
       ];
-  last = λ w k f b. elim (cases_lt (low_end ops w.value) n) [ inl p ↦ q.last w k f p | inr p ↦ none w k p b ];
+  last = λ w k f b. elim (cases_lt (low_end ops (value_of w)) n) [
+    | inl p ↦ q.last w k f p
+    | inr p ↦ none w k p b
+  ];
 }
 gap ops n m (Some c) l none q =
     let v = q.last.2 in
     record {
       clear =
-          λ v w c lt b. elim (cases_lt (low_end ops w.value) n) [
+          λ v w c lt b. elim (cases_lt (low_end ops (value_of w)) n) [
             | inl p ↦ q.clear v w c lt p
             | inr p ↦ none w c.right p b
           ];
@@ -124,7 +129,7 @@ gap ops n m (Some c) l none q =
           forward = v.forward;
           below = let b = v.below in omega arith;
           last =
-              λ u k f b. elim (cases_lt (low_end ops u.value) n) [
+              λ u k f b. elim (cases_lt (low_end ops (value_of u)) n) [
                 | inl p ↦ v.last u k f p
                 | inr p ↦ absurd (none u k p b)
               ];
@@ -134,14 +139,15 @@ gap ops n m (Some c) l none q =
 
 -- no low end is left
 pub ended : (ops : List Operation) (y : IsHistory ops) (n : ℕ) (last : Option Cluster)
-    → ((w : Operation) → IsKept ops w → n ≤ low_end ops w.value → ⊥) → AreClear ops n last → (v w : Operation)
+    → ((w : Operation) → IsKept ops w → n ≤ low_end ops (value_of w) → ⊥) → AreClear ops n last
+    → (v w : Operation)
     → IsConflict ops v w → ⊥
 ended ops y n last none q v w c =
-    let below : (u : Operation) → IsKept ops u → low_end ops u.value < n =
-    λ u k. elim (cases_lt (low_end ops u.value) n) [ inl p ↦ p | inr p ↦ absurd (none u k p) ] in
-    elim (cases_lt (low_end ops v.value) (low_end ops w.value)) [
+    let below : (u : Operation) → IsKept ops u → low_end ops (value_of u) < n =
+    λ u k. elim (cases_lt (low_end ops (value_of u)) n) [ inl p ↦ p | inr p ↦ absurd (none u k p) ] in
+    elim (cases_lt (low_end ops (value_of v)) (low_end ops (value_of w))) [
       | inl p ↦ q.clear v w c p (below w c.right)
-      | inr p ↦ elim (cases_lt (low_end ops w.value) (low_end ops v.value)) [
+      | inr p ↦ elim (cases_lt (low_end ops (value_of w)) (low_end ops (value_of v))) [
         | inl t ↦ q.clear w v (record {
           left = c.right;
           right = c.left;
@@ -150,7 +156,8 @@ ended ops y n last none q v w c =
           other = c.one;
         }) t (below v c.left)
         | inr t ↦ c.differ
-            (low_apart ops y v.value w.value v w (kept-member ops v c.left) (kept-member ops w c.right)
+            (low_apart ops y (value_of v) (value_of w) v w (kept-member ops v c.left)
+            (kept-member ops w c.right)
             (omega arith))
       ]
     ]

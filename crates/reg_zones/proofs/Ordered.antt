@@ -5,11 +5,13 @@ use Rattle.std.proofs.lemmas.List.Sorted.{Contains-permutation, IsPermutation-sy
 use Rattle.std.specs.List.Sorted.{IsPermutation}
 use Rattle.history_model.specs.Lists.{In}
 use Rattle.history_model.specs.History.{History}
-use Rattle.history_model.specs.Operations.{Operation, of_register, operations}
+use Rattle.history_model.specs.Operations.{of_register, operations}
+use Rattle.history_model.specs.declared.operation.Operation.{Operation}
 use Rattle.reg_zones.specs.declared.entry.Entry.{Entry}
 use Rattle.reg_zones.specs.declared.placed.Placed.{Placed}
 use Rattle.reg_zones.specs.Faults.{HasNoFault}
-use Rattle.reg_zones.specs.Order.{IsCanonical, IsOrder, placed_from, shown}
+use Rattle.reg_zones.specs.Order.{IsCanonical, IsOrder, shown}
+use Rattle.history_model.specs.Placed.{placed_from}
 use Rattle.reg_zones.proofs.Known.{IsKnown}
 use Rattle.reg_zones.specs.Entries.{entry_of, entries_placed, ComesFirst, IsListing}
 use Rattle.history_model.proofs.Lists.{In-map, map-In, map-Before, Before-first, Before-second}
@@ -17,7 +19,7 @@ use Rattle.history_model.proofs.Indexes.{In-from_Contains, Contains-from_In, Bef
 use Rattle.reg_zones.proofs.Unique.{ascending_one}
 use Rattle.reg_zones.proofs.Exists.{canonical}
 use Rattle.reg_zones.proofs.Complete.{legal}
-use Rattle.reg_zones.proofs.Points.{within_life, rising}
+use Rattle.history_model.proofs.Placed.{rising, history-timed, within_life}
 use Rattle.reg_zones.proofs.Listing.{sooner-first}
 
 first_one_way : (x y : Entry) → ComesFirst x y → ComesFirst y x → ⊥
@@ -69,7 +71,7 @@ module _ (h : History) (r : ℕ) (y : IsKnown h r) (entries sorted : List Entry)
         order = o.0;
         canonical = o.1;
         legal = k;
-        within = within_life ops o.0 y.history k;
+        within = within_life ops o.0 (history-timed ops y.history) k;
         rising = rising o.0;
         is = e ∙ (ap (entries_placed 0) (sorted-is o.0 o.1) ∙ entries_placed-of ops 0 o.0);
       }

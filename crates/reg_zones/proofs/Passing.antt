@@ -3,7 +3,8 @@ use Rattle.std.proofs.Common.{◌≡◌, ℕ, ◌+◌, ◌-◌, ◌<◌, ◌≤�
 use Rattle.std.proofs.Common.{List, inl, refl, sym, ap, subst, ◌∙◌, arith}
 use Rattle.history_model.specs.declared.ids.EvId.{EvId}
 use Rattle.history_model.specs.History.{History}
-use Rattle.history_model.specs.Operations.{Operation, of_register, operations, initial_write}
+use Rattle.history_model.specs.Operations.{of_register, operations, initial_write, value_of}
+use Rattle.history_model.specs.declared.operation.Operation.{Operation}
 use Rattle.history_model.specs.Walking.{IsFirstOf, IsNextOf, IsLeastFrom, by_register, key_at}
 use Rattle.reg_zones.specs.declared.zone.Cluster.{Cluster}
 use Rattle.reg_zones.specs.declared.pass.Compared.{Compared}
@@ -26,8 +27,8 @@ pub record IsPassing (ops : List Operation) (last : Option Cluster) (next : Opti
   pub time : ℕ
   pub met : AreClear ops time last
   pub reach : (id : EvId) → next ≡ Some id → time ≤ id.0 + 2
-  pub clear : (w : Operation) → IsKept ops w → time ≤ low_end ops w.value
-      → IsBefore (low_end ops w.value) next → ⊥
+  pub clear : (w : Operation) → IsKept ops w → time ≤ low_end ops (value_of w)
+      → IsBefore (low_end ops (value_of w)) next → ⊥
 
 -- as far as the next event, the pass has met each low end, or a conflict
 abbrev pub IsComparing : List Operation → Compared → Option EvId → Type 0
@@ -37,10 +38,11 @@ IsComparing ops (Conflict first second) next = AreFirstConflict ops first second
 module _ (h : History) (r : ℕ) (y : IsKnown h r) where
   -- where the event at place i isn't of the register, no low end has its time
   none_at : (w : Operation) → IsKept (of_register r (operations h)) w
-      → 2 ≤ low_end (of_register r (operations h)) w.value
-      → (key_at by_register h.events (low_end (of_register r (operations h)) w.value - 2) ≡ Some r → ⊥) → ⊥
+      → 2 ≤ low_end (of_register r (operations h)) (value_of w)
+      → (key_at by_register h.events (low_end (of_register r (operations h)) (value_of w) - 2) ≡ Some r → ⊥)
+      → ⊥
   none_at w k l none =
-      no_low_end h r y (low_end (of_register r (operations h)) w.value - 2) w none k (omega arith)
+      no_low_end h r y (low_end (of_register r (operations h)) (value_of w) - 2) w none k (omega arith)
 
   from_least : (n : ℕ) (last : Option Cluster) (next : Option EvId)
       → AreClear (of_register r (operations h)) (n + 2) last
@@ -52,7 +54,7 @@ module _ (h : History) (r : ℕ) (y : IsKnown h r) where
     reach = λ id e. absurd (cc e);
     clear =
         λ w k l b. none_at w k (omega arith)
-        (f (low_end (of_register r (operations h)) w.value - 2) (omega arith));
+        (f (low_end (of_register r (operations h)) (value_of w) - 2) (omega arith));
   }
   from_least n last (Some j) m f = record {
     time = n + 2;
@@ -61,7 +63,7 @@ module _ (h : History) (r : ℕ) (y : IsKnown h r) where
         λ id e. let same : j ≡ id = cc e in subst (λ (x : EvId). n + 2 ≤ x.0 + 2) same (omega (arith, f.0));
     clear =
         λ w k l b. none_at w k (omega arith)
-        (f.2 (low_end (of_register r (operations h)) w.value - 2) (omega arith) (omega arith));
+        (f.2 (low_end (of_register r (operations h)) (value_of w) - 2) (omega arith) (omega arith));
   }
 
   -- before all events the initial cluster alone has been met
@@ -70,14 +72,14 @@ module _ (h : History) (r : ℕ) (y : IsKnown h r) where
   met_initial last l = record {
     clear =
         λ v w q lt b. q.differ (let a = initial_low h r y v q.left (omega arith) in
-        let e = initial_low h r y w q.right b in ap (λ (o : Operation). o.value) (a ∙ sym e));
+        let e = initial_low h r y w q.right b in ap value_of (a ∙ sym e));
     last = l;
   }
 
-  initial_low_end : low_end (of_register r (operations h)) (initial_write r).value < 2
+  initial_low_end : low_end (of_register r (operations h)) (value_of (initial_write r)) < 2
   initial_low_end =
       let ops = of_register r (operations h) in
-      let l = first_reply-le ops (initial_write r).value (initial_write r) (record {
+      let l = first_reply-le ops (value_of (initial_write r)) (initial_write r) (record {
         within = y.initial;
         value = refl;
         counts = inl refl;
@@ -98,7 +100,7 @@ module _ (h : History) (r : ℕ) (y : IsKnown h r) where
           last =
               λ u ku fu b. let e =
               initial_low h r y u ku b in let s =
-              ap (λ (o : Operation). low_end ops o.value) e in omega (arith, s);
+              ap (λ (o : Operation). low_end ops (value_of o)) e in omega (arith, s);
         },
       )
 
@@ -108,7 +110,7 @@ module _ (h : History) (r : ℕ) (y : IsKnown h r) where
       let ops = of_register r (operations h) in
       met_initial None (λ u ku fu b.
       f (forward-to ops (initial_write r) c k
-      (subst (λ (o : Operation). IsForward ops o.value) (initial_low h r y u ku b) fu)))
+      (subst (λ (o : Operation). IsForward ops (value_of o)) (initial_low h r y u ku b) fu)))
 
   -- ---- a loop over the events
 

@@ -8,7 +8,8 @@ use Rattle.history_model.specs.declared.ids.Oper.{Oper}
 use Rattle.history_model.specs.declared.ids.Oper.TheVariants.{Initial, Called}
 use Rattle.history_model.specs.Lists.{In}
 use Rattle.history_model.specs.History.{History}
-use Rattle.history_model.specs.Operations.{Operation, IsWrite, IsCompleted, is_write}
+use Rattle.history_model.specs.Operations.{IsWrite, IsCompleted, is_write, value_of}
+use Rattle.history_model.specs.declared.operation.Operation.{Operation}
 use Rattle.history_model.specs.Operations.{of_register, operations, initial_write}
 use Rattle.history_model.specs.Walking.{by_register, key_at}
 use Rattle.history_model.specs.Naming.{IsEventOf, IsNamed, IsOperOf, name_by, name_of}
@@ -127,7 +128,8 @@ module _ (h : History) (r : ℕ) (y : IsKnown h r) where
       (λ b n. omega (arith, f.1 b (cluster-member v b n), a.2)) ∙ a.2)
 
   -- a kept write's cluster has a completed operation
-  pub kept-completed : (v : Val) (w : Operation) → IsKept (of_register r (operations h)) w → w.value ≡ Some v
+  pub kept-completed : (v : Val) (w : Operation) → IsKept (of_register r (operations h)) w
+      → value_of w ≡ Some v
       → (o : Operation) × IsMember h r v o × IsCompleted o
   kept-completed v w k e = elim k.kept [
     | inl d ↦ (w, cluster-member v w (record { within = k.within; value = e; counts = inl k.write }), d)
@@ -140,7 +142,7 @@ module _ (h : History) (r : ℕ) (y : IsKnown h r) where
 
   -- and a write whose cluster has one is kept
   pub completed-kept : (v : Val) (w o : Operation) → In w (of_register r (operations h)) → IsWrite w
-      → w.value ≡ Some v → IsMember h r v o → IsCompleted o → IsKept (of_register r (operations h)) w
+      → value_of w ≡ Some v → IsMember h r v o → IsCompleted o → IsKept (of_register r (operations h)) w
   completed-kept v w o i u e m d =
       let n = member-cluster v o m in
       record {
@@ -156,14 +158,14 @@ module _ (h : History) (r : ℕ) (y : IsKnown h r) where
 
   -- the low end of a kept write's cluster is the call or the reply of one of its operations
   pub low_end-at : (w : Operation) → IsKept (of_register r (operations h)) w
-      → (a : Operation) × IsInCluster (of_register r (operations h)) w.value a
-      × ((a.call ≡ low_end (of_register r (operations h)) w.value)
-      ⊎ (IsCompleted a × (a.reply ≡ low_end (of_register r (operations h)) w.value)))
+      → (a : Operation) × IsInCluster (of_register r (operations h)) (value_of w) a
+      × ((a.call ≡ low_end (of_register r (operations h)) (value_of w))
+      ⊎ (IsCompleted a × (a.reply ≡ low_end (of_register r (operations h)) (value_of w))))
   low_end-at w k =
       let ops = of_register r (operations h) in
-      let f = first_reply-at ops w.value w (kept-member ops w k) in
-      let s = last_call-at ops w.value w (kept-member ops w k) in
-      elim (cases_lt (first_reply ops w.value) (last_call ops w.value)) [
+      let f = first_reply-at ops (value_of w) w (kept-member ops w k) in
+      let s = last_call-at ops (value_of w) w (kept-member ops w k) in
+      elim (cases_lt (first_reply ops (value_of w)) (last_call ops (value_of w))) [
         | inl p ↦ (
           f.0,
           f.1,
@@ -177,38 +179,39 @@ module _ (h : History) (r : ℕ) (y : IsKnown h r) where
 
   -- at an event of the register it is of the event's operation
   pub low_end-event : (i : ℕ) (o w : Operation) → In o (operations h) → IsEventOf i o
-      → IsKept (of_register r (operations h)) w → low_end (of_register r (operations h)) w.value ≡ i + 2
-      → IsInCluster (of_register r (operations h)) w.value o
+      → IsKept (of_register r (operations h)) w → low_end (of_register r (operations h)) (value_of w) ≡ i + 2
+      → IsInCluster (of_register r (operations h)) (value_of w) o
   low_end-event i o w j t k e =
       let a = low_end-at w k in
       let at : IsEventOf i a.0 = elim a.2 [ inl c ↦ inl (c ∙ e) | inr c ↦ inr (c.0, c.1 ∙ e) ] in
       let same = y.one i a.0 o (of_register-In r (operations h) a.0 a.1.within).0 j at t in
-      subst (IsInCluster (of_register r (operations h)) w.value) same a.1
+      subst (IsInCluster (of_register r (operations h)) (value_of w)) same a.1
 
   -- at an event of no operation that counts no low end is
   pub unmet_low_end : (i : ℕ) (w : Operation)
       → ((a : Operation) → In a (of_register r (operations h)) → IsEventOf i a → IsWrite a ⊎ IsCompleted a
       → ⊥) → IsKept (of_register r (operations h)) w
-      → low_end (of_register r (operations h)) w.value ≡ i + 2 → ⊥
+      → low_end (of_register r (operations h)) (value_of w) ≡ i + 2 → ⊥
   unmet_low_end i w none k e =
       let a = low_end-at w k in
       none a.0 a.1.within (elim a.2 [ inl c ↦ inl (c ∙ e) | inr c ↦ inr (c.0, c.1 ∙ e) ]) a.1.counts
 
   -- where no event of the register is, no low end is
   pub no_low_end : (i : ℕ) (w : Operation) → (key_at by_register h.events i ≡ Some r → ⊥)
-      → IsKept (of_register r (operations h)) w → low_end (of_register r (operations h)) w.value ≡ i + 2 → ⊥
+      → IsKept (of_register r (operations h)) w
+      → low_end (of_register r (operations h)) (value_of w) ≡ i + 2 → ⊥
   no_low_end i w none k e = unmet_low_end i w (λ a j t counts. none (event-key i a j t)) k e
 
   -- before all events there is the initial cluster's low end alone
   pub initial_low : (w : Operation) → IsKept (of_register r (operations h)) w
-      → low_end (of_register r (operations h)) w.value < 2 → w ≡ initial_write r
+      → low_end (of_register r (operations h)) (value_of w) < 2 → w ≡ initial_write r
   initial_low w k lt =
       let a = low_end-at w k in
       let ops = of_register r (operations h) in
       elim (cases_process a.0.process) [
         | inl n ↦
             let e = y.history.initial a.0 a.1.within n in
-            let v : w.value ≡ (initial_write r).value = sym a.1.value ∙ ap (λ (o : Operation). o.value) e in
+            let v : value_of w ≡ value_of (initial_write r) = sym a.1.value ∙ ap value_of e in
             y.history.values w (initial_write r) k.within y.initial k.write refl v
         | inr p ↦
             let c = y.history.called a.0 p.0 a.1.within p.1 in
@@ -218,17 +221,17 @@ module _ (h : History) (r : ℕ) (y : IsKnown h r) where
 
   -- the operation that replies first in a kept write's cluster
   pub first_replied : (w : Operation) → IsKept (of_register r (operations h)) w
-      → (a : Operation) × HasFirstReply (of_register r (operations h)) w.value a × IsCompleted a
+      → (a : Operation) × HasFirstReply (of_register r (operations h)) (value_of w) a × IsCompleted a
   first_replied w k =
       let ops = of_register r (operations h) in
-      let f = first_reply-at ops w.value w (kept-member ops w k) in
-      let x : HasFirstReply ops w.value f.0 = record { member = f.1; least = f.2 } in
+      let f = first_reply-at ops (value_of w) w (kept-member ops w k) in
+      let x : HasFirstReply ops (value_of w) f.0 = record { member = f.1; least = f.2 } in
       (f.0, x, first_completed ops w f.0 y.history k x)
 
   -- and the one called last
   pub last_called : (w : Operation) → IsKept (of_register r (operations h)) w
-      → (a : Operation) × HasLastCall (of_register r (operations h)) w.value a
+      → (a : Operation) × HasLastCall (of_register r (operations h)) (value_of w) a
   last_called w k =
       let ops = of_register r (operations h) in
-      let s = last_call-at ops w.value w (kept-member ops w k) in
+      let s = last_call-at ops (value_of w) w (kept-member ops w k) in
       (s.0, record { member = s.1; greatest = s.2 })

@@ -7,10 +7,13 @@ use Rattle.history_text.specs.declared.event.OpKind.TheVariants.{ReadOp, WriteOp
 use Rattle.history_model.specs.declared.event.Event.{Event}
 use Rattle.history_model.specs.declared.event.What.TheVariants.{Call, Reply}
 use Rattle.history_model.specs.declared.ids.Oper.TheVariants.{Initial, Called}
-use Rattle.history_model.specs.Operations.{Operation, of_register, operations, initial_write}
+use Rattle.history_model.specs.Operations.{of_register, operations, initial_write}
+use Rattle.history_model.specs.declared.operation.Operation.{Operation}
+use Rattle.history_model.specs.declared.act.Act.TheVariants.{Read, Write}
+use Rattle.history_model.specs.Placed.{placed}
 use Rattle.reg_zones.specs.declared.placed.Placed.{Placed}
 use Rattle.reg_zones.specs.Clusters.{first_reply, last_call, low_end, IsConflict}
-use Rattle.reg_zones.specs.Order.{placed, shown}
+use Rattle.reg_zones.specs.Order.{shown}
 
 abbrev written : ℕ → Option Val
 written n = Some (Int (pos n))
@@ -79,8 +82,7 @@ first = record {
   completed = true;
   process = Some 1;
   register = 0;
-  kind = WriteOp;
-  value = written 1;
+  act = Write (Int (pos 1));
 }
 
 abbrev second : Operation
@@ -91,8 +93,7 @@ second = record {
   completed = true;
   process = Some 1;
   register = 0;
-  kind = WriteOp;
-  value = written 2;
+  act = Write (Int (pos 2));
 }
 
 -- they conflict
@@ -114,8 +115,7 @@ waiting = record {
   completed = true;
   process = Some 2;
   register = 0;
-  kind = ReadOp;
-  value = written 5;
+  act = Read (written 5);
 }
 
 abbrev within : Operation
@@ -126,8 +126,7 @@ within = record {
   completed = true;
   process = Some 1;
   register = 0;
-  kind = WriteOp;
-  value = written 5;
+  act = Write (Int (pos 5));
 }
 
 pub operations_of_it : register (read 2 ∷ write 1 5 ∷ wrote 1 5 ∷ got 2 5 ∷ []) ≡ initial_write 0 ∷ waiting

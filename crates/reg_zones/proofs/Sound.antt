@@ -3,10 +3,12 @@
 use Rattle.std.proofs.Common.{◌<◌, List, inl, inr, sym, ap, subst, ◌∙◌, arith}
 use Rattle.std.proofs.lemmas.Bool.{false≢true}
 use Rattle.history_model.specs.Lists.{In, Before}
-use Rattle.history_model.specs.Operations.{Operation, Precedes, IsWrite, IsReadOf, IsHistory, is_write}
+use Rattle.history_model.specs.Operations.{Precedes, IsWrite, IsReadOf, IsHistory, is_write, value_of}
+use Rattle.history_model.specs.declared.operation.Operation.{Operation}
 use Rattle.history_model.specs.Legal.{IsLegal, IsNearestWrite}
 use Rattle.reg_zones.specs.Clusters.{IsInCluster, first_reply, last_call, IsKept, IsConflict}
 use Rattle.reg_zones.specs.Faults.{IsEarly, HasNoFault}
+use Rattle.history_model.proofs.Latest.{latest}
 use Rattle.history_model.proofs.Lists.{Before-first, Before-second, Before-total, Before-trans}
 use Rattle.reg_zones.proofs.Ends.{kept-member, first_reply-at, last_call-at, member-is}
 
@@ -14,7 +16,7 @@ module _ (ops order : List Operation) (y : IsHistory ops) (l : IsLegal ops order
   -- a completed read stands after the write of its value, with no write between
   nearest : (r w : Operation) → In r ops → IsReadOf w r → In w ops → IsWrite w → IsNearestWrite order w r
   nearest r w i k j u =
-      let n = l.latest r (l.completion.all r i k.completed) (record {
+      let n = latest ops order y l r (l.completion.all r i k.completed) (record {
         read = k.read;
         completed = k.completed;
       }) in
@@ -31,7 +33,8 @@ module _ (ops order : List Operation) (y : IsHistory ops) (l : IsLegal ops order
       ]
 
   -- all of one cluster stands before the other write
-  front : (v w a : Operation) → IsKept ops v → IsKept ops w → Before v w order → IsInCluster ops v.value a
+  front : (v w a : Operation) → IsKept ops v → IsKept ops w → Before v w order
+      → IsInCluster ops (value_of v) a
       → Before a w order
   front v w a kv kw b m = elim (member-is ops y v a kv m) [
     | inl e ↦ subst (λ x. Before x w order) (sym e) b
@@ -46,8 +49,9 @@ module _ (ops order : List Operation) (y : IsHistory ops) (l : IsLegal ops order
   ]
 
   -- so nothing of the later one precedes anything of the earlier
-  apart : (v w a b : Operation) → IsKept ops v → IsKept ops w → Before v w order → IsInCluster ops v.value a
-      → IsInCluster ops w.value b → Precedes b a → ⊥
+  apart : (v w a b : Operation) → IsKept ops v → IsKept ops w → Before v w order
+      → IsInCluster ops (value_of v) a
+      → IsInCluster ops (value_of w) b → Precedes b a → ⊥
   apart v w a b kv kw s m n p = elim (member-is ops y w b kw n) [
     | inl e ↦ l.keeps a b (subst (λ x. Before a x order) (sym e) (front v w a kv kw s m)) p
     | inr r ↦ l.keeps a b
@@ -57,15 +61,15 @@ module _ (ops order : List Operation) (y : IsHistory ops) (l : IsLegal ops order
 
   -- where v stands before w, no reply of w's zone comes before a call of v's
   one_way : (v w : Operation) → IsKept ops v → IsKept ops w → Before v w order
-      → first_reply ops w.value < last_call ops v.value → ⊥
+      → first_reply ops (value_of w) < last_call ops (value_of v) → ⊥
   one_way v w kv kw s c =
-      let b = first_reply-at ops w.value w (kept-member ops w kw) in
-      let a = last_call-at ops v.value v (kept-member ops v kv) in
+      let b = first_reply-at ops (value_of w) w (kept-member ops w kw) in
+      let a = last_call-at ops (value_of v) v (kept-member ops v kv) in
       apart v w a.0 b.0 kv kw s a.1 b.1 (omega (arith, a.2, b.2))
 
   no_conflict : (v w : Operation) → IsConflict ops v w → ⊥
   no_conflict v w c = elim (Before-total v w order (kept-in v c.left) (kept-in w c.right)) [
-    | inl e ↦ c.differ (ap (λ (x : Operation). x.value) e)
+    | inl e ↦ c.differ (ap value_of e)
     | inr s ↦ elim s [
       | inl b ↦ one_way v w c.left c.right b c.other
       | inr b ↦ one_way w v c.right c.left b c.one
@@ -78,7 +82,7 @@ module _ (ops order : List Operation) (y : IsHistory ops) (l : IsLegal ops order
   pub sound : HasNoFault ops
   sound = record {
     written = λ r i d.
-        let n = l.latest r (l.completion.all r i d.completed) d in (
+        let n = latest ops order y l r (l.completion.all r i d.completed) d in (
           n.0,
           l.completion.only n.0 (Before-first n.0 r order n.1.before),
           n.1.write,

@@ -6,7 +6,8 @@ use Rattle.history_text.specs.declared.event.Val.{Val}
 use Rattle.history_model.specs.declared.op.Op.{Op}
 use Rattle.history_model.specs.Lists.{In}
 use Rattle.history_model.specs.History.{History}
-use Rattle.history_model.specs.Operations.{Operation, IsWrite, IsCompleted, IsCompletedRead}
+use Rattle.history_model.specs.Operations.{IsWrite, IsCompleted, IsCompletedRead, value_of}
+use Rattle.history_model.specs.declared.operation.Operation.{Operation}
 use Rattle.history_model.specs.Operations.{is_write, of_register, operations}
 use Rattle.history_model.specs.Walking.{by_value, key_at}
 use Rattle.history_model.specs.Naming.{IsEventOf, op_shown}
@@ -46,7 +47,7 @@ module _ (h : History) (r : ℕ) (y : IsKnown h r) (a : Operation) (k : In a (of
       let lives = y.history.life a k in
       omega arith
 
-  pub read-key : (v : Val) → a.value ≡ Some v → key_at by_value h.events (a.reply - 2) ≡ Some (r, v)
+  pub read-key : (v : Val) → value_of a ≡ Some v → key_at by_value h.events (a.reply - 2) ≡ Some (r, v)
   read-key v q =
       let p = caller in
       let at = of_register-In r (operations h) a k in
@@ -79,7 +80,7 @@ module _ (h : History) (r : ℕ) (y : IsKnown h r) (i : ℕ) (o : Operation) (op
 
   -- the reply of a completed one has its value
   pub reply-key : IsCompleted o
-      → (v : Val) × (o.value ≡ Some v) × (key_at by_value h.events (o.reply - 2) ≡ Some (r, v))
+      → (v : Val) × (value_of o ≡ Some v) × (key_at by_value h.events (o.reply - 2) ≡ Some (r, v))
   reply-key d =
       let p = called in
       let v = y.value o there (inr d) in
@@ -87,7 +88,7 @@ module _ (h : History) (r : ℕ) (y : IsKnown h r) (i : ℕ) (o : Operation) (op
 
   -- the call of a pending write has its value
   pub call-key : o.completed ≡ false → IsWrite o
-      → (v : Val) × (o.value ≡ Some v) × (key_at by_value h.events i ≡ Some (r, v))
+      → (v : Val) × (value_of o ≡ Some v) × (key_at by_value h.events i ≡ Some (r, v))
   call-key d w =
       let p = called in
       let v = y.value o there (inl w) in

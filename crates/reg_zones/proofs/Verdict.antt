@@ -2,7 +2,8 @@
 use Rattle.std.proofs.Common.{◌↔◌, List, Result, Ok, Err, refl, IsOk, IsErr}
 use Rattle.std.proofs.lemmas.Bool.{false≢true}
 use Rattle.std.specs.Prelude.{IfOk, IfErr}
-use Rattle.history_model.specs.Operations.{Operation, IsHistory}
+use Rattle.history_model.specs.Operations.{IsHistory}
+use Rattle.history_model.specs.declared.operation.Operation.{Operation}
 use Rattle.history_model.specs.Legal.{IsAtomic}
 use Rattle.reg_zones.specs.declared.fault.Fault.{Fault}
 use Rattle.reg_zones.specs.Faults.{HasNoFault, IsFault}

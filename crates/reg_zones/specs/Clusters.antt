@@ -5,7 +5,8 @@ use Rattle.std.specs.List.{filter}
 use Rattle.history_text.specs.declared.event.Val.{Val}
 use Rattle.history_text.specs.Values.{same_value}
 use Rattle.history_model.specs.Lists.{In}
-use Rattle.history_model.specs.Operations.{Operation, IsWrite, IsCompleted, IsReadOf, is_write}
+use Rattle.history_model.specs.Operations.{IsWrite, IsCompleted, IsReadOf, is_write, value_of}
+use Rattle.history_model.specs.declared.operation.Operation.{Operation}
 
 -- a write that is initial or completed, or pending with a completed read of its
 -- value (the initial write counts as completed)
@@ -19,12 +20,12 @@ pub record IsKept (ops : List Operation) (w : Operation) : Type 0 where
 -- an operation of the cluster of a value: its write, or a completed read of it
 pub record IsInCluster (ops : List Operation) (v : Option Val) (a : Operation) : Type 0 where
   pub within : In a ops
-  pub value : a.value ≡ v
+  pub value : (value_of a) ≡ v
   pub counts : IsWrite a ⊎ IsCompleted a
 
 -- the same as a test
 abbrev pub is_member : Option Val → Operation → Bool
-is_member v a = same_value a.value v && (is_write a || a.completed)
+is_member v a = same_value (value_of a) v && (is_write a || a.completed)
 
 -- the cluster of a value: its write with all completed reads of it
 abbrev pub cluster : List Operation → Option Val → List Operation
@@ -80,26 +81,26 @@ pub record HasLastCall (ops : List Operation) (v : Option Val) (a : Operation) :
 pub record IsConflict (ops : List Operation) (v w : Operation) : Type 0 where
   pub left : IsKept ops v
   pub right : IsKept ops w
-  pub differ : v.value ≡ w.value → ⊥
-  pub one : first_reply ops v.value < last_call ops w.value
-  pub other : first_reply ops w.value < last_call ops v.value
+  pub differ : (value_of v) ≡ value_of w → ⊥
+  pub one : first_reply ops (value_of v) < last_call ops (value_of w)
+  pub other : first_reply ops (value_of w) < last_call ops (value_of v)
 
 -- no two conflicting zones have their low ends below n
 abbrev pub IsClearBelow : List Operation → ℕ → Type 0
 IsClearBelow ops n =
-    (v w : Operation) → IsConflict ops v w → low_end ops v.value < low_end ops w.value
-    → low_end ops w.value < n → ⊥
+    (v w : Operation) → IsConflict ops v w → low_end ops (value_of v) < low_end ops (value_of w)
+    → low_end ops (value_of w) < n → ⊥
 
 -- the conflicting pair whose second low end is least, the first below the second
 pub record IsFirstConflict (ops : List Operation) (v w : Operation) : Type 0 where
   pub conflict : IsConflict ops v w
-  pub order : low_end ops v.value < low_end ops w.value
-  pub first : IsClearBelow ops (low_end ops w.value)
+  pub order : low_end ops (value_of v) < low_end ops (value_of w)
+  pub first : IsClearBelow ops (low_end ops (value_of w))
 
 -- of the kept writes whose zones are forward and have their low ends below n, v has the greatest low end
 pub record IsLastForward (ops : List Operation) (v : Operation) (n : ℕ) : Type 0 where
   pub kept : IsKept ops v
-  pub forward : IsForward ops v.value
-  pub below : low_end ops v.value < n
-  pub last : (u : Operation) → IsKept ops u → IsForward ops u.value → low_end ops u.value < n
-      → low_end ops u.value ≤ low_end ops v.value
+  pub forward : IsForward ops (value_of v)
+  pub below : low_end ops (value_of v) < n
+  pub last : (u : Operation) → IsKept ops u → IsForward ops (value_of u) → low_end ops (value_of u) < n
+      → low_end ops (value_of u) ≤ low_end ops (value_of v)

@@ -3,7 +3,8 @@ use Rattle.std.specs.Prelude.{◌≡◌, ℕ, ◌<◌, ◌==◌, ◌&&◌, ◌�
 use Rattle.std.specs.Prelude.{List, [], ◌∷◌, AllPairs, Option, Some, None}
 use Rattle.std.specs.List.Sorted.{IsPermutation}
 use Rattle.history_model.specs.Lists.{In}
-use Rattle.history_model.specs.Operations.{Operation, is_write}
+use Rattle.history_model.specs.Operations.{is_write, value_of}
+use Rattle.history_model.specs.declared.operation.Operation.{Operation}
 use Rattle.history_model.specs.Naming.{name_of}
 use Rattle.reg_zones.specs.Clusters.{low_end}
 use Rattle.reg_zones.specs.Order.{IsListed}
@@ -15,7 +16,7 @@ abbrev pub turn : Operation → ℕ
 turn a = cond (is_write a) 0 a.call
 
 abbrev pub entry_of : List Operation → Operation → Entry
-entry_of ops a = record { low = low_end ops a.value; turn = turn a; call = a.call; oper = name_of a }
+entry_of ops a = record { low = low_end ops (value_of a); turn = turn a; call = a.call; oper = name_of a }
 
 -- two entries have one place
 abbrev pub same_place : Entry → Entry → Bool

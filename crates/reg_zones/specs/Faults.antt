@@ -2,7 +2,8 @@
 -- Korach, Testing Shared Memories, 1997, section 3; which one is named is this project's profile).
 use Rattle.std.specs.Prelude.{◌≡◌, ◌≤◌, List}
 use Rattle.history_model.specs.Lists.{In}
-use Rattle.history_model.specs.Operations.{Operation, IsWrite, IsCompletedRead, IsReadOf, Precedes}
+use Rattle.history_model.specs.Operations.{IsWrite, IsCompletedRead, IsReadOf, Precedes, value_of}
+use Rattle.history_model.specs.declared.operation.Operation.{Operation}
 use Rattle.history_model.specs.Naming.{name_of}
 use Rattle.reg_zones.specs.Clusters.{IsConflict, IsFirstConflict, HasFirstReply, HasLastCall}
 use Rattle.reg_zones.specs.declared.fault.Fault.{Fault}
@@ -50,8 +51,8 @@ pub record IsConflictFault (ops : List Operation) (v w : Operation) : Type 0 whe
 
 -- a, which replies first in v's cluster, precedes b, which is called last in w's
 pub record IsWitness (ops : List Operation) (v w a b : Operation) : Type 0 where
-  pub reply : HasFirstReply ops v.value a
-  pub call : HasLastCall ops w.value b
+  pub reply : HasFirstReply ops (value_of v) a
+  pub call : HasLastCall ops (value_of w) b
 
 -- ---- the fault, whose operations go by their names
 

@@ -4,7 +4,8 @@ use Rattle.std.specs.Prelude.{List, Option, Some, None}
 use Rattle.history_model.specs.declared.ids.Oper.{Oper}
 use Rattle.history_model.specs.Lamport.{KeepsRegular}
 use Rattle.history_model.specs.Lists.{In}
-use Rattle.history_model.specs.Operations.{Operation, IsCompletedRead, IsReadOf, IsWrite, Precedes}
+use Rattle.history_model.specs.Operations.{IsCompletedRead, IsReadOf, IsWrite, Precedes}
+use Rattle.history_model.specs.declared.operation.Operation.{Operation}
 use Rattle.reg_zones.specs.declared.fault.Fault.{Fault}
 use Rattle.reg_zones.specs.declared.fault.Fault.TheVariants.{Unwritten, Early, Zones}
 

@@ -1,11 +1,13 @@
 -- The canonical order of a register without fault, and the point of each of its operations
 -- (this project's profile; points as in Herlihy and Wing, Linearizability: A Correctness
 -- Condition for Concurrent Objects, 1990, section 2).
-use Rattle.std.specs.Prelude.{◌≡◌, ℕ, ◌<◌, ◌≤◌, ◌⊎◌, max, map, true, false, List, [], ◌∷◌}
+use Rattle.std.specs.Prelude.{◌≡◌, ℕ, ◌<◌, ◌≤◌, ◌⊎◌, map, true, false, List}
 use Rattle.history_model.specs.Lists.{In, Before}
-use Rattle.history_model.specs.Operations.{Operation, IsCompletedRead, is_write}
+use Rattle.history_model.specs.Operations.{IsCompletedRead, is_write, value_of}
+use Rattle.history_model.specs.declared.operation.Operation.{Operation}
 use Rattle.history_model.specs.Legal.{IsLegal}
 use Rattle.history_model.specs.Naming.{name_of}
+use Rattle.history_model.specs.Placed.{IsWithinLife, PlacedOperation, placed}
 use Rattle.reg_zones.specs.Clusters.{IsKept, low_end}
 use Rattle.reg_zones.specs.declared.placed.Placed.{Placed}
 
@@ -15,8 +17,8 @@ IsListed ops a = IsKept ops a ⊎ (In a ops × IsCompletedRead a)
 
 -- a comes sooner than b: by the low end of the cluster, then the write first, then by call
 abbrev pub IsSooner : List Operation → Operation → Operation → Type 0
-IsSooner ops a b = (low_end ops a.value < low_end ops b.value)
-    ⊎ ((low_end ops a.value ≡ low_end ops b.value)
+IsSooner ops a b = (low_end ops (value_of a) < low_end ops (value_of b))
+    ⊎ ((low_end ops (value_of a) ≡ low_end ops (value_of b))
     × (((is_write a ≡ true) × (is_write b ≡ false)) ⊎ ((is_write a ≡ is_write b) × (a.call < b.call))))
 
 -- the kept writes and the completed reads, ascending
@@ -24,31 +26,6 @@ pub record IsCanonical (ops order : List Operation) : Type 0 where
   pub listed : (a : Operation) → In a order → IsListed ops a
   pub all : (a : Operation) → IsListed ops a → In a order
   pub ascending : (a b : Operation) → Before a b order → IsSooner ops a b
-
--- ---- points
-
--- an operation in its place of an order, with its point
-pub record PlacedOperation : Type 0 where
-  pub operation : Operation
-  pub point : ℕ
-
--- the operations of an order after others of which the last call is n
-abbrev pub placed_from : ℕ → List Operation → List PlacedOperation
-placed_from n [] = []
-placed_from n (a ∷ order) = record { operation = a; point = max n a.call } ∷ placed_from (max n a.call) order
-
--- each operation of an order with its point: the last call among the operations up to it, itself among them
-abbrev pub placed : List Operation → List PlacedOperation
-placed order = placed_from 0 order
-
--- the operations alone
-abbrev pub operations_of : List PlacedOperation → List Operation
-operations_of xs = map (λ x. x.operation) xs
-
--- the point lies at or after the call, and before the reply
-pub record IsWithinLife (x : PlacedOperation) : Type 0 where
-  pub called : x.operation.call ≤ x.point
-  pub unreplied : x.point < x.operation.reply
 
 -- ---- the answer
 

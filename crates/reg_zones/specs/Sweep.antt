@@ -7,7 +7,8 @@ use Rattle.history_model.specs.declared.ids.Oper.TheVariants.{Initial, Called}
 use Rattle.history_model.specs.declared.op.Op.{Op}
 use Rattle.history_model.specs.Lists.{In}
 use Rattle.history_model.specs.History.{History}
-use Rattle.history_model.specs.Operations.{Operation, IsWrite, IsCompleted, IsCompletedRead}
+use Rattle.history_model.specs.Operations.{IsWrite, IsCompleted, IsCompletedRead, value_of}
+use Rattle.history_model.specs.declared.operation.Operation.{Operation}
 use Rattle.history_model.specs.Operations.{IsReadOf, of_register, operations}
 use Rattle.history_model.specs.Walking.{by_value, key_at}
 use Rattle.history_model.specs.Naming.{IsNamed, IsEventOf, name_of, op_shown}
@@ -67,7 +68,7 @@ IsValueOf h r i None =
     (o : Operation) → In o (of_register r (operations h)) → IsEventOf i o → IsWrite o ⊎ IsCompleted o → ⊥
 IsValueOf h r i (Some id) =
     (o : Operation) × In o (of_register r (operations h)) × IsEventOf i o
-    × ((v : Val) × (o.value ≡ Some v) × (key_at by_value h.events id.0 ≡ Some (r, v))
+    × ((v : Val) × (value_of o ≡ Some v) × (key_at by_value h.events id.0 ≡ Some (r, v))
     × (IsWrite o ⊎ IsCompleted o))
 
 -- ---- reads without a write, and early reads
@@ -84,14 +85,14 @@ AreInTime ops = (r w : Operation) → IsEarly ops r w → ⊥
 -- the read is one of the operations, completed, with its value and its reply
 abbrev pub IsReadOfRegister : List Operation → Read → Type 0
 IsReadOfRegister ops read =
-    (r : Operation) × In r ops × IsCompletedRead r × (r.value ≡ Some read.value) × (r.reply ≡ read.reply)
+    (r : Operation) × In r ops × IsCompletedRead r × (value_of r ≡ Some read.value) × (r.reply ≡ read.reply)
 
 -- the completed read that is called at time n, if there is one
 abbrev pub IsReadCalledAt : List Operation → ℕ → Option Read → Type 0
 IsReadCalledAt ops n None = (r : Operation) → In r ops → IsCompletedRead r → r.call ≡ n → ⊥
 IsReadCalledAt ops n (Some read) =
     (r : Operation) × In r ops × IsCompletedRead r × (r.call ≡ n) × (name_of r ≡ read.oper)
-    × (r.value ≡ Some read.value) × (r.reply ≡ read.reply)
+    × (value_of r ≡ Some read.value) × (r.reply ≡ read.reply)
 
 -- the completed read that is called at time n, if it has no write
 abbrev pub IsUnwrittenAt : List Operation → ℕ → Option Oper → Type 0
@@ -113,16 +114,17 @@ IsEarlyAt ops n (Some pair) =
 pub record IsClusterOf (ops : List Operation) (w : Operation) (cluster : Cluster) : Type 0 where
   pub kept : IsKept ops w
   pub write : cluster.write ≡ name_of w
-  pub zone : IsZone ops w.value cluster.zone
+  pub zone : IsZone ops (value_of w) cluster.zone
 
 -- the cluster whose low end is at time n, if there is one
 abbrev pub IsLowEndAt : List Operation → ℕ → Option Cluster → Type 0
-IsLowEndAt ops n None = (w : Operation) → IsKept ops w → low_end ops w.value ≡ n → ⊥
-IsLowEndAt ops n (Some cluster) = (w : Operation) × IsClusterOf ops w cluster × (low_end ops w.value ≡ n)
+IsLowEndAt ops n None = (w : Operation) → IsKept ops w → low_end ops (value_of w) ≡ n → ⊥
+IsLowEndAt ops n (Some cluster) = (w : Operation) × IsClusterOf ops w cluster × (low_end ops (value_of w) ≡ n)
 
 -- the last forward cluster whose low end is before time n, if there is one
 abbrev pub IsLastMet : List Operation → ℕ → Option Cluster → Type 0
-IsLastMet ops n None = (w : Operation) → IsKept ops w → IsForward ops w.value → low_end ops w.value < n → ⊥
+IsLastMet ops n None = (w : Operation) → IsKept ops w → IsForward ops (value_of w)
+    → low_end ops (value_of w) < n → ⊥
 IsLastMet ops n (Some cluster) = (w : Operation) × IsClusterOf ops w cluster × IsLastForward ops w n
 
 -- what a pass that has met each low end before time n knows: no conflict, and the last forward cluster

@@ -1,7 +1,8 @@
 //! Why a register isn't atomic.
 ghost use Rattle.std.specs.Prelude.{◌≡◌};
 ghost use Rattle.history_model.specs.Lists.{In};
-ghost use Rattle.history_model.specs.Operations.{Operation, IsCompleted};
+ghost use Rattle.history_model.specs.Operations.{IsCompleted};
+ghost use Rattle.history_model.specs.declared.operation.Operation.{Operation};
 ghost use Rattle.history_model.specs.Naming.{name_of};
 ghost use Rattle.reg_zones.specs.Faults.{IsFault, IsConflictFault};
 ghost use Rattle.reg_zones.specs.Register.{operations_of};

@@ -2,15 +2,18 @@
 //! contract of a function that does nothing.
 ghost use Rattle.std.specs.Prelude.{◌≡◌, ◌↔◌, ◌≤◌, ◌<◌, List, None, Some};
 ghost use Rattle.history_model.specs.Lists.{In, Before};
-ghost use Rattle.history_model.specs.Operations.{Operation, IsHistory};
+ghost use Rattle.history_model.specs.Operations.{IsHistory, value_of};
+ghost use Rattle.history_model.specs.declared.operation.Operation.{Operation};
 ghost use Rattle.history_model.specs.Lamport.{HasSingleWriter};
 ghost use Rattle.history_model.specs.Legal.{IsLegal, IsAtomic};
 ghost use Rattle.history_model.specs.Naming.{name_of};
 ghost use Rattle.reg_zones.specs.Clusters.{low_end, IsConflict, IsClearBelow, IsLastForward, IsFirstConflict};
 ghost use Rattle.reg_zones.specs.Faults.{IsFault, HasNoFault};
 ghost use Rattle.reg_zones.specs.Inversions.{IsInversion, IsRegular, HasInversion, inversion_named};
-ghost use Rattle.reg_zones.specs.Order.{IsListed, IsSooner, IsCanonical, PlacedOperation};
-ghost use Rattle.reg_zones.specs.Order.{placed, IsWithinLife, IsOrder};
+ghost use Rattle.reg_zones.specs.Order.{IsListed, IsSooner, IsCanonical};
+ghost use Rattle.history_model.specs.Placed.{PlacedOperation};
+ghost use Rattle.reg_zones.specs.Order.{IsOrder};
+ghost use Rattle.history_model.specs.Placed.{placed, IsWithinLife};
 ghost use Rattle.reg_zones.specs.declared.fault.Fault.{Fault};
 ghost use Rattle.reg_zones.specs.declared.placed.Placed.{Placed};
 
@@ -46,8 +49,8 @@ pub fn points_fit()
 /// exactly one earlier zone: the last forward one.
 pub fn last_forward_decides()
     ensures forward { (ops : List Operation) (v w : Operation) → IsConflict ops v w
-        → low_end ops v.value < low_end ops w.value
-        → IsClearBelow ops (low_end ops w.value) → IsLastForward ops v (low_end ops w.value) }
+        → low_end ops (value_of v) < low_end ops (value_of w)
+        → IsClearBelow ops (low_end ops (value_of w)) → IsLastForward ops v (low_end ops (value_of w)) }
     ensures one { (ops : List Operation) (v w v' w' : Operation) → IsHistory ops
         → IsFirstConflict ops v w → IsFirstConflict ops v' w' → (v ≡ v') × (w ≡ w') }
 {}

@@ -2,7 +2,7 @@
 ghost use Rattle.std.specs.Prelude.{◌≡◌, ◌<◌, ◌↔◌, IsTrue, Some, length};
 ghost use Rattle.history_model.specs.History.{IsRecorded};
 ghost use Rattle.history_model.specs.Naming.{IsNamed, IsOper, IsOperOf, op_shown};
-ghost use Rattle.history_model.specs.Operations.{Operation};
+ghost use Rattle.history_model.specs.declared.operation.Operation.{Operation};
 ghost use Rattle.history_model.specs.Walking.{by_register, key_at};
 ghost use Rattle.reg_zones.specs.Sweep.{IsMetAt};
 

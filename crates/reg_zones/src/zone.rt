@@ -1,7 +1,8 @@
 //! Kept writes, their clusters, and the zones of these.
 ghost use Rattle.std.specs.Prelude.{◌≡◌, ◌↔◌, ◌<◌, ℕ, IsTrue, Some, length, min};
 ghost use Rattle.history_text.specs.declared.event.Val.{Val as AVal};
-ghost use Rattle.history_model.specs.Operations.{Operation, of_register, operations};
+ghost use Rattle.history_model.specs.Operations.{of_register, operations, value_of};
+ghost use Rattle.history_model.specs.declared.operation.Operation.{Operation};
 ghost use Rattle.history_model.specs.Walking.{by_value, key_at};
 ghost use Rattle.history_model.specs.Naming.{IsNamed, IsOper};
 ghost use Rattle.reg_zones.specs.Clusters.{IsKept};
@@ -65,7 +66,7 @@ pub fn is_kept(arena: &Arena, oper: Oper) -> bool
 pub fn zone_of(arena: &Arena, write: Oper) -> Zone
     requires { IsKeptWrite arena.now write }
     ensures { (w : Operation) → IsNamed arena.now write w
-        → IsZone (of_register w.register (operations arena.now)) w.value result }
+        → IsZone (of_register w.register (operations arena.now)) (value_of w) result }
 {
     let (register, op) = Register::with_operation(arena, write);
     let found = match op.value {

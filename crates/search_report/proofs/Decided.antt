@@ -7,14 +7,14 @@ use Rattle.std.specs.List.{list_any}
 use Rattle.history_model.proofs.Lists.{slice_get_inside}
 use Rattle.history_model.specs.Lists.{In}
 use Rattle.history_text.specs.declared.event.AnyEvent.{AnyEvent}
-use Rattle.cas_model.specs.declared.operation.Operation.{Operation}
-use Rattle.cas_model.specs.Legal.{IsAtomic}
-use Rattle.cas_model.specs.Operations.{AreTimed, initial_write, of_register}
-use Rattle.cas_model.proofs.Locality.{each_decides}
+use Rattle.history_model.specs.declared.operation.Operation.{Operation}
+use Rattle.history_model.specs.Legal.{IsAtomic}
+use Rattle.history_model.specs.Operations.{AreTimed, initial_write, of_register}
+use Rattle.history_model.proofs.Locality.{each_decides}
 use Rattle.cas_history.specs.History.{IsHistoryOf, calls_of, operations, register_names}
 use Rattle.cas_history.specs.Timed.{AreTimedCalls}
 use Rattle.cas_history.specs.declared.history.History.{History}
-use Rattle.cas_history.proofs.Timed.{timed as calls-timed}
+use Rattle.cas_history.proofs.Timed.{calls-timed}
 use Rattle.cas_history.proofs.Initials.{named as of-named, none as of-none}
 use Rattle.search_text.specs.declared.report.Outcome.{Outcome}
 use Rattle.search_text.specs.declared.report.Outcome.TheVariants as outcome
@@ -24,6 +24,7 @@ use Rattle.search_text.specs.declared.report.RegisterReport.{RegisterReport}
 use Rattle.search_report.specs.Meaning.{IsAtomicity, IsRegisterReport, IsWholeOutcome}
 use Rattle.search_report.specs.Meaning.{event_lines, is_no, is_unknown, outcome_of}
 use Rattle.search_report.specs.Registers.{AreFirstLines, IsLine}
+use Rattle.search_report.proofs.Told.{timed_with_initial}
 
 -- ---- what the answer says if each register's line says so of P
 
@@ -98,36 +99,6 @@ all_known P reports each = elim (cases_Bool (list_any (λ reg. is_no reg.atomici
 
 -- ---- registers and the whole
 
--- the initial write of a register and its calls stand in time
-timed_with_initial : (r : ℕ) (ops : List Operation) → AreTimedCalls r ops → AreTimed (initial_write r ∷ ops)
-timed_with_initial r ops timed = record { life = life; apart = apart }
-  where
-    some_one : (t : ℕ) → Some 1 ≡ Some t → t ≡ 1
-    some_one t q = sym (same_Some 1 t q)
-
-    life : (a : Operation) (t : ℕ) → In a (initial_write r ∷ ops) → a.reply ≡ Some t → a.call < t
-    life a t (inl e) q =
-        let one =
-        some_one t (subst (λ (x : Operation). x.reply ≡ Some t) e q) in
-        subst (λ (x : Operation). x.call < t) (sym e) (omega (arith, one))
-    life a t (inr i) q = timed.life a t i q
-
-    apart : (a b : Operation) (t : ℕ) → In a (initial_write r ∷ ops) → In b (initial_write r ∷ ops)
-        → a.reply ≡ Some t → t ≡ b.call → ⊥
-    apart a b t (inl e) (inl f) q same =
-        let one =
-        some_one t (subst (λ (x : Operation). x.reply ≡ Some t) e q) in let zero_call =
-        ap (λ (x : Operation). x.call) f in omega (arith, one, same, zero_call)
-    apart a b t (inl e) (inr j) q same =
-        let one =
-        some_one t (subst (λ (x : Operation). x.reply ≡ Some t) e q) in let late =
-        timed.called b j in omega (arith, one, same, late)
-    apart a b t (inr i) (inl f) q same =
-        let early =
-        timed.life a t i q in let zero_call =
-        ap (λ (x : Operation). x.call) f in omega (arith, early, same, zero_call)
-    apart a b t (inr i) (inr j) q same = timed.apart a b t i j q same
-
 nothing_is_atomic : IsAtomic []
 nothing_is_atomic = (
   [],
@@ -155,8 +126,8 @@ module _ (events : List AnyEvent) where
     | inl l ↦ subst AreTimed (sym (of-named events r l))
         (timed_with_initial r (calls_of events r) (calls-timed events r))
     | inr n ↦ subst AreTimed (sym (of-none events r n)) (record {
-      life = λ a t i _. absurd i;
-      apart = λ a b t i _ _ _. i;
+      life = λ a i. absurd i;
+      apart = λ a b i _ _. i;
     })
   ]
 

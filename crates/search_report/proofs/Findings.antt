@@ -5,7 +5,7 @@ use Rattle.std.proofs.lemmas.Bool.{cases_eq, cases_lt}
 use Rattle.std.proofs.lemmas.List.{length_push}
 use Rattle.std.proofs.lemmas.Option.{same_Some, slice_get_within}
 use Rattle.history_model.proofs.Lists.{slice_get-push, slice_get-push_other, slice_get_inside}
-use Rattle.cas_model.specs.declared.operation.Operation.{Operation}
+use Rattle.history_model.specs.declared.operation.Operation.{Operation}
 use Rattle.cas_history.specs.declared.history.History.{History}
 use Rattle.search_report.specs.Registers.{AreFindingsOf, AreFirstLines, IsFinding, IsLine}
 use Rattle.search_report.specs.declared.register.Finding.{Finding}

@@ -4,7 +4,7 @@ use Rattle.std.proofs.Common.{slice_get, Some, Vec, Global, refl, sym, ap, subst
 use Rattle.std.proofs.lemmas.List.{length_push, take_all}
 use Rattle.std.proofs.lemmas.Option.{slice_get_within}
 use Rattle.history_model.proofs.Accepted.{take-push}
-use Rattle.cas_model.specs.declared.operation.Operation.{Operation}
+use Rattle.history_model.specs.declared.operation.Operation.{Operation}
 use Rattle.search_report.specs.Registers.{AreFindingsOf, IsFinding}
 use Rattle.search_report.specs.declared.register.Finding.{Finding}
 

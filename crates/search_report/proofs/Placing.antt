@@ -7,8 +7,8 @@ use Rattle.std.proofs.lemmas.List.{map-append}
 use Rattle.std.proofs.lemmas.List.Elements.{filter_map-append}
 use Rattle.history_model.specs.Lists.{In}
 use Rattle.history_model.proofs.Lists.{slice_get_inside}
-use Rattle.cas_model.specs.Cut.{cut_at}
-use Rattle.cas_model.specs.declared.operation.Operation.{Operation}
+use Rattle.history_model.specs.Cut.{cut_at}
+use Rattle.history_model.specs.declared.operation.Operation.{Operation}
 use Rattle.cas_search.specs.Timeline.{AreCalls, operations_at}
 use Rattle.cas_search.proofs.Checking.{at-end}
 use Rattle.cas_search.proofs.Known.{from-known}

@@ -1,15 +1,17 @@
 -- What the verdict of a search says, by lines.
-use Rattle.std.proofs.Common.{◌≡◌, ℕ, ◌-◌, List, ◌∷◌, map, get_or, slice_get, Option, Some}
-use Rattle.std.proofs.Common.{None, Result, Ok, Err, Vec, Global, sym, ap, subst, ◌∙◌}
+use Rattle.std.proofs.Common.{◌≡◌, ℕ, ◌<◌, ◌-◌, List, ◌∷◌, map, get_or, slice_get, Option, Some}
+use Rattle.std.proofs.Common.{None, inl, inr, arith, Result, Ok, Err, Vec, Global, sym, ap, subst, ◌∙◌}
 use Rattle.std.specs.Prelude.{IfOk, IfSome}
 use Rattle.std.proofs.lemmas.Option.{same_Some, slice_get-get_or, slice_get_within}
 use Rattle.std.proofs.lemmas.Simd.{map-map}
 use Rattle.history_model.proofs.Lists.{slice_get-In}
-use Rattle.cas_model.specs.Cut.{cut_at}
-use Rattle.cas_model.specs.declared.operation.Operation.{Operation}
-use Rattle.cas_model.specs.Legal.{IsAtomic}
-use Rattle.cas_model.specs.Operations.{initial_write}
-use Rattle.cas_model.specs.Placed.{PlacedOperation, placed}
+use Rattle.history_model.specs.Cut.{cut_at}
+use Rattle.history_model.specs.declared.operation.Operation.{Operation}
+use Rattle.history_model.specs.Legal.{IsAtomic}
+use Rattle.history_model.specs.Lists.{In}
+use Rattle.history_model.specs.Operations.{AreTimed, initial_write, reply_of}
+use Rattle.history_model.proofs.Placed.{within_life}
+use Rattle.history_model.specs.Placed.{PlacedOperation, placed}
 use Rattle.cas_history.specs.Timed.{AreTimedCalls}
 use Rattle.cas_search.specs.Checked.{IsCheckedOrder}
 use Rattle.cas_search.specs.Timeline.{AreCalls, AreTimes, operations_at}
@@ -28,6 +30,7 @@ are-calls r ops timed = record {
   register = timed.register;
   called = timed.called;
   ascending = timed.ascending;
+  pending = timed.pending;
 }
 
 pub are-times : (r : ℕ) (ops : List Operation) → AreTimedCalls r ops → AreTimes ops
@@ -35,6 +38,28 @@ are-times r ops timed = record {
   timed = record { life = timed.life; apart = timed.apart };
   replies = timed.replies;
 }
+
+-- the initial write of a register and its calls stand in time
+pub timed_with_initial : (r : ℕ) (ops : List Operation) → AreTimedCalls r ops
+    → AreTimed (initial_write r ∷ ops)
+timed_with_initial r ops timed = record { life = life; apart = apart }
+  where
+    call : (a : Operation) → a ≡ initial_write r → a.call ≡ 0
+    call a e = ap (λ (x : Operation). x.call) e
+
+    reply : (a : Operation) → a ≡ initial_write r → a.reply ≡ 1
+    reply a e = ap (λ (x : Operation). x.reply) e
+
+    life : (a : Operation) → In a (initial_write r ∷ ops) → a.call < a.reply
+    life a (inl e) = omega (arith, call a e, reply a e)
+    life a (inr i) = timed.life a i
+
+    apart : (a b : Operation) → In a (initial_write r ∷ ops) → In b (initial_write r ∷ ops)
+        → a.reply ≡ b.call → ⊥
+    apart a b (inl e) (inl f) same = omega (arith, reply a e, same, call b f)
+    apart a b (inl e) (inr j) same = omega (arith, reply a e, same, timed.called b j)
+    apart a b (inr i) (inl f) same = omega (arith, timed.life a i, same, call b f)
+    apart a b (inr i) (inr j) same = timed.apart a b i j same
 
 module _ (lines : List ℕ) (r : ℕ) (ops : List Operation) where
   pub unwritten-told : (k : ℕ) (d : Operation) → AreTimedCalls r ops → IsFirstUnwritten ops (Some k)
@@ -55,15 +80,17 @@ module _ (lines : List ℕ) (r : ℕ) (ops : List Operation) where
         },
       )
 
-  pub order-told : (places points : List ℕ) (order times : Vec ℕ Global)
+  pub order-told : AreTimedCalls r ops → (places points : List ℕ) (order times : Vec ℕ Global)
       → order.items ≡ lines_of (operations_at ops places) → times.items ≡ map (line_at lines) points
       → IsCheckedOrder r ops places points → IsAtomicity lines r ops (Yes order times)
-  order-told places points order times e f checked = (
+  order-told timed places points order times e f checked = (
     (initial_write r ∷ operations_at ops places, checked.legal),
     record {
       operations = operations_at ops places;
       legal = checked.legal;
-      unreplied = checked.points_are.unreplied;
+      within =
+          λ x i. within_life (initial_write r ∷ ops) (initial_write r ∷ operations_at ops places)
+          (timed_with_initial r ops timed) checked.legal x (inr i);
       order_is = e;
       points_are =
           f ∙ (ap (map (line_at lines)) checked.points_are.is
@@ -73,7 +100,7 @@ module _ (lines : List ℕ) (r : ℕ) (ops : List Operation) where
   )
 
   before_told : (timed : AreTimedCalls r ops) (k time : ℕ) (a : Operation) → slice_get ops k ≡ Some a
-      → a.reply ≡ Some time → (before shown : Option (Vec ℕ Global)) → AreLinesBefore ops before shown
+      → reply_of a ≡ Some time → (before shown : Option (Vec ℕ Global)) → AreLinesBefore ops before shown
       → IfSome before (λ places. IsBefore r ops k places.items)
       → IfSome shown (λ order. IsOrderBefore time r ops order.items)
   before_told timed k time a at replies None shown is legal =
@@ -81,7 +108,7 @@ module _ (lines : List ℕ) (r : ℕ) (ops : List Operation) where
   before_told timed k time a at replies (Some places) shown is legal =
       let same_op : a ≡ legal.replies.0 = same_Some _ _ (sym at ∙ legal.replies.1) in
       let same_time : legal.time ≡ time =
-      same_Some _ _ (sym legal.replies.2 ∙ (ap (λ (x : Operation). x.reply) (sym same_op) ∙ replies)) in
+      same_Some _ _ (sym legal.replies.2 ∙ (ap reply_of (sym same_op) ∙ replies)) in
       let order : IsOrderBefore legal.time r ops is.0.items = (
         operations_at (cut_at (legal.time - 1) ops) places.items,
         legal.legal.legal,

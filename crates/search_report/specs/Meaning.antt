@@ -1,18 +1,18 @@
 -- What a report of a history with cas says.
 use Rattle.std.specs.Global.{Global}
 use Rattle.std.specs.List.{filter, list_any}
-use Rattle.std.specs.Prelude.{◌≡◌, ◌<◌, ◌-◌, ◌&&◌, nat_lt, nat_le, ℕ, Vec, Option}
+use Rattle.std.specs.Prelude.{◌≡◌, ◌-◌, ◌&&◌, ◌||◌, nat_lt, nat_le, ℕ, Vec, Option}
 use Rattle.std.specs.Prelude.{if◌then◌else◌, List, ◌∷◌, length, map, get_or, count_by}
-use Rattle.std.specs.Prelude.{slice_get, Bool, true, false, is_none, Some, None, IfSome}
+use Rattle.std.specs.Prelude.{slice_get, not, Bool, true, false, Some, None, IfSome}
 use Rattle.history_model.specs.Lists.{In}
 use Rattle.history_text.specs.declared.event.AnyEvent.{AnyEvent}
-use Rattle.cas_model.specs.declared.act.Act.{Act}
-use Rattle.cas_model.specs.declared.act.Act.TheVariants.{Read, Write, Cas, Miss}
-use Rattle.cas_model.specs.declared.operation.Operation.{Operation}
-use Rattle.cas_model.specs.Cut.{cut_at}
-use Rattle.cas_model.specs.Legal.{IsLegal, IsAtomic}
-use Rattle.cas_model.specs.Operations.{initial_write}
-use Rattle.cas_model.specs.Placed.{PlacedOperation, placed}
+use Rattle.history_model.specs.declared.act.Act.{Act}
+use Rattle.history_model.specs.declared.act.Act.TheVariants.{Read, Write, Cas, Miss}
+use Rattle.history_model.specs.declared.operation.Operation.{Operation}
+use Rattle.history_model.specs.Cut.{cut_at}
+use Rattle.history_model.specs.Legal.{IsLegal, IsAtomic}
+use Rattle.history_model.specs.Operations.{initial_write, reply_of}
+use Rattle.history_model.specs.Placed.{IsWithinLife, PlacedOperation, placed}
 use Rattle.cas_history.specs.History.{register_names, calls, calls_of, operations}
 use Rattle.cas_search.specs.Unwritten.{IsFirstUnwritten}
 use Rattle.search_text.specs.declared.report.Outcome.{Outcome}
@@ -55,7 +55,7 @@ abbrev pub is_cas : Operation → Bool
 is_cas a = is_cas_act a.act
 
 abbrev pub is_pending : Operation → Bool
-is_pending a = is_none a.reply
+is_pending a = not a.completed
 
 -- ---- lines
 
@@ -74,25 +74,23 @@ points_of lines order = map (λ x. line_at lines x.point) (placed order)
 -- ---- open calls
 
 -- no reply comes before time t
-abbrev pub is_unanswered : ℕ → Option ℕ → Bool
-is_unanswered t None = true
-is_unanswered t (Some s) = nat_le t s
+abbrev pub is_unanswered : ℕ → Operation → Bool
+is_unanswered t a = not a.completed || nat_le t a.reply
 
 -- The operation is open at time t: its call comes before that time, and no reply of it does. So one that is
 -- pending is open from its call on, and one that replies at time t still is.
 abbrev pub is_open_at : ℕ → Operation → Bool
-is_open_at t a = nat_lt a.call t && is_unanswered t a.reply
+is_open_at t a = nat_lt a.call t && is_unanswered t a
 
 -- ---- a register: events have these lines, register r has the calls `ops`
 
 -- a legal order of the register's operations, its initial write left out, and its points, each
--- of which comes before the operation's reply (Herlihy and Wing, Linearizability: A
+-- of which lies at or after the operation's call and before its reply (Herlihy and Wing, Linearizability: A
 -- Correctness Condition for Concurrent Objects, 1990)
 pub record IsOrderShown (lines : List ℕ) (r : ℕ) (ops : List Operation) (order points : List ℕ) : Type 0 where
   pub operations : List Operation
   pub legal : IsLegal (initial_write r ∷ ops) (initial_write r ∷ operations)
-  pub unreplied : (x : PlacedOperation) (t : ℕ) → In x (placed operations) → x.operation.reply ≡ Some t
-      → x.point < t
+  pub within : (x : PlacedOperation) → In x (placed operations) → IsWithinLife x
   pub order_is : order ≡ lines_of operations
   pub points_are : points ≡ points_of lines operations
 
@@ -117,7 +115,7 @@ pub record IsHopelessShown (lines : List ℕ) (r : ℕ) (ops : List Operation) (
   pub operation : Operation
   pub time : ℕ
   pub within : In operation ops
-  pub replies : operation.reply ≡ Some time
+  pub replies : reply_of operation ≡ Some time
   pub line : reply ≡ line_at lines time
   pub none : IsAtomic (cut_at time (initial_write r ∷ ops)) → ⊥
   pub asks_are : asks ≡ lines_of (filter (is_open_at time) ops)

@@ -2,7 +2,8 @@
 use Rattle.std.specs.Global.{Global}
 use Rattle.std.specs.Prelude.{◌≡◌, ℕ, Vec, count_by, length, slice_get, List, Option, Some, None}
 use Rattle.std.specs.List.{AllZip, filter}
-use Rattle.cas_model.specs.declared.operation.Operation.{Operation}
+use Rattle.history_model.specs.declared.operation.Operation.{Operation}
+use Rattle.history_model.specs.Operations.{reply_of}
 use Rattle.cas_search.specs.Timeline.{operations_at}
 use Rattle.cas_history.specs.Timed.{AreTimedCalls}
 use Rattle.cas_history.specs.declared.history.History.{History}
@@ -14,12 +15,12 @@ use Rattle.search_text.specs.declared.report.RegisterReport.{RegisterReport}
 -- the line of the reply to the operation at this place, if there is one
 abbrev pub IsReplyLine : List ℕ → List Operation → ℕ → ℕ → Type 0
 IsReplyLine lines ops place line =
-    (a : Operation) (t : ℕ) → slice_get ops place ≡ Some a → a.reply ≡ Some t → line ≡ line_at lines t
+    (a : Operation) (t : ℕ) → slice_get ops place ≡ Some a → reply_of a ≡ Some t → line ≡ line_at lines t
 
 -- the lines of the operations that are open at the reply to the one at this place, if there is one
 abbrev pub AreOpenLines : List Operation → ℕ → List ℕ → Type 0
 AreOpenLines ops place lines =
-    (a : Operation) (t : ℕ) → slice_get ops place ≡ Some a → a.reply ≡ Some t
+    (a : Operation) (t : ℕ) → slice_get ops place ≡ Some a → reply_of a ≡ Some t
     → lines ≡ lines_of (filter (is_open_at t) ops)
 
 -- the lines of the operations at these places, if there are any

@@ -2,7 +2,7 @@
 ghost use Rattle.std.specs.Prelude.{◌≡◌, count_by};
 ghost use Rattle.search_report.specs.Meaning.{is_cas, is_cas_act, is_pending, is_read, is_write};
 
-use cas_model::{Act, Operation};
+use history_model::{Act, Operation};
 
 /// How many reads there are.
 pub(crate) fn reads(ops: &[Operation]) -> usize
@@ -44,5 +44,5 @@ fn is_of_cas(act: &Act) -> bool
 pub(crate) fn pending(ops: &[Operation]) -> usize
     ensures { result ≡ count_by is_pending ops.now }
 {
-    ops.iter().filter(|op| op.reply.is_none()).count()
+    ops.iter().filter(|op| !op.completed).count()
 }

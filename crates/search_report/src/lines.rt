@@ -4,7 +4,7 @@ ghost use Rattle.std.specs.List.{filter};
 ghost use Rattle.cas_search.specs.Timeline.{operations_at};
 ghost use Rattle.search_report.specs.Meaning.{is_open_at, is_unanswered, line_at, lines_of};
 
-use cas_model::Operation;
+use history_model::Operation;
 use std::alloc::{AllocError, Global};
 
 /// The line of the event at a time.
@@ -64,14 +64,14 @@ pub(crate) fn lines_of_open(
 fn is_open(op: &Operation, time: u32) -> bool
     ensures { result ≡ is_open_at time op.now }
 {
-    op.call < time && is_awaited(op.reply, time)
+    op.call < time && is_awaited(op, time)
 }
 
-/// Whether no reply comes before a time.
-fn is_awaited(reply: Option<u32>, time: u32) -> bool
-    ensures { result ≡ is_unanswered time reply }
+/// Whether no reply of an operation comes before a time.
+fn is_awaited(op: &Operation, time: u32) -> bool
+    ensures { result ≡ is_unanswered time op.now }
 {
-    reply.is_none_or(|at| time <= at)
+    !op.completed || time <= op.reply
 }
 
 /// Adds the line of the call of one more operation.

@@ -8,9 +8,9 @@ ghost use Rattle.cas_search.specs.Verdicts.{IsVerdict};
 
 use crate::counts;
 use crate::lines::{line_of_time, lines_of_open, lines_of_places, lines_of_times};
-use cas_model::Operation;
 use cas_search::{Bounds, Verdict, first_unwritten, timeline};
 use distinct_values::decide;
+use history_model::Operation;
 use search_text::{Atomicity, Fault};
 use std::alloc::{AllocError, Global};
 
@@ -35,7 +35,7 @@ pub(crate) fn is_unknown(atomicity: &Atomicity) -> bool
 fn reply_line(lines: &[u32], ops: &[Operation], place: u32) -> u32
     ensures { IsReplyLine lines.now ops.now place result }
 {
-    match ops.get(place as usize).and_then(|op| op.reply) {
+    match ops.get(place as usize).and_then(|op| op.reply_time()) {
         Some(time) => line_of_time(lines, time),
         None => 0,
     }
@@ -45,7 +45,7 @@ fn reply_line(lines: &[u32], ops: &[Operation], place: u32) -> u32
 fn open_lines(alloc: Global, ops: &[Operation], place: u32) -> Result<Vec<u32>, AllocError>
     ensures { IfOk result (λ v. AreOpenLines ops.now place v.items) }
 {
-    match ops.get(place as usize).and_then(|op| op.reply) {
+    match ops.get(place as usize).and_then(|op| op.reply_time()) {
         Some(time) => lines_of_open(alloc, ops, time),
         None => Ok(Vec::new(alloc)),
     }

@@ -1,6 +1,6 @@
 //! The lines of all registers, of what is found of them.
 ghost use Rattle.std.specs.Prelude.{◌≡◌, ℕ, List, length, IfOk};
-ghost use Rattle.cas_model.specs.declared.operation.Operation.{Operation as AnOperation};
+ghost use Rattle.history_model.specs.declared.operation.Operation.{Operation as AnOperation};
 ghost use Rattle.search_report.specs.Registers.{AreFindings, AreFirstLines, IsFinding, IsLine};
 
 use crate::register::Finding;

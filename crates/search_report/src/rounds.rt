@@ -8,8 +8,8 @@ ghost use Rattle.search_report.specs.Registers.{AreFindings, AreFindingsOf, IsFi
 use crate::register::{Finding, finding_of, is_unknown};
 use crate::settings::Settings;
 use cas_history::History;
-use cas_model::Operation;
 use cas_search::Bounds;
+use history_model::Operation;
 use parallel::map_each;
 use std::alloc::{AllocError, Global};
 use std::thread::Threads;

@@ -1,4 +1,4 @@
-use Rattle.std.proofs.Common.{◌≡◌, ℕ, ◌+◌, drop, reverse}
+use Rattle.std.proofs.Common.{◌≡◌, ℕ, ◌+◌, drop, length, reverse}
 use Rattle.std.specs.Ordering.{nat_cmp}
 use Rattle.std.specs.BTreeMap.{get}
 use Rattle.cas_history.specs.History.{calls_from, next_of}
@@ -8,7 +8,8 @@ use Rattle.cas_history.proofs.calls.calls_backward.Given as goal
 -- the calls and the next events from the place on
 abbrev pub invariant-loop-place : goal.invariant-loop-place
 invariant-loop-place l = record {
-  calls : reverse l.calls.items ≡ calls_from l.naming (l.place + 2) (drop l.place l.events);
+  calls : reverse l.calls.items
+      ≡ calls_from (length l.events + 2) l.naming (l.place + 2) (drop l.place l.events);
   next : (p : ℕ)
       → next_of p (l.place + 2) (drop l.place l.events) ≡ event_at l.events (get nat_cmp l.next_places p);
 }

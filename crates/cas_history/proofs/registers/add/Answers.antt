@@ -8,7 +8,7 @@ pub returns-in_ok-push-clause-each : goal.returns-in_ok-push-clause-each
 returns-in_ok-push-clause-each c =
     let old = c.args.registers.now.items in
     let there =
-    slice_get_read old _ c.args.operation.register.0 c.index_mut.result.now refl
+    slice_get_read old _ c.args.operation.register c.index_mut.result.now refl
     (omega arith) c.index_mut.ensures.value in
     adds-one old c.args.operation c.index_mut.result.now c.push.new.self there c.in_ok-push.ensures.items
 

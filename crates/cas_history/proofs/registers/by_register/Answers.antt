@@ -1,6 +1,6 @@
 -- The last of the operations that are left is the next of its register.
 use Rattle.std.proofs.Common.{◌++◌, reverse, sym, ap, ◌∙◌, arith, append-nil}
-use Rattle.cas_model.specs.Operations.{of_register}
+use Rattle.history_model.specs.Operations.{of_register}
 use Rattle.std.proofs.lemmas.List.{nil_from_length}
 use Rattle.cas_history.proofs.Parted.{moved}
 use Rattle.cas_history.proofs.registers.by_register.Goals as goal

@@ -1,8 +1,8 @@
 use Rattle.std.proofs.Common.{◌≡◌, ℕ, ◌++◌, length, reverse, slice_get, Some, vec_len}
 use Rattle.std.specs.Prelude.{Vec}
 use Rattle.std.specs.Global.{Global}
-use Rattle.cas_model.specs.declared.operation.Operation.{Operation}
-use Rattle.cas_model.specs.Operations.{of_register}
+use Rattle.history_model.specs.declared.operation.Operation.{Operation}
+use Rattle.history_model.specs.Operations.{of_register}
 use Rattle.cas_history.proofs.registers.by_register.Given as goal
 
 -- each register has its operations, up to those that are still to be added

@@ -1,6 +1,6 @@
 use Rattle.std.proofs.Common.{◌≡◌, ℕ, true, length, slice_get, Some, IfSome, subst}
-use Rattle.cas_model.specs.declared.operation.Operation.{Operation}
-use Rattle.cas_model.specs.Operations.{IsCompleted}
+use Rattle.history_model.specs.declared.operation.Operation.{Operation}
+use Rattle.history_model.specs.Operations.{IsCompleted}
 use Rattle.cas_search.specs.Checked.{IsMarked}
 use Rattle.cas_search.proofs.Checking.{points-checked}
 use Rattle.cas_search.proofs.check.check_order.Goals as goal

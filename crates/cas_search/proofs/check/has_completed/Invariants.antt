@@ -1,6 +1,6 @@
 use Rattle.std.proofs.Common.{◌≡◌, ℕ, ◌<◌, true, slice_get, Some}
-use Rattle.cas_model.specs.declared.operation.Operation.{Operation}
-use Rattle.cas_model.specs.Operations.{IsCompleted}
+use Rattle.history_model.specs.declared.operation.Operation.{Operation}
+use Rattle.history_model.specs.Operations.{IsCompleted}
 use Rattle.cas_search.proofs.check.has_completed.Given as goal
 
 abbrev pub invariant-loop-place : goal.invariant-loop-place

@@ -1,6 +1,6 @@
 use Rattle.std.proofs.Common.{drop}
 use Rattle.history_text.specs.declared.event.Val.TheVariants.{Null}
-use Rattle.cas_model.specs.InTurn.{Meets}
+use Rattle.history_model.specs.InTurn.{Meets}
 use Rattle.cas_search.specs.Timeline.{operations_at}
 use Rattle.cas_search.proofs.check.meets.Given as goal
 

@@ -1,6 +1,6 @@
 use Rattle.std.proofs.Common.{◌≡◌, ◌++◌, slice_get, slice_index_or, Some, length, refl, sym, ap, rules}
 use Rattle.std.proofs.lemmas.Option.{slice_get_read}
-use Rattle.cas_model.specs.Placed.{placed}
+use Rattle.history_model.specs.Placed.{placed}
 use Rattle.cas_search.specs.Timeline.{operations_at}
 use Rattle.cas_search.proofs.Checking.{points, points-more, points-end, unreplied-more, unreplied-end}
 use Rattle.cas_search.proofs.check.points_of.Goals as goal

@@ -1,5 +1,5 @@
 use Rattle.std.proofs.Common.{◌≡◌, ◌++◌, drop}
-use Rattle.cas_model.specs.Placed.{placed_from, placed}
+use Rattle.history_model.specs.Placed.{placed_from, placed}
 use Rattle.cas_search.specs.Timeline.{operations_at}
 use Rattle.cas_search.proofs.Checking.{points, AreUnreplied}
 use Rattle.cas_search.proofs.check.points_of.Given as goal

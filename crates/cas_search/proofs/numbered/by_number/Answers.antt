@@ -3,7 +3,7 @@ use Rattle.std.proofs.Math.Facts.{to_z-of_z}
 use Rattle.std.specs.BTreeMap.{get}
 use Rattle.std.specs.Ordering.{int_cmp}
 use Rattle.history_text.specs.declared.event.Val.TheVariants.{Int}
-use Rattle.cas_search.specs.ByNumbers.{DoesAs, number_in}
+use Rattle.cas_search.specs.ByNumbers.{DoesAs, IsRank, number_in}
 use Rattle.cas_search.proofs.ByNumbers.{does-cas}
 use Rattle.cas_search.proofs.numbered.by_number.Goals as goal
 
@@ -22,5 +22,5 @@ returns-in_ok-to-in-Cas-clause-op c =
     c.cas.ensures.op in
     record {
       act = subst (λ act. DoesAs (number_in new) act c.cas.result) (sym c.in-Cas.is) does;
-      rank = c.cas.ensures.rank;
+      rank = subst (λ o. IsRank o c.cas.result.rank) c.reply_time-in-Cas.ensures c.cas.ensures.rank;
     }

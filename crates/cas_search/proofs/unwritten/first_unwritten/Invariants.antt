@@ -1,5 +1,5 @@
 use Rattle.std.proofs.Common.{◌≡◌, ℕ, ◌<◌, slice_get, Some}
-use Rattle.cas_model.specs.declared.operation.Operation.{Operation}
+use Rattle.history_model.specs.declared.operation.Operation.{Operation}
 use Rattle.cas_search.specs.Unwritten.{IsUnwritten}
 use Rattle.cas_search.proofs.unwritten.first_unwritten.Given as goal
 

@@ -1,5 +1,5 @@
 use Rattle.std.proofs.Common.{◌≡◌, ◌-◌, ℕ, MatchOption, subst, rules, ◌∙◌, ap}
-use Rattle.cas_model.specs.Cut.{cut_at}
+use Rattle.history_model.specs.Cut.{cut_at}
 use Rattle.cas_search.specs.Verdicts.{RepliesAt}
 use Rattle.cas_search.proofs.Beginnings.{checked-before}
 use Rattle.cas_search.proofs.verdict.legal_before.Goals as goal

@@ -4,7 +4,7 @@ use Rattle.std.proofs.Math.Facts.{to_z-of_z}
 use Rattle.std.proofs.lemmas.Result.{IfOk-weaker}
 use Rattle.std.specs.BTreeSet.{contains}
 use Rattle.std.specs.Ordering.{int_cmp, int_eq}
-use Rattle.cas_model.specs.declared.act.Act.TheVariants.{Write}
+use Rattle.history_model.specs.declared.act.Act.TheVariants.{Write}
 use Rattle.distinct_values.proofs.WrittenOnce.{write-or-not}
 use Rattle.distinct_values.proofs.distinct.add_value.Goals as goal
 

@@ -1,6 +1,6 @@
 use Rattle.std.proofs.Common.{◌≡◌, ℕ, ◌<◌, true, slice_get, Some}
-use Rattle.cas_model.specs.declared.operation.Operation.{Operation}
-use Rattle.distinct_values.specs.SomeOperations.{is_plain}
+use Rattle.history_model.specs.declared.operation.Operation.{Operation}
+use Rattle.history_model.specs.Acts.{is_plain}
 use Rattle.distinct_values.proofs.distinct.are_plain.Given as goal
 
 abbrev pub invariant-loop-op : goal.invariant-loop-op

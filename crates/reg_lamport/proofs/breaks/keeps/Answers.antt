@@ -1,7 +1,8 @@
 use Rattle.std.proofs.Common.{◌≡◌, Option, Bool, false, List, sym, ap, ◌∙◌, subst, refl, IsTrue, ◌↔◌}
 use Rattle.std.proofs.lemmas.Bool.{false≢true}
 use Rattle.history_text.specs.declared.event.Val.{Val}
-use Rattle.history_model.specs.Operations.{Operation, of_register, operations}
+use Rattle.history_model.specs.Operations.{of_register, operations, value_of}
+use Rattle.history_model.specs.declared.operation.Operation.{Operation}
 use Rattle.history_model.specs.Naming.{op_shown}
 use Rattle.history_model.specs.declared.op.Op.{Op}
 use Rattle.history_model.specs.declared.ids.Oper.TheVariants.{Called}
@@ -33,7 +34,7 @@ returns-then-is_same c r named =
     let equal = c.is_same.ensures.0 c.if-is_same.true in
     let value =
     sym (ap (λ (y : Op). y.value) w.2)
-    ∙ (equal ∙ (ap (λ (y : Op). y.value) x.2 ∙ ap (λ (y : Operation). y.value) p)) in
+    ∙ (equal ∙ (ap (λ (y : Op). y.value) x.2 ∙ ap value_of p)) in
     let keeps =
     old-keeps h q.recorded c.args.register.0 q.operation q.within q.read c.args.entry.now q.single q.entry
     w.0 w.1 c.args.level value in
@@ -74,9 +75,9 @@ returns-in-Safe c r named =
     let o = one-named h (Called c.args.entry.now.read) q.operation r q.entry.read named in
     let p = one-named h (Called c.args.entry.now.read) x.0 q.operation x.1 q.entry.read in
     let differs =
-    other-value c.is_same.result c.op.result.value c.op-read.result.value w.0.value q.operation.value
-    c.is_same.ensures c.if-is_same.false (ap (λ (y : Op). y.value) w.2) (ap (λ (y : Op). y.value) x.2
-    ∙ ap (λ (y : Operation). y.value) p) in
+    other-value c.is_same.result c.op.result.value c.op-read.result.value (value_of w.0)
+    (value_of q.operation) c.is_same.ensures c.if-is_same.false (ap (λ (y : Op). y.value) w.2)
+    (ap (λ (y : Op). y.value) x.2 ∙ ap value_of p) in
     decides (of_register c.args.register.0 (operations h)) c.args.level Safe c.args.entry.now.is_overlapped
     q.operation r c.in-Safe.is o
     (safe-keeps h q.recorded c.args.register.0 q.operation q.within q.read c.args.entry.now q.single q.entry
@@ -92,9 +93,9 @@ returns-in-Regular c r named =
     let o = one-named h (Called c.args.entry.now.read) q.operation r q.entry.read named in
     let p = one-named h (Called c.args.entry.now.read) x.0 q.operation x.1 q.entry.read in
     let differs =
-    other-value c.is_same.result c.op.result.value c.op-read.result.value w.0.value q.operation.value
-    c.is_same.ensures c.if-is_same.false (ap (λ (y : Op). y.value) w.2) (ap (λ (y : Op). y.value) x.2
-    ∙ ap (λ (y : Operation). y.value) p) in
+    other-value c.is_same.result c.op.result.value c.op-read.result.value (value_of w.0)
+    (value_of q.operation) c.is_same.ensures c.if-is_same.false (ap (λ (y : Op). y.value) w.2)
+    (ap (λ (y : Op). y.value) x.2 ∙ ap value_of p) in
     let keeps =
     regular-keeps h q.recorded c.args.register.0 q.operation q.within q.read c.args.entry.now q.single
     q.entry w.0 w.1 differs in

@@ -1,6 +1,6 @@
 use Rattle.std.proofs.Common.{◌↔◌, IsOk, List, subst}
 use Rattle.history_model.specs.Legal.{IsAtomic}
-use Rattle.history_model.specs.Operations.{Operation}
+use Rattle.history_model.specs.declared.operation.Operation.{Operation}
 use Rattle.reg_zones.proofs.Known.{facts, operations-at}
 use Rattle.reg_zones.proofs.Verdict.{refused, verdict}
 use Rattle.reg_zones.proofs.atomic.sweep.Goals as goal

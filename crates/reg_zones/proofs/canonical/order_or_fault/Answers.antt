@@ -1,6 +1,6 @@
 use Rattle.std.proofs.Common.{MatchResult, List, subst}
 use Rattle.history_model.specs.Legal.{IsAtomic}
-use Rattle.history_model.specs.Operations.{Operation}
+use Rattle.history_model.specs.declared.operation.Operation.{Operation}
 use Rattle.reg_zones.specs.Entries.{IsListing}
 use Rattle.reg_zones.specs.Faults.{IsFault}
 use Rattle.reg_zones.specs.Order.{IsOrder}

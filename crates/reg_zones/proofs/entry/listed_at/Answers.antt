@@ -1,6 +1,8 @@
 use Rattle.std.proofs.Common.{◌≡◌, ◌+◌, ◌⊎◌, ◌∙◌, cond, ap, sym, subst}
-use Rattle.history_model.specs.Operations.{Operation, IsWrite, IsCompleted, writes}
+use Rattle.history_model.specs.Operations.{IsWrite, IsCompleted, writes, value_of}
+use Rattle.history_model.specs.declared.operation.Operation.{Operation}
 use Rattle.history_model.specs.declared.op.Op.{Op}
+use Rattle.history_model.proofs.Plain.{changes-kind}
 use Rattle.reg_zones.specs.Entries.{IsListedAt, turn}
 use Rattle.reg_zones.specs.Register.{operations_of}
 use Rattle.reg_zones.specs.Sweep.{IsMetAt}
@@ -46,7 +48,7 @@ returns-in_err-zone c =
     subst (IsListedAt (operations_of c.args.register) (c.args.id.0 + 2))
     (sym c.from_residual-in_err-zone.ensures)
     (not_found c.args.register.arena.now c.args.register.id.0 (facts c.args.register) c.args.id.0 b.0 _ b.1
-    v.3.0 (ap (λ (o : Operation). o.value) one ∙ v.3.1) (none _ v.3.2))
+    v.3.0 (ap value_of one ∙ v.3.1) (none _ v.3.2))
 
 pub returns : goal.returns
 returns c =
@@ -56,14 +58,16 @@ returns c =
     let one =
     same c.args.register.arena.now c.args.register.id.0 (facts c.args.register) c.args.id.0 b.0 _ b.1 v.0
     v.1 v.2 in
-    let value = ap (λ (o : Operation). o.value) one ∙ v.3.1 in
+    let value = ap value_of one ∙ v.3.1 in
     let counts = subst (λ (o : Operation). IsWrite o ⊎ IsCompleted o) (sym one) v.3.3 in
     let kind = ap (λ (x : Op). x.kind) (sym b.1.shown) in
+    let written = ap (λ w. cond w 0 b.0.call) (sym (changes-kind (b.0).act)) in
     let turn_is : c.match-op.turn ≡ turn b.0 = elim c.match-op.branch [
-      | in-WriteOp w ↦ w.turn-is ∙ ap (λ k. cond (writes k) 0 b.0.call) (sym (kind ∙ w.in-WriteOp.is))
+      | in-WriteOp w ↦ w.turn-is ∙ (ap (λ k. cond (writes k) 0 b.0.call) (sym (kind ∙ w.in-WriteOp.is))
+          ∙ written)
       | in-ReadOp w ↦ w.turn-is
           ∙ (ap (λ (x : Op). x.call) b.1.shown
-          ∙ ap (λ k. cond (writes k) 0 b.0.call) (sym (kind ∙ w.in-ReadOp.is)))
+          ∙ (ap (λ k. cond (writes k) 0 b.0.call) (sym (kind ∙ w.in-ReadOp.is)) ∙ written))
     ] in
     listed_here c.args.register.arena.now c.args.register.id.0 (facts c.args.register) c.args.id.0 b.0 _ b.1
     v.3.0 c.in_ok-zone.zone _ _ _ value counts (c.in_ok-zone.ensures _ v.3.2) b.3 c.low.ensures

@@ -1,5 +1,6 @@
 use Rattle.std.proofs.Common.{map, sym, ap, ◌∙◌}
-use Rattle.reg_zones.specs.Order.{placed, shown}
+use Rattle.reg_zones.specs.Order.{shown}
+use Rattle.history_model.specs.Placed.{placed}
 use Rattle.reg_zones.proofs.Unique.{one_canonical}
 use Rattle.reg_zones.proofs.laws.one_order.Goals as goal
 

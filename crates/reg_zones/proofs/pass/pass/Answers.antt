@@ -1,6 +1,7 @@
 use Rattle.std.proofs.Common.{◌≡◌, ◌+◌, None, Option, List, Result, Ok, Err, IsErrAnd, IfErr, sym, subst}
 use Rattle.history_model.specs.declared.ids.Oper.{Oper}
-use Rattle.history_model.specs.Operations.{Operation, of_register, operations}
+use Rattle.history_model.specs.Operations.{of_register, operations}
+use Rattle.history_model.specs.declared.operation.Operation.{Operation}
 use Rattle.reg_zones.specs.declared.fault.Fault.{Fault}
 use Rattle.reg_zones.specs.declared.pass.LaterFaults.{LaterFaults}
 use Rattle.reg_zones.specs.Faults.{IsFault}

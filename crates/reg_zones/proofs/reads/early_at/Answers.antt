@@ -1,6 +1,7 @@
 use Rattle.std.proofs.Common.{refl, sym, ap, ◌∙◌, arith}
-use Rattle.history_model.specs.Operations.{Operation}
+use Rattle.history_model.specs.declared.operation.Operation.{Operation}
 use Rattle.history_model.proofs.Named.{named-oper}
+use Rattle.history_model.specs.Operations.{value_of}
 use Rattle.reg_zones.proofs.Known.{facts}
 use Rattle.reg_zones.proofs.CalledReads.{the_write, no_write, read_of, one_write, call_written, named-call}
 use Rattle.reg_zones.proofs.reads.early_at.Goals as goal
@@ -86,7 +87,7 @@ returns-else-read-call_of-clause-early c a u x e =
     let read = y.history.calls a q.0 x.within q.1 (e ∙ sym q.3) in
     let write =
     one_write h c.args.register.id.0 y _ u w.0 x.write_within x.write (sym x.read.value
-    ∙ (ap (λ (z : Operation). z.value) read ∙ q.5)) w.2 w.3 w.4 in
+    ∙ (ap value_of read ∙ q.5)) w.2 w.3 w.4 in
     omega (
       arith,
       x.early,

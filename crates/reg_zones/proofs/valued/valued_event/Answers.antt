@@ -2,8 +2,10 @@ use Rattle.std.proofs.Common.{◌≡◌, ◌-◌, Some, inl, inr, sym, ap, subst
 use Rattle.std.proofs.lemmas.Bool.{false≢true}
 use Rattle.history_model.specs.declared.op.Op.{Op}
 use Rattle.history_model.specs.Naming.{op_shown}
-use Rattle.history_model.specs.Operations.{Operation, IsCompleted, IsWrite, writes}
+use Rattle.history_model.specs.Operations.{IsCompleted, IsWrite, writes, op_kind}
+use Rattle.history_model.specs.declared.operation.Operation.{Operation}
 use Rattle.history_model.specs.Walking.{by_value, key_at}
+use Rattle.history_model.proofs.Plain.{changes-kind}
 use Rattle.reg_zones.specs.Sweep.{IsMetAt}
 use Rattle.reg_zones.proofs.Known.{facts}
 use Rattle.reg_zones.proofs.MetEvents.{belonging}
@@ -57,7 +59,8 @@ returns-in-None-WriteOp c =
     let r = c.args.register.id.0 in
     let o = subst (IsMetAt h r c.args.id.0) c.in-Call.is c.requires in
     let d = pending h r (facts c.args.register) c.args.id.0 o.0 c.in-Call.op o.1 c.in-None-WriteOp.is-0 in
-    let w = ap writes (ap (λ (x : Op). x.kind) (sym o.1.shown) ∙ c.in-None-WriteOp.is-1) in
+    let w =
+    changes-kind (o.0).act ∙ ap writes (ap (λ (x : Op). x.kind) (sym o.1.shown) ∙ c.in-None-WriteOp.is-1) in
     let k = call-key h r (facts c.args.register) c.args.id.0 o.0 c.in-Call.op o.1 d w in
     (o.0, o.1.one, o.1.event, (k.0, k.1, k.2, inl w))
 
@@ -67,7 +70,8 @@ returns-in-None-ReadOp c a k t q =
     let r = c.args.register.id.0 in
     let o = subst (IsMetAt h r c.args.id.0) c.in-Call.is c.requires in
     let d = pending h r (facts c.args.register) c.args.id.0 o.0 c.in-Call.op o.1 c.in-None-ReadOp.is-0 in
-    let w = ap writes (ap (λ (x : Op). x.kind) (sym o.1.shown) ∙ c.in-None-ReadOp.is-1) in
+    let w =
+    changes-kind (o.0).act ∙ ap writes (ap (λ (x : Op). x.kind) (sym o.1.shown) ∙ c.in-None-ReadOp.is-1) in
     let e = same h r (facts c.args.register) c.args.id.0 o.0 c.in-Call.op o.1 a k t in
     elim q [
       | inl u ↦ false≢true (sym w ∙ subst (λ (x : Operation). IsWrite x) (sym e) u)

@@ -1,8 +1,10 @@
 use Rattle.std.proofs.Common.{◌↔◌, IsTrue, inl, inr, sym, ap, subst, ◌∙◌}
 use Rattle.std.proofs.lemmas.Bool.{false≢true}
 use Rattle.history_model.specs.declared.op.Op.{Op}
-use Rattle.history_model.specs.Operations.{Operation, writes, of_register, operations}
+use Rattle.history_model.specs.Operations.{writes, of_register, operations, op_kind, value_of}
+use Rattle.history_model.specs.declared.operation.Operation.{Operation}
 use Rattle.history_model.specs.OfValue.{IsFirstReply}
+use Rattle.history_model.proofs.Plain.{changes-kind}
 use Rattle.reg_zones.specs.Clusters.{IsKept}
 use Rattle.reg_zones.proofs.Kept.{with-register, the_one, kept-found, unkept}
 use Rattle.reg_zones.proofs.zone.is_kept.Goals as goal
@@ -19,7 +21,7 @@ returns-in-WriteOp-Some c w n =
     let f =
     subst (λ r. IsFirstReply h r c.in-WriteOp-Some.value c.first_reply.result) e.3
     c.first_reply.ensures in
-    let u = ap writes (ap (λ (x : Op). x.kind) (sym e.2) ∙ c.in-WriteOp-Some.is-0) in
+    let u = changes-kind o.act ∙ ap writes (ap (λ (x : Op). x.kind) (sym e.2) ∙ c.in-WriteOp-Some.is-0) in
     let v = ap (λ (x : Op). x.value) (sym e.2) ∙ c.in-WriteOp-Some.is-1 in
     let k = kept-found h c.args.oper o op p c.in-WriteOp-Some.value c.first_reply.result u v f in
     subst (λ (x : Operation). IsTrue c.is_some.result ↔ IsKept (of_register x.register (operations h)) x)

@@ -1,7 +1,8 @@
 use Rattle.std.proofs.Common.{Option, unwrap_or, sym, ap, subst, ◌∙◌}
 use Rattle.history_text.specs.declared.event.Val.{Val}
 use Rattle.history_model.specs.History.{History}
-use Rattle.history_model.specs.Operations.{Operation, of_register, operations}
+use Rattle.history_model.specs.Operations.{of_register, operations, value_of}
+use Rattle.history_model.specs.declared.operation.Operation.{Operation}
 use Rattle.history_model.proofs.Named.{named-oper}
 use Rattle.reg_zones.specs.declared.zone.Zone.{Zone}
 use Rattle.reg_zones.specs.Clusters.{IsKept}
@@ -28,12 +29,12 @@ returns c w n =
     let k : IsKept (of_register o.register (operations h)) o =
     subst (λ (x : Operation). IsKept (of_register x.register (operations h)) x)
     (sym (the_one h c.args.write o op p c.requires.0 c.requires.1)) c.requires.2 in
-    let z : IsZone (of_register o.register (operations h)) o.value c.unwrap_or.result =
+    let z : IsZone (of_register o.register (operations h)) (value_of o) c.unwrap_or.result =
     elim c.match-op.branch [
       | in-Some q ↦ kept-zone h c.args.write o op p k q.in-Some.value _ _ q.in-Some.is
           (here _ _ q.zone_with-found.ensures) (c.unwrap_or.ensures
           ∙ ap (λ f. unwrap_or f (record { f = 0; s = 0 })) q.found-is)
       | in-None q ↦ let v = kept-value h c.args.write o op p k in absurd (cc (v.1, q.in-None.is))
     ] in
-    subst (λ (x : Operation). IsZone (of_register x.register (operations h)) x.value c.unwrap_or.result)
+    subst (λ (x : Operation). IsZone (of_register x.register (operations h)) (value_of x) c.unwrap_or.result)
     (the_one h c.args.write o op p w n) z

@@ -1,7 +1,7 @@
 use Rattle.std.proofs.Common.{ℕ, ◌∷◌, subst}
 use Rattle.std.specs.Prelude.{IfSome}
-use Rattle.cas_model.specs.Legal.{IsAtomic}
-use Rattle.cas_model.specs.Operations.{initial_write}
+use Rattle.history_model.specs.Legal.{IsAtomic}
+use Rattle.history_model.specs.Operations.{initial_write}
 use Rattle.cas_search.specs.Timeline.{AreCalls}
 use Rattle.cas_search.specs.Unwritten.{IsFirstUnwritten}
 use Rattle.search_report.proofs.Told.{searched-of, unwritten-told}

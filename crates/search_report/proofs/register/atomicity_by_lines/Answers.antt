@@ -10,7 +10,8 @@ returns-in_ok-lines_of_times-in-Yes c = λ r timed first verdict.
     let lines = c.args.lines.now in
     let ops = c.args.ops.now in
     let checked = subst (IsVerdict r ops) c.in-Yes.is verdict in
-    order-told lines r ops c.in-Yes.order.items c.in-Yes.points.items c.in_ok-lines_of_places-in-Yes.field-0
+    order-told lines r ops timed c.in-Yes.order.items c.in-Yes.points.items
+    c.in_ok-lines_of_places-in-Yes.field-0
     c.in_ok-lines_of_times-in-Yes.field-0
     (c.in_ok-lines_of_places-in-Yes.ensures
     ∙ ap (λ xs. lines_of (operations_at ops xs)) c.deref.ensures.value)

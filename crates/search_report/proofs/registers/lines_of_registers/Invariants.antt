@@ -2,7 +2,7 @@
 use Rattle.std.proofs.Common.{drop, length, Vec, Global}
 use Rattle.std.specs.List.{AllZip}
 use Rattle.std.specs.Vec.Iter.{into_iter_items}
-use Rattle.cas_model.specs.declared.operation.Operation.{Operation}
+use Rattle.history_model.specs.declared.operation.Operation.{Operation}
 use Rattle.search_report.specs.Registers.{AreFirstLines, IsFinding}
 use Rattle.search_report.proofs.registers.lines_of_registers.Given as goal
 

@@ -2,7 +2,7 @@
 use Rattle.std.proofs.Common.{subst, Vec, Global}
 use Rattle.std.proofs.lemmas.Result.{IfOk-weaker}
 use Rattle.parallel.proofs.Callers.{all-given}
-use Rattle.cas_model.specs.declared.operation.Operation.{Operation}
+use Rattle.history_model.specs.declared.operation.Operation.{Operation}
 use Rattle.search_report.specs.Registers.{AreFindingsOf, IsFinding}
 use Rattle.search_report.proofs.rounds.found_by_workers.Goals as goal
 

@@ -6,7 +6,8 @@ use Rattle.history_model.specs.Naming.{IsNamed, IsOper, IsOperOf}
 use Rattle.history_model.proofs.Named.{has-oper}
 use Rattle.history_model.proofs.Recorded.{of_register-In}
 use Rattle.history_model.specs.Lists.{In}
-use Rattle.history_model.specs.Operations.{Operation, of_register, operations}
+use Rattle.history_model.specs.Operations.{of_register, operations}
+use Rattle.history_model.specs.declared.operation.Operation.{Operation}
 use Rattle.reg_zones.proofs.Known.{facts}
 use Rattle.reg_zones.proofs.MetEvents.{met-reply, met-nothing}
 use Rattle.reg_zones.proofs.Registers.{begun, call-name, found-name}

@@ -1,5 +1,0 @@
-use Rattle.cas_model.proofs.InTurn.{in-turn}
-use Rattle.cas_model.proofs.laws.met_in_turn.Goals as goal
-
-pub returns : goal.returns
-returns c = in-turn

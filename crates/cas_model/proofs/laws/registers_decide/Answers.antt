@@ -1,5 +1,0 @@
-use Rattle.cas_model.proofs.Locality.{each_decides}
-use Rattle.cas_model.proofs.laws.registers_decide.Goals as goal
-
-pub returns : goal.returns
-returns c = each_decides

@@ -1,5 +1,0 @@
-use Rattle.cas_model.proofs.Locality.{restricted}
-use Rattle.cas_model.proofs.laws.restricted_is_legal.Goals as goal
-
-pub returns : goal.returns
-returns c = restricted
