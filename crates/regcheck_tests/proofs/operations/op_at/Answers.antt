@@ -1,7 +1,7 @@
 use Rattle.std.proofs.Common.{subst}
 use Rattle.history_model.specs.Naming.{IsOper, IsOperOf}
 use Rattle.history_model.proofs.Named.{has-oper}
-use Rattle.floor_tests.proofs.operations.op_at.Goals as goal
+use Rattle.regcheck_tests.proofs.operations.op_at.Goals as goal
 
 pub op-requires : goal.op-requires
 op-requires c =

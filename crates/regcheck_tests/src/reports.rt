@@ -1,6 +1,6 @@
 //! What a caller in code gets: the values of a report, of which its bytes are the text.
-use crate::answer::{first_settings, settings};
 use crate::rows::{FIRST_BY_APPEARANCE, Report, SECOND_OF_THREE, TWO_FAULTY, TWO_WRITES};
+use crate::settings::{first_settings, settings};
 use reg_report::{OpenGate, Refusal, Settings, check, check_alone, text};
 use std::alloc::{AllocError, Global};
 use std::process::Abort;

@@ -1,6 +1,7 @@
 //! Runs by several workers: by all settings, and past gates that hold pieces back.
-use crate::answer::{Answer, answered_by, first_settings, settings};
+use crate::answer::{Answer, answered_by};
 use crate::rows::{FIRST_BY_APPEARANCE, Report, SECOND_OF_THREE, TWO_FAULTY, TWO_WRITES};
+use crate::settings::{first_settings, settings};
 use reg_report::{Gate, Outcome, Settings};
 use std::alloc::{AllocError, Global};
 use std::process::Abort;

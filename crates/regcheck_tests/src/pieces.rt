@@ -1,12 +1,10 @@
 //! The pieces of a history: how many there are, and that workers and threads of the callers' own do each
 //! once.
-//!
-//! A test hands its body's work to small functions that ask for the rights they need: those are proved in a
-//! fraction of the time that one long test over the whole `HostRuntime` takes.
-ghost use Rattle.std.specs.Prelude.{◌≡◌, false, IfOk};
 ghost use Rattle.reg_pieces.specs.Plan.{IsSomePlan};
 ghost use Rattle.reg_pieces.specs.Work.{IsSeatFor};
 
+use crate::expect::expect_eq;
+use crate::settings::{first_settings, settings};
 use crate::short::arena_of;
 use job_board::{Board, Seat};
 use reg_arena::Arena;
@@ -24,33 +22,24 @@ const TWO_REGISTERS: &str = "p1 W x 1; p1 ok; p1 W x 2; p2 R x; p2 = 2; p2 R x; 
 // Two registers that are atomic: memory is wanted for the order of each.
 const TWO_ORDERS: &str = "p1 W x 1; p2 W y 1";
 
-// This many workers, and this many reads to a piece, for a whole report.
-fn settings(workers: u32, cut: u32) -> Result<Settings, Fail>
-    ensures { IfOk result (λ s. s.first ≡ false) }
-{
-    Ok(Settings::new(workers, cut, false).ok_or("a number beyond its limit")?)
-}
-
-// The settings of a run, if the first register that isn't atomic is all that is asked for.
-fn first_settings(workers: u32, cut: u32) -> Result<Settings, Fail> {
-    Ok(Settings::new(workers, cut, true).ok_or("a number beyond its limit")?)
-}
-
 // How many pieces there are by these settings.
 fn count(alloc: Global, arena: &Arena, by: Settings) -> Result<u64, AllocError> {
     Ok(plan(alloc, arena, by)?.len())
 }
 
+// How many reads go to a piece, and how many pieces there are of the two registers.
+fn counts() -> &'static [(u32, u64)] {
+    &[(1, 4), (2, 3), (4096, 3)]
+}
+
 // Each register has a piece, and with a single writer one for each cut of its reads; and one piece
 // alone if only the first register that isn't atomic is asked for.
 fn expect_counts(rt: &(impl AllocGlobal + Abort), arena: &Arena) -> Result<(), Fail> {
-    for (cut, want) in [(1, 4), (2, 3), (4096, 3)] {
-        assert_eq!(rt; count(rt.alloc(), arena, settings(1, cut)?)?, want, "{cut}");
-        assert_eq!(rt;
-            count(rt.alloc(), arena, first_settings(2, cut)?)?,
-            2,
-            "{cut}"
-        );
+    for (cut, want) in counts() {
+        let whole = count(rt.alloc(), arena, settings(1, *cut)?)?;
+        expect_eq(rt, &whole, want, cut);
+        let first = count(rt.alloc(), arena, first_settings(2, *cut)?)?;
+        expect_eq(rt, &first, &2, cut);
     }
     Ok(())
 }
@@ -75,7 +64,7 @@ fn worked_alone(
 
 // The first of two registers isn't atomic, and the second was skipped.
 fn expect_second_skipped(rt: &impl Abort, done: &[(u64, Piece)]) {
-    assert_eq!(rt; done.len(), 2);
+    expect_eq(rt, &done.len(), &2, &"pieces");
     assert!(rt; matches!(done.first(), Some((0, Piece::Judged(Judgement::Faulty(_))))));
     assert!(rt; matches!(done.get(1), Some((1, Piece::Skipped))));
 }
@@ -140,9 +129,14 @@ fn expect_once(
 ) -> Result<(), Fail> {
     for number in 0..4u64 {
         let passed = passes(rt, arena, workers, number)?;
-        assert_eq!(rt; passed, 1, "{workers} {number}");
+        expect_eq(rt, &passed, &1, &(workers, number));
     }
     Ok(())
+}
+
+// How many workers there are.
+fn workers() -> &'static [u32] {
+    &[1, 2, 3, 4, 16]
 }
 
 // So it is by each of these numbers of workers.
@@ -150,8 +144,8 @@ fn expect_once_by_all(
     rt: &(impl Threads + AllocGlobal + Abort + Sync),
     arena: &Arena,
 ) -> Result<(), Fail> {
-    for workers in [1, 2, 3, 4, 16] {
-        expect_once(rt, arena, workers)?;
+    for workers in workers() {
+        expect_once(rt, arena, *workers)?;
     }
     Ok(())
 }
@@ -199,17 +193,33 @@ fn numbers(alloc: Global, back: &(Worked, Worked)) -> Result<Option<Vec<u64>>, A
     Ok(Some(numbers))
 }
 
-// Two threads of the callers' own, each with a seat, do each of the four pieces once.
+// The same with seats of a new board, of which one has the weight 1.
+fn done_by_two<R: Threads + AllocGlobal + Sync>(
+    rt: &R,
+    arena: &Arena,
+) -> Result<(Worked, Worked), Fail> {
+    let plan = plan(rt.alloc(), arena, settings(1, 1)?)?;
+    let (board, seat) = Board::open(rt.alloc(), plan.len())?;
+    let seats = board.split(seat, 1);
+    Ok(worked_by_two(rt, arena, &plan, &board, seats))
+}
+
+// The numbers of what they do.
+fn numbers_by_two<R: Threads + AllocGlobal + Sync>(
+    rt: &R,
+    arena: &Arena,
+) -> Result<Option<Vec<u64>>, Fail> {
+    let back = done_by_two(rt, arena)?;
+    Ok(numbers(rt.alloc(), &back)?)
+}
+
+// They do each of the four pieces once.
 fn expect_done_by_two<R: Threads + AllocGlobal + Abort + Sync>(
     rt: &R,
     arena: &Arena,
 ) -> Result<(), Fail> {
-    let plan = plan(rt.alloc(), arena, settings(1, 1)?)?;
-    let (board, seat) = Board::open(rt.alloc(), plan.len())?;
-    let seats = board.split(seat, 1);
-    let back = worked_by_two(rt, arena, &plan, &board, seats);
-    let done = numbers(rt.alloc(), &back)?.ok_or("memory was refused")?;
-    assert_eq!(rt; done.as_slice(), [0, 1, 2, 3].as_slice());
+    let done = numbers_by_two(rt, arena)?.ok_or("memory was refused")?;
+    expect_eq(rt, &done.as_slice(), &[0, 1, 2, 3].as_slice(), &"pieces");
     Ok(())
 }
 
@@ -230,7 +240,7 @@ fn passed_and_drawn(alloc: Global, arena: &Arena) -> Result<(u64, u64), Fail> {
 // The two are as many.
 fn expect_all_passed(rt: &(impl AllocGlobal + Abort), arena: &Arena) -> Result<(), Fail> {
     let (passed, drawn) = passed_and_drawn(rt.alloc(), arena)?;
-    assert_eq!(rt; passed, drawn, "done before the gate");
+    expect_eq(rt, &passed, &drawn, &"done before the gate");
     Ok(())
 }
 

@@ -1,11 +1,13 @@
 //! Ends that give and take little at a time, and ends that fail.
 ghost use Rattle.std.specs.Prelude.{◌≡◌, ◌<◌};
 
-use crate::answer::settings;
+use crate::expect::expect_eq;
 use crate::rows::READ_ONCE;
+use crate::settings::settings;
 use history_model::{LineRefusal, Reason};
 use history_text::LineKind;
 use reg_report::{MemSink, MemSource, OpenGate, Outcome, Refusal, Sink, Source, run};
+use std::fmt::Debug;
 use std::process::Abort;
 use std::random::RandomSource;
 use std::test::Fail;
@@ -53,6 +55,17 @@ fn run_between(
     })
 }
 
+/// An answer, the bytes that the sink took, and the failures of the source and of the sink.
+type Want<'a> = (Result<Outcome, Refusal>, &'a [u8], (u64, u64));
+
+// A run came to this.
+fn expect_ran(rt: &impl Abort, ran: &Ran, want: Want, of: &impl Debug) {
+    let (answer, taken, failures) = want;
+    expect_eq(rt, &ran.answer, &answer, of);
+    expect_eq(rt, &ran.taken.as_slice(), &taken, of);
+    expect_eq(rt, &ran.failures, &failures, of);
+}
+
 // So few bytes at a time are the bytes of the whole.
 fn expect_whole(
     rt: &(impl Threads + RandomSource + AllocGlobal + Abort + Sync),
@@ -65,13 +78,8 @@ fn expect_whole(
     let source = MemSource::new(HISTORY.as_bytes(), pulled, None);
     let sink = MemSink::new(rt.alloc(), REPORT.len(), pushed, false)?;
     let ran = run_between(rt, source, sink)?;
-    assert_eq!(rt; ran.answer, Ok(Outcome::NotAtomic), "{pulled} {pushed}");
-    assert_eq!(rt;
-        ran.taken.as_slice(),
-        REPORT.as_bytes(),
-        "{pulled} {pushed}"
-    );
-    assert_eq!(rt; ran.failures, (0, 0), "{pulled} {pushed}");
+    let want = (Ok(Outcome::NotAtomic), REPORT.as_bytes(), (0, 0));
+    expect_ran(rt, &ran, want, &(pulled, pushed));
     Ok(())
 }
 
@@ -103,9 +111,8 @@ fn expect_input_failed(
     pull: u64,
 ) -> Result<(), Fail> {
     let ran = run_failing(rt, pull)?;
-    assert_eq!(rt; ran.answer, Err(Refusal::InputFailed), "{pull}");
-    assert_eq!(rt; ran.taken.len(), 0, "{pull}");
-    assert_eq!(rt; ran.failures, (1, 0), "{pull}");
+    let want = (Err(Refusal::InputFailed), "".as_bytes(), (1, 0));
+    expect_ran(rt, &ran, want, &pull);
     Ok(())
 }
 
@@ -114,7 +121,8 @@ fn expect_answered(
     rt: &(impl Threads + RandomSource + AllocGlobal + Abort + Sync),
     pull: u64,
 ) -> Result<(), Fail> {
-    assert_eq!(rt; run_failing(rt, pull)?.answer, Ok(Outcome::NotAtomic));
+    let ran = run_failing(rt, pull)?;
+    expect_eq(rt, &ran.answer, &Ok(Outcome::NotAtomic), &pull);
     Ok(())
 }
 
@@ -137,9 +145,8 @@ fn expect_full(
     let source = MemSource::new(HISTORY.as_bytes(), 4096, None);
     let sink = MemSink::new(rt.alloc(), room, 10, false)?;
     let ran = run_between(rt, source, sink)?;
-    assert_eq!(rt; ran.answer, Err(Refusal::OutputFailed), "{room}");
-    assert_eq!(rt; ran.taken.as_slice(), taken, "{room}");
-    assert_eq!(rt; ran.failures, (0, 1), "{room}");
+    let want = (Err(Refusal::OutputFailed), taken, (0, 1));
+    expect_ran(rt, &ran, want, &room);
     Ok(())
 }
 
@@ -159,9 +166,8 @@ fn expect_flush_failed(
     let source = MemSource::new(HISTORY.as_bytes(), 4096, None);
     let sink = MemSink::new(rt.alloc(), REPORT.len(), 4096, true)?;
     let ran = run_between(rt, source, sink)?;
-    assert_eq!(rt; ran.answer, Err(Refusal::OutputFailed));
-    assert_eq!(rt; ran.taken.as_slice(), REPORT.as_bytes());
-    assert_eq!(rt; ran.failures, (0, 1));
+    let want = (Err(Refusal::OutputFailed), REPORT.as_bytes(), (0, 1));
+    expect_ran(rt, &ran, want, &"a flush that fails");
     Ok(())
 }
 
@@ -181,8 +187,8 @@ fn expect_ten_bytes(
     let source = MemSource::new(READ_ONCE.as_bytes(), 4096, fail_at);
     let sink = MemSink::new(rt.alloc(), 10, 4096, false)?;
     let ran = run_between(rt, source, sink)?;
-    assert_eq!(rt; ran.answer, Err(refusal));
-    assert_eq!(rt; ran.taken.as_slice(), taken.as_bytes());
+    expect_eq(rt, &ran.answer, &Err(refusal), &fail_at);
+    expect_eq(rt, &ran.taken.as_slice(), &taken.as_bytes(), &fail_at);
     Ok(())
 }
 
@@ -204,9 +210,9 @@ fn expect_refused(
     let sink = MemSink::new(rt.alloc(), 4096, 1, false)?;
     let ran = run_between(rt, source, sink)?;
     let reason = Reason::Faulty(kind);
-    assert_eq!(rt; ran.answer, Err(Refusal::At(LineRefusal { line, reason })));
-    assert_eq!(rt; ran.taken.len(), 0);
-    assert_eq!(rt; ran.failures, (0, 0));
+    let refusal = Refusal::At(LineRefusal { line, reason });
+    let want = (Err(refusal), "".as_bytes(), (0, 0));
+    expect_ran(rt, &ran, want, &line);
     Ok(())
 }
 

@@ -1,4 +1,5 @@
 //! Lines of inputs: where they stand, and that many of them stay in order.
+use crate::expect::expect_eq;
 use history_text::{
     LineEvent, LineFault, MAX_INPUT, Name, Span, lines_of, read_lines, whole_lines,
 };
@@ -7,21 +8,41 @@ use std::process::Abort;
 use std::test::Fail;
 use std::thread::Threads;
 
-// Names of one length that differ are different, whether they are kept within the name or in memory.
-#[test]
-fn names_give_their_text(rt: HostRuntime) -> Result<(), Fail> {
-    let alloc = rt.alloc();
-    for (text, same_length) in [
+// Names, those that are kept within the name and those in memory, and others of the same length.
+fn names() -> &'static [(&'static str, &'static str)] {
+    &[
         ("x", "X"),
         ("fifteen_letters", "fifteen_letterS"),
         ("sixteen__letters", "sixteen__letterS"),
-    ] {
-        let name = Name::new(alloc, text)?;
-        assert_eq!(rt; name.as_str(), text);
-        assert!(rt; name == Name::new(alloc, text)?, "{text}");
-        assert!(rt; name != Name::new(alloc, same_length)?, "{text}");
+    ]
+}
+
+// The name gives its text, and is equal to one of another text or not.
+fn expect_name(
+    rt: &(impl AllocGlobal + Abort),
+    name: &Name,
+    text: &str,
+    other: &str,
+) -> Result<(), Fail> {
+    expect_eq(rt, &name.as_str(), &text, &"the text");
+    let is_equal = *name == Name::new(rt.alloc(), other)?;
+    expect_eq(rt, &is_equal, &(text == other), &other);
+    Ok(())
+}
+
+fn expect_names(rt: &(impl AllocGlobal + Abort)) -> Result<(), Fail> {
+    for (text, same_length) in names() {
+        let name = Name::new(rt.alloc(), text)?;
+        expect_name(rt, &name, text, text)?;
+        expect_name(rt, &name, text, same_length)?;
     }
     Ok(())
+}
+
+// Names of one length that differ are different.
+#[test]
+fn names_give_their_text(rt: HostRuntime) -> Result<(), Fail> {
+    expect_names(&rt)
 }
 
 // Each span as `line:from-to`.
@@ -57,7 +78,7 @@ fn inputs() -> &'static [(&'static str, &'static str)] {
 fn expect_spans(rt: &(impl AllocGlobal + Abort)) -> Result<(), Fail> {
     for (text, want) in inputs() {
         let got = spans_of(rt, rt.alloc(), text)?;
-        assert_eq!(rt; got.as_str(), *want, "{text}");
+        expect_eq(rt, &got.as_str(), want, text);
     }
     Ok(())
 }
@@ -99,7 +120,7 @@ fn byte_rows() -> &'static [(&'static str, bool, &'static str)] {
 fn expect_whole(rt: &(impl AllocGlobal + Abort)) -> Result<(), Fail> {
     for (text, is_ended, want) in byte_rows() {
         let got = shown_whole(rt, rt.alloc(), text.as_bytes(), *is_ended)?;
-        assert_eq!(rt; got.as_str(), *want, "{text} {is_ended}");
+        expect_eq(rt, &got.as_str(), want, &(*text, *is_ended));
     }
     Ok(())
 }
@@ -109,19 +130,25 @@ fn whole_lines_of_bytes(rt: HostRuntime) -> Result<(), Fail> {
     expect_whole(&rt)
 }
 
-// Lines of replies, every seventh torn, and what is read of them: each line with its process or its fault.
+// Adds a reply, every seventh torn, and what is read of it: its line with its process or its fault.
+fn add_reply(text: &mut String, want: &mut String, line: u32) -> Result<(), Fail> {
+    if line % 7 == 0 {
+        text.push_str("{\"process\":\n")?;
+        write!(want, "{line}: 2, ")?;
+        return Ok(());
+    }
+    let process = u32::MAX.saturating_sub(line);
+    write!(text, "{{\"process\":{process},\"event\":\"reply\"}}\n")?;
+    write!(want, "{line}={process}, ")?;
+    Ok(())
+}
+
+// So many replies, and what is read of them.
 fn replies(alloc: Global, count: u32) -> Result<(String, String), Fail> {
     let mut text = String::new(alloc);
     let mut want = String::new(alloc);
     for line in 1..=count {
-        if line % 7 == 0 {
-            text.push_str("{\"process\":\n")?;
-            write!(want, "{line}: 2, ")?;
-        } else {
-            let process = 4_294_967_295 - line;
-            write!(text, "{{\"process\":{process},\"event\":\"reply\"}}\n")?;
-            write!(want, "{line}={process}, ")?;
-        }
+        add_reply(&mut text, &mut want, line)?;
     }
     Ok((text, want))
 }
@@ -138,22 +165,33 @@ fn told(alloc: Global, lines: &[Result<LineEvent, LineFault>]) -> Result<String,
     Ok(told)
 }
 
+// What was read of the bytes.
+fn told_of(rt: &(impl Threads + Sync), alloc: Global, bytes: &[u8]) -> Result<String, Fail> {
+    if bytes.len() > MAX_INPUT {
+        return Err(Fail::from("too long"));
+    }
+    told(alloc, &read_lines(rt, alloc, bytes)?)
+}
+
 // So many lines stay in order, whatever threads read them.
 fn expect_in_order(
     rt: &(impl Threads + AllocGlobal + Abort + Sync),
     count: u32,
 ) -> Result<(), Fail> {
     let (text, want) = replies(rt.alloc(), count)?;
-    assert!(rt; text.len() <= MAX_INPUT);
-    let got = told(rt.alloc(), &read_lines(rt, rt.alloc(), text.as_bytes())?)?;
-    assert!(rt; got == want, "{count} lines");
+    let got = told_of(rt, rt.alloc(), text.as_bytes())?;
+    expect_eq(rt, &(got == want), &true, &count);
     Ok(())
 }
 
 // Lines of one part, of two, and for as many threads as there are.
+fn expect_all_in_order(rt: &(impl Threads + AllocGlobal + Abort + Sync)) -> Result<(), Fail> {
+    expect_in_order(rt, 100)?;
+    expect_in_order(rt, 10_000)?;
+    expect_in_order(rt, 140_000)
+}
+
 #[test]
 fn many_lines_stay_in_order(rt: HostRuntime) -> Result<(), Fail> {
-    expect_in_order(&rt, 100)?;
-    expect_in_order(&rt, 10_000)?;
-    expect_in_order(&rt, 140_000)
+    expect_all_in_order(&rt)
 }

@@ -1,7 +1,7 @@
 use Rattle.std.proofs.Common.{subst}
 use Rattle.history_model.specs.Naming.{IsOper, IsOperOf}
 use Rattle.history_model.proofs.Named.{has-oper}
-use Rattle.floor_tests.proofs.operations.precedes.Goals as goal
+use Rattle.regcheck_tests.proofs.operations.precedes.Goals as goal
 
 pub precedes-requires-clause-one : goal.precedes-requires-clause-one
 precedes-requires-clause-one c =

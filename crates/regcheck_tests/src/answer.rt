@@ -2,21 +2,10 @@
 use reg_report::{Gate, MemSink, MemSource, Outcome, Refusal, Settings, message, run};
 use std::alloc::AllocError;
 use std::random::RandomSource;
-use std::test::Fail;
 use std::thread::Threads;
 
 // The bytes of an answer: the report with its outcome, or what the refusal says with its number.
 pub(crate) type Answer = (Vec<u8>, Result<Outcome, u8>);
-
-// This many workers, and this many reads to a piece.
-pub(crate) fn settings(workers: u32, cut: u32) -> Result<Settings, Fail> {
-    Ok(Settings::new(workers, cut, false).ok_or("a number beyond its limit")?)
-}
-
-// The same, of a run that asks for only the first register that isn't atomic.
-pub(crate) fn first_settings(workers: u32, cut: u32) -> Result<Settings, Fail> {
-    Ok(Settings::new(workers, cut, true).ok_or("a number beyond its limit")?)
-}
 
 // More bytes than any report here has.
 const ROOM: usize = 4096;
