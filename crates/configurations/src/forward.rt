@@ -41,6 +41,7 @@ pub fn go_forward(
         steps: bounds.steps,
         configurations: bounds.configurations,
         beam: bounds.configurations,
+        is_guided: false,
         is_thrifty: false,
     };
     match words {

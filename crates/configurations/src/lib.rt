@@ -14,7 +14,8 @@
 //! `is_of_use` with `freeing`, `is_led` with `has_elder`, and the looks in `offspring` and `with_call`.
 //!
 //! Read it in this order: `op` and `moment`; `bounds`, `reached` and `work`; `table`, the open calls;
-//! `config`; `call` and `reply`, one event; `thrift` and `run`, all of them; `eased` and `depth_first` (with
+//! `config`; `call` and `reply`, one event; `outlook` and `guided`, where a yes alone
+//! counts; `run`, all of them; `eased` and `depth_first` (with
 //! `links` and `tried`), other ways to go; `stages` and `forward`.
 #![tactic(auto)]
 
@@ -24,15 +25,16 @@ mod config;
 mod depth_first;
 mod eased;
 mod forward;
+mod guided;
 mod links;
 mod moment;
 mod op;
+mod outlook;
 mod reached;
 mod reply;
 mod run;
 mod stages;
 mod table;
-mod thrift;
 mod tried;
 mod work;
 

@@ -13,6 +13,7 @@ ghost use Rattle.configurations.specs.declared.moment.Moment.TheVariants.{Reply 
 
 use crate::bounds::Bound;
 use crate::config::{Config, Configs, admit};
+use crate::outlook::Outlook;
 use crate::table::Table;
 use crate::work::{Stop, Work};
 use slot_sets::Slots;
@@ -23,6 +24,7 @@ pub(crate) struct Lists<const W: usize> {
     pub work: Configs<W>,
     pub next: Configs<W>,
     pub spent: Work,
+    pub outlook: Outlook<W>,
 }
 
 impl<const W: usize> Lists<W> {
@@ -57,7 +59,12 @@ fn must_change<const W: usize>(table: &Table<W>, config: &Config<W>, slot: u32) 
 
 /// Whether it is of use before the reply that the call of a slot takes effect.
 #[inline(always)]
-fn is_of_use<const W: usize>(table: &Table<W>, config: &Config<W>, slot: u32, reply: u32) -> bool
+pub(crate) fn is_of_use<const W: usize>(
+    table: &Table<W>,
+    config: &Config<W>,
+    slot: u32,
+    reply: u32,
+) -> bool
     requires table { IsTable table.now }
     requires held { IsHeld (has table.now.used) config.now }
     requires slot { has table.now.used slot ≡ true }
@@ -78,7 +85,7 @@ fn is_of_use<const W: usize>(table: &Table<W>, config: &Config<W>, slot: u32, re
 /// Whether the call before it goes first that changes alike, where neither ever replies. Thousands of crashed
 /// calls may change alike, and this leaves out all of them but one.
 #[inline(always)]
-fn has_elder<const W: usize>(table: &Table<W>, config: &Config<W>, slot: u32) -> bool
+pub(crate) fn has_elder<const W: usize>(table: &Table<W>, config: &Config<W>, slot: u32) -> bool
     ensures { IsTrue result → IsLed table.now config.now slot }
 {
     let Some(elder) = table.elder(slot) else {
@@ -95,12 +102,12 @@ fn has_elder<const W: usize>(table: &Table<W>, config: &Config<W>, slot: u32) ->
 const MOST_RIVALS: usize = 1_024;
 
 /// How many steps it spends to look at one of them, or to find the one that goes first if neither replies.
-const STEPS_PER_RIVAL: u64 = 4;
+pub(crate) const STEPS_PER_RIVAL: u64 = 4;
 
 /// Whether the call of another slot goes first: it changes alike and replies sooner, and
 /// must take effect or needn't as this one. Some of those that reply are looked at.
 #[inline(always)]
-fn is_led<const W: usize>(
+pub(crate) fn is_led<const W: usize>(
     table: &Table<W>,
     config: &Config<W>,
     slot: u32,
@@ -151,7 +158,7 @@ fn freeing<const W: usize>(table: &Table<W>, value: u32, slot: u32, reply: u32) 
 /// What comes of a configuration when the call of a slot takes effect; the
 /// looks that the value then suits do, too.
 #[inline(always)]
-fn offspring<const W: usize>(
+pub(crate) fn offspring<const W: usize>(
     table: &Table<W>,
     config: &Config<W>,
     slot: u32,
@@ -284,13 +291,12 @@ fn try_each<const W: usize>(
     Ok(())
 }
 
-/// Lets each useful call take effect, except those of `left_out`.
+/// Lets each useful call take effect.
 #[inline(always)]
 fn try_all<const W: usize>(
     table: &Table<W>,
     lists: &mut Lists<W>,
     config: &Config<W>,
-    left_out: &Slots<W>,
     reply: u32,
 ) -> Result<(), Stop>
     requires table { IsTable table.now }
@@ -300,17 +306,20 @@ fn try_all<const W: usize>(
     ensures apart { IfOk result (λ _. AreApart table.now reply lists.new.work lists.new.next) }
     ensures kept { IfOk result (λ _. AreKept lists.old.work lists.old.next lists.new.work lists.new.next) }
     ensures goes { IfOk result (λ _.
-        ((q : ℕ) → has left_out.now q ≡ false)
-        → IsGoneOver table.now (call_at table.now reply) lists.new.work lists.new.next config.now) }
+        IsGoneOver table.now (call_at table.now reply) lists.new.work lists.new.next config.now) }
 {
-    let fitting = fitting(table, config, left_out);
+    let fitting = fitting(table, config, &Slots::none());
     try_each(table, lists, config, &fitting, reply)?;
     Ok(())
 }
 
 /// The slots of the calls of a configuration that may meet its value, but for those that are left out.
 #[inline(always)]
-fn fitting<const W: usize>(table: &Table<W>, config: &Config<W>, left_out: &Slots<W>) -> Slots<W>
+pub(crate) fn fitting<const W: usize>(
+    table: &Table<W>,
+    config: &Config<W>,
+    left_out: &Slots<W>,
+) -> Slots<W>
     requires table { IsTable table.now }
     requires held { IsHeld (has table.now.used) config.now }
     ensures used { IsWithin (has result) (has table.now.used) }
@@ -325,35 +334,30 @@ fn fitting<const W: usize>(table: &Table<W>, config: &Config<W>, left_out: &Slot
         .minus(left_out)
 }
 
-/// The step over the reply of the call at a slot, where the calls of some slots are left out; true if all of
-/// `work` were gone over. What comes of one stands behind the others, so those in which fewer calls take
-/// effect come first. A list holds no more than its bound, so one round more finds none left.
+/// The step over the reply of the call at a slot. What comes of one stands behind the others, so those in
+/// which fewer calls take effect come first. A list holds no more than its bound, so one round more finds
+/// none left.
 pub(crate) fn pass<const W: usize>(
     table: &Table<W>,
     lists: &mut Lists<W>,
-    left_out: &Slots<W>,
     reply: u32,
-) -> Result<bool, Stop>
+) -> Result<(), Stop>
     requires table { IsTable table.now }
     requires reply { has table.now.used reply ≡ true }
     requires apart { AreApart table.now reply lists.old.work lists.old.next }
     ensures apart { IfOk result (λ _. AreApart table.now reply lists.new.work lists.new.next) }
     ensures kept { IfOk result (λ _. AreStill lists.old.next lists.new.next) }
-    ensures goes { IfOk result (λ all.
-        IsTrue all → ((q : ℕ) → has left_out.now q ≡ false) → (es : List AMoment) (n : ℕ)
+    ensures goes { IfOk result (λ _. (es : List AMoment) (n : ℕ)
         → IsToCome table.now (AReply (call_at table.now reply) ∷ es)
         → IsAnyAbleBy table.now (call_at table.now reply) es n lists.old.work
         → IsAnyAble table.now lists.new.next es) }
 {
     for at in 0..lists.spent.most().saturating_add(1) {
         if at >= lists.work.list.len() {
-            return Ok(true);
-        }
-        if lists.spent.is_enough(at, lists.next.list.len()) {
-            return Ok(false);
+            return Ok(());
         }
         let config = lists.work.list[at];
-        try_all(table, lists, &config, left_out, reply)?;
+        try_all(table, lists, &config, reply)?;
     }
     Err(Stop::Bound(Bound::Configurations))
 }

@@ -10,12 +10,13 @@ ghost use Rattle.slot_sets.specs.Sets.{has};
 use crate::bounds::Bound;
 use crate::call::over_call;
 use crate::config::{Config, Configs};
+use crate::guided::go_over;
 use crate::moment::Moment;
 use crate::op::Op;
+use crate::outlook::Outlook;
 use crate::reached::Reached;
-use crate::reply::{Lists, put_down};
+use crate::reply::{Lists, pass, put_down};
 use crate::table::Table;
-use crate::thrift::pass_by_stage;
 use crate::work::{Limits, NO_MOVE, Stop, Work};
 use slot_sets::Slots;
 use std::alloc::{AllocError, Global};
@@ -38,6 +39,11 @@ pub(crate) fn run<const W: usize>(
         work: Configs::new(alloc, limits.values)?,
         next: Configs::new(alloc, limits.values)?,
         spent: Work::new(alloc, *limits),
+        outlook: if limits.is_guided {
+            Outlook::new(alloc, ops, events, limits.values)?
+        } else {
+            Outlook::none(alloc)
+        },
     };
     let found = search(&mut table, &mut now, events, &mut lists);
     limits.steps = lists.spent.steps_left();
@@ -64,6 +70,7 @@ fn search<const W: usize>(
 {
     let mut whole = true;
     for (place, event) in events.iter().enumerate() {
+        forget_moves(now, &mut lists.spent)?;
         let last = last_move(now);
         lists.spent.go_to(place)?;
         whole = are_both(whole, step_over(table, now, lists, *event)?);
@@ -77,6 +84,19 @@ fn search<const W: usize>(
     }
     let last = last_move(now);
     Ok(Reached::Left(lists.spent.changes_to(last)?))
+}
+
+/// Makes room for moves if there is none: those that led to none of the configurations are forgotten.
+fn forget_moves<const W: usize>(now: &Configs<W>, spent: &mut Work) -> Result<(), AllocError> {
+    if spent.has_room() {
+        return Ok(());
+    }
+    let mut marks = spent.marks()?;
+    for config in &now.list {
+        spent.mark(&mut marks, config.last);
+    }
+    spent.forget(&marks);
+    Ok(())
 }
 
 /// Whether both are true.
@@ -132,9 +152,39 @@ fn step_over<const W: usize>(
     match event {
         Moment::Call(number) => {
             over_call(table, now, number)?;
+            note_call(table, lists, number);
             Ok(true)
         }
-        Moment::Reply(number) => over_reply(table, now, lists, number),
+        Moment::Reply(number) => {
+            let slot = table.slot_of(number);
+            let whole = over_reply(table, now, lists, number)?;
+            note_reply(table, lists, number, slot);
+            Ok(whole)
+        }
+    }
+}
+
+/// Notes a call for what comes.
+fn note_call<const W: usize>(table: &Table<W>, lists: &mut Lists<W>, number: u32)
+    requires table { IsTable table.now }
+{
+    if let Some(op) = table.op_of(number) {
+        let slot = table.slot_of(number);
+        lists.outlook.call(&op, number, slot);
+    }
+}
+
+/// Notes a reply for what comes, if its call had a slot.
+fn note_reply<const W: usize>(
+    table: &Table<W>,
+    lists: &mut Lists<W>,
+    number: u32,
+    slot: Option<u32>,
+)
+    requires table { IsTable table.now }
+{
+    if let (Some(op), Some(slot)) = (table.op_of(number), slot) {
+        lists.outlook.reply(&op, slot);
     }
 }
 
@@ -153,100 +203,16 @@ fn over_reply<const W: usize>(
     let Some(slot) = table.slot_of(number) else {
         return Ok(true);
     };
+    if lists.spent.is_guided() {
+        return go_over(table, now, lists, slot);
+    }
     lists.next.clear();
     lists.work.clear();
-    let whole = begin(table, now, lists, slot)?;
-    let whole = are_both(whole, pass_by_stage(table, lists, slot)?);
+    put_down_all(table, now, lists, slot)?;
+    pass(table, lists, slot)?;
     mem::swap(now, &mut lists.next);
     table.release(slot);
-    Ok(whole)
-}
-
-/// Puts those that go on in `work`, or in `next` if they have no call
-/// that must take effect; true if all of them go on.
-fn begin<const W: usize>(
-    table: &Table<W>,
-    now: &Configs<W>,
-    lists: &mut Lists<W>,
-    reply: u32,
-) -> Result<bool, Stop>
-    requires table { IsTable table.now }
-    requires held { AreHeld (has table.now.used) now.now }
-    requires reply { has table.now.used reply ≡ true }
-    requires empty { (lists.old.work.list.items ≡ []) × (lists.old.next.list.items ≡ []) }
-    ensures apart { IfOk result (λ _. AreApart table.now reply lists.new.work lists.new.next) }
-    ensures goes { IfOk result
-        (λ whole. IsTrue whole → IsBegun table.now now.now reply lists.new.work lists.new.next) }
-{
-    if now.list.len() <= lists.spent.beam() {
-        put_down_all(table, now, lists, reply)?;
-        Ok(true)
-    } else {
-        put_down_best(table, now, lists, reply)?;
-        Ok(false)
-    }
-}
-
-/// Puts down the best, as many as the beam holds: those that others stand for don't count.
-fn put_down_best<const W: usize>(
-    table: &Table<W>,
-    now: &Configs<W>,
-    lists: &mut Lists<W>,
-    reply: u32,
-) -> Result<(), Stop>
-    requires table { IsTable table.now }
-    requires held { AreHeld (has table.now.used) now.now }
-    requires reply { has table.now.used reply ≡ true }
-    requires empty { (lists.old.work.list.items ≡ []) × (lists.old.next.list.items ≡ []) }
-    ensures { IfOk result (λ _. AreApart table.now reply lists.new.work lists.new.next) }
-{
-    lists.spent.spend_on_order(now.list.len(), W)?;
-    let ranked = ranked(lists.spent.alloc(), &now.list)?;
-    for at in &ranked {
-        if lists.held() >= lists.spent.beam() {
-            break;
-        }
-        put_down_at(table, now, lists, *at, reply)?;
-    }
-    Ok(())
-}
-
-/// Puts down the one at a place.
-fn put_down_at<const W: usize>(
-    table: &Table<W>,
-    now: &Configs<W>,
-    lists: &mut Lists<W>,
-    at: usize,
-    reply: u32,
-) -> Result<(), Stop>
-    requires table { IsTable table.now }
-    requires held { AreHeld (has table.now.used) now.now }
-    requires reply { has table.now.used reply ≡ true }
-    requires apart { AreApart table.now reply lists.old.work lists.old.next }
-    ensures { IfOk result (λ _. AreApart table.now reply lists.new.work lists.new.next) }
-{
-    if at < now.list.len() {
-        let config = now.list[at];
-        put_down(table, lists, &config, None, reply)
-    } else {
-        Ok(())
-    }
-}
-
-/// The places of configurations, those with the least burden first; of equal ones, the first.
-fn ranked<const W: usize>(alloc: Global, configs: &[Config<W>]) -> Result<Vec<usize>, AllocError> {
-    let mut ranked = Vec::new(alloc);
-    for (at, config) in configs.iter().enumerate() {
-        ranked.push((burden(config), at))?;
-    }
-    ranked.sort_unstable();
-    ranked.iter().map(|one| one.1).collect(alloc)
-}
-
-/// What speaks against a configuration: what it cost that calls took effect which never reply, and how many
-/// calls must still take effect.
-fn burden<const W: usize>(config: &Config<W>) -> u32 {
-    config.cost.saturating_add(config.owed.count())
+    Ok(true)
 }
 
 /// Puts all down, the last one first.

@@ -19,8 +19,10 @@ use std::alloc::{AllocError, Global};
 enum Form {
     /// Over the operations of the register. A yes counts; a no does if no configuration was let go.
     Exact,
-    /// The same, but that calls that never reply take effect only where nothing
-    /// else explains a reply: only a yes counts.
+    /// The same, but that configurations are let go that are unlikely to explain what comes: only a yes
+    /// counts.
+    Guided,
+    /// The same, and calls that never reply take effect only where nothing else explains a reply.
     Thrifty,
     /// The same as exact, but that a cas without a reply may take effect at any value: only a no counts.
     Eased,
@@ -28,21 +30,24 @@ enum Form {
     DepthFirst,
 }
 
-/// A stage: its form, how many configurations go on from one reply to the next, and how many a list may hold.
+/// A stage: its form, how many configurations go on from one reply to the next, how many a list may hold, and
+/// how many eighths of the steps that are left it may spend.
 #[derive(Clone, Copy)]
 struct Stage {
     form: Form,
     beam: usize,
     configurations: usize,
+    eighths: u64,
 }
 
-/// A stage as one line: its form, its beam and its configurations.
+/// A stage as one line: its form, its beam, its configurations and its eighths.
 macro_rules! stage {
-    ($form:ident, $beam:expr, $configurations:expr) => {
+    ($form:ident, $beam:expr, $configurations:expr, $eighths:expr) => {
         Stage {
             form: Form::$form,
             beam: $beam,
             configurations: $configurations,
+            eighths: $eighths,
         }
     };
 }
@@ -50,36 +55,40 @@ macro_rules! stage {
 /// As many as the bounds allow.
 const MOST: usize = usize::MAX;
 
+/// All that is left.
+const ALL: u64 = 8;
+
 /// The stages if some changes have no reply: first those that are quick where they suffice. An exact one
 /// comes before the eased one, since the reply that the latter names need not be the first hopeless one. The
 /// last is as wide as the bounds allow.
-const STAGES: [Stage; 12] = [
-    stage!(DepthFirst, 1, 1),
-    stage!(Thrifty, 8, MOST),
-    stage!(Thrifty, 32, MOST),
-    stage!(Exact, 256, 256),
-    stage!(Eased, 4_096, 4_096),
-    stage!(Thrifty, 128, MOST),
-    stage!(Exact, 1_024, 1_024),
-    stage!(Exact, 8, MOST),
-    stage!(Thrifty, 512, MOST),
-    stage!(Exact, 32, MOST),
-    stage!(Exact, 128, MOST),
-    stage!(Exact, MOST, MOST),
+const STAGES: [Stage; 10] = [
+    stage!(DepthFirst, 1, 1, ALL),
+    stage!(Thrifty, 8, MOST, 6),
+    stage!(Thrifty, 32, MOST, 4),
+    stage!(Exact, MOST, 256, 2),
+    stage!(Guided, 8, MOST, 2),
+    stage!(Guided, 32, MOST, 2),
+    stage!(Eased, MOST, 4_096, 5),
+    stage!(Exact, MOST, 1_024, 4),
+    stage!(Guided, 128, MOST, 4),
+    stage!(Exact, MOST, MOST, ALL),
 ];
 
 /// The stages if each change has a reply.
 const ANSWERED: [Stage; 4] = [
-    stage!(Exact, 256, 256),
-    stage!(Exact, 32, MOST),
-    stage!(Exact, 64, MOST),
-    stage!(Exact, MOST, MOST),
+    stage!(Exact, MOST, 256, 6),
+    stage!(Guided, 32, MOST, 6),
+    stage!(Guided, 64, MOST, 6),
+    stage!(Exact, MOST, MOST, ALL),
 ];
 
 /// The stages that look for a reply that is hopeless before the one that eased operations show.
-const EARLIER: [Stage; 2] = [stage!(Exact, 1_024, 1_024), stage!(Exact, MOST, MOST)];
+const EARLIER: [Stage; 2] = [
+    stage!(Exact, MOST, 1_024, 6),
+    stage!(Exact, MOST, MOST, ALL),
+];
 
-/// How many steps they may take beside as many as were taken before.
+/// How many steps they may take beside a quarter of those that were taken before.
 const STEPS_OF_EARLIER: u64 = 1 << 24;
 
 /// Goes through the stages until one answers.
@@ -107,7 +116,7 @@ pub(crate) fn in_stages<const W: usize>(
                 if stage.form != Form::Eased {
                     return Ok(found);
                 }
-                let again = given.saturating_sub(limits.steps);
+                let again = given.saturating_sub(limits.steps) / 4;
                 limits.steps = limits.steps.min(again.saturating_add(STEPS_OF_EARLIER));
                 return earlier::<W>(alloc, ops, events, found, limits);
             }
@@ -180,11 +189,13 @@ fn run_stage<const W: usize>(
         steps: share,
         configurations: limits.configurations.min(stage.configurations),
         beam: stage.beam,
+        is_guided: stage.form == Form::Guided || stage.form == Form::Thrifty,
         is_thrifty: stage.form == Form::Thrifty,
         ..*limits
     };
     let found = match stage.form {
         Form::Exact => run::<W>(alloc, ops, events, &mut own)?,
+        Form::Guided => run::<W>(alloc, ops, events, &mut own)?,
         Form::Thrifty => run::<W>(alloc, ops, events, &mut own)?,
         Form::Eased => eased_run::<W>(alloc, ops, events, &mut own)?,
         Form::DepthFirst => depth_first(alloc, ops, events, &mut own)?,
@@ -193,12 +204,11 @@ fn run_stage<const W: usize>(
     Ok(found)
 }
 
-/// How many of the steps that are left a stage may spend: three quarters of them, so that some are left for
-/// the others, or all if none comes after it.
+/// How many of the steps that are left a stage may spend, so that some are left for the others.
 fn share_of(stage: Stage, steps: u64) -> u64 {
-    if stage.beam == MOST {
+    if stage.eighths == ALL {
         steps
     } else {
-        steps - steps / 4
+        (steps / ALL).saturating_mul(stage.eighths)
     }
 }

@@ -2,11 +2,18 @@
 use crate::bounds::Bound;
 use crate::reached::Taken;
 use std::alloc::{AllocError, AllocFailed, Global};
+use std::mem;
 use thiserror::Error;
 
 /// How many steps it spends to remember that a call took effect. By default some 4
 /// million are remembered, in 50 MB.
 const STEPS_PER_MOVE: u64 = 256;
+
+/// How many it spends if that takes the place of what was forgotten.
+const STEPS_PER_REUSE: u64 = 16;
+
+/// How many moves are remembered before any are forgotten.
+const LEAST_MOVES: usize = 1 << 14;
 
 /// How many steps it spends to find the place of a configuration among the best, beside one for each word.
 const STEPS_PER_PLACE: u64 = 8;
@@ -30,7 +37,9 @@ pub(crate) struct Limits {
     pub configurations: usize,
     /// How many go on from one reply to the next.
     pub beam: usize,
-    /// Whether calls that never reply take effect only where nothing else explains a reply.
+    /// Whether a yes alone counts, so that those that are unlikely to explain what comes may be let go.
+    pub is_guided: bool,
+    /// Whether calls that never reply then take effect only where nothing else explains a reply.
     pub is_thrifty: bool,
 }
 
@@ -72,8 +81,13 @@ pub(crate) struct Work {
     steps: u64,
     configurations: usize,
     beam: usize,
+    is_guided: bool,
     is_thrifty: bool,
     moves: Vec<Move>,
+    /// The first place of a move that was forgotten; each such place has that of the next.
+    forgotten: u32,
+    /// How many moves are remembered before some are to be forgotten.
+    room: usize,
     /// The place of the event that is gone over.
     place: u32,
 }
@@ -85,8 +99,11 @@ impl Work {
             steps: limits.steps,
             configurations: limits.configurations,
             beam: limits.beam,
+            is_guided: limits.is_guided,
             is_thrifty: limits.is_thrifty,
             moves: Vec::new(alloc),
+            forgotten: NO_MOVE,
+            room: LEAST_MOVES,
             place: 0,
         }
     }
@@ -112,6 +129,11 @@ impl Work {
     /// How many configurations go on from one reply to the next.
     pub(crate) fn beam(&self) -> usize {
         self.beam
+    }
+
+    /// Whether a yes alone counts.
+    pub(crate) fn is_guided(&self) -> bool {
+        self.is_guided
     }
 
     /// Whether calls that never reply take effect only where nothing else explains a reply.
@@ -165,17 +187,67 @@ impl Work {
     /// A call takes effect after others, the last of which has the place
     /// `before` among the moves; gives its own place.
     pub(crate) fn moved(&mut self, number: u32, before: u32) -> Result<u32, Stop> {
+        let taken = Taken {
+            number,
+            place: self.place,
+        };
+        let next = Move { taken, before };
+        if let Some(one) = self.moves.get_mut(self.forgotten as usize) {
+            let place = mem::replace(&mut self.forgotten, one.before);
+            *one = next;
+            self.spend(STEPS_PER_REUSE)?;
+            return Ok(place);
+        }
         self.spend(STEPS_PER_MOVE)?;
         let place = self.moves.len();
         if place >= NO_MOVE as usize {
             return Err(Stop::Bound(Bound::Steps));
         }
-        let taken = Taken {
-            number,
-            place: self.place,
-        };
-        self.moves.push(Move { taken, before })?;
+        self.moves.push(next)?;
         Ok(place as u32)
+    }
+
+    /// Whether a move may be remembered before any are forgotten.
+    pub(crate) fn has_room(&self) -> bool {
+        self.forgotten != NO_MOVE || self.moves.len() < self.room
+    }
+
+    /// For each move, a mark that isn't set.
+    pub(crate) fn marks(&self) -> Result<Vec<bool>, AllocError> {
+        vec![in self.alloc; false; self.moves.len()]
+    }
+
+    /// Marks the moves up to one of them.
+    pub(crate) fn mark(&self, marks: &mut [bool], last: u32) {
+        let mut at = last;
+        for _ in 0..self.moves.len() {
+            let (Some(one), Some(mark)) = (self.moves.get(at as usize), marks.get_mut(at as usize))
+            else {
+                break
+            };
+            if *mark {
+                break;
+            }
+            *mark = true;
+            at = one.before;
+        }
+    }
+
+    /// Forgets the moves that aren't marked. As many again as are left may then be remembered.
+    pub(crate) fn forget(&mut self, marks: &[bool]) {
+        let mut left: usize = 0;
+        for place in 0..self.moves.len().min(marks.len()) {
+            let Ok(number) = u32::try_from(place) else {
+                break
+            };
+            if marks[place] {
+                left = left.saturating_add(1);
+            } else {
+                self.moves[place].before = self.forgotten;
+                self.forgotten = number;
+            }
+        }
+        self.room = left.saturating_mul(2).max(LEAST_MOVES);
     }
 
     /// The changes up to one of them, in the order in which they took effect.

@@ -1,5 +1,4 @@
-use Rattle.std.proofs.Common.{ℕ, ◌≡◌, ◌<◌, false, slice_get, Some}
-use Rattle.slot_sets.specs.Sets.{has}
+use Rattle.std.proofs.Common.{ℕ, ◌≡◌, ◌<◌, slice_get, Some}
 use Rattle.configurations.specs.declared.config.Config.{Config}
 use Rattle.configurations.specs.Configs.{AreApart, AreKept, IsGoneOver}
 use Rattle.configurations.specs.Tables.{call_at}
@@ -9,7 +8,7 @@ abbrev pub invariant-loop-at : goal.invariant-loop-at
 invariant-loop-at g l = record {
   apart : AreApart l.table l.reply l.lists.work l.lists.next;
   kept : AreKept l.fn.lists.work l.fn.lists.next l.lists.work l.lists.next;
-  gone : ((q : ℕ) → has l.left_out q ≡ false) → (at : ℕ) (c : Config g.row.W) → at < l.at
+  gone : (at : ℕ) (c : Config g.row.W) → at < l.at
       → slice_get l.lists.work.list.items at ≡ Some c
       → IsGoneOver l.table (call_at l.table l.reply) l.lists.work l.lists.next c;
 }

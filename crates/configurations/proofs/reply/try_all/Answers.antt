@@ -4,7 +4,7 @@ use Rattle.configurations.proofs.Replying.{call_member, gone_over, or_left, or_r
 use Rattle.configurations.proofs.reply.try_all.Goals as goal
 
 pub returns-clause-goes : goal.returns-clause-goes
-returns-clause-goes g c = λ none.
+returns-clause-goes g c =
     let t = c.args.table.now in
     let config = c.args.config.now in
     gone_over t c.requires.table config c.requires.held c.args.reply c.requires.reply.0
@@ -15,4 +15,4 @@ returns-clause-goes g c = λ none.
       | inl a ↦ or_left (has config.owed q) (has config.free q) a
       | inr a ↦ or_right (has config.owed q) (has config.free q) a
     ] in
-    c.in_ok-try_each.ensures.goes q (c.fitting-fitting.ensures.all q either f (none q)))
+    c.in_ok-try_each.ensures.goes q (c.fitting-fitting.ensures.all q either f (c.none.ensures q)))

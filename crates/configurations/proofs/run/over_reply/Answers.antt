@@ -1,4 +1,4 @@
-use Rattle.std.proofs.Common.{inl, inr, sym, subst}
+use Rattle.std.proofs.Common.{inl, inr, sym, subst, true}
 use Rattle.slot_sets.specs.Sets.{has}
 use Rattle.configurations.specs.Configs.{AreHeld, IsAnyAble, lacking}
 use Rattle.configurations.specs.declared.config.Configs.{Configs}
@@ -15,18 +15,16 @@ pub returns : goal.returns
 returns g c =
     let t = c.args.table.now in
     let slot = c.in-Some.slot in
-    let begun = c.begin.new.lists in
-    let next = c.pass_by_stage.new.lists.next in
-    let passed = c.in_ok-pass_by_stage.ensures in
+    let begun = c.put_down_all.new.lists in
+    let next = c.pass.new.lists.next in
+    let passed = c.in_ok-pass.ensures in
     let after = c.swap.ensures.x_after in
-    reply_over c.are_both-whole.result t c.release.new.self c.args.now.now c.swap.new.x slot c.args.number
-    c.requires.table c.release.ensures.table c.in-Some.ensures.0 c.in-Some.ensures.1
-    c.release.ensures.released
+    reply_over true t c.release.new.self c.args.now.now c.swap.new.x slot c.args.number c.requires.table
+    c.release.ensures.table c.in-Some.ensures.0 c.in-Some.ensures.1 c.release.ensures.released
     (subst (λ (cs : Configs g.row.W). AreHeld (lacking (has t.used) slot) cs) (sym after)
-    passed.apart.next_held) (λ all es to_come a.
-    let both = c.are_both-whole.ensures all in
+    passed.apart.next_held) (λ _ es to_come a.
     subst (λ cs. IsAnyAble t cs es) (sym after) (elim (begun_able t c.args.now.now slot begun.work
-    begun.next es (c.in_ok-whole.ensures.goes both.0) to_come a) [
-      | inl x ↦ passed.goes both.1 es x.0 to_come x.1
+    begun.next es c.in_ok-put_down_all.ensures.goes to_come a) [
+      | inl x ↦ passed.goes es x.0 to_come x.1
       | inr x ↦ still_able t es begun.next next passed.kept x
     ]))

@@ -1,5 +1,5 @@
 use Rattle.configurations.specs.Configs.{AreApart}
-use Rattle.configurations.proofs.run.put_down_best.Given as goal
+use Rattle.configurations.proofs.guided.pass.Given as goal
 
 abbrev pub invariant-loop-at : goal.invariant-loop-at
 invariant-loop-at g l = AreApart l.table l.reply l.lists.work l.lists.next

@@ -1,0 +1,342 @@
+//! The step over a reply in a stage whose yes alone counts: it lets go of configurations that are unlikely to
+//! explain what comes, so nothing is said of what it lets go.
+ghost use Rattle.std.specs.Prelude.{◌≡◌, [], true, IfOk};
+ghost use Rattle.configurations.specs.Configs.{AreApart, AreHeld, IsHeld, IsOver};
+ghost use Rattle.configurations.specs.Tables.{IsTable, IsWithin, call_at};
+ghost use Rattle.configurations.specs.declared.moment.Moment.TheVariants.{Reply as AReply};
+ghost use Rattle.slot_sets.specs.Sets.{has};
+
+use crate::config::{Config, Configs};
+use crate::outlook::{Outlook, Supply, finders};
+use crate::reply::{
+    Lists, STEPS_PER_RIVAL, fitting, has_elder, is_led, is_of_use, offspring, put_down,
+};
+use crate::table::Table;
+use crate::work::{Stop, Work};
+use slot_sets::Slots;
+use std::alloc::{AllocError, Global};
+use std::mem;
+
+/// What it costs if a value that is needed rests on a cas that may be in vain.
+const DOUBT: u32 = 16;
+
+/// The step over the reply of the call of a slot.
+pub(crate) fn go_over<const W: usize>(
+    table: &mut Table<W>,
+    now: &mut Configs<W>,
+    lists: &mut Lists<W>,
+    reply: u32,
+) -> Result<bool, Stop>
+    requires table { IsTable table.old }
+    requires held { AreHeld (has table.old.used) now.old }
+    requires reply { has table.old.used reply ≡ true }
+    ensures { IfOk result (λ whole.
+        IsOver whole table.old now.old (AReply (call_at table.old reply)) table.new now.new) }
+{
+    lists.next.clear();
+    lists.work.clear();
+    put_down_best(table, now, lists, reply)?;
+    pass(table, lists, true, reply)?;
+    if lists.next.list.is_empty() {
+        pass(table, lists, false, reply)?;
+    }
+    mem::swap(now, &mut lists.next);
+    table.release(reply);
+    Ok(false)
+}
+
+/// Puts all down, the last one first, or the best if the beam holds fewer: those that others stand for don't
+/// count.
+fn put_down_best<const W: usize>(
+    table: &Table<W>,
+    now: &Configs<W>,
+    lists: &mut Lists<W>,
+    reply: u32,
+) -> Result<(), Stop>
+    requires table { IsTable table.now }
+    requires held { AreHeld (has table.now.used) now.now }
+    requires reply { has table.now.used reply ≡ true }
+    requires empty { (lists.old.work.list.items ≡ []) × (lists.old.next.list.items ≡ []) }
+    ensures { IfOk result (λ _. AreApart table.now reply lists.new.work lists.new.next) }
+{
+    let len = now.list.len();
+    if len <= lists.spent.beam() {
+        for i in 0..len {
+            put_down_at(table, now, lists, len - 1 - i, reply)?;
+        }
+        return Ok(());
+    }
+    lists.spent.spend_on_order(len, W)?;
+    let ranked = ranked(lists.spent.alloc(), &now.list)?;
+    for at in &ranked {
+        if lists.held() >= lists.spent.beam() {
+            break;
+        }
+        put_down_at(table, now, lists, *at, reply)?;
+    }
+    Ok(())
+}
+
+/// Puts down the one at a place.
+fn put_down_at<const W: usize>(
+    table: &Table<W>,
+    now: &Configs<W>,
+    lists: &mut Lists<W>,
+    at: usize,
+    reply: u32,
+) -> Result<(), Stop>
+    requires table { IsTable table.now }
+    requires held { AreHeld (has table.now.used) now.now }
+    requires reply { has table.now.used reply ≡ true }
+    requires apart { AreApart table.now reply lists.old.work lists.old.next }
+    ensures { IfOk result (λ _. AreApart table.now reply lists.new.work lists.new.next) }
+{
+    if at < now.list.len() {
+        let config = now.list[at];
+        set_down(table, lists, &config, None, reply)
+    } else {
+        Ok(())
+    }
+}
+
+/// The places of configurations, those with the least burden first; of equal ones, the first.
+fn ranked<const W: usize>(alloc: Global, configs: &[Config<W>]) -> Result<Vec<usize>, AllocError> {
+    let mut ranked = Vec::new(alloc);
+    for (at, config) in configs.iter().enumerate() {
+        ranked.push((burden(config), at))?;
+    }
+    ranked.sort_unstable();
+    ranked.iter().map(|one| one.1).collect(alloc)
+}
+
+/// What speaks against a configuration: what it cost that calls took effect which never reply, and how many
+/// calls must still take effect.
+fn burden<const W: usize>(config: &Config<W>) -> u32 {
+    config.cost.saturating_add(config.owed.count())
+}
+
+/// A configuration goes on as by `put_down`. One in which the call that replies needn't take effect
+/// isn't left without a value that is needed.
+#[inline(always)]
+fn set_down<const W: usize>(
+    table: &Table<W>,
+    lists: &mut Lists<W>,
+    config: &Config<W>,
+    taken: Option<u32>,
+    reply: u32,
+) -> Result<(), Stop>
+    requires table { IsTable table.now }
+    requires held { IsHeld (has table.now.used) config.now }
+    requires reply { has table.now.used reply ≡ true }
+    requires apart { AreApart table.now reply lists.old.work lists.old.next }
+    ensures { IfOk result (λ _. AreApart table.now reply lists.new.work lists.new.next) }
+{
+    if config.owed.has(reply) || !config.free.has(reply) {
+        return put_down(table, lists, config, taken, reply);
+    }
+    let dropped = dropping(table, config, reply);
+    let value = table.left(reply, config.value);
+    let cost = cost_without(table, &lists.outlook, &mut lists.spent, &dropped, value)?;
+    if let Some(cost) = cost {
+        put_down(table, lists, &at_cost(table, &dropped, cost), taken, reply)?;
+    }
+    put_down(table, lists, &owing(table, config, reply), taken, reply)
+}
+
+/// The configuration without the call of a slot, if that needn't take effect.
+#[inline(always)]
+fn dropping<const W: usize>(table: &Table<W>, config: &Config<W>, slot: u32) -> Config<W>
+    requires slot { has table.now.used slot ≡ true }
+    requires held { IsHeld (has table.now.used) config.now }
+    ensures { IsHeld (has table.now.used) result }
+{
+    let mut config = *config;
+    config.free.remove(slot);
+    config
+}
+
+/// The configuration in which the call of a slot must take effect.
+#[inline(always)]
+fn owing<const W: usize>(table: &Table<W>, config: &Config<W>, slot: u32) -> Config<W>
+    requires slot { has table.now.used slot ≡ true }
+    requires held { IsHeld (has table.now.used) config.now }
+    ensures { IsHeld (has table.now.used) result }
+{
+    let mut config = *config;
+    config.free.remove(slot);
+    config.owed.insert(slot);
+    config
+}
+
+/// The configuration at another cost.
+#[inline(always)]
+fn at_cost<const W: usize>(table: &Table<W>, config: &Config<W>, cost: u32) -> Config<W>
+    requires held { IsHeld (has table.now.used) config.now }
+    ensures { IsHeld (has table.now.used) result }
+{
+    Config { cost, ..*config }
+}
+
+/// What a configuration costs that has left a value, or dropped a call that gives it; none if the value is
+/// needed and can't be had.
+#[inline(always)]
+fn cost_without<const W: usize>(
+    table: &Table<W>,
+    outlook: &Outlook<W>,
+    spent: &mut Work,
+    config: &Config<W>,
+    value: u32,
+) -> Result<Option<u32>, Stop>
+    requires table { IsTable table.now }
+{
+    spent.spend(W as u64)?;
+    Ok(match outlook.supply(table, config, value) {
+        Supply::Enough => Some(config.cost),
+        Supply::Doubtful => Some(config.cost.saturating_add(DOUBT)),
+        Supply::Missing => None,
+    })
+}
+
+/// Lets one call take effect, if that is of use, no other goes first, and no value that is needed is lost.
+#[inline(always)]
+fn try_slot<const W: usize>(
+    table: &Table<W>,
+    lists: &mut Lists<W>,
+    config: &Config<W>,
+    slot: u32,
+    reply: u32,
+) -> Result<(), Stop>
+    requires table { IsTable table.now }
+    requires held { IsHeld (has table.now.used) config.now }
+    requires slot { has table.now.used slot ≡ true }
+    requires reply { has table.now.used reply ≡ true }
+    requires apart { AreApart table.now reply lists.old.work lists.old.next }
+    ensures { IfOk result (λ _. AreApart table.now reply lists.new.work lists.new.next) }
+{
+    if has_elder(table, config, slot) {
+        return lists.spent.spend(STEPS_PER_RIVAL);
+    }
+    lists.spent.spend(W as u64)?;
+    if !is_of_use(table, config, slot, reply) || is_led(table, config, slot, &mut lists.spent)? {
+        return Ok(());
+    }
+    let child = offspring(table, config, slot, reply);
+    let cost = cost_without(
+        table,
+        &lists.outlook,
+        &mut lists.spent,
+        &child,
+        config.value,
+    )?;
+    if let Some(cost) = cost {
+        let child = at_cost(table, &child, cost);
+        return set_down(table, lists, &child, Some(table.call(slot)), reply);
+    }
+    Ok(())
+}
+
+/// Lets each of these calls take effect.
+fn try_each<const W: usize>(
+    table: &Table<W>,
+    lists: &mut Lists<W>,
+    config: &Config<W>,
+    slots: &Slots<W>,
+    reply: u32,
+) -> Result<(), Stop>
+    requires table { IsTable table.now }
+    requires held { IsHeld (has table.now.used) config.now }
+    requires slots { IsWithin (has slots.now) (has table.now.used) }
+    requires reply { has table.now.used reply ≡ true }
+    requires apart { AreApart table.now reply lists.old.work lists.old.next }
+    ensures { IfOk result (λ _. AreApart table.now reply lists.new.work lists.new.next) }
+{
+    let mut at = 0;
+    while let Some(slot) = slots.first_from(at) {
+        try_slot(table, lists, config, slot, reply)?;
+        at = slot + 1;
+    }
+    Ok(())
+}
+
+/// Lets each useful call of a configuration take effect, but for those that are spared.
+fn try_all<const W: usize>(
+    table: &Table<W>,
+    lists: &mut Lists<W>,
+    config: &Config<W>,
+    sparing: Option<u32>,
+    reply: u32,
+) -> Result<(), Stop>
+    requires table { IsTable table.now }
+    requires held { IsHeld (has table.now.used) config.now }
+    requires reply { has table.now.used reply ≡ true }
+    requires apart { AreApart table.now reply lists.old.work lists.old.next }
+    ensures { IfOk result (λ _. AreApart table.now reply lists.new.work lists.new.next) }
+{
+    let spared = spared(table, &lists.outlook, &mut lists.spent, config, sparing)?;
+    let slots = fitting(table, config, &spared);
+    try_each(table, lists, config, &slots, reply)
+}
+
+/// Goes over `work` until enough are left; at first sparingly, so that calls that never reply take effect
+/// only if it is likely that they explain the reply.
+fn pass<const W: usize>(
+    table: &Table<W>,
+    lists: &mut Lists<W>,
+    is_sparing: bool,
+    reply: u32,
+) -> Result<(), Stop>
+    requires table { IsTable table.now }
+    requires reply { has table.now.used reply ≡ true }
+    requires apart { AreApart table.now reply lists.old.work lists.old.next }
+    ensures { IfOk result (λ _. AreApart table.now reply lists.new.work lists.new.next) }
+{
+    let sparing = if is_sparing { Some(reply) } else { None };
+    for at in 0..lists.spent.most().saturating_add(1) {
+        if at >= lists.work.list.len() || lists.spent.is_enough(at, lists.next.list.len()) {
+            break;
+        }
+        let config = lists.work.list[at];
+        try_all(table, lists, &config, sparing, reply)?;
+    }
+    Ok(())
+}
+
+/// The calls that never reply, but for those that may help: thriftily, those that write or look for the value
+/// that the call at a slot asks for; else those that give a value that a call finds which must take effect.
+fn spared<const W: usize>(
+    table: &Table<W>,
+    outlook: &Outlook<W>,
+    spent: &mut Work,
+    config: &Config<W>,
+    reply: Option<u32>,
+) -> Result<Slots<W>, Stop>
+    requires table { IsTable table.now }
+{
+    let Some(reply) = reply else {
+        return Ok(Slots::none());
+    };
+    if spent.is_thrifty() {
+        return Ok(table.unanswered.minus(&table.alike(reply)));
+    }
+    let finders = finders(table, config);
+    spent.spend((finders.count() as u64).saturating_mul(W as u64))?;
+    Ok(table.unanswered.minus(&given_to(table, outlook, &finders)))
+}
+
+/// The slots of the calls that give what one of these finds.
+fn given_to<const W: usize>(table: &Table<W>, outlook: &Outlook<W>, finders: &Slots<W>) -> Slots<W>
+    requires table { IsTable table.now }
+{
+    let mut all = Slots::none();
+    let mut at = 0;
+    for _ in 0..finders.count() {
+        let Some(slot) = finders.first_from(at) else {
+            break
+        };
+        if let Some(op) = table.op_of(table.call(slot)) {
+            all = all.union(&outlook.givers(op.from));
+        }
+        at = slot + 1;
+    }
+    all
+}
