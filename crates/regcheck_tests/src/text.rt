@@ -8,41 +8,21 @@ use std::process::Abort;
 use std::test::Fail;
 use std::thread::Threads;
 
-// Names, those that are kept within the name and those in memory, and others of the same length.
-fn names() -> &'static [(&'static str, &'static str)] {
-    &[
+// Names of one length that differ are different, whether they are kept within the name or in memory.
+#[test]
+fn names_give_their_text(rt: HostRuntime) -> Result<(), Fail> {
+    let alloc = rt.alloc();
+    for (text, same_length) in [
         ("x", "X"),
         ("fifteen_letters", "fifteen_letterS"),
         ("sixteen__letters", "sixteen__letterS"),
-    ]
-}
-
-// The name gives its text, and is equal to one of another text or not.
-fn expect_name(
-    rt: &(impl AllocGlobal + Abort),
-    name: &Name,
-    text: &str,
-    other: &str,
-) -> Result<(), Fail> {
-    expect_eq(rt, &name.as_str(), &text, &"the text");
-    let is_equal = *name == Name::new(rt.alloc(), other)?;
-    expect_eq(rt, &is_equal, &(text == other), &other);
-    Ok(())
-}
-
-fn expect_names(rt: &(impl AllocGlobal + Abort)) -> Result<(), Fail> {
-    for (text, same_length) in names() {
-        let name = Name::new(rt.alloc(), text)?;
-        expect_name(rt, &name, text, text)?;
-        expect_name(rt, &name, text, same_length)?;
+    ] {
+        let name = Name::new(alloc, text)?;
+        assert_eq!(rt; name.as_str(), text);
+        assert!(rt; name == Name::new(alloc, text)?, "{text}");
+        assert!(rt; name != Name::new(alloc, same_length)?, "{text}");
     }
     Ok(())
-}
-
-// Names of one length that differ are different.
-#[test]
-fn names_give_their_text(rt: HostRuntime) -> Result<(), Fail> {
-    expect_names(&rt)
 }
 
 // Each span as `line:from-to`.
