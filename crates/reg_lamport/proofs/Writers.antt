@@ -126,7 +126,7 @@ module _ (h : History) (rec : IsRecorded h) (r : ℕ) (writer : Option ℕ) (i :
             (false≢true (sym none
             ∙ writes-call c.0
             (ap writes (sym (ap op_kind c.1 ∙ called_at-kind h.events i.0 e)) ∙ (sym (changes-kind o.act)
-                ∙ w))))
+            ∙ w))))
       ]
     ];
     known = so_far.known;

@@ -85,7 +85,7 @@ module _ (h : History) (r : ℕ) (y : IsKnown h r) where
       let l = eqb-true _ _ p.0 in
       let t = eqb-true _ _ p.1 in
       let no : (c d : Operation) → IsListed ops c → IsListed ops d
-          → low_end ops (value_of c) ≡ low_end ops (value_of d)
+      → low_end ops (value_of c) ≡ low_end ops (value_of d)
       → turn c ≡ turn d → IsSooner ops c d → ⊥ =
       λ c d lc ld x z s. elim (sooner-first c d lc ld s) [
         | inl q ↦ omega (arith, x)
