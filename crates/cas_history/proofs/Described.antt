@@ -11,7 +11,7 @@ use Rattle.history_text.specs.declared.event.ReplyParts.{ReplyParts}
 use Rattle.history_model.specs.declared.operation.Operation.{Operation}
 use Rattle.cas_history.specs.Events.{Called, called_by, replied_by}
 use Rattle.cas_history.specs.History.{calls_from, has_failed, next_of, operation}
-use Rattle.cas_history.specs.History.{operation_if, option_list, reply_in, time_of_reply}
+use Rattle.cas_history.specs.History.{operation_if, option_list, time_of_reply}
 
 -- ---- the next event of a process
 

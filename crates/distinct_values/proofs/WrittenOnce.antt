@@ -11,7 +11,7 @@ use Rattle.history_model.specs.Lists.{Before, In}
 use Rattle.history_model.proofs.Lists.{append-In}
 use Rattle.history_model.specs.declared.act.Act.TheVariants.{Write}
 use Rattle.history_model.specs.declared.operation.Operation.{Operation}
-use Rattle.distinct_values.specs.WrittenOnce.{AreWrittenOnce, HasWritten}
+use Rattle.distinct_values.specs.WrittenOnce.{HasWritten}
 
 -- what stands before what in a list with one more
 before-push : (x y : Operation) (zs : List Operation) (a : Operation) → Before x y (zs ++ a ∷ [])

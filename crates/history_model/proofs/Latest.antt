@@ -1,10 +1,9 @@
 -- Of reads and writes, to meet a value that suits them is to give the value of the nearest write.
-use Rattle.std.proofs.Common.{◌≡◌, true, false, Some, None, List, inr, refl, sym, subst, ap, ◌∙◌, ◌↔◌}
+use Rattle.std.proofs.Common.{◌≡◌, true, false, Some, None, List, refl, sym, subst, ap, ◌∙◌, ◌↔◌}
 use Rattle.std.specs.Prelude.{IsSomeAnd}
-use Rattle.std.proofs.lemmas.Bool.{false≢true, cases_Bool}
-use Rattle.history_text.specs.declared.event.Val.{Val}
+use Rattle.std.proofs.lemmas.Bool.{false≢true}
 use Rattle.history_model.specs.Lists.{In}
-use Rattle.history_model.specs.Acts.{Suits, asks, changes, given_by, is_plain, suits, value_of_act}
+use Rattle.history_model.specs.Acts.{Suits, asks, changes, given_by, is_plain, value_of_act}
 use Rattle.history_model.specs.Operations.{IsAsking, IsCompletedRead, IsHistory, is_write}
 use Rattle.history_model.specs.declared.operation.Operation.{Operation}
 use Rattle.history_model.specs.Legal.{HasLatest, IsCompletion, IsLegal, IsMet}

@@ -1,5 +1,5 @@
 -- Acts of reads and writes alone.
-use Rattle.std.proofs.Common.{◌≡◌, is_some, Bool, true, false, Option, Some, None, refl, sym, ap}
+use Rattle.std.proofs.Common.{◌≡◌, is_some, true, false, Option, Some, None, refl, sym, ap}
 use Rattle.std.proofs.lemmas.Bool.{false≢true}
 use Rattle.history_text.specs.declared.event.Val.{Val}
 use Rattle.history_text.specs.declared.event.OpKind.{OpKind}

@@ -1,5 +1,5 @@
 -- How operations are named, and which event belongs to which operation.
-use Rattle.std.specs.Prelude.{◌≡◌, ℕ, ◌+◌, ◌-◌, ◌<◌, ◌⊎◌, ◌||◌, cond, Bool, true, suc}
+use Rattle.std.specs.Prelude.{◌≡◌, ℕ, ◌+◌, ◌-◌, ◌<◌, ◌⊎◌, ◌||◌, Bool, true, suc}
 use Rattle.std.specs.Prelude.{List, length, drop, slice_get, Option, Some, None}
 use Rattle.history_model.specs.Lists.{In}
 use Rattle.history_model.specs.History.{History}

@@ -6,7 +6,7 @@ use Rattle.history_text.specs.declared.event.OpKind.TheVariants.{WriteOp}
 use Rattle.history_model.specs.declared.op.Op.{Op}
 use Rattle.history_model.specs.Lists.{In}
 use Rattle.history_model.specs.History.{History}
-use Rattle.history_model.specs.Operations.{IsWrite, IsCompletedRead, IsReadOf, op_kind, value_of}
+use Rattle.history_model.specs.Operations.{IsWrite, IsCompletedRead, IsReadOf, value_of}
 use Rattle.history_model.specs.declared.operation.Operation.{Operation}
 use Rattle.history_model.specs.Operations.{of_register, operations, writes, is_write}
 use Rattle.history_model.specs.declared.ids.Oper.{Oper}

@@ -7,7 +7,7 @@ use Rattle.history_text.specs.declared.event.OpKind.TheVariants.{ReadOp}
 use Rattle.history_model.specs.declared.ids.Oper.{Oper}
 use Rattle.history_model.specs.declared.op.Op.{Op}
 use Rattle.history_model.specs.History.{History}
-use Rattle.history_model.specs.Operations.{IsWrite, writes, of_register, operations, op_kind, value_of}
+use Rattle.history_model.specs.Operations.{IsWrite, writes, of_register, operations, value_of}
 use Rattle.history_model.specs.declared.operation.Operation.{Operation}
 use Rattle.history_model.specs.Naming.{IsNamed, op_shown}
 use Rattle.history_model.specs.OfValue.{IsFirstReply}

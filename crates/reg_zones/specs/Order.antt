@@ -1,7 +1,7 @@
 -- The canonical order of a register without fault, and the point of each of its operations
 -- (this project's profile; points as in Herlihy and Wing, Linearizability: A Correctness
 -- Condition for Concurrent Objects, 1990, section 2).
-use Rattle.std.specs.Prelude.{◌≡◌, ℕ, ◌<◌, ◌≤◌, ◌⊎◌, map, true, false, List}
+use Rattle.std.specs.Prelude.{◌≡◌, ◌<◌, ◌≤◌, ◌⊎◌, map, true, false, List}
 use Rattle.history_model.specs.Lists.{In, Before}
 use Rattle.history_model.specs.Operations.{IsCompletedRead, is_write, value_of}
 use Rattle.history_model.specs.declared.operation.Operation.{Operation}

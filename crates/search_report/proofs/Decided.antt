@@ -5,14 +5,11 @@ use Rattle.std.proofs.lemmas.Bool.{cases_Bool, cases_lt, false≢true, true≢fa
 use Rattle.std.proofs.lemmas.Option.{same_Some, slice_get_within}
 use Rattle.std.specs.List.{list_any}
 use Rattle.history_model.proofs.Lists.{slice_get_inside}
-use Rattle.history_model.specs.Lists.{In}
 use Rattle.history_text.specs.declared.event.AnyEvent.{AnyEvent}
-use Rattle.history_model.specs.declared.operation.Operation.{Operation}
 use Rattle.history_model.specs.Legal.{IsAtomic}
 use Rattle.history_model.specs.Operations.{AreTimed, initial_write, of_register}
 use Rattle.history_model.proofs.Locality.{each_decides}
 use Rattle.cas_history.specs.History.{IsHistoryOf, calls_of, operations, register_names}
-use Rattle.cas_history.specs.Timed.{AreTimedCalls}
 use Rattle.cas_history.specs.declared.history.History.{History}
 use Rattle.cas_history.proofs.Timed.{calls-timed}
 use Rattle.cas_history.proofs.Initials.{named as of-named, none as of-none}

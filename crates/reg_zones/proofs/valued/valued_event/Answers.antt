@@ -2,7 +2,7 @@ use Rattle.std.proofs.Common.{◌≡◌, ◌-◌, Some, inl, inr, sym, ap, subst
 use Rattle.std.proofs.lemmas.Bool.{false≢true}
 use Rattle.history_model.specs.declared.op.Op.{Op}
 use Rattle.history_model.specs.Naming.{op_shown}
-use Rattle.history_model.specs.Operations.{IsCompleted, IsWrite, writes, op_kind}
+use Rattle.history_model.specs.Operations.{IsCompleted, IsWrite, writes}
 use Rattle.history_model.specs.declared.operation.Operation.{Operation}
 use Rattle.history_model.specs.Walking.{by_value, key_at}
 use Rattle.history_model.proofs.Plain.{changes-kind}

@@ -1,7 +1,7 @@
 use Rattle.std.proofs.Common.{◌↔◌, IsTrue, inl, inr, sym, ap, subst, ◌∙◌}
 use Rattle.std.proofs.lemmas.Bool.{false≢true}
 use Rattle.history_model.specs.declared.op.Op.{Op}
-use Rattle.history_model.specs.Operations.{writes, of_register, operations, op_kind, value_of}
+use Rattle.history_model.specs.Operations.{writes, of_register, operations}
 use Rattle.history_model.specs.declared.operation.Operation.{Operation}
 use Rattle.history_model.specs.OfValue.{IsFirstReply}
 use Rattle.history_model.proofs.Plain.{changes-kind}
