@@ -1,0 +1,4 @@
+pub mod Leads
+pub mod Evidence
+pub mod WriteOrders
+pub mod Lasting

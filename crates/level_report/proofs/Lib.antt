@@ -1,0 +1,9 @@
+mod Listing
+mod Ready
+mod Ahead
+mod Deciding
+mod Placing
+mod Strongest
+mod Sharing
+mod ByLowEnds
+mod Telling

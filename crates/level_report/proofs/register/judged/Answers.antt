@@ -1,0 +1,5 @@
+use Rattle.std.proofs.Common.{subst, sym}
+use Rattle.level_report.proofs.register.judged.Goals as goal
+
+pub returns-in-Err : goal.returns-in-Err
+returns-in-Err c = c.unwritten.ensures c.args.asked

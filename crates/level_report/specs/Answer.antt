@@ -1,0 +1,43 @@
+-- The answer to an input.
+use Rattle.std.specs.Prelude.{◌≡◌, ◌⊎◌, ◌↔◌, ℕ, List, length, nat_lt, MatchBool, Result, Ok, Err}
+use Rattle.history_text.specs.declared.limits.TheConstants.{MAX_INPUT}
+use Rattle.history_text.specs.Reading.{history_lines}
+use Rattle.history_model.specs.Refusals.{Line, IsRefusal, IsWellFormed, events_of}
+use Rattle.history_model.specs.History.{history_of}
+use Rattle.reg_intake.specs.declared.refusal.Refusal.{Refusal}
+use Rattle.reg_intake.specs.declared.refusal.Refusal.TheVariants.{At, TooLong, InputFailed}
+use Rattle.reg_intake.specs.declared.refusal.Refusal.TheVariants.{NoRoom, OutputFailed}
+use Rattle.level_text.specs.Text.{report_text}
+use Rattle.level_text.specs.declared.report.LevelName.{LevelName}
+use Rattle.level_text.specs.declared.report.LevelsReport.{LevelsReport}
+use Rattle.level_report.specs.Meaning.{EachHolds, IsReport}
+use Rattle.level_report.specs.declared.outcome.Outcome.{Outcome}
+use Rattle.level_report.specs.declared.outcome.Outcome.TheVariants.{Kept, Broken}
+use Rattle.level_report.specs.declared.settings.Asked.{Asked}
+
+-- of the lines of an input: a report of their history if they are well formed, otherwise the refusal of the
+-- first faulty one
+abbrev pub IsAnswerToLines : Asked → List Line → Result LevelsReport Refusal → Type 0
+IsAnswerToLines asked lines (Ok report) = IsWellFormed lines × IsReport (history_of (events_of lines)) asked
+    report
+IsAnswerToLines asked lines (Err (At r)) = IsRefusal lines r
+IsAnswerToLines asked lines (Err TooLong) = ⊥
+IsAnswerToLines asked lines (Err InputFailed) = ⊥
+IsAnswerToLines asked lines (Err NoRoom) = ⊥
+IsAnswerToLines asked lines (Err OutputFailed) = ⊥
+
+-- of an input: it is too long, or else the answer is that of its lines
+abbrev pub IsAnswer : Asked → List ℕ → Result LevelsReport Refusal → Type 0
+IsAnswer asked input answer =
+    MatchBool (nat_lt MAX_INPUT (length input)) (answer ≡ Err TooLong)
+    (IsAnswerToLines asked (history_lines input) answer)
+
+-- an answer as bytes, those of a report
+abbrev pub IsAnswerText : Asked → List ℕ → List ℕ → Type 0
+IsAnswerText asked input bytes =
+    (report : LevelsReport) × IsAnswer asked input (Ok report) × (bytes ≡ report_text report)
+
+-- the level holds of each register of the history in these bytes, or of some it doesn't
+abbrev pub IsOutcome : LevelName → List ℕ → Outcome → Type 0
+IsOutcome level input Kept = EachHolds level (history_of (events_of (history_lines input)))
+IsOutcome level input Broken = EachHolds level (history_of (events_of (history_lines input))) → ⊥

@@ -1,0 +1,12 @@
+pub mod Shown
+pub mod Called
+pub mod Lines
+pub mod Freshness
+pub mod Guarantees
+pub mod Ordered
+pub mod Judged
+pub mod Totals
+pub mod Meaning
+pub mod Registers
+pub mod Answer
+pub mod Run

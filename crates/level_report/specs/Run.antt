@@ -1,0 +1,40 @@
+-- What a run of the whole does.
+use Rattle.std.specs.Prelude.{ℕ, List, Err, Option}
+use Rattle.std.specs.Io.KnownBytes.{Appends}
+use Rattle.reg_intake.specs.Ends.{IsAll}
+use Rattle.byte_ends.specs.Ends.{AppendsBeginning}
+use Rattle.reg_intake.specs.declared.refusal.Refusal.{Refusal}
+use Rattle.reg_intake.specs.declared.refusal.Refusal.TheVariants.{At, TooLong, InputFailed}
+use Rattle.reg_intake.specs.declared.refusal.Refusal.TheVariants.{NoRoom, OutputFailed}
+use Rattle.level_text.specs.declared.report.LevelName.{LevelName}
+use Rattle.level_report.specs.Answer.{IsAnswer, IsAnswerText, IsOutcome}
+use Rattle.level_report.specs.declared.outcome.Outcome.{Outcome}
+use Rattle.level_report.specs.declared.settings.Asked.{Asked}
+
+-- a refusal of the input itself: no failure, and memory didn't run out
+abbrev pub IsOfInput : Refusal → Type 0
+IsOfInput (At r) = Unit {0}
+IsOfInput TooLong = Unit {0}
+IsOfInput InputFailed = ⊥
+IsOfInput NoRoom = ⊥
+IsOfInput OutputFailed = ⊥
+
+-- the answer to all the bytes that were left is a report, and its bytes were taken
+abbrev pub Reports : Asked → Option (List ℕ) → Option (List ℕ) → Option (List ℕ) → Type 0
+Reports asked left old new =
+    (input : List ℕ) × IsAll left input × (bytes : List ℕ) × IsAnswerText asked input bytes
+    × Appends old new bytes
+
+-- whether the level holds of the history in all the bytes that were left
+abbrev pub Tells : LevelName → Option (List ℕ) → Outcome → Type 0
+Tells level left outcome = (input : List ℕ) × IsAll left input × IsOutcome level input outcome
+
+-- the answer to all the bytes that were left is a report, of which a beginning was taken
+abbrev pub ReportsBeginning : Asked → Option (List ℕ) → Option (List ℕ) → Option (List ℕ) → Type 0
+ReportsBeginning asked left old new =
+    (input : List ℕ) × IsAll left input × (bytes : List ℕ) × IsAnswerText asked input bytes
+    × AppendsBeginning old new bytes
+
+-- the answer to all the bytes that were left is this refusal
+abbrev pub IsRefusedWhole : Asked → Option (List ℕ) → Refusal → Type 0
+IsRefusedWhole asked left refusal = (input : List ℕ) × IsAll left input × IsAnswer asked input (Err refusal)

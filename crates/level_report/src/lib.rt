@@ -1,0 +1,37 @@
+//! From the bytes of a history to the bytes of its report on levels: which guarantees each register kept, and
+//! how old its reads were.
+//!
+//! What the floor above may rely on: [`run`] pulls all the bytes of a source, and the bytes that it pushes
+//! into a sink are the report of their history; or it answers a refusal, and has pushed nothing, or a
+//! beginning if it is the sink that failed. Of each register the report says of each level yes exactly if a
+//! legal order keeps it, and gives the counts and the gap of the definitions. It is never undecided.
+//!
+//! Read it in this order: `settings`; `operations`, the operations of a register of an arena; `called`, how
+//! many there are; `lines`, operations by lines; `freshness`, the age of values, and `guarantees`, the levels
+//! weaker than atomic; `order`; `register`, the line of one register, and `registers`, of all, by workers
+//! that share them; `totals`, the last line; `outcome`; `whole`, from source to sink; `wording`, why there
+//! is no report.
+#![tactic(auto)]
+
+mod called;
+mod freshness;
+mod guarantees;
+mod lines;
+mod operations;
+mod order;
+mod outcome;
+mod register;
+mod registers;
+mod settings;
+mod sooner;
+mod totals;
+mod whole;
+mod wording;
+
+pub use byte_ends::{FromReader, FromWriter, IoFail, MemSink, MemSource, Sink, Source};
+pub use level_text::{LevelName, LevelsReport, RegisterLevels, text};
+pub use outcome::Outcome;
+pub use reg_intake::Refusal;
+pub use settings::{Asked, MAX_WORKERS, Settings};
+pub use whole::run;
+pub use wording::message;

@@ -1,0 +1,64 @@
+//! What a run asks for.
+ghost use Rattle.std.specs.Prelude.{◌≡◌, ◌≤◌, None, Some};
+
+use level_text::LevelName;
+
+/// The most workers that share the registers.
+pub const MAX_WORKERS: u32 = 16;
+
+/// What a report has to say beyond the verdicts, the counts and the gap.
+#[derive(Clone, Copy, Debug, PartialEq, Eq)]
+pub struct Asked {
+    /// Each stale read with the write that it missed.
+    pub stale: bool,
+    /// An order for the strongest level that holds.
+    pub orders: bool,
+}
+
+/// How many workers share the registers, which level has to hold, and what the report has to say. The
+/// number of workers changes no report.
+#[derive(Clone, Copy, Debug)]
+pub struct Settings {
+    workers: u32,
+    required: LevelName,
+    asked: Asked,
+}
+
+impl Settings {
+    /// Settings, if there are 1 to [`MAX_WORKERS`] workers.
+    pub fn new(workers: u32, required: LevelName, asked: Asked) -> Option<Settings>
+        ensures some { (1 ≤ workers) → (workers ≤ MAX_WORKERS)
+            → result ≡ Some (record { workers = workers; required = required; asked = asked }) }
+        ensures none { ((1 ≤ workers) × (workers ≤ MAX_WORKERS) → ⊥) → result ≡ None }
+    {
+        if workers < 1 || workers > MAX_WORKERS {
+            return None;
+        }
+        Some(Settings {
+            workers,
+            required,
+            asked,
+        })
+    }
+
+    /// How many workers share the registers.
+    pub(crate) fn workers(self) -> u32
+        ensures { result ≡ self.workers }
+    {
+        self.workers
+    }
+
+    /// The level that has to hold of each register.
+    pub(crate) fn required(self) -> LevelName
+        ensures { result ≡ self.required }
+    {
+        self.required
+    }
+
+    /// What the report has to say in addition.
+    pub(crate) fn asked(self) -> Asked
+        ensures { result ≡ self.asked }
+    {
+        self.asked
+    }
+}

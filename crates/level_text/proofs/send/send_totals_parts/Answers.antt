@@ -1,0 +1,20 @@
+use Rattle.std.proofs.Common.{refl}
+use Rattle.std.proofs.lemmas.Result.{on_ok_weaker}
+use Rattle.json_fields.proofs.Fields.{sends_parts}
+use Rattle.level_text.specs.Text.{first_totals, last_totals}
+use Rattle.level_text.proofs.send.send_totals_parts.Goals as goal
+
+pub returns : goal.returns
+returns g c =
+    let at = g.S.Serializer.written in
+    let totals = c.args.totals.now in
+    on_ok_weaker c.send_last_totals.result (λ e. (
+      at c.send_first_totals.new.out,
+      sends_parts (first_totals totals) (at c.args.out.now) (at c.send_first_totals.new.out)
+          c.in_ok-send_first_totals.ensures,
+      (
+        at c.send_last_totals.new.out,
+        sends_parts (last_totals totals) (at c.send_first_totals.new.out) (at c.send_last_totals.new.out) e,
+        refl,
+      ),
+    )) c.send_last_totals.ensures

@@ -1,0 +1,21 @@
+//! What the report of a history's levels says of each register, and its bytes.
+//!
+//! What the floor above may rely on: [`text`] gives the bytes of a [`LevelsReport`]: a line of compact JSON
+//! for each register and one for the summary, keys in byte order. What a report has to say of a history is
+//! told by the floor above.
+//!
+//! Read it in this order: `report`, the values; `objects`, the values that are objects themselves, and how
+//! they are sent to a serializer; `send`, the lines, field by field as `json_fields` has it; `written`, the
+//! bytes.
+#![tactic(auto)]
+
+mod objects;
+mod report;
+mod send;
+mod written;
+
+pub use report::{
+    CalledOperations, EarlyRead, FaultLines, Freshness, GapLines, KeptGuarantees, LevelName,
+    LevelsReport, MissedWrite, OrderLines, RegisterLevels, Totals, WentBack,
+};
+pub use written::text;

@@ -1,0 +1,4 @@
+pub mod Graph
+pub mod Incoming
+pub mod GraphWalk
+pub mod Shorter

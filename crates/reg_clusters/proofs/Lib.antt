@@ -1,0 +1,11 @@
+pub mod Places
+pub mod Pushes
+pub mod Written
+pub mod Origins
+pub mod Widening
+pub mod Numbered
+pub mod Tables
+pub mod Spelled
+mod CameBackSpelled
+mod EarlySpelled
+mod UnwrittenSpelled

@@ -1,0 +1,4 @@
+pub mod Places
+pub mod Clean
+pub mod Table
+pub mod Steps

@@ -1,0 +1,4 @@
+pub mod Staleness
+pub mod Listing
+pub mod Marks
+pub mod Measured

@@ -1,0 +1,5 @@
+pub mod Passing
+pub mod Listing
+pub mod Deciding
+pub mod Showing
+pub mod StaleRead

@@ -1,0 +1,13 @@
+pub mod Numbering
+pub mod Asking
+pub mod Joining
+pub mod Chaining
+pub mod Beginning
+pub mod Latest
+pub mod InTime
+pub mod Turned
+pub mod Tracing
+pub mod Whole
+pub mod Ordering
+pub mod Reading
+pub mod Worked

@@ -1,0 +1,4 @@
+pub mod Levels
+pub mod LevelGraph
+pub mod Decisions
+pub mod ReadLists
