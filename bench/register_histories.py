@@ -4,19 +4,21 @@
     bench/register_histories.py                                        10,000 events of 10 processes
     bench/register_histories.py --events 100000 --cas 1/3 --crashed 100 --kind stale --seed 7
     bench/register_histories.py --keys 5 --values 100 --processes 60 --shape bursts --kind split
+    bench/register_histories.py --mix kv --crashed 100
 
 A store is simulated whose clients call at random. A call takes effect at a random moment before its reply.
-The calls are reads and writes, as many of each, or with `--cas 1/3` reads, writes and cas. By default they
-are of one register and write five values.
+The calls are reads and writes, as many of each, or with `--cas 1/3` reads, writes and cas. With
+`--mix create` they are reads, deletes and puts if absent, and with `--mix kv` all that a key-value store does
+to one key. By default they are of one register and write five values.
 
-Crashed calls are writes and cas, spread evenly over the history. Nobody answers them, and their clients go
+Crashed calls are changes, spread evenly over the history. Nobody answers them, and their clients go
 on under new numbers. A third of them takes effect at once, a third some time later, and a third never.
 
 | Kind | What is wrong with it |
 |---|---|
 | `right` | nothing |
 | `stale` | in the second half, one client's reads come from a copy that stays behind |
-| `lost` | in the second half, one cas of four looks at a value of some time ago (only with `--cas 1/3`) |
+| `lost` | in the second half, one cas of four looks at a value of some time ago (only with cas or a mix) |
 | `unwritten` | in the second half, one read gives a value that nobody writes |
 | `early` | in the second half, one read gives a value that is first written at the end |
 | `dropped` | in the second half, one write of fifty is answered and not made |
@@ -39,7 +41,7 @@ import random
 import sys
 from typing import Deque, Dict, Iterator, List, NamedTuple, Optional, Type
 
-Value = Optional[int]
+from mixes import MIXES, NULL_ASKED, OPERATIONS, Value
 
 VALUES = 5
 EVENTS_OF_EARLY = 2  # the write of that value at the end, for the kind early
@@ -67,13 +69,18 @@ class Cell(NamedTuple):
     keys: int = 1
     values: int = VALUES  # those from this one on are nobody's
     shape: str = "even"  # of SHAPES
+    mix: str = ""  # in place of the share of cas, a key of MIXES
 
     def is_plain(self) -> bool:
-        return self[5:] == (1, VALUES, "even")
+        return self[5:] == (1, VALUES, "even", "")
 
     def seeds(self) -> str:
         """What random numbers depend on beside the seed."""
-        return " ".join(map(str, self[:5] if self.is_plain() else self))
+        return " ".join(map(str, self[:5] if self.is_plain() else self if self.mix else self[:-1]))
+
+    def ops(self) -> List[str]:
+        """The operations of the calls, each as often as it is called."""
+        return MIXES[self.mix] if self.mix else CAS_SHARES[self.cas]
 
 
 class Chance:
@@ -92,9 +99,11 @@ class Chance:
 class Call:
     """A call, and what it found when it took effect."""
 
-    def __init__(self, client: int, op: str, expected: int, new: int) -> None:
+    def __init__(self, client: int, op: str, expected: Value, new: Value) -> None:
         self.client, self.op = client, op
-        self.expected, self.new = expected, new  # what a cas compares with; what a write or a cas writes
+        self.operation = OPERATIONS[op]
+        self.expected = expected  # what a cas compares with
+        self.new = None if self.operation.clears else new  # what a change writes
         self.key = 0
         self.crashes = False
         self.until = 0  # a long call isn't answered before so many calls
@@ -103,7 +112,7 @@ class Call:
         self.found: Value = None
 
     def takes_place(self) -> bool:
-        return self.op == "cas" and self.found == self.expected
+        return self.operation.takes_place(self.found, self.expected)
 
 
 class Store:
@@ -118,10 +127,15 @@ class Store:
     def seen_by(self, _call: Call) -> Value:
         return self.value
 
+    def is_rare(self, call: Call) -> bool:
+        """Whether a fault is due in a write, or in a change of a mix that took place."""
+        may_be = call.takes_place() if self.cell.mix else call.op == "write"
+        return may_be and self.chance.one_in(RARE)
+
     def take_effect(self, call: Call) -> None:
         call.is_done = True
         call.found = self.seen_by(call)
-        if call.op == "write" or call.takes_place():
+        if call.takes_place():
             self.value = call.new
 
 
@@ -151,7 +165,7 @@ class LostStore(RememberingStore):
     operations = LOST_BY
 
     def seen_by(self, call: Call) -> Value:
-        is_stale = self.is_second_half and call.op == "cas" and self.chance.one_in(LOST_CAS)
+        is_stale = self.is_second_half and call.operation.word == "cas" and self.chance.one_in(LOST_CAS)
         return self.past[0] if is_stale else self.value
 
 
@@ -173,7 +187,7 @@ class DroppingStore(Store):
     def take_effect(self, call: Call) -> None:
         before = self.value
         super().take_effect(call)
-        if self.is_second_half and call.op == "write" and self.chance.one_in(RARE):
+        if self.is_second_half and self.is_rare(call):
             self.value = before
 
 
@@ -188,7 +202,7 @@ class RepeatingStore(Store):
         if self.again and self.chance.one_in(TURNS_UNTIL_LATE):
             self.value = self.again.pop()
         super().take_effect(call)
-        if self.is_second_half and call.op == "write" and self.chance.one_in(RARE):
+        if self.is_second_half and self.is_rare(call):
             self.again.append(call.new)
 
 
@@ -237,23 +251,15 @@ class Client:
     def called(self, call: Call) -> str:
         self.call = call
         name = f"x{call.key}" if call.key else "x"
-        start = f'{{"process":{self.process},"event":"call","op":"{call.op}","register":"{name}"'
-        if call.op == "read":
-            return start + "}\n"
-        if call.op == "write":
-            return f'{start},"value":{call.new}}}\n'
-        return f'{start},"from":{call.expected},"to":{call.new}}}\n'
+        word, asked = call.operation.word, call.operation.asked(call.expected, call.new)
+        return f'{{"process":{self.process},"event":"call","op":"{word}","register":"{name}"{asked}}}\n'
 
     def answered(self, call: Call) -> str:
         self.call = None
         if call.is_aborted:
             return f'{{"process":{self.process},"event":"fail"}}\n'
-        start = f'{{"process":{self.process},"event":"reply"'
-        if call.op == "read":
-            return f'{start},"value":{"null" if call.found is None else call.found}}}\n'
-        if call.op == "write":
-            return start + "}\n"
-        return f'{start},"ok":{"true" if call.takes_place() else "false"}}}\n'
+        told = call.operation.told(call.found, call.takes_place())
+        return f'{{"process":{self.process},"event":"reply"{told}}}\n'
 
     def left(self, next_process: int) -> None:
         """Goes on under a new number."""
@@ -325,17 +331,21 @@ class Run:
         for store in self.stores:
             store.is_second_half = 2 * self.called > self.calls
             store.is_split = 5 * self.calls < 10 * self.called < 6 * self.calls
-        ops = CAS_SHARES[self.cell.cas]
+        ops = self.cell.ops()
         changes = [op for op in ops if op != "read"]
         offered = changes if crashes else ops
         op = offered[self.chance.below(len(offered))]
-        call = Call(client, op, self.chance.below(values), self.chance.below(values))
+        call = Call(client, op, self.expected(values), self.chance.below(values))
         call.crashes = crashes
         if self.cell.keys > 1:
             call.key = self.chance.below(self.cell.keys)
         if not self.has_long and not crashes and 3 * self.called > self.calls:
             self.has_long, call.until = True, 2 * self.calls // 3
         return call
+
+    def expected(self, values: int) -> Value:
+        """What a cas asks for."""
+        return None if self.cell.mix and self.chance.one_in(NULL_ASKED) else self.chance.below(values)
 
     def crash(self, call: Call) -> None:
         effect = self.chance.below(3)
@@ -359,8 +369,8 @@ class Run:
 def complaint(cell: Cell) -> Optional[str]:
     """Why there is no such history."""
     least = EVENTS_OF_EARLY if cell.kind == "early" else 0
-    if cell.kind == "lost" and cell.cas == "0":
-        return "a history of the kind lost needs --cas 1/3"
+    if cell.kind == "lost" and cell.cas == "0" and not cell.mix:
+        return "a history of the kind lost needs --cas 1/3 or a mix"
     if min(cell.keys, cell.values) < 1:
         return "a history has a key and a value at least"
     if cell.processes < 1 or cell.crashed < 0 or cell.events < least + cell.crashed:
@@ -390,10 +400,11 @@ def main() -> int:
     words.add_argument("--keys", type=int, default=1, help="registers; default 1")
     words.add_argument("--values", type=int, default=VALUES, help=f"that calls write; default {VALUES}")
     words.add_argument("--shape", choices=SHAPES, default="even", help="see above; default even")
+    words.add_argument("--mix", choices=list(MIXES), default="", help="see above; default reads and writes")
     words.add_argument("--seed", type=int, default=1, help="default 1")
     asked = words.parse_args()
     cell = Cell(asked.events, asked.processes, asked.cas, asked.crashed, asked.kind,
-                asked.keys, asked.values, asked.shape)
+                asked.keys, asked.values, asked.shape, asked.mix)
     try:
         sys.stdout.writelines(history(cell, asked.seed))
     except ValueError as error:

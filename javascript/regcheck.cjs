@@ -74,11 +74,13 @@ function written(value) {
     + "give one above 9007199254740991 as a BigInt");
 }
 
-/** Whether a cas took place, as the history has it. Throws Mistake if the store didn't say. */
-function outcomeOf(value) {
+/** What a change did, as the history has it. Throws Mistake if the store didn't say. */
+function outcomeOf(value, words = "a cas took place, true, or missed, false") {
   if (typeof value === "boolean") return String(value);
-  throw new Mistake(`the store gave ${shown(value)}, but a cas took place, true, or missed, false`);
+  throw new Mistake(`the store gave ${shown(value)}, but ${words}`);
 }
+
+const TOLD = "a delete found a value, true, or none, false";
 
 /** Makes one call after another. */
 class Client {
@@ -126,8 +128,70 @@ class Client {
    */
   async cas(register, from, to, swap) {
     const asked = () => (from === null ? "null" : written(from));
-    this.#begin("cas", register, () => `,"from":${asked()},"to":${written(to)}`);
+    return this.#change(register, () => `,"from":${asked()},"to":${written(to)}`, swap);
+  }
+
+  /** Records a cas by whatever name. */
+  async #change(register, said, swap) {
+    this.#begin("cas", register, said);
     return this.#end(register, swap, (tookPlace) => `,"ok":${outcomeOf(tookPlace)}`);
+  }
+
+  /**
+   * Records a put-if-absent, in which `put` asks the store to write the value if there is none, and tells
+   * whether that took place: true or false. It gives what `put` gives.
+   */
+  async create(register, value, put) {
+    return this.#change(register, () => `,"from":null,"to":${written(value)}`, put);
+  }
+
+  /** Records a put that takes place only where there is a value; `put` tells whether it did. */
+  async replace(register, value, put) {
+    return this.#change(register, () => `,"unless":null,"to":${written(value)}`, put);
+  }
+
+  /** Records a lock or a try-lock; `take` tells whether the owner got it: false if anybody had it. */
+  async lock(register, owner, take) {
+    return this.#change(register, () => `,"from":null,"to":${written(owner)}`, take);
+  }
+
+  /**
+   * Records that an owner gives a lock back, or a delete of one value alone; `free` tells whether the owner
+   * had it.
+   */
+  async unlock(register, owner, free) {
+    return this.#change(register, () => `,"from":${written(owner)},"to":null`, free);
+  }
+
+  /** Records a delete. If the store tells whether there was a value, deleteFound finds more faults. */
+  async delete(register, remove) {
+    this.#begin("delete", register, () => "");
+    return this.#end(register, remove, () => "");
+  }
+
+  /** Records a delete, in which `remove` tells whether there was a value: true or false. */
+  async deleteFound(register, remove) {
+    this.#begin("delete", register, () => "");
+    return this.#end(register, remove, (found) => `,"found":${outcomeOf(found, TOLD)}`);
+  }
+
+  /**
+   * Records a swap, also called get-and-set: `exchange` gives the store the value, and gives the one that was
+   * there, as that of a read does.
+   */
+  async swap(register, value, exchange) {
+    this.#begin("swap", register, () => `,"value":${written(value)}`);
+    return this.#end(register, exchange, (old) => `,"old":${numberOf(old)}`);
+  }
+
+  /**
+   * Says that a value may expire from now on, if it is still there. Call it at the earliest moment: when its
+   * time is over, less the error of the clocks; for a cache that evicts, before the store is given the value.
+   */
+  expires(register, value) {
+    const recorder = this.#recorder;
+    const said = recorder.noting(() => `${quoted(register, "register")},"from":${written(value)},"to":null`);
+    this.#append(`"event":"call","op":"cas","register":${said}`, recorder.nextProcess());
   }
 
   #begin(op, register, values) {
@@ -163,8 +227,8 @@ class Client {
     }
   }
 
-  #append(members) {
-    this.#recorder.append(`{"process":${this.#process},${members}${this.#who}`);
+  #append(members, process = this.#process) {
+    this.#recorder.append(`{"process":${process},${members}${this.#who}`);
   }
 }
 
@@ -187,7 +251,7 @@ class Recorder {
   #valuesAfter;
   #clock;
   #output;
-  reads = 0; // completed ones, and cas that were answered
+  reads = 0; // completed ones, and changes whose answers told what was there
   mistakes = [];
 
   constructor({ output = null, clock = process.hrtime.bigint, valuesAfter = 0, folder = "regcheck-failures",

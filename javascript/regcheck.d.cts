@@ -1,6 +1,9 @@
 /** What a store gives: a whole number of 64 bits, its text or the bytes of it, or nothing. */
 export type Given = number | bigint | string | Uint8Array | null | undefined;
 
+/** Asks the store for a change, and tells whether it took place. */
+export type Told = () => boolean | Promise<boolean>;
+
 /** The recorder was used in a way that would make the history wrong. */
 export class Mistake extends Error {}
 
@@ -30,7 +33,15 @@ export class Client {
   writeValue<V extends number | bigint>(register: string, value: V, set: (value: V) => unknown): Promise<unknown>;
   read<V extends Given>(register: string, get: () => V | Promise<V>): Promise<V>;
   cas(register: string, from: number | bigint | null, to: number | bigint,
-    swap: () => boolean | Promise<boolean>): Promise<boolean>;
+    swap: Told): Promise<boolean>;
+  create(register: string, value: number | bigint, put: Told): Promise<boolean>;
+  replace(register: string, value: number | bigint, put: Told): Promise<boolean>;
+  lock(register: string, owner: number | bigint, take: Told): Promise<boolean>;
+  unlock(register: string, owner: number | bigint, free: Told): Promise<boolean>;
+  delete(register: string, remove: () => unknown): Promise<unknown>;
+  deleteFound(register: string, remove: Told): Promise<boolean>;
+  swap<V extends Given>(register: string, value: number | bigint, exchange: () => V | Promise<V>): Promise<V>;
+  expires(register: string, value: number | bigint): void;
 }
 
 export interface Options {

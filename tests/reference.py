@@ -41,11 +41,12 @@ TEXTS = {
     14: "more than 1048576 events",
     15: "input is longer than 67108864 bytes",
     19: "the process crashed at line {}",
-    20: "from or to does not fit the event",
+    20: "from, unless or to does not fit the event",
     21: "a cas's reply has no ok, true or false",
+    22: "old or found does not fit the event",
 }
 WITHOUT_FAIL = "event is neither call nor reply"  # text 5 of a checker that knows neither fail nor crash
-WITH_CAS = "op is neither read, write nor cas"  # text 6 of a checker that knows cas
+WITH_CAS = "op is neither read, write, delete, swap nor cas"  # text 6 of a checker that knows cas
 
 
 class Options(NamedTuple):
@@ -54,10 +55,10 @@ class Options(NamedTuple):
     first: bool = False  # the early answer
     inversion: bool = True  # whether it names inversions
     fail: bool = True  # whether it knows the events fail and crash
-    cas: bool = False  # whether it knows cas, and values written twice: regsearch
+    cas: bool = False  # whether it knows cas, deletes, swaps, and values written twice: regsearch
 
     def ops(self) -> Tuple[str, ...]:
-        return ("read", "write", "cas") if self.cas else ("read", "write")
+        return ("read", "write", "cas", "delete", "swap") if self.cas else ("read", "write")
 
     def events(self) -> Tuple[str, ...]:
         return ("call", "reply", "fail", "crash") if self.fail else ("call", "reply")
@@ -144,9 +145,12 @@ class Event(NamedTuple):
     op: Any = ABSENT
     register: Any = ABSENT
     value: Any = ABSENT
-    from_value: Any = ABSENT  # of a cas, as are the next two
+    from_value: Any = ABSENT  # of a cas, as are the next three
+    unless: Any = ABSENT
     to_value: Any = ABSENT
     ok: Any = ABSENT
+    found: Any = ABSENT
+    old: Any = ABSENT
 
 
 def is_whole(value: Any, least: int, greatest: int) -> bool:
@@ -155,6 +159,10 @@ def is_whole(value: Any, least: int, greatest: int) -> bool:
 
 def is_value(value: Any) -> bool:
     return is_whole(value, -(2**63), 2**63 - 1)
+
+
+def is_null_or_value(value: Any) -> bool:
+    return value is None or is_value(value)
 
 
 def is_name(value: Any) -> bool:
@@ -179,7 +187,7 @@ def event_of(number: int, line: bytes, options: Options) -> Event:
         raise Refused(5, number)
     if what == "crash":
         return Event(number, process, what)
-    names = ("op", "register", "value", "from", "to", "ok")
+    names = ("op", "register", "value", "from", "unless", "to", "ok", "found", "old")
     event = Event(number, process, what, *(members.get(name, ABSENT) for name in names))
     fault = (call_fault if what == "call" else reply_fault)(event, options)
     if fault:
@@ -192,12 +200,16 @@ def call_fault(event: Event, options: Options) -> int:
         return 6
     if not is_name(event.register):
         return 7
-    fits = is_value(event.value) if event.op == "write" else event.value in (ABSENT, None)
+    fits = is_value(event.value) if event.op in ("write", "swap") else event.value in (ABSENT, None)
     if not fits:
         return 8
-    fits = event.op != "cas" or ((event.from_value is None or is_value(event.from_value))
-                                 and is_value(event.to_value))
-    return 0 if fits else 20
+    return 20 if event.op == "cas" and not compares_and_writes(event) else 0
+
+
+def compares_and_writes(event: Event) -> bool:
+    """Whether the call of a cas has one of `from` and `unless`, and `to`, each of its form."""
+    compared = [value for value in (event.from_value, event.unless) if value is not ABSENT]
+    return len(compared) == 1 and is_null_or_value(compared[0]) and is_null_or_value(event.to_value)
 
 
 def reply_fault(event: Event, options: Options) -> int:
@@ -209,7 +221,7 @@ def reply_fault(event: Event, options: Options) -> int:
     return 0 if event.value in (ABSENT, None) or is_value(event.value) else 8
 
 
-# ---- which histories are accepted: 9 to 14, 19 and 21, of an event after the events before it
+# ---- which histories are accepted: 9 to 14, 19, 21 and 22, of an event after the events before it
 
 
 def last_of_process(before: Sequence[Event], process: int) -> Optional[Event]:
@@ -220,13 +232,32 @@ def agrees(event: Event, call: Event) -> bool:
     """Whether each thing that a reply or a fail says is as in its call."""
     if event.op not in (ABSENT, call.op) or event.register not in (ABSENT, call.register):
         return False
-    if call.op == "write":
+    if call.op in ("write", "swap"):
         return event.value in (ABSENT, None, call.value)
     return (call.op == "read" and event.what == "reply") or event.value in (ABSENT, None)
 
 
+def says_what_it_met(reply: Event, call: Event) -> bool:
+    """Whether `old` and `found` of a reply fit its call, as far as they count."""
+    if call.op == "cas":
+        if call.old is not True or reply.old is ABSENT:
+            return True
+        met = reply.old == call.from_value if call.unless is ABSENT else reply.old != call.unless
+        return is_null_or_value(reply.old) and reply.ok is met
+    if call.op == "read":
+        return reply.value is not ABSENT or isinstance(reply.found, bool)
+    if call.op == "write":
+        return True
+    told = [reply.old is not None] if reply.old is not ABSENT else []
+    told += [reply.found] if reply.found is not ABSENT else []
+    formed = all(type(there) is bool for there in told)
+    if not formed or not (reply.old is ABSENT or is_null_or_value(reply.old)):
+        return False
+    return len(set(told)) <= 1 and (call.op == "delete" or bool(told))
+
+
 def refusal_of(event: Event, before: Sequence[Event], options: Options) -> Optional[Refused]:
-    """The lowest-numbered reason of 9 to 14, 19 and 21 that applies."""
+    """The lowest-numbered reason of 9 to 14, 19, 21 and 22 that applies."""
     last = last_of_process(before, event.process)
     open_call = last if last is not None and last.what == "call" else None
     if event.what == "call":
@@ -241,7 +272,8 @@ def refusal_of(event: Event, before: Sequence[Event], options: Options) -> Optio
         if open_call is not None and not agrees(event, open_call):
             return Refused(11, event.line)
         is_read = open_call is not None and open_call.op == "read"
-        if is_read and event.what == "reply" and event.value is ABSENT:
+        says_nothing = event.value is ABSENT and (event.found is ABSENT or not options.cas)
+        if is_read and event.what == "reply" and says_nothing:
             return Refused(12, event.line)
     if len(before) >= MAX_EVENTS:
         return Refused(14, event.line)
@@ -250,6 +282,8 @@ def refusal_of(event: Event, before: Sequence[Event], options: Options) -> Optio
     is_cas = open_call is not None and open_call.op == "cas"
     if is_cas and event.what == "reply" and not isinstance(event.ok, bool):
         return Refused(21, event.line)
+    if options.cas and open_call is not None and event.what == "reply":
+        return None if says_what_it_met(event, open_call) else Refused(22, event.line)
     return None
 
 

@@ -1,9 +1,11 @@
 """Small histories that several test scripts use, and what the program has to answer to each: regcheck by
 tests/reference.py, and regsearch anything that tests/search_judge.py finds right.
 
-They are written in a short form: `p1 W x 5` calls a write, `p2 R x` a read, `p1 C x 1 2` a cas from 1 to 2;
-`p1 ok`, `p2 = 5` and, for a cas, `p1 true` and `p1 false` are replies; `p1 fail` and `p1 crash` are events of
-these names."""
+They are written in a short form: `p1 W x 5` calls a write, `p2 R x` a read, `p1 C x 1 2` a cas from 1 to 2,
+`p1 U x 1 2` a cas unless 1 to 2, `p1 D x` a delete, `p1 S x 5` a swap; a cas that ends in `old` asks for the
+old value. `p1 ok`, `p2 = 5` and, for a cas, `p1 true` and `p1 false` are replies, the last two with the old
+value behind them if it is told; `p1 found`, `p1 missing` and `p1 old 5` tell what a delete, a swap or a read
+met; `p1 fail` and `p1 crash` are events of these names."""
 import json
 import os
 import subprocess
@@ -27,24 +29,32 @@ For more information, try '--help'.
 """
 
 
+OPS = {"W": "write", "R": "read", "C": "cas", "U": "cas", "D": "delete", "S": "swap"}
+NAMES = {"W": ("value",), "S": ("value",), "C": ("from", "to"), "U": ("unless", "to")}
+
+
+def call(what: str, rest: List[str]) -> Dict[str, Any]:
+    values = [json.loads(word) for word in rest[1:] if word != "old"]
+    asks: Dict[str, Any] = {"old": True} if "old" in rest[1:] else {}
+    named = dict(zip(NAMES.get(what, ()), values))
+    return {"event": "call", "op": OPS[what], "register": rest[0], **named, **asks}
+
+
+def end(what: str, rest: List[str]) -> Dict[str, Any]:
+    if what in ("true", "false"):
+        return {"event": "reply", "ok": what == "true", **({"old": json.loads(rest[0])} if rest else {})}
+    if what in ("found", "missing"):
+        return {"event": "reply", "found": what == "found"}
+    if what in ("=", "old"):
+        return {"event": "reply", {"=": "value"}.get(what, what): json.loads(rest[0])}
+    return {"event": {"ok": "reply"}.get(what, what)}
+
+
 def event(words: str) -> str:
     """The line of one event in short form."""
     process, what, *rest = words.split()
-    members: Dict[str, Any] = {"process": int(process[1:])}
-    if what == "W":
-        members.update(event="call", op="write", register=rest[0], value=int(rest[1]))
-    elif what == "R":
-        members.update(event="call", op="read", register=rest[0])
-    elif what == "C":
-        members.update(event="call", op="cas", register=rest[0],
-                       **dict(zip(("from", "to"), map(json.loads, rest[1:]))))
-    elif what in ("true", "false"):
-        members.update(event="reply", ok=what == "true")
-    elif what == "=":
-        members.update(event="reply", value=json.loads(rest[0]))
-    else:
-        members.update(event={"ok": "reply"}.get(what, what))
-    return json.dumps(members, separators=(",", ":")) + "\n"
+    members = (call if what in OPS else end)(what, rest)
+    return json.dumps({"process": int(process[1:]), **members}, separators=(",", ":")) + "\n"
 
 
 def history(text: str) -> bytes:

@@ -41,10 +41,11 @@ class Ended(NamedTuple):
 class Operation(NamedTuple):
     line: int  # of its call
     reply: int  # the line of its reply; END if it is pending
-    op: str  # read, write or cas
+    op: str  # read, write or cas: what it counts as
     asks: str  # that the value it meets is "any", "this" one or an "other" one
     asked: Value  # the value that it asks about
-    given: Value  # the number that it leaves; None if it changes nothing
+    changes: bool
+    given: Value  # the value that it leaves, if it changes anything
 
     def pending(self) -> bool:
         return self.reply == END
@@ -53,19 +54,51 @@ class Operation(NamedTuple):
         return self.asks == "any" or (value == self.asked) == (self.asks == "this")
 
     def left(self, value: Value) -> Value:
-        return value if self.given is None else self.given
+        return self.given if self.changes else value
+
+
+ANY: Tuple[str, Value] = ("any", None)
+THERE: Tuple[str, Value] = ("other", None)  # any value but null
+GONE: Tuple[str, Value] = ("this", None)
+
+
+def found_by(reply: reference.Event) -> Tuple[str, Value]:
+    """What `found` says of the value that was met. In the reply to a read, `old` says nothing."""
+    if reply.found is reference.ABSENT:
+        return ANY
+    return THERE if reply.found else GONE
+
+
+def what_was_met(reply: reference.Event) -> Tuple[str, Value]:
+    """What the reply to a delete or a swap says of the value that it met."""
+    return ("this", reply.old) if reply.old is not reference.ABSENT else found_by(reply)
+
+
+def cas_of(line: int, call: reference.Event, end: Optional[reference.Event]) -> Operation:
+    from_is_there = call.unless is reference.ABSENT
+    compared = call.from_value if from_is_there else call.unless
+    took_place = end is None or end.ok
+    asks = "this" if from_is_there == took_place else "other"
+    if end and call.old is True and end.old is not reference.ABSENT:
+        asks, compared = "this", end.old
+    return Operation(line, end.line if end else END, "cas", asks, compared, took_place, call.to_value)
 
 
 def operation_of(call: reference.Event, end: Optional[reference.Event]) -> Operation:
     """The operation of a call and its reply, if it has one."""
     line, reply = call.line, end.line if end else END
+    if call.op == "cas":
+        return cas_of(line, call, end)
     if call.op == "write":
-        return Operation(line, reply, "write", "any", None, call.value)
+        return Operation(line, reply, "write", *ANY, True, call.value)
+    if call.op == "read" and end and end.value is not reference.ABSENT:
+        return Operation(line, reply, "read", "this", end.value, False, None)
     if call.op == "read":
-        return Operation(line, reply, "read", "this" if end else "any", end.value if end else None, None)
-    if end and end.ok is False:
-        return Operation(line, reply, "cas", "other", call.from_value, None)
-    return Operation(line, reply, "cas", "this", call.from_value, call.to_value)
+        return Operation(line, reply, "read", *(found_by(end) if end else ANY), False, None)
+    asks, asked = what_was_met(end) if end else ANY
+    if call.op == "swap":
+        return Operation(line, reply, "write", asks, asked, True, call.value)
+    return Operation(line, reply, "write", asks, asked, (asks, asked) != GONE, None)
 
 
 def registers_of(events: Sequence[reference.Event]) -> Dict[str, List[Operation]]:
@@ -145,7 +178,7 @@ def first_hopeless_reply(operations: Sequence[Operation]) -> Optional[int]:
 
 
 def first_unwritten(operations: Sequence[Operation]) -> Optional[int]:
-    written = {None, *(a.given for a in operations)}
+    written = {None, *(a.given for a in operations if a.changes)}
     return next((a.line for a in operations
                  if not a.pending() and a.asks == "this" and a.asked not in written), None)
 
@@ -280,9 +313,11 @@ def judge_fault(fault: Any, operations: Sequence[Operation], decided: bool) -> N
 
 
 def is_distinct(operations: Sequence[Operation]) -> bool:
-    """Whether there is no cas among them, and no value is written twice."""
-    written = [a.given for a in operations if a.op == "write"]
-    return all(a.op != "cas" for a in operations) and len(set(written)) == len(written)
+    """Whether they are reads with their values, and writes that need none, and no value is written twice, nor
+    null."""
+    written = [a.given for a in operations if a.changes]
+    plain = all(a.asks == "any" if a.changes else a.asks != "other" for a in operations)
+    return plain and None not in written and len(set(written)) == len(written)
 
 
 def judge_row(row: Row, name: str, operations: Sequence[Operation], decided: bool) -> None:

@@ -85,11 +85,19 @@ type line struct {
 	Register string  `json:"register,omitempty"`
 	Value    **int64 `json:"value,omitempty"` // nil for no value, a pointer to nil for null
 	From     **int64 `json:"from,omitempty"`
-	To       *int64  `json:"to,omitempty"`
+	Unless   **int64 `json:"unless,omitempty"`
+	To       **int64 `json:"to,omitempty"`
 	Ok       *bool   `json:"ok,omitempty"`
+	Found    *bool   `json:"found,omitempty"`
+	Old      **int64 `json:"old,omitempty"`
 	Client   string  `json:"client,omitempty"`
 	Node     string  `json:"node,omitempty"`
 	Time     *int64  `json:"time,omitempty"`
+}
+
+// tells says whether a reply tells something of the value that was there.
+func (line line) tells() bool {
+	return line.Value != nil || line.Ok != nil || line.Found != nil || line.Old != nil
 }
 
 func (step step) line(operations []Operation, processes *processes) line {
@@ -109,7 +117,8 @@ func (step step) line(operations []Operation, processes *processes) line {
 func (operation *Operation) call() line {
 	switch {
 	case operation.Cas != nil:
-		return line{Op: "cas", From: &operation.Cas.From, To: &operation.Cas.To}
+		to := &operation.Cas.To
+		return line{Op: "cas", From: &operation.Cas.From, To: &to}
 	case operation.Write:
 		return line{Op: "write", Value: &operation.Value}
 	}

@@ -27,7 +27,7 @@ type Recorder struct {
 	history   bytes.Buffer
 	processes int
 	values    map[string]int64 // how many writes each register has
-	reads     int              // completed ones, and cas that were answered
+	reads     int              // completed ones, and changes whose answers told what was there
 	mistakes  []*Mistake
 }
 
@@ -109,13 +109,7 @@ func (client *Client) Read(register string, get func() (*int64, error)) (*int64,
 // Let swap return false only if the store compared, and said that it found another value. If the store
 // refused without comparing, the call had NoEffect.
 func (client *Client) Cas(register string, from *int64, to int64, swap func() (bool, error)) (bool, error) {
-	if err := client.begin(line{Op: "cas", Register: register, From: &from, To: &to}); err != nil {
-		return false, err
-	}
-	defer client.leave()
-	tookPlace, err := swap()
-	client.end(line{Register: register, Ok: &tookPlace}, err)
-	return tookPlace, err
+	return client.change(register, from, &to, false, swap)
 }
 
 // History gives the lines so far, which are a history at any moment: what is open is pending.
@@ -148,7 +142,7 @@ func (client *Client) begin(call line) error {
 		*call.Value = &value
 	}
 	call.Event = "call"
-	client.append(call)
+	client.append(client.process, call)
 	return nil
 }
 
@@ -162,18 +156,18 @@ func (client *Client) end(reply line, err error) {
 	switch {
 	case err == nil:
 		reply.Event = "reply"
-		if reply.Value != nil || reply.Ok != nil {
+		if reply.tells() {
 			recorder.reads++
 		}
 	case errors.As(err, &failed):
-		reply.Event, reply.Value, reply.Ok = "fail", nil, nil
+		reply = line{Event: "fail", Register: reply.Register}
 	case errors.As(err, &mistake):
 		recorder.note(mistake)
 		return
 	default:
 		return
 	}
-	client.append(reply)
+	client.append(client.process, reply)
 	client.spent = false
 }
 
@@ -193,15 +187,15 @@ func (recorder *Recorder) next(register string) int64 {
 	return recorder.ValuesAfter + recorder.values[register]
 }
 
-// append adds a line with who and when. The caller holds the lock, so that the times ascend.
-func (client *Client) append(event line) {
+// append adds a line of a process with who and when. The caller holds the lock, so that the times ascend.
+func (client *Client) append(process int, event line) {
 	recorder := client.recorder
 	clock := recorder.Clock
 	if clock == nil {
 		clock = now
 	}
 	time := clock()
-	event.Process, event.Client, event.Node, event.Time = client.process, client.name, client.node, &time
+	event.Process, event.Client, event.Node, event.Time = process, client.name, client.node, &time
 	begin := recorder.history.Len()
 	lines := json.NewEncoder(&recorder.history)
 	lines.SetEscapeHTML(false)

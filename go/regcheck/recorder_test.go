@@ -89,6 +89,57 @@ func TestRecorder(t *testing.T) {
 	}
 }
 
+func TestChanges(t *testing.T) {
+	recorder := &regcheck.Recorder{Clock: ticking()}
+	client := recorder.Client("")
+	put := func(value int64) (bool, error) { return value == 5, nil }
+	for place, have := range []func() (bool, error){
+		func() (bool, error) { return client.Create("x", 5, put) },
+		func() (bool, error) { return client.Replace("x", 6, put) },
+		func() (bool, error) { return client.Lock("x", 1, func() (bool, error) { return false, nil }) },
+		func() (bool, error) { return client.Unlock("x", 1, func() (bool, error) { return false, nil }) },
+		func() (bool, error) { return client.DeleteFound("x", func() (bool, error) { return true, nil }) },
+	} {
+		if said, err := have(); said != []bool{true, false, false, false, true}[place] || err != nil {
+			t.Errorf("the change at index %d gave %v, %v", place, said, err)
+		}
+	}
+	if err := client.Delete("x", func() error { return errTime }); err != errTime {
+		t.Errorf("the delete gave %v", err)
+	}
+	if err := client.Expires("x", -3); err != nil {
+		t.Errorf("the expiry gave %v", err)
+	}
+	old, err := client.Swap("x", -3, func(value int64) (*int64, error) { return regcheck.Value(value + 1), nil })
+	if err != nil || *old != -2 {
+		t.Errorf("the swap gave %v, %v", old, err)
+	}
+	_, _ = client.Swap("x", 7, func(int64) (*int64, error) { return nil, regcheck.NoEffect(errRefused) })
+	want := `{"process":1,"event":"call","op":"cas","register":"x","from":null,"to":5,"time":1000000}
+{"process":1,"event":"reply","register":"x","ok":true,"time":2000000}
+{"process":1,"event":"call","op":"cas","register":"x","unless":null,"to":6,"time":3000000}
+{"process":1,"event":"reply","register":"x","ok":false,"time":4000000}
+{"process":1,"event":"call","op":"cas","register":"x","from":null,"to":1,"time":5000000}
+{"process":1,"event":"reply","register":"x","ok":false,"time":6000000}
+{"process":1,"event":"call","op":"cas","register":"x","from":1,"to":null,"time":7000000}
+{"process":1,"event":"reply","register":"x","ok":false,"time":8000000}
+{"process":1,"event":"call","op":"delete","register":"x","time":9000000}
+{"process":1,"event":"reply","register":"x","found":true,"time":10000000}
+{"process":1,"event":"call","op":"delete","register":"x","time":11000000}
+{"process":2,"event":"call","op":"cas","register":"x","from":-3,"to":null,"time":12000000}
+{"process":3,"event":"call","op":"swap","register":"x","value":-3,"time":13000000}
+{"process":3,"event":"reply","register":"x","old":-2,"time":14000000}
+{"process":3,"event":"call","op":"swap","register":"x","value":7,"time":15000000}
+{"process":3,"event":"fail","register":"x","time":16000000}
+`
+	if have := string(recorder.History()); have != want || recorder.Err() != nil {
+		t.Errorf("%v\n%s", recorder.Err(), have)
+	}
+	if err := client.Expires("", 1); err == nil {
+		t.Error("a register without a name expired")
+	}
+}
+
 func TestMistakes(t *testing.T) {
 	for name, test := range map[string]struct {
 		use  func(client *regcheck.Client) error

@@ -50,7 +50,7 @@ public final class Recorder {
     private Path folder = Path.of("regcheck-failures");
     private long processes;
     private Bounds bounds = Bounds.DEFAULT;
-    private long reads; // completed ones, and cas that were answered
+    private long reads; // completed ones, and changes whose answers told what was there
 
     /** Keeps the history in memory, with the times of the machine's monotonic clock. */
     public Recorder() {
@@ -281,9 +281,14 @@ public final class Recorder {
         void set(long value) throws E;
     }
 
-    /** Asks the store to compare and swap, and tells whether that took place. */
+    /** Asks the store for a change, and tells whether it took place. */
     public interface Swapper<E extends Exception> {
         boolean swap() throws E;
+    }
+
+    /** Asks the store to do something, of which it tells nothing. */
+    public interface Action<E extends Exception> {
+        void run() throws E;
     }
 
     /** Asks the store: for a whole number, its text, or null if the store has no value. */
@@ -337,8 +342,81 @@ public final class Recorder {
          */
         public <E extends Exception> boolean cas(String register, Long from, long to, Swapper<E> swapper)
                 throws E {
-            String said = ",\"from\":" + from + ",\"to\":" + to;
+            return change("from", from, to, register, swapper);
+        }
+
+        /** Records a cas by whatever name; {@code asks} is the member that has the value asked for. */
+        private <E extends Exception> boolean change(String asks, Long asked, Long to, String register,
+                Swapper<E> swapper) throws E {
+            String said = ",\"" + asks + "\":" + asked + ",\"to\":" + to;
             return during("cas", register, said, swapper::swap, ok -> ",\"ok\":" + ok);
+        }
+
+        /**
+         * Records a put-if-absent: the swapper asks the store to write the value if there is none, and tells
+         * whether that took place. It gives what the swapper gives.
+         */
+        public <E extends Exception> boolean create(String register, long value, Swapper<E> swapper)
+                throws E {
+            return change("from", null, value, register, swapper);
+        }
+
+        /** Records a put that takes place only where there is a value. The swapper tells whether it did. */
+        public <E extends Exception> boolean replace(String register, long value, Swapper<E> swapper)
+                throws E {
+            return change("unless", null, value, register, swapper);
+        }
+
+        /** Records a lock or a try-lock. The swapper tells whether the owner got it: no if anybody had it. */
+        public <E extends Exception> boolean lock(String register, long owner, Swapper<E> swapper) throws E {
+            return change("from", null, owner, register, swapper);
+        }
+
+        /**
+         * Records that an owner gives a lock back, or a delete of one value alone. The swapper tells whether
+         * the owner had it.
+         */
+        public <E extends Exception> boolean unlock(String register, long owner, Swapper<E> swapper)
+                throws E {
+            return change("from", owner, null, register, swapper);
+        }
+
+        /**
+         * Records a delete. If the store tells whether there was a value, {@code deleteFound} finds more
+         * faults.
+         */
+        public <E extends Exception> void delete(String register, Action<E> action) throws E {
+            during("delete", register, "", () -> {
+                action.run();
+                return null;
+            }, nothing -> "");
+        }
+
+        /** Records a delete, and gives what the store tells: whether there was a value. */
+        public <E extends Exception> boolean deleteFound(String register, Swapper<E> swapper) throws E {
+            return during("delete", register, "", swapper::swap, found -> ",\"found\":" + found);
+        }
+
+        /**
+         * Records a swap, also called get-and-set: the getter gives the store the value, and gives the one
+         * that was there, as a read's does.
+         */
+        public <T, E extends Exception> T swap(String register, long value, Getter<T, E> getter) throws E {
+            return during("swap", register, ",\"value\":" + value, getter,
+                    old -> ",\"old\":" + recorder.numberOf(old));
+        }
+
+        /**
+         * Says that a value may expire from now on, if it is still there. Call it at the earliest moment:
+         * when its time is over, less the error of the clocks; for a cache that evicts, before the store is
+         * given the value.
+         */
+        public void expires(String register, long value) {
+            synchronized (recorder) {
+                String name = recorder.quoted(register, "register");
+                append(++recorder.processes, "\"event\":\"call\",\"op\":\"cas\",\"register\":" + name
+                        + ",\"from\":" + value + ",\"to\":null");
+            }
         }
 
         /** Records a call, from what its line says to what its answer says. */
@@ -369,14 +447,14 @@ public final class Recorder {
                     process = ++recorder.processes;
                 }
                 open = spent = true;
-                append("\"event\":\"call\",\"op\":\"" + op + "\",\"register\":" + name + said);
+                append(process, "\"event\":\"call\",\"op\":\"" + op + "\",\"register\":" + name + said);
             }
         }
 
         private void end(String event, String register, String answer) {
             synchronized (recorder) {
                 String name = recorder.quoted(register, "register");
-                append("\"event\":\"" + event + "\",\"register\":" + name + answer);
+                append(process, "\"event\":\"" + event + "\",\"register\":" + name + answer);
                 recorder.reads += answer.isEmpty() ? 0 : 1;
                 spent = false;
             }
@@ -388,8 +466,8 @@ public final class Recorder {
             }
         }
 
-        private void append(String members) {
-            recorder.append("{\"process\":" + process + "," + members + who);
+        private void append(long number, String members) {
+            recorder.append("{\"process\":" + number + "," + members + who);
         }
     }
 

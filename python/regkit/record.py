@@ -28,6 +28,14 @@ such a history, and `assert_atomic` chooses it:
     with client.cas("lock", 0, 1) as cas:
         cas.ok = store.compare_and_set("lock", 0, 1)  # False only if the store found another value
 
+A client has the other changes of a key-value store as well: `delete`, `swap`, `create` (put if absent),
+`replace`, `lock` and `unlock`; and `expires` says that a value may be gone from then on:
+
+    with client.create("lock", 7) as create:
+        create.ok = store.set("lock", 7, nx=True)
+    with client.delete("lock") as delete:
+        delete.found = store.delete("lock") == 1
+
 Threads and asyncio tasks share one recorder, and each takes a client of its own. No lock is held inside a
 block, so a block may await; `async with` does the same as `with`.
 
@@ -52,11 +60,12 @@ A store that isn't empty gives values that this run never wrote. Empty it, or le
 A client's name and its node stand on its lines, so that `regkit explain` and `regkit draw` can show them.
 """
 from regkit.recording.calls import Call, Cas, Read, Write
+from regkit.recording.changes import Create, Delete, Lock, Replace, Swap, Unlock
 from regkit.recording.client import Client
 from regkit.recording.journal import Counts, RecordingError
 from regkit.recording.recorder import Recorder
 from regkit.recording.values import number_of
 from regkit.recording.wrapped import Methods, Wrapped
 
-__all__ = ["Call", "Cas", "Client", "Counts", "Methods", "Read", "Recorder", "RecordingError", "Wrapped",
-           "Write", "number_of"]
+__all__ = ["Call", "Cas", "Client", "Counts", "Create", "Delete", "Lock", "Methods", "Read", "Recorder",
+           "RecordingError", "Replace", "Swap", "Unlock", "Wrapped", "Write", "number_of"]

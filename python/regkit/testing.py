@@ -42,8 +42,8 @@ def assert_atomic(history: Recorded, *, least_reads: int = 1, least_overlaps: in
     least `least_overlaps` overlap a write: a history that proves nothing, say since its recorder died, fails
     too. A cas that was answered counts as a read. Gives the evidence.
 
-    A history in which values repeat, or with cas, is decided by regsearch, within `steps` and
-    `configurations` (by default its own bounds). Raises NotChecked if there is no verdict, as when that
+    A history in which values repeat, or with cas, deletes or swaps, is decided by regsearch, within `steps`
+    and `configurations` (by default its own bounds). Raises NotChecked if there is no verdict, as when that
     search gives up, and RecordingError if the recorder was used wrongly."""
     __tracebackhide__ = True  # pytest then shows the test's own line
     _trust(history)

@@ -89,10 +89,13 @@ def program_for(history: bytes, stopped: Optional[int]) -> str:
             event = json_of(line)
         except NotJson:
             break
+        if isinstance(event, dict) and event.get("event") == "reply" and "found" in event and (
+                "value" not in event and event.get("op", "read") not in ("write", "cas")):
+            return SEARCH
         if not isinstance(event, dict) or event.get("event") != "call":
             continue
         write = (str(event.get("register")), event.get("value"))
-        if event.get("op") == "cas" or write in written:
+        if event.get("op") in ("cas", "delete", "swap") or write in written:
             return SEARCH
         if event.get("op") == "write" and type(write[1]) is int:
             written.add(write)
@@ -289,7 +292,7 @@ class Maker:
 
 
 class SearchMaker(Maker):
-    """The same with cas, and values that repeat. A call takes effect with its reply."""
+    """The same with cas, deletes and swaps, and values that repeat. A call takes effect with its reply."""
 
     def __init__(self, seed: int, ends: float) -> None:
         super().__init__(seed, ends)
@@ -297,13 +300,18 @@ class SearchMaker(Maker):
         self.asked: Dict[int, Optional[int]] = {}  # what the open cas of a process asks for
 
     def call(self, process: int) -> None:
-        name, op = self.chance.choice(self.names), self.chance.choice(["read", "write", "cas", "cas"])
+        name = self.chance.choice(self.names)
+        op = self.chance.choice(["read", "write", "cas", "cas", "delete", "swap"])
         line: Line = {"process": process, "event": "call", "op": op, "register": name}
-        value = None if op == "read" else self.chance.randrange(1, 4)
+        value = None if op in ("read", "delete") else self.chance.randrange(1, 4)
         if op == "cas":
             asked = self.asked[process] = self.chance.choice([None, 1, 2, 3])
-            line.update({"from": asked, "to": value})
-        elif op == "write":
+            unless = self.chance.random() < 0.3
+            op = "unless" if unless else op
+            value = self.chance.choice([value, value, None])
+            line.update({"unless" if unless else "from": asked, "to": value})
+            line.update({"old": True} if self.chance.random() < 0.3 else {})
+        elif value is not None:
             line["value"] = value
         self.open[process] = Client(op, name, value)
         self.say(line)
@@ -313,12 +321,22 @@ class SearchMaker(Maker):
         if self.chance.random() < self.ends:
             line["event"] = "fail"
         elif client.op == "read":
-            line["value"] = self.read(client.register)
-        elif client.op == "cas":
+            value = self.read(client.register)
+            line.update({"value": value} if self.chance.random() < 0.7 else {"found": value is not None})
+        elif client.op in ("cas", "unless"):
             line["ok"] = self.swap_in(process, client)
         else:
-            self.store[client.register] = client.value
+            self.answer_change(line, client)
         self.say(line)
+
+    def answer_change(self, line: Line, client: Client) -> None:
+        """Lets a write, a delete or a swap take effect, and says what the last two found."""
+        old, told = self.read(client.register), self.chance.random()
+        if client.op != "write" and (told < 0.4 or client.op == "swap"):
+            line["old"] = old
+        elif client.op == "delete" and told < 0.8:
+            line["found"] = old is not None
+        self.store[client.register] = client.value
 
     def read(self, name: str) -> Optional[int]:
         if self.chance.random() < self.lies:
@@ -329,7 +347,7 @@ class SearchMaker(Maker):
         """Whether a cas takes place."""
         if self.chance.random() < self.lies:
             return self.chance.random() < 0.5
-        found = self.store.get(client.register) == self.asked[process]
+        found = (self.store.get(client.register) == self.asked[process]) == (client.op == "cas")
         if found:
             self.store[client.register] = client.value
         return found
@@ -337,6 +355,7 @@ class SearchMaker(Maker):
     def change(self, at: int) -> None:
         old, new = self.chance.choice([
             ('"from":', ["", '"', "1.5,", '0,"x":']), ('"to":', ["null,", '"', '0,"x":']),
+            ('"old":', ["1,", "null,", '"x"']), ('"found":', ["1,", "null,"]), ('"unless":', ["", "1.5,"]),
             ('"ok":', ["1,", "null,", '"true","x":']), ('"cas"', [" ", '"x":"cas",'])])
         if old in self.lines[at]:
             self.lines[at] = self.lines[at].replace(old, old + self.chance.choice(new), 1)

@@ -261,7 +261,7 @@ class Refusals(unittest.TestCase):
             (but(op="none", f="write"), "has `f` where `op` is meant"),
             (but(op="put"), 'the op is "put": write `write`'), (but(op="get"), "write `read`"),
             (but(op="cas"), 'the op is "cas": regcheck takes reads and writes alone'),
-            (but(op="append"), 'the op is "append": only reads, writes and cas can be checked'),
+            (but(op="append"), 'the op is "append": only reads, writes, deletes, swaps'),
             (but(op="incr"), "take it for what it is: incr adds to a value, which is a cas from the old"),
             (but(register="none", key="x"), "has `key` where `register` is meant: rename it"),
             (but(register=7), "the register is 7: write its name as a text, in quotes"),

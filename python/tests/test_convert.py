@@ -803,7 +803,7 @@ WRONG_WORDS: List[Tuple[str, Sequence[str], str]] = [
     ("jsonl", ("--delimiter", ";"), "--delimiter is for csv, not for jsonl"),
     ("csv", ("--delimiter", "::"), "--delimiter ::: one character is expected, or comma, semicolon or tab"),
     ("csv", ("--ops", "get"),
-     "--ops get: WORD=MEANING,.. is expected, with one of read, write, cas, create, swap, add"),
+     "--ops get: WORD=MEANING,.. is expected, with one of read, write, cas, create, replace, swap"),
     ("csv", ("--ops", "get=fetch"), "--ops get=fetch: WORD=MEANING,.. is expected"),
     ("csv", ("--ops", "a=read,a=write"), "--ops: a is given two meanings"),
     ("csv", ("--ops", "CAS=write"), "--ops CAS=write: CAS reads and writes at once, so it is cas or other"),

@@ -256,7 +256,7 @@ class RefusedParts(HandMade):
         of_search = {**TEXTS, **SEARCH_TEXTS}
         del of_search[REPEATED]
         numbers = {*range(1, 20)}
-        programs = [(numbers, TEXTS), ((numbers - {REPEATED}) | {20, 21}, of_search)]
+        programs = [(numbers, TEXTS), ((numbers - {REPEATED}) | {20, 21, 22}, of_search)]
         for column, (expected, texts) in enumerate(programs):
             table = {int(row[column]): row[3].replace(" at line N", "")
                      for row in rows if len(row) == 4 and row[column].isdigit()}

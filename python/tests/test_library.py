@@ -37,6 +37,8 @@ REFUSED: Dict[int, bytes] = {
 SEARCH_REFUSED: Dict[int, bytes] = {
     6: REFUSED[6], 20: b'{"process":1,"event":"call","op":"cas","register":"x","from":1}',
     21: text({"process": 1, "event": "call", "op": "cas", "register": "x", "from": 1, "to": 2}, reply(1)),
+    22: text({"process": 1, "event": "call", "op": "delete", "register": "x"},
+             {"process": 1, "event": "reply", "old": 1, "found": False}),
 }
 
 

@@ -345,15 +345,15 @@ class Refusals(unittest.TestCase):
              "a: line 2: the process crashed at line 1"),
             ("one history twice", [WRITER, LATER, WRITER],
              "c: it has the same events as a, at the same times: name each history once"),
-            ("a cas without its values", [text({**timed(1, cas(1, 5, 6)), "to": None})],
-             "a: line 1: from or to does not fit the event: `regkit check` says what to do"),
+            ("a cas without its values", [text({**timed(1, cas(1, 5, 6)), "to": "6"})],
+             "a: line 1: from, unless or to does not fit the event: `regkit check` says what to do"),
             ("a cas whose reply doesn't say", [text(timed(1, cas(1, 5, 6)), timed(2, reply(1)))],
              "a: line 2: a cas's reply has no ok, true or false"),
             ("a reply of another op",
              [text(timed(1, cas(1, 5, 6)), timed(2, {**took(1, True), "op": "read"}))],
              "a: line 2: reply disagrees with its call"),
             ("another op", [text(timed(1, {**read(1), "op": "add"}))],
-             "a: line 1: op is neither read, write nor cas"),
+             "a: line 1: op is neither read, write, delete, swap nor cas"),
             ("merged before", [merge([("one", WRITER), ("other", LATER)], 200)],
              "a merged history can't be merged again")]
         for name, files, words in table:

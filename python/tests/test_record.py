@@ -18,7 +18,7 @@ from typing import Any, Callable, Dict, List, Optional, Set, Tuple, Type
 from unittest import mock
 
 from regkit.checker.programs import run_checker
-from regkit.record import Methods, Recorder, RecordingError
+from regkit.record import Methods, Recorder, RecordingError, Swap
 from regkit.recording.journal import Failures
 
 PYTHON = pathlib.Path(__file__).resolve().parents[1]
@@ -801,6 +801,68 @@ class Forked(unittest.TestCase):
     def test_it_is_not_sent_to_another_process(self) -> None:
         with self.assertRaisesRegex(RecordingError, "make a Recorder in each process"):
             pickle.dumps(Recorder())
+
+
+EXPIRY = {"event": "call", "op": "cas", "to": None}
+WRONG_USES: List[Tuple[str, Callable[[Recorder], object]]] = [
+    ("a swap of 'x' wasn't told what it found", lambda recorder: recorder.swap("x", 1).__enter__()),
+    ("None can't be written", lambda recorder: recorder.create("x", None)),  # type: ignore[arg-type]
+    ("None can't be written", lambda recorder: recorder.unlock("x", None)),  # type: ignore[arg-type]
+    ("None can't expire", lambda recorder: recorder.expires("x", None)),  # type: ignore[arg-type]
+    ("`delete.found` is True if there was", lambda recorder: setattr(recorder.delete("x"), "found", 1))]
+
+
+class Changes(unittest.TestCase):
+    """Changes by the names that stores give them."""
+
+    def test_their_lines(self) -> None:
+        recorder = Recorder()
+        with recorder.client("a") as client:
+            for call, ok in ((client.create("x", 5), True), (client.replace("x", 6), False),
+                             (client.lock("x", 7), False), (client.unlock("x", 7), True)):
+                with call:
+                    call.ok = ok
+            with client.delete("x"):
+                pass
+            with client.delete("x") as delete:
+                delete.found = False
+            with client.delete("x") as delete:
+                setattr(delete, "old", b"5")
+            with client.swap("x") as swap:
+                self.assertEqual(swap.value, 1)
+                swap.old = None
+            with client.swap("x", 5) as swap:
+                swap.found = True
+            client.expires("x", 5)
+            with self.assertRaises(Lost), client.delete("x"):
+                raise Lost
+        recorder.expires("y", 1)
+        own = [line for line in lines(recorder) if '"process":1,' in line]
+        self.assertEqual([line.partition('"x"')[2].replace(',"client":"a"', "").strip() for line in own], [
+            ',"from":null,"to":5}', ',"ok":true}', ',"unless":null,"to":6}', ',"ok":false}',
+            ',"from":null,"to":7}', ',"ok":false}', ',"from":7,"to":null}', ',"ok":true}',
+            "}", "}", "}", ',"found":false}', "}", ',"old":5}', ',"value":1}', ',"old":null}',
+            ',"value":5}', ',"found":true}', "}"])
+        self.assertEqual([json.loads(line) for line in lines(recorder) if '"process":1,' not in line], [
+            {**EXPIRY, "process": 2, "register": "x", "from": 5, "client": "a"},
+            {**EXPIRY, "process": 3, "register": "y", "from": 1}])
+        self.assertEqual((recorder.mistakes, recorder.counts), ([], (0, 6, 6, 9, 0)))
+
+    def test_wrong_uses(self) -> None:
+        for words, use in WRONG_USES:
+            recorder = Recorder()
+            with self.subTest(words), self.assertRaisesRegex(RecordingError, words):
+                call = use(recorder)
+                if isinstance(call, Swap):
+                    call.__exit__(None, None, None)
+            self.assertEqual(len(recorder.mistakes), 1)
+
+    def test_what_contradicts_itself(self) -> None:
+        recorder = Recorder()
+        with self.assertRaisesRegex(RecordingError, "that there was a value, and that there was none"):
+            with recorder.delete("x") as delete:
+                delete.found = True
+                delete.old = None
 
 
 class Counting(unittest.TestCase):

@@ -207,13 +207,13 @@ class Verdicts(Files):
     def test_refusals_of_the_search(self) -> None:
         call: Line = cas(1, 1, 2)
         table: List[Any] = [
-            ([{**call, "to": None}], "line 1: from or to does not fit the event"),
+            ([{**call, "to": "2"}], "line 1: from, unless or to does not fit the event"),
             ([{key: call[key] for key in call if key != "from"}],
-             "line 1: from or to does not fit the event"),
+             "line 1: from, unless or to does not fit the event"),
             ([call, reply(1)], "line 2: a cas's reply has no ok, true or false"),
             ([call, {**took(1, True), "value": 3}], "line 2: reply disagrees with its call"),
             ([call, {"process": 2, "event": "call", "op": "add", "register": "x"}],
-             "line 2: op is neither read, write nor cas")]
+             "line 2: op is neither read, write, delete, swap nor cas")]
         for events, words in table:
             with self.subTest(words):
                 ran = run("check", given=text(*events))

@@ -226,10 +226,10 @@ class BothWays(unittest.TestCase):
             except CertainRefusal as refusal:
                 told.append([part.number for part in refusal.parts])
             told.append([part.lines[:] for part in router.parts])
-        writes = [] if router.has_cas else [sorted(part.writes) for part in router.parts]
+        writes = [] if router.is_searched else [sorted(part.writes) for part in router.parts]
         tables: List[Mapping[bytes, Optional[routing.Part]]] = [router.registers, router.open, router.crashed]
         owners = [[(name, part and part.number) for name, part in table.items()] for table in tables]
-        return [told, router.lines, router.has_cas, writes, owners]
+        return [told, router.lines, router.is_searched, writes, owners]
 
     def test_random_histories(self) -> None:
         for seed in range(30_000, 31_000):
@@ -247,6 +247,8 @@ class Program(Folder):
         for name, lines, expected in [
             ("distinct values", [call(1, "x", 5), end(1), call(1, "x", 6), end(1), *other], CHECK),
             ("a cas", [*other, *swap], SEARCH),
+            ("a delete", [*other, call(1, "x").replace("read", "delete"), end(1)], SEARCH),
+            ("a read that only tells of a value", [*other, call(1, "x"), end(1, found=True)], SEARCH),
             ("a cas in compact form", [*other, swap[0].replace(" ", ""), swap[1]], SEARCH),
             ("other orders of its members",
              ['{"op":"cas","register":"x","process":1,"from":null,"to":1,"event":"call"}', *other], SEARCH),
@@ -519,7 +521,7 @@ class Refusals(Folder):
              "line 2: a cas's reply has no ok, true or false", 1),
             ("a cas without its values",
              [call(1, "x"), call(2, "y"), call(1, "y").replace("read", "cas")],
-             "line 3: from or to does not fit the event", 3),
+             "line 3: from, unless or to does not fit the event", 3),
             ("an earlier fault that is one for both", [call(1, "x"), end(1), *twice, "{"],
              "line 2: a read's reply has no value", 2),
         ]:

@@ -152,6 +152,27 @@ class Store:
         return self.values.get(key)
 
 
+class ChangingStore:
+    """The same with the methods of a client of Redis."""
+
+    def __init__(self) -> None:
+        self.values: Dict[str, int] = {}
+
+    def set(self, key: str, value: int, nx: bool) -> Optional[bool]:
+        if nx and key in self.values:
+            return None
+        self.values[key] = value
+        return True
+
+    def getset(self, key: str, value: int) -> Optional[int]:
+        old = self.values.get(key)
+        self.values[key] = value
+        return old
+
+    def delete(self, key: str) -> int:
+        return 0 if self.values.pop(key, None) is None else 1
+
+
 class Code(unittest.TestCase):
     def test_the_code_of_files(self) -> None:
         titled = [block for block in blocks("python") if block.title]
@@ -193,6 +214,12 @@ class Code(unittest.TestCase):
         without_blocks = Recorder()
         self.assertEqual(names["wrapped"](without_blocks, Store()), 1)
         self.assertEqual(without_blocks.counts.answered, 2)
+        changing = Recorder()
+        names["use_changes"](changing, ChangingStore())
+        self.assertEqual([line for line in changing.history().decode().splitlines() if "reply" in line], [
+            '{"process":1,"event":"reply","register":"job","ok":true}',
+            '{"process":1,"event":"reply","register":"job","old":7}',
+            '{"process":1,"event":"reply","register":"job","found":true}'])
 
 
 def accept() -> None:

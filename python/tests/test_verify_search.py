@@ -236,7 +236,7 @@ class Refusals(unittest.TestCase):
         call = cas(1, 1, 2)
         again = [write(1, 5), reply(1), write(1, 5), reply(1)]
         table: List[List[Line]] = [
-            [{**call, "to": None}], [{**call, "from": "a"}], [{**call, "to": 2.0}], [{**call, "value": 3}],
+            [{**call, "to": "a"}], [{**call, "from": "a"}], [{**call, "to": 2.0}], [{**call, "value": 3}],
             [{**call, "register": ""}], [call, reply(1)], [call, {**reply(1), "ok": 1}], [call, gave(1, 3)],
             [call, {**fail(1), "value": 3}], [call, {**took(1, True), "op": "read"}], [call, call],
             [call, crash(1), took(1, True)], [read(1), {**gave(1, None), "op": "cas"}],
@@ -254,7 +254,7 @@ class Refusals(unittest.TestCase):
 
     def test_no_refusal(self) -> None:
         for words in ("line 5: reply without an open call",
-                      "line 3: from or to does not fit the event", "", " "):
+                      "line 3: from, unless or to does not fit the event", "", " "):
             with self.assertRaises(verify.Wrong):
                 verify.verify_refusal(text(*STALE), words)
             with self.assertRaises(verify.Wrong):

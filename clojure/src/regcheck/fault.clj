@@ -29,10 +29,13 @@
   "What the register holds after an operation that took effect while it held a value."
   [held op]
   (let [value (history/plain op)]
-    (case (:f op)
-      :read held
-      :write value
-      :cas (if (= :fail (:type op)) held (second value)))))
+    (if (= :fail (:type op))
+      held
+      (case (:f op)
+        :read held
+        :cas (second value)
+        (:delete :unlock :expires) nil
+        value))))
 
 (defn paths
   "Knossos' :final-paths and :configs, of a fault that has an order of what was known until its reply: the end

@@ -3,15 +3,22 @@
 
   A client is a process with a number; what others do, such as the nemesis, is left out. An :invoke is a call,
   an :ok its reply, and a :fail says that the call had no effect. After an :info nobody knows, so the call
-  stays pending. The value of a :cas is [from to].
+  stays pending. The value of a :cas is [from to]; :create, :replace and :swap have the value that they
+  write, and :lock and :unlock their owner. What a :delete or a :swap found stands beside the value, as :found
+  or :old. An :expires is called where its value may first expire, by a process that does nothing more.
 
   What isn't understood is no event: it is thrown, so that the verdict is :unknown and says why."
   (:require [clojure.string :as str]
             [jepsen.independent :as independent]))
 
 (def op-names
-  "The functions of Jepsen's register workloads."
-  {:read "read" :write "write" :cas "cas"})
+  "The functions of Jepsen's register workloads, and of those of key-value stores and locks."
+  {:read "read" :write "write" :delete "delete" :swap "swap" :cas "cas" :create "cas" :replace "cas"
+   :lock "cas" :unlock "cas" :expires "cas"})
+
+(def conditional
+  "Those that take place or don't, and say so."
+  #{:cas :create :replace :lock :unlock})
 
 (def least (bigint Long/MIN_VALUE))
 (def greatest (bigint Long/MAX_VALUE))
@@ -84,6 +91,28 @@
     (unknown! "the value " (pr-str value) " of " (pr-str op) " is no [from to]"))
   (str ",\"from\":" (number (first value) op) ",\"to\":" (number (second value) op)))
 
+(defn- asked
+  "The members that say what one of these asks for and what it writes."
+  [f value op]
+  (when-not (or (= :cas f) (some? value))
+    (unknown! (pr-str op) " has no value"))
+  (case f
+    :cas (changed value op)
+    (:create :lock) (str ",\"from\":null,\"to\":" (number value op))
+    :replace (str ",\"unless\":null,\"to\":" (number value op))
+    (:unlock :expires) (str ",\"from\":" (number value op) ",\"to\":null")))
+
+(defn- found
+  "The members that say what a :delete or a :swap found. Only a :delete needn't say it."
+  [op value]
+  (when-not (or (nil? value) (= :swap (:f op)))
+    (unknown! "the value " (pr-str value) " of " (pr-str op) " is none of a :delete: say what it found by "
+              ":found or :old"))
+  (cond (contains? op :old) (str ",\"old\":" (number (:old op) op))
+        (boolean? (:found op)) (str ",\"found\":" (:found op))
+        (or (some? (:found op)) (= :swap (:f op)))
+        (unknown! (pr-str op) " doesn't say what it found, by :old, or by :found, true or false")))
+
 (defn- missed?
   "Whether a cas that failed tells that the store compared: it found another value, or a key without the
   value asked for."
@@ -94,14 +123,22 @@
         (contains? #{:precondition-failed "precondition-failed"} word)
         (and (contains? #{:key-does-not-exist "key-does-not-exist"} word) (some? from)))))
 
+(defn- asks-for
+  "What an operation asks for and what it writes, as missed? takes it."
+  [f value]
+  (case f
+    :cas value
+    :unlock [value nil]
+    [nil value]))
+
 (defn- call
   "The members of a call behind its process."
   [op op-name [register value]]
   (str "\"event\":\"call\",\"op\":" (quoted op-name) ",\"register\":" (quoted register)
        (case (:f op)
-         :read nil
-         :write (str ",\"value\":" (number value op))
-         :cas (changed value op))))
+         (:read :delete) nil
+         (:write :swap) (str ",\"value\":" (number value op))
+         (asked (:f op) value op))))
 
 (defn- reply
   "The members of a reply behind its process. Of a cas, ok says whether it took place."
@@ -110,19 +147,29 @@
        (case (:f op)
          :read (str ",\"value\":" (number value op))
          :write nil
-         :cas (str ",\"ok\":" ok))))
+         (:delete :swap) (found op value)
+         :expires (unknown! (pr-str op) ": nobody answers an :expires")
+         (str ",\"ok\":" ok))))
+
+(defn- tells?
+  "Whether the reply of an operation tells what was there."
+  [op]
+  (case (:f op)
+    :write false
+    :delete (boolean (some #(contains? op %) [:found :old]))
+    true))
 
 (defn- event
   "What an operation is: its :said, the members behind its process, and whether it :tells something of the
   register's value. Nil if nobody knows how it ended."
   [op {:keys [failed-cas] :as names}]
   (let [op-name (or (op-names (:f op))
-                    (unknown! "regcheck knows :read, :write and :cas, and not the :f of " (pr-str op)))
+                    (unknown! "regcheck doesn't know the :f of " (pr-str op)))
         of (split op names)]
     (case (:type op)
       :invoke {:said (call op op-name of)}
-      :ok {:said (reply op op-name of true) :tells (not= :write (:f op))}
-      :fail (if (and (= :cas (:f op)) (= :missed failed-cas) (missed? op (second of)))
+      :ok {:said (reply op op-name of true) :tells (tells? op)}
+      :fail (if (and (conditional (:f op)) (= :missed failed-cas) (missed? op (asks-for (:f op) (second of))))
               {:said (reply op op-name of false) :tells true}
               {:said "\"event\":\"fail\""})
       :info nil

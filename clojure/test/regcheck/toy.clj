@@ -10,8 +10,9 @@
   "The history that a store's run makes with op!, which adds an operation."
   [record right]
   (let [history (atom [])]
-    (record (fn [type process f value]
-              (swap! history #(conj % (->Op (count %) (* 1000000 (inc (count %))) type process f value))))
+    (record (fn [type process f value & [more]]
+              (swap! history #(conj % (merge (->Op (count %) (* 1000000 (inc (count %))) type process f value)
+                                             more))))
             right)
     @history))
 

@@ -4,7 +4,8 @@ use Rattle.history_text.specs.declared.event.Val.{Val}
 use Rattle.history_text.specs.declared.event.Val.TheVariants.{Null, Int}
 use Rattle.history_text.specs.declared.event.AnyEvent.{AnyEvent}
 use Rattle.history_text.specs.declared.event.AnyKind.{AnyKind}
-use Rattle.history_text.specs.declared.event.AnyKind.TheVariants.{Plain, CallCas}
+use Rattle.history_text.specs.declared.event.AnyKind.TheVariants.{Plain, CallOther, Telling}
+use Rattle.history_text.specs.declared.event.OtherCall.TheVariants as other
 use Rattle.history_text.specs.declared.event.Kind.TheVariants.{CallRead, CallWrite, Reply, Fail, Crash}
 use Rattle.history_text.specs.declared.event.OpWord.TheVariants as word
 use Rattle.history_model.specs.declared.act.Act.{Act}
@@ -19,7 +20,7 @@ abbrev event : ℕ → ℕ → AnyKind → AnyEvent
 event line process kind = record { line = line; process = process; kind = kind }
 
 abbrev swap : List ℕ → Val → ℕ → AnyKind
-swap name from to = CallCas name from (pos to)
+swap name from to = CallOther name (other.Cas from (pos to))
 
 abbrev read : List ℕ → AnyKind
 read name = Plain (CallRead name)
@@ -119,8 +120,8 @@ abbrev done : ℕ → ℕ → ℕ → ℕ → Act → Operation
 done line call reply process act = called line call reply true process act
 
 -- nine events have the times 2 to 10, so a missing reply has time 11
-small_calls : calls_of small 0 ≡ done 1 2 4 1 (Cas Null (pos 1)) ∷ done 2 3 6 2 (Miss Null)
-    ∷ called 7 8 11 false 2 (Cas (Int (pos 1)) (pos 4)) ∷ done 8 9 10 1 (Read (Some (Int (pos 1)))) ∷ []
+small_calls : calls_of small 0 ≡ done 1 2 4 1 (Cas Null (Int (pos 1))) ∷ done 2 3 6 2 (Miss Null)
+    ∷ called 7 8 11 false 2 (Cas (Int (pos 1)) (Int (pos 4))) ∷ done 8 9 10 1 (Read (Some (Int (pos 1)))) ∷ []
 small_calls = refl
 
 failed_left_out : calls_of small 1 ≡ []

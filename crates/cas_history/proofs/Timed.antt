@@ -6,7 +6,7 @@ use Rattle.std.proofs.lemmas.Option.{slice_get_within}
 use Rattle.history_model.specs.Lists.{In}
 use Rattle.history_text.specs.declared.event.AnyEvent.{AnyEvent}
 use Rattle.history_text.specs.declared.event.AnyKind.{AnyKind}
-use Rattle.history_text.specs.declared.event.AnyKind.TheVariants.{Plain, CallCas}
+use Rattle.history_text.specs.declared.event.AnyKind.TheVariants.{Plain, CallOther, Telling}
 use Rattle.history_text.specs.declared.event.Kind.TheVariants.{CallRead, CallWrite, Reply, Fail, Crash}
 use Rattle.history_text.specs.declared.event.ReplyParts.{ReplyParts}
 use Rattle.history_model.specs.declared.operation.Operation.{Operation}
@@ -26,7 +26,8 @@ call-or-reply (Plain (CallWrite name n)) call reply c r = cc (r)
 call-or-reply (Plain (Reply parts)) call reply c r = cc (c)
 call-or-reply (Plain (Fail parts)) call reply c r = cc (c)
 call-or-reply (Plain Crash) call reply c r = cc (c)
-call-or-reply (CallCas name from to) call reply c r = cc (r)
+call-or-reply (CallOther name other) call reply c r = cc (r)
+call-or-reply (Telling parts told) call reply c r = cc (c)
 
 one-event : (es : List AnyEvent) (i j : ℕ) (e f : AnyEvent) → slice_get es i ≡ Some e
     → slice_get es j ≡ Some f → i ≡ j → e ≡ f

@@ -1,22 +1,22 @@
 -- The operations of the events of an accepted history: each register's initial write, and each call that
 -- didn't fail, with what its reply says that it did.
-use Rattle.std.specs.Prelude.{◌≡◌, ℕ, ℤ, suc, ◌+◌, ◌==◌, cond, Bool, true, false, bytes_eq, Vec}
+use Rattle.std.specs.Prelude.{◌≡◌, ℕ, suc, ◌+◌, ◌==◌, cond, Bool, bytes_eq, Vec}
 use Rattle.std.specs.Prelude.{is_some, unwrap_or, List, [], ◌∷◌, ◌++◌, filter_map, length, map}
 use Rattle.std.specs.Prelude.{slice_get, Option, Some, None, option_map, option_and_then}
 use Rattle.std.specs.Global.{Global}
 use Rattle.std.specs.List.{position_or_len}
-use Rattle.history_text.specs.declared.event.Val.{Val}
-use Rattle.history_text.specs.declared.event.Val.TheVariants.{Int}
+use Rattle.history_text.specs.declared.event.OpWord.{OpWord}
+use Rattle.history_text.specs.declared.event.Told.{Told}
 use Rattle.history_model.specs.History.{first_names}
 use Rattle.cas_history.specs.declared.said.Asked.{Asked}
-use Rattle.cas_history.specs.declared.said.Asked.TheVariants as asked
 use Rattle.history_text.specs.declared.event.AnyEvent.{AnyEvent}
 use Rattle.history_text.specs.declared.event.ReplyParts.{ReplyParts}
 use Rattle.history_model.specs.declared.act.Act.{Act}
-use Rattle.history_model.specs.declared.act.Act.TheVariants.{Read, Write, Cas, Miss}
 use Rattle.history_model.specs.declared.operation.Operation.{Operation}
 use Rattle.history_model.specs.Operations.{initial_writes, of_register}
-use Rattle.cas_history.specs.Events.{Called, called_by, replied_by, failed_by}
+use Rattle.cas_history.specs.Events.{Called, called_by, failed_by, replied_by, told_by, told_nothing}
+use Rattle.cas_history.specs.Events.{word_asked}
+use Rattle.cas_history.specs.Told.{pending_act, replied_act}
 use Rattle.cas_history.specs.declared.history.History.{History}
 
 -- the registers, in the order of their first calls
@@ -41,27 +41,15 @@ time_of_reply next = option_map (λ reply. reply.0) (reply_in next)
 abbrev pub has_failed : Option (ℕ × AnyEvent) → Bool
 has_failed next = is_some (option_and_then (λ n. failed_by n.1.kind) next)
 
--- a cas by the `ok` of its reply: it took place, or it missed; an accepted reply says which of the two
-abbrev pub cas_act : Val → ℤ → Option Bool → Act
-cas_act from to None = Cas from to
-cas_act from to (Some true) = Cas from to
-cas_act from to (Some false) = Miss from
+-- what that reply tells of the value that its operation met
+abbrev pub told_in : Option (ℕ × AnyEvent) → Told
+told_in None = told_nothing
+told_in (Some n) = told_by n.1.kind
 
--- what a call without a reply does if it takes effect: a read then gives no value, and a cas took place
-abbrev pub pending_act : Asked → Act
-pending_act asked.Read = Read None
-pending_act (asked.Write n) = Write (Int n)
-pending_act (asked.Cas from to) = Cas from to
-
--- what a call did by its reply: a read gave the value of the reply
-abbrev pub replied_act : Asked → Option Val → Option Bool → Act
-replied_act asked.Read value ok = Read value
-replied_act (asked.Write n) value ok = Write (Int n)
-replied_act (asked.Cas from to) value ok = cas_act from to ok
-
-abbrev pub act_of : Asked → Option (ℕ × ReplyParts) → Act
-act_of asked None = pending_act asked
-act_of asked (Some reply) = replied_act asked reply.1.value reply.1.ok
+-- what a call did, by its reply, if it has one
+abbrev pub act_of : Asked → Option (ℕ × ReplyParts) → Told → Act
+act_of asked None told = pending_act asked
+act_of asked (Some reply) told = replied_act asked reply.1.value reply.1.ok told
 
 -- the operation of the call e at time s, by the next event of its process; n is the time of a missing reply,
 -- and registers have these names
@@ -73,7 +61,7 @@ operation n names s e call next = record {
   completed = is_some (time_of_reply next);
   process = Some e.process;
   register = position_or_len (bytes_eq call.register) names;
-  act = act_of call.asked (reply_in next);
+  act = act_of call.asked (reply_in next) (told_in next);
 }
 
 -- the operation that begins with an event, if that is a call that didn't fail
@@ -109,7 +97,11 @@ operations events = initial_writes (length (register_names events)) ++ calls eve
 abbrev pub calls_of : List AnyEvent → ℕ → List Operation
 calls_of events r = of_register r (calls events)
 
--- a register's operations by call, for each register, and the lines of the events
+-- the word of an event's call, if it is one
+abbrev pub call_word : AnyEvent → Option OpWord
+call_word e = option_map (λ call. word_asked call.asked) (called_by e.kind)
+
+-- a register's operations by call, for each register, and the lines and the words of the events
 pub record IsHistoryOf (events : List AnyEvent) (h : History) : Type 0 where
   pub names : h.names.items ≡ register_names events
   pub count : length h.registers.items ≡ length h.names.items
@@ -117,3 +109,4 @@ pub record IsHistoryOf (events : List AnyEvent) (h : History) : Type 0 where
       → ops.items ≡ calls_of events r
   pub operations : h.operations ≡ length (calls events)
   pub lines : h.lines.items ≡ map (λ e. e.line) events
+  pub words : h.words.items ≡ map call_word events

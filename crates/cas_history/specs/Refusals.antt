@@ -12,11 +12,12 @@ use Rattle.history_text.specs.declared.event.ReplyParts.{ReplyParts}
 use Rattle.history_text.specs.declared.fault.LineFault.{LineFault}
 use Rattle.cas_history.specs.Events.{Called, called_by, replied_by, failed_by, is_end}
 use Rattle.cas_history.specs.Events.{last_event, open_call, open_asked, crash_in, reply_agrees}
-use Rattle.cas_history.specs.Events.{fail_agrees, is_without_value, is_without_ok}
+use Rattle.cas_history.specs.Events.{fail_agrees, is_without_value, is_without_ok, told_by, told_fits}
 use Rattle.cas_history.specs.declared.refusal.LineRefusal.{LineRefusal}
 use Rattle.cas_history.specs.declared.refusal.Reason.{Reason}
 use Rattle.cas_history.specs.declared.refusal.Reason.TheVariants.{Faulty, OpenCall, NoOpenCall, Disagreement}
 use Rattle.cas_history.specs.declared.refusal.Reason.TheVariants.{NoValue, TooMany, AfterCrash, NoOk}
+use Rattle.cas_history.specs.declared.refusal.Reason.TheVariants.{BadTold}
 use Rattle.cas_history.specs.declared.refusal.BuildError.{BuildError}
 use Rattle.cas_history.specs.declared.refusal.BuildError.TheVariants.{Refused, Memory}
 
@@ -37,6 +38,7 @@ reason_number NoValue = 12
 reason_number TooMany = 14
 reason_number (AfterCrash line) = 19
 reason_number NoOk = 21
+reason_number BadTold = 22
 
 -- the other line that a reason names
 abbrev pub reason_other : Reason → Option ℕ
@@ -48,6 +50,7 @@ reason_other NoValue = None
 reason_other TooMany = None
 reason_other (AfterCrash line) = Some line
 reason_other NoOk = None
+reason_other BadTold = None
 
 -- ---- each reason by itself: of an event e whose process had this event last
 
@@ -81,10 +84,10 @@ fail_disagrees last e =
     option_and_then (λ parts. option_and_then (λ call. refused_if (not (fail_agrees call parts)) Disagreement)
     (open_asked last)) (failed_by e.kind)
 
--- 12: a read's reply without a value
+-- 12: a read's reply without a value, and without `found`
 abbrev pub reply_without_value : Option AnyEvent → AnyEvent → Option Reason
 reply_without_value last e =
-    reply_failing (λ call reply. is_without_value call.asked reply.value) NoValue last e
+    reply_failing (λ call reply. is_without_value call.asked reply.value (told_by e.kind)) NoValue last e
 
 -- 14: too many events before it
 abbrev pub too_many : ℕ → Option Reason
@@ -98,6 +101,11 @@ after_crash last = option_map (λ crash. AfterCrash crash.line) (crash_in last)
 abbrev pub reply_without_ok : Option AnyEvent → AnyEvent → Option Reason
 reply_without_ok last e = reply_failing (λ call reply. is_without_ok call.asked reply.ok) NoOk last e
 
+-- 22: a reply whose `old` or `found` has another form, is missing, or contradicts what else the reply says
+abbrev pub reply_tells_wrong : Option AnyEvent → AnyEvent → Option Reason
+reply_tells_wrong last e =
+    reply_failing (λ call reply. not (told_fits call.asked reply (told_by e.kind))) BadTold last e
+
 -- ---- the refusal of a line, and of a history
 
 -- the lowest-numbered reason that applies to an event after this many
@@ -106,7 +114,7 @@ abbrev pub event_reason : ℕ → Option AnyEvent → AnyEvent → Option Reason
 event_reason count last e =
     first_some (call_while_open last e ∷ end_without_call last e ∷ reply_disagrees last e
     ∷ fail_disagrees last e ∷ reply_without_value last e ∷ too_many count ∷ after_crash last
-    ∷ reply_without_ok last e ∷ [])
+    ∷ reply_without_ok last e ∷ reply_tells_wrong last e ∷ [])
 
 -- the refusal of an event after others
 abbrev pub event_refusal : List AnyEvent → AnyEvent → Option LineRefusal

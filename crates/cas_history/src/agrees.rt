@@ -5,7 +5,7 @@ ghost use Rattle.history_model.specs.Events.{agrees};
 ghost use Rattle.cas_history.specs.Events as defined;
 
 use crate::said::Asked;
-use history_text::{Name, OpWord, OptionalName, ReplyParts, Val};
+use history_text::{Compared, Name, OpWord, OptionalName, ReplyParts, Told, Val};
 
 /// Whether the operation and the register, where they are named, are those of the call.
 pub(crate) fn parts_agree(register: &Name, asked: Asked, parts: &ReplyParts) -> bool
@@ -20,7 +20,9 @@ pub(crate) fn value_agrees(asked: Asked, value: Option<Val>) -> bool
 {
     match asked {
         Asked::Read => true,
-        Asked::Write(_) | Asked::Cas { .. } => failed_value_agrees(asked, value),
+        Asked::Write(_) | Asked::Cas(_) | Asked::Delete | Asked::Swap(_) => {
+            failed_value_agrees(asked, value)
+        }
     }
 }
 
@@ -30,16 +32,17 @@ pub(crate) fn failed_value_agrees(asked: Asked, value: Option<Val>) -> bool
 {
     match asked {
         Asked::Write(number) => is_number_or_no_value(number, value),
-        Asked::Read | Asked::Cas { .. } => is_no_value(value),
+        Asked::Swap(number) => is_number_or_no_value(number, value),
+        Asked::Read | Asked::Cas(_) | Asked::Delete => is_no_value(value),
     }
 }
 
-/// Whether it is a read's reply that gives no value.
-pub(crate) fn is_without_value(asked: Asked, value: Option<Val>) -> bool
-    ensures { result ≡ defined.is_without_value asked value }
+/// Whether it is a read's reply that gives no value, and doesn't say whether there was one.
+pub(crate) fn is_without_value(asked: Asked, value: Option<Val>, told: Told) -> bool
+    ensures { result ≡ defined.is_without_value asked value told }
 {
     match (asked, value) {
-        (Asked::Read, None) => true,
+        (Asked::Read, None) => matches!(told.found, Some(None)),
         _ => false,
     }
 }
@@ -49,8 +52,61 @@ pub(crate) fn is_without_ok(asked: Asked, ok: Option<bool>) -> bool
     ensures { result ≡ defined.is_without_ok asked ok }
 {
     match asked {
-        Asked::Read | Asked::Write(_) => false,
-        Asked::Cas { .. } => ok.is_none(),
+        Asked::Read | Asked::Write(_) | Asked::Delete | Asked::Swap(_) => false,
+        Asked::Cas(_) => ok.is_none(),
+    }
+}
+
+/// Whether what a reply tells of the value that its operation met fits the call, as far as it counts.
+pub(crate) fn told_fits(asked: Asked, reply: &ReplyParts, told: Told) -> bool
+    ensures { result ≡ defined.told_fits asked reply.now told }
+{
+    match asked {
+        Asked::Read => reply.value.is_some() || told.found.is_some(),
+        Asked::Write(_) => true,
+        Asked::Cas(cas) => !cas.asks_old || old_agrees(cas.compared, reply.ok, told.old),
+        Asked::Delete => told_agrees(told),
+        Asked::Swap(_) => told_agrees(told) && !told.is_nothing(),
+    }
+}
+
+/// Whether `found` and `old` have their forms, and agree.
+fn told_agrees(told: Told) -> bool
+    ensures { result ≡ defined.told_agrees told.found told.old }
+{
+    match (told.found, told.old) {
+        (Some(Some(found)), Some(Some(old))) => found == is_there(old),
+        (Some(_), Some(_)) => true,
+        _ => false,
+    }
+}
+
+/// Whether the old value has its form, and the cas took place exactly if it is as asked.
+fn old_agrees(compared: Compared, ok: Option<bool>, old: Option<Option<Val>>) -> bool
+    ensures { result ≡ defined.old_agrees compared ok old }
+{
+    match (ok, old) {
+        (_, None) => false,
+        (Some(ok), Some(Some(old))) => ok == is_as_asked(compared, old),
+        (_, Some(_)) => true,
+    }
+}
+
+fn is_as_asked(compared: Compared, value: Val) -> bool
+    ensures { result ≡ defined.is_as_asked compared value }
+{
+    match compared {
+        Compared::From(from) => value == from,
+        Compared::Unless(unless) => value != unless,
+    }
+}
+
+fn is_there(value: Val) -> bool
+    ensures { result ≡ defined.is_there value }
+{
+    match value {
+        Val::Null => false,
+        Val::Int(_) => true,
     }
 }
 
@@ -72,13 +128,16 @@ fn register_agrees(said: &OptionalName, register: &Name) -> bool
     }
 }
 
-fn word_asked(asked: Asked) -> OpWord
+/// The word for what a call asks.
+pub(crate) fn word_asked(asked: Asked) -> OpWord
     ensures { result ≡ defined.word_asked asked }
 {
     match asked {
         Asked::Read => OpWord::Read,
         Asked::Write(_) => OpWord::Write,
-        Asked::Cas { .. } => OpWord::Cas,
+        Asked::Cas(_) => OpWord::Cas,
+        Asked::Delete => OpWord::Delete,
+        Asked::Swap(_) => OpWord::Swap,
     }
 }
 

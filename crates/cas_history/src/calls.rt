@@ -1,15 +1,16 @@
 //! The operations of the calls, each by the next event of its process.
-ghost use Rattle.std.specs.Prelude.{◌≡◌, ◌≤◌, ◌+◌, length, reverse, IfOk, option_map};
+ghost use Rattle.std.specs.Prelude.{◌≡◌, ◌≤◌, ◌+◌, length, map, reverse, IfOk, option_map};
 ghost use Rattle.std.specs.Ordering.{nat_cmp};
 ghost use Rattle.std.specs.BTreeMap.{get};
 ghost use Rattle.cas_history.specs.History as defined;
 ghost use Rattle.cas_history.specs.Kept.{event_at};
 
 use crate::act::{pending_act, replied_act};
+use crate::agrees::word_asked;
 use crate::naming::Naming;
-use crate::said::{Asked, called, failed, replied};
+use crate::said::{Asked, called, failed, replied, told};
 use history_model::{Act, Operation};
-use history_text::{AnyEvent, MAX_EVENTS};
+use history_text::{AnyEvent, MAX_EVENTS, OpWord};
 use std::alloc::{AllocError, Global};
 use std::collections::BTreeMap;
 
@@ -102,13 +103,36 @@ fn reply_time(next: Option<(u32, &AnyEvent)>) -> Option<u32>
 
 fn act_of(asked: Asked, next: Option<(u32, &AnyEvent)>) -> Act
     ensures { result ≡ defined.act_of asked
-        (defined.reply_in (option_map (λ next. (next.0, next.1.now)) next.entry)) }
+        (defined.reply_in (option_map (λ next. (next.0, next.1.now)) next.entry))
+        (defined.told_in (option_map (λ next. (next.0, next.1.now)) next.entry)) }
 {
     match next {
         None => pending_act(asked),
         Some((_, event)) => match replied(&event.kind) {
             None => pending_act(asked),
-            Some(reply) => replied_act(asked, reply.value, reply.ok),
+            Some(reply) => replied_act(asked, reply.value, reply.ok, told(&event.kind)),
         },
     }
+}
+
+/// The word of each event's call, if it is one.
+pub(crate) fn call_words(
+    alloc: Global,
+    events: &[AnyEvent],
+) -> Result<Vec<Option<OpWord>>, AllocError>
+    ensures { IfOk result (λ words. words.items ≡ map defined.call_word events.now) }
+{
+    let mut words = Vec::with_capacity(alloc, events.len())?;
+    for event in events {
+        words.push(call_word(event))?;
+    }
+    Ok(words)
+}
+
+/// The word of an event's call, if it is one.
+fn call_word(event: &AnyEvent) -> Option<OpWord>
+    ensures { result ≡ defined.call_word event.now }
+{
+    let (_, asked) = called(&event.kind)?;
+    Some(word_asked(asked))
 }

@@ -5,7 +5,7 @@ ghost use Rattle.cas_history.specs.Events.{last_event};
 ghost use Rattle.cas_history.specs.History.{IsHistoryOf};
 ghost use Rattle.cas_history.specs.Refusals.{IsTakeError, event_refusal};
 
-use crate::calls::calls_backward;
+use crate::calls::{call_words, calls_backward};
 use crate::history::History;
 use crate::naming::Naming;
 use crate::reason::event_reason;
@@ -98,11 +98,13 @@ impl Events {
         let operations = backward.len();
         let registers = by_register(alloc, names.len(), backward)?;
         let lines = self.events.iter().map(|event| event.line).collect(alloc)?;
+        let words = call_words(alloc, &self.events)?;
         Ok(History {
             names,
             registers,
             operations,
             lines,
+            words,
         })
     }
 }

@@ -1,6 +1,6 @@
 //! An accepted history: the operations of each register.
 use history_model::Operation;
-use history_text::Name;
+use history_text::{Name, OpWord};
 
 /// The registers of an accepted history.
 #[derive(Drop)]
@@ -14,4 +14,6 @@ pub struct History {
     pub operations: usize,
     /// The line of each event. Event `i` has time `i + 2`.
     pub lines: Vec<u32>,
+    /// The word for the operation of each event that is a call.
+    pub words: Vec<Option<OpWord>>,
 }

@@ -5,10 +5,10 @@ ghost use Rattle.cas_history.specs.Events as defined;
 ghost use Rattle.cas_history.specs.Refusals as refused;
 
 use crate::agrees::{
-    failed_value_agrees, is_without_ok, is_without_value, parts_agree, value_agrees,
+    failed_value_agrees, is_without_ok, is_without_value, parts_agree, told_fits, value_agrees,
 };
 use crate::refusal::Reason;
-use crate::said::{Asked, called, failed, is_crash, replied};
+use crate::said::{Asked, called, failed, is_crash, replied, told};
 use history_text::{AnyEvent, MAX_EVENTS, Name};
 
 /// The lowest-numbered reason that applies to an event after `count` others, of which `last` is the last of
@@ -20,7 +20,8 @@ pub(crate) fn event_reason(
 ) -> Option<Reason>
     ensures { result ≡ refused.event_reason count (option_map (λ e. e.now) last.entry) event.now }
 {
-    let late = too_many(count).or(after_crash(last).or(reply_without_ok(last, event)));
+    let told = reply_without_ok(last, event).or(reply_tells_wrong(last, event));
+    let late = too_many(count).or(after_crash(last).or(told));
     let ended = fail_disagrees(last, event).or(reply_without_value(last, event).or(late));
     call_while_open(last, event).or(end_without_call(last, event).or(reply_disagrees(
         last, event,
@@ -83,7 +84,8 @@ fn reply_without_value(last: Option<&AnyEvent>, event: &AnyEvent) -> Option<Reas
 {
     let reply = replied(&event.kind)?;
     let (_, asked) = open_asked(last)?;
-    refused_if(is_without_value(asked, reply.value), Reason::NoValue)
+    let applies = is_without_value(asked, reply.value, told(&event.kind));
+    refused_if(applies, Reason::NoValue)
 }
 
 fn too_many(count: usize) -> Option<Reason>
@@ -105,6 +107,14 @@ fn reply_without_ok(last: Option<&AnyEvent>, event: &AnyEvent) -> Option<Reason>
     let reply = replied(&event.kind)?;
     let (_, asked) = open_asked(last)?;
     refused_if(is_without_ok(asked, reply.ok), Reason::NoOk)
+}
+
+fn reply_tells_wrong(last: Option<&AnyEvent>, event: &AnyEvent) -> Option<Reason>
+    ensures { result ≡ refused.reply_tells_wrong (option_map (λ e. e.now) last.entry) event.now }
+{
+    let reply = replied(&event.kind)?;
+    let (_, asked) = open_asked(last)?;
+    refused_if(!told_fits(asked, reply, told(&event.kind)), Reason::BadTold)
 }
 
 /// The reason, if it applies.

@@ -9,8 +9,8 @@ use std::alloc::AllocError;
 use thiserror::Error;
 
 /// Why a line is refused. Each reason has a number, and of several that apply to a line the one with the
-/// lowest number stands. All but `NoOk`, and the faults that are about cas, have the texts of histories
-/// without cas.
+/// lowest number stands. All but `NoOk`, `BadTold` and some faults of a line have the texts of histories of
+/// reads and writes.
 #[derive(Clone, Copy, Debug, PartialEq, Eq, Error)]
 pub enum Reason {
     /// 1 to 8, or 20: the fault of the line by itself.
@@ -37,10 +37,14 @@ pub enum Reason {
     /// 21: a reply to a cas with no `ok`, or another than `true` and `false`.
     #[error("a cas's reply has no ok, true or false")]
     NoOk,
+    /// 22: a reply whose `old` or `found` has another form where it counts, is missing where one is needed,
+    /// or contradicts what else the reply says.
+    #[error("old or found does not fit the event")]
+    BadTold,
 }
 
 impl Reason {
-    /// The number of the refusal: 1 to 12, 14, or 19 to 21.
+    /// The number of the refusal: 1 to 12, 14, or 19 to 22.
     pub fn number(&self) -> u8
         ensures { result ≡ reason_number self.now }
     {
@@ -53,6 +57,7 @@ impl Reason {
             Reason::TooMany => 14,
             Reason::AfterCrash(_) => 19,
             Reason::NoOk => 21,
+            Reason::BadTold => 22,
         }
     }
 
@@ -67,7 +72,8 @@ impl Reason {
             | Reason::Disagreement
             | Reason::NoValue
             | Reason::TooMany
-            | Reason::NoOk => None,
+            | Reason::NoOk
+            | Reason::BadTold => None,
         }
     }
 }

@@ -2,7 +2,7 @@
 ghost use Rattle.std.specs.Prelude.{◌≡◌, option_map};
 ghost use Rattle.cas_history.specs.Events as defined;
 
-use history_text::{AnyKind, Kind, Name, ReplyParts, Val};
+use history_text::{AnyKind, CasCall, Compared, Kind, Name, OtherCall, ReplyParts, Told, Val};
 
 /// What a call asks of its register.
 #[derive(Clone, Copy, Debug, PartialEq, Eq)]
@@ -11,8 +11,28 @@ pub enum Asked {
     Read,
     /// To hold this number.
     Write(i64),
-    /// To hold `to` if it holds `from`.
-    Cas { from: Val, to: i64 },
+    /// To hold a value, if the one that it holds is as the cas asks.
+    Cas(CasCall),
+    /// To hold no value.
+    Delete,
+    /// To hold this number, and to tell of the value before.
+    Swap(i64),
+}
+
+/// What the call of an operation asks that is neither a read nor a write.
+fn other_asked(call: &OtherCall) -> Asked
+    ensures { result ≡ defined.other_asked call.now }
+{
+    match call {
+        OtherCall::Cas(from, number) => Asked::Cas(CasCall {
+            compared: Compared::From(*from),
+            to: Val::Int(*number),
+            asks_old: false,
+        }),
+        OtherCall::CasOf(cas) => Asked::Cas(cas.get()),
+        OtherCall::Delete => Asked::Delete,
+        OtherCall::Swap(number) => Asked::Swap(*number),
+    }
 }
 
 /// The register of a call, and what is asked of it.
@@ -26,10 +46,8 @@ pub(crate) fn called(kind: &AnyKind) -> Option<(&Name, Asked)>
         AnyKind::Plain(Kind::Reply(_))
         | AnyKind::Plain(Kind::Fail(_))
         | AnyKind::Plain(Kind::Crash) => None,
-        AnyKind::CallCas(name, from, to) => {
-            let (from, to) = (*from, *to);
-            Some((name, Asked::Cas { from, to }))
-        }
+        AnyKind::CallOther(name, call) => Some((name, other_asked(call))),
+        AnyKind::Telling(_, _) => None,
     }
 }
 
@@ -39,7 +57,18 @@ pub(crate) fn replied(kind: &AnyKind) -> Option<&ReplyParts>
 {
     match kind {
         AnyKind::Plain(Kind::Reply(parts)) => Some(parts),
+        AnyKind::Telling(parts, _) => Some(parts),
         _ => None,
+    }
+}
+
+/// What a reply tells of the value that its operation met.
+pub(crate) fn told(kind: &AnyKind) -> Told
+    ensures { result ≡ defined.told_by kind.now }
+{
+    match kind {
+        AnyKind::Telling(_, told) => told.get(),
+        _ => Told::NOTHING,
     }
 }
 

@@ -8,10 +8,9 @@ use Rattle.std.proofs.Math.Seq.{take-suc}
 use Rattle.std.proofs.lemmas.Bool.{false≢true}
 use Rattle.std.proofs.lemmas.Bool.Decides.{nat_tests}
 use Rattle.history_text.specs.declared.event.Val.{Val}
-use Rattle.history_text.specs.declared.event.Val.TheVariants.{Int}
 use Rattle.history_text.specs.Values.{value_eq}
 use Rattle.history_model.specs.declared.act.Act.{Act}
-use Rattle.history_model.specs.declared.act.Act.TheVariants.{Read, Write, Cas, Miss}
+use Rattle.history_model.specs.declared.act.Act.TheVariants.{Read, Write, Cas, CasUnless, Miss}
 use Rattle.history_model.specs.declared.operation.Operation.{Operation}
 use Rattle.history_model.specs.Acts.{suits, left_by}
 use Rattle.history_model.proofs.Values.{value-true, value-refl}
@@ -25,7 +24,8 @@ use Rattle.configurations.specs.Runs.{AliveFree, over_free, called_free, replied
 use Rattle.configurations.proofs.Tables.{eq_true}
 use Rattle.cas_search.specs.Taking.{option_suits, option_left_by, suits_at, left_at}
 use Rattle.cas_search.specs.Runs.{Alive, over, called, replied, takes}
-use Rattle.cas_search.specs.ByNumbers.{IsNumbering, number_in, IsMore, DoesAs, IsCas, IsByNumber}
+use Rattle.cas_search.specs.ByNumbers.{IsNumbering, number_in, IsMore, DoesAs, IsCas, IsCasUnless}
+use Rattle.cas_search.specs.ByNumbers.{IsByNumber}
 
 -- the operation at a place by number
 pub at-place : (number : Val → Option ℕ) (ops : List Operation) (numbered : List Op)
@@ -42,10 +42,9 @@ at-place number (x ∷ ops) (o ∷ numbered) each (suc k) a e = at-place number 
 -- ---- made one by one
 
 -- a cas by the numbers of what it finds and of what it gives
-pub does-cas : (number : Val → Option ℕ) (v : Val) (n : ℤ) (from to : ℕ) (o : Op) → number v ≡ Some from
-    → number (Int n) ≡ Some to
-    → IsCas from to o → DoesAs number (Cas v n) o
-does-cas number v n from to o f t is = (
+pub does-cas : (number : Val → Option ℕ) (v w : Val) (from to : ℕ) (o : Op) → number v ≡ Some from
+    → number w ≡ Some to → IsCas from to o → DoesAs number (Cas v w) o
+does-cas number v w from to o f t is = (
   is.kind_is
       ∙ (ap (λ m. cond (m == to) kinds.Read kinds.Cas) (sym is.from_is)
       ∙ ap (λ m. cond (o.from == m) kinds.Read kinds.Cas) (sym is.to_is)),
@@ -53,12 +52,18 @@ does-cas number v n from to o f t is = (
   t ∙ ap Some (sym is.to_is),
 )
 
+pub does-unless : (number : Val → Option ℕ) (v w : Val) (from to : ℕ) (o : Op) → number v ≡ Some from
+    → number w ≡ Some to → IsCasUnless from to o → DoesAs number (CasUnless v w) o
+does-unless number v w from to o f t is =
+    (is.kind_is, f ∙ ap Some (sym is.from_is), t ∙ ap Some (sym is.to_is))
+
 module _ (old new : Val → Option ℕ) (kept : (v : Val) (k : ℕ) → old v ≡ Some k → new v ≡ Some k) where
   does-still : (act : Act) (o : Op) → DoesAs old act o → DoesAs new act o
   does-still (Read None) o d = d
   does-still (Read (Some v)) o d = (d.0, kept v o.from d.1)
   does-still (Write v) o d = (d.0, d.1, kept v o.to d.2)
-  does-still (Cas v n) o d = (d.0, kept v o.from d.1, kept (Int n) o.to d.2)
+  does-still (Cas v w) o d = (d.0, kept v o.from d.1, kept w o.to d.2)
+  does-still (CasUnless v w) o d = (d.0, kept v o.from d.1, kept w o.to d.2)
   does-still (Miss v) o d = (d.0, kept v o.from d.1)
 
   each-still : (ops : List Operation) (numbered : List Op) → AllZip (IsByNumber old) ops numbered
@@ -105,6 +110,13 @@ module _ (number : Val → Option ℕ) (numbering : IsNumbering number) (o : Op)
   by-kind : (k : Kind) → o.kind ≡ k → by.kind_fits k o.from n ≡ true → by.fits o n ≡ true
   by-kind k e f = ap (λ x. by.kind_fits x o.from n) e ∙ f
 
+  -- a value other than that of the number `from`
+  other-number : (w : Val) → number w ≡ Some o.from → not (value_eq v w) ≡ true → not (n == o.from) ≡ true
+  other-number w f s =
+      other-test n o.from (λ e.
+      let same : v ≡ w = numbering.apart v w n is (f ∙ ap Some (sym e)) in
+      false≢true (sym (ap not (ap (value_eq v) (sym same) ∙ value-refl v)) ∙ s))
+
   -- where the value suits an act, its number suits the act by numbers
   pub fits : (act : Act) → DoesAs number act o → suits act v ≡ true → by.fits o n ≡ true
   fits (Read None) d s =
@@ -120,9 +132,8 @@ module _ (number : Val → Option ℕ) (numbering : IsNumbering number) (o : Op)
       go : (b : Bool) → o.kind ≡ cond b kinds.Read kinds.Cas → by.fits o n ≡ true
       go true e = by-kind kinds.Read e found
       go false e = by-kind kinds.Cas e found
-  fits (Miss w) d s = by-kind kinds.Miss d.0 (other-test n o.from (λ e.
-      let same : v ≡ w = numbering.apart v w n is (d.1 ∙ ap Some (sym e)) in
-      false≢true (sym (ap not (ap (value_eq v) (sym same) ∙ value-refl v)) ∙ s)))
+  fits (CasUnless w m) d s = by-kind kinds.CasUnless d.0 (other-number w d.1 s)
+  fits (Miss w) d s = by-kind kinds.Miss d.0 (other-number w d.1 s)
 
   leaves : (k : Kind) (w : Val) (m : ℕ) → o.kind ≡ k → number w ≡ Some m → m ≡ by.kind_leaves k o.to n
       → number w ≡ Some (by.left_by o n)
@@ -137,11 +148,12 @@ module _ (number : Val → Option ℕ) (numbering : IsNumbering number) (o : Op)
   left (Cas w m) d s = go (o.from == o.to) refl d.0
     where
       go : (b : Bool) → (o.from == o.to) ≡ b → o.kind ≡ cond b kinds.Read kinds.Cas
-          → number (Int m) ≡ Some (by.left_by o n)
+          → number m ≡ Some (by.left_by o n)
       go true t e =
           let same : o.from ≡ o.to = grind (arith, nat_tests) in
-          leaves kinds.Read (Int m) o.to e d.2 (sym same ∙ sym (same-number w o.from d.1 (value-true v w s)))
-      go false t e = leaves kinds.Cas (Int m) o.to e d.2 refl
+          leaves kinds.Read m o.to e d.2 (sym same ∙ sym (same-number w o.from d.1 (value-true v w s)))
+      go false t e = leaves kinds.Cas m o.to e d.2 refl
+  left (CasUnless w m) d s = leaves kinds.CasUnless m o.to d.0 d.2 refl
   left (Miss w) d s = leaves kinds.Miss v n d.0 is refl
 
 -- ---- whole runs

@@ -16,7 +16,7 @@ use Rattle.history_text.specs.declared.event.Val.TheVariants.{Null, Int}
 use Rattle.history_model.specs.Lists.{In}
 use Rattle.history_model.proofs.Lists.{In-left, In-right, append-In, Before-first, slice_get-In}
 use Rattle.history_model.specs.declared.act.Act.{Act}
-use Rattle.history_model.specs.declared.act.Act.TheVariants.{Read, Write, Cas, Miss}
+use Rattle.history_model.specs.declared.act.Act.TheVariants.{Read, Write, Cas, CasUnless, Miss}
 use Rattle.history_model.specs.declared.operation.Operation.{Operation}
 use Rattle.history_model.specs.Acts.{Suits, suits, asks, given_by}
 use Rattle.history_model.specs.Legal.{IsAtomic}
@@ -108,6 +108,7 @@ asked-asks (Read None) n e = absurd (cc (e))
 asked-asks (Read (Some v)) n e = refl
 asked-asks (Write v) n e = absurd (cc (e))
 asked-asks (Cas from to) n e = refl
+asked-asks (CasUnless unless to) n e = refl
 asked-asks (Miss from) n e = refl
 
 asked-suits : (act : Act) (n : ℤ) (v : Val) → number_asked act ≡ Some n → suits act v ≡ true → v ≡ Int n
@@ -117,13 +118,17 @@ asked-suits (Read (Some (Int m))) n v e s = let same : m ≡ n = cc (e) in value
 asked-suits (Write w) n v e s = absurd (cc (e))
 asked-suits (Cas Null to) n v e s = absurd (cc (e))
 asked-suits (Cas (Int m) to) n v e s = let same : m ≡ n = cc (e) in value-true v (Int m) s ∙ ap Int same
+asked-suits (CasUnless unless to) n v e s = absurd (cc (e))
 asked-suits (Miss from) n v e s = absurd (cc (e))
 
 given-number : (act : Act) (n : ℤ) → IsSomeAnd (given_by act) (λ v. v ≡ Int n) → number_given act ≡ Some n
 given-number (Read v) n e = absurd e
 given-number (Write Null) n e = absurd (cc (e))
 given-number (Write (Int m)) n e = let same : m ≡ n = cc (e) in ap Some same
-given-number (Cas from to) n e = let same : to ≡ n = cc (e) in ap Some same
+given-number (Cas from Null) n e = absurd (cc (e))
+given-number (Cas from (Int m)) n e = let same : m ≡ n = cc (e) in ap Some same
+given-number (CasUnless unless Null) n e = absurd (cc (e))
+given-number (CasUnless unless (Int m)) n e = let same : m ≡ n = cc (e) in ap Some same
 given-number (Miss from) n e = absurd e
 
 asked-given : (o : Option Val) (act : Act) (n : ℤ) → number_asked act ≡ Some n → IsSomeAnd o (Suits act)

@@ -7,7 +7,7 @@ use Rattle.std.specs.Ordering.{int_cmp}
 use Rattle.history_text.specs.declared.event.Val.{Val}
 use Rattle.history_text.specs.declared.event.Val.TheVariants.{Null, Int}
 use Rattle.history_model.specs.declared.act.Act.{Act}
-use Rattle.history_model.specs.declared.act.Act.TheVariants.{Read, Write, Cas, Miss}
+use Rattle.history_model.specs.declared.act.Act.TheVariants.{Read, Write, Cas, CasUnless, Miss}
 use Rattle.history_model.specs.declared.operation.Operation.{Operation}
 use Rattle.history_model.specs.Operations.{reply_of}
 use Rattle.configurations.specs.declared.op.Op.{Op}
@@ -48,9 +48,11 @@ abbrev pub DoesAs : (Val → Option ℕ) → Act → Op → Type 0
 DoesAs number (Read None) o = (o.kind ≡ kinds.Miss) × (o.from ≡ NOTHING)
 DoesAs number (Read (Some v)) o = (o.kind ≡ kinds.Read) × (number v ≡ Some o.from)
 DoesAs number (Write v) o = (o.kind ≡ kinds.Write) × (o.from ≡ o.to) × (number v ≡ Some o.to)
-DoesAs number (Cas v n) o =
+DoesAs number (Cas v w) o =
     (o.kind ≡ (if o.from == o.to then kinds.Read else kinds.Cas)) × (number v ≡ Some o.from)
-    × (number (Int n) ≡ Some o.to)
+    × (number w ≡ Some o.to)
+DoesAs number (CasUnless v w) o =
+    (o.kind ≡ kinds.CasUnless) × (number v ≡ Some o.from) × (number w ≡ Some o.to)
 DoesAs number (Miss v) o = (o.kind ≡ kinds.Miss) × (number v ≡ Some o.from)
 
 -- an operation of one value
@@ -63,6 +65,12 @@ pub record IsOfOne (kind : Kind) (number : ℕ) (o : Op) : Type 0 where
 pub record IsCas (from to : ℕ) (o : Op) : Type 0 where
   pub kind_is : o.kind ≡ (if from == to then kinds.Read else kinds.Cas)
   pub from_is : o.from ≡ from
+  pub to_is : o.to ≡ to
+
+-- a cas that finds any value but one
+pub record IsCasUnless (unless to : ℕ) (o : Op) : Type 0 where
+  pub kind_is : o.kind ≡ kinds.CasUnless
+  pub from_is : o.from ≡ unless
   pub to_is : o.to ≡ to
 
 -- the rank of an operation with this reply

@@ -5,7 +5,7 @@ use Rattle.std.specs.BTreeSet.{BTreeSet, contains}
 use Rattle.history_text.specs.declared.event.Val.TheVariants.{Null, Int}
 use Rattle.history_model.specs.Lists.{In}
 use Rattle.history_model.specs.declared.act.Act.{Act}
-use Rattle.history_model.specs.declared.act.Act.TheVariants.{Read, Write, Cas, Miss}
+use Rattle.history_model.specs.declared.act.Act.TheVariants.{Read, Write, Cas, CasUnless, Miss}
 use Rattle.history_model.specs.declared.operation.Operation.{Operation}
 
 -- the number that an act gives the register
@@ -13,7 +13,10 @@ abbrev pub number_given : Act → Option ℤ
 number_given (Read value) = None
 number_given (Write Null) = None
 number_given (Write (Int n)) = Some n
-number_given (Cas from to) = Some to
+number_given (Cas from Null) = None
+number_given (Cas from (Int n)) = Some n
+number_given (CasUnless unless Null) = None
+number_given (CasUnless unless (Int n)) = Some n
 number_given (Miss from) = None
 
 -- the number that a read gives, or that a cas finds
@@ -24,6 +27,7 @@ number_asked (Read (Some (Int n))) = Some n
 number_asked (Write value) = None
 number_asked (Cas Null to) = None
 number_asked (Cas (Int n) to) = Some n
+number_asked (CasUnless unless to) = None
 number_asked (Miss from) = None
 
 -- an operation needs the number that it asks for, if it is completed

@@ -1,8 +1,8 @@
 //! Operations by numbers.
 ghost use Rattle.std.specs.Prelude.{◌≡◌, Some, None, IfOk};
 ghost use Rattle.history_text.specs.declared.event.Val.TheVariants.{Int};
-ghost use Rattle.cas_search.specs.ByNumbers.{AreByNumbers, IsByNumber, IsCas, IsMore, IsOfOne, IsRank};
-ghost use Rattle.cas_search.specs.ByNumbers.{number_in};
+ghost use Rattle.cas_search.specs.ByNumbers.{AreByNumbers, IsByNumber, IsCas, IsCasUnless, IsMore};
+ghost use Rattle.cas_search.specs.ByNumbers.{IsOfOne, IsRank, number_in};
 
 use configurations::{Kind, NEVER, Op};
 use history_model::{Act, Operation};
@@ -57,8 +57,13 @@ fn by_number(numbers: &mut BTreeMap<i64, u32>, op: &Operation) -> Result<Op, All
         }
         Act::Cas { from, to } => {
             let from = number_of(numbers, from)?;
-            let to = number_of(numbers, Val::Int(to))?;
+            let to = number_of(numbers, to)?;
             Ok(cas(from, to, op.reply_time()))
+        }
+        Act::CasUnless { unless, to } => {
+            let unless = number_of(numbers, unless)?;
+            let to = number_of(numbers, to)?;
+            Ok(cas_unless(unless, to, op.reply_time()))
         }
         Act::Miss { from } => {
             let number = number_of(numbers, from)?;
@@ -90,6 +95,19 @@ fn cas(from: u32, to: u32, reply: Option<u32>) -> Op
     Op {
         kind,
         from,
+        to,
+        rank: rank(reply),
+    }
+}
+
+/// A cas that finds any value but one.
+fn cas_unless(unless: u32, to: u32, reply: Option<u32>) -> Op
+    ensures op { IsCasUnless unless to result }
+    ensures rank { IsRank reply result.rank }
+{
+    Op {
+        kind: Kind::CasUnless,
+        from: unless,
         to,
         rank: rank(reply),
     }

@@ -68,8 +68,17 @@ fn number_of(act: Act) -> Option<i64>
 {
     match act {
         Act::Write(Val::Int(number)) => Some(number),
-        Act::Cas { to, .. } => Some(to),
+        Act::Cas {
+            to: Val::Int(number),
+            ..
+        } => Some(number),
+        Act::CasUnless {
+            to: Val::Int(number),
+            ..
+        } => Some(number),
         Act::Write(Val::Null) => None,
+        Act::Cas { to: Val::Null, .. } => None,
+        Act::CasUnless { to: Val::Null, .. } => None,
         Act::Read(_) => None,
         Act::Miss { .. } => None,
     }
@@ -109,6 +118,7 @@ fn asked(act: Act) -> Option<i64>
             from: Val::Null,
             ..
         } => None,
+        Act::CasUnless { .. } => None,
         Act::Miss { .. } => None,
     }
 }

@@ -3,7 +3,7 @@ use Rattle.std.proofs.Common.{◌≡◌, ℕ, zero, suc, ◌<◌, Bool, true, fa
 use Rattle.std.proofs.Common.{List, [], ◌∷◌, map, inl, inr, refl, sym, ap, subst, ◌∙◌}
 use Rattle.configurations.specs.declared.op.Op.{Op}
 use Rattle.configurations.specs.declared.op.Kind.{Kind}
-use Rattle.configurations.specs.declared.op.Kind.TheVariants.{Read, Write, Cas, Miss}
+use Rattle.configurations.specs.declared.op.Kind.TheVariants.{Read, Write, Cas, CasUnless, Miss}
 use Rattle.configurations.specs.declared.op.TheConstants.{NEVER}
 use Rattle.configurations.specs.declared.moment.Moment.{Moment}
 use Rattle.configurations.specs.declared.moment.Moment.TheVariants.{Call, Reply}
@@ -23,6 +23,11 @@ module _ (o : Op) (v : ℕ) where
       go : (b : Bool) → fits (cond b o (written o)) v ≡ true
       go true = ap (λ x. kind_fits x o.from v) e ∙ f
       go false = refl
+  fits_kind CasUnless e f = go (nat_lt o.rank NEVER)
+    where
+      go : (b : Bool) → fits (cond b o (written o)) v ≡ true
+      go true = ap (λ x. kind_fits x o.from v) e ∙ f
+      go false = refl
   fits_kind Miss e f = ap (λ x. kind_fits x o.from v) e ∙ f
 
   leaves_kind : (k : Kind) → o.kind ≡ k → left_by (ease_kind k o) v ≡ left_by o v
@@ -33,12 +38,22 @@ module _ (o : Op) (v : ℕ) where
       go : (b : Bool) → left_by (cond b o (written o)) v ≡ left_by o v
       go true = refl
       go false = sym (ap (λ x. kind_leaves x o.to v) e)
+  leaves_kind CasUnless e = go (nat_lt o.rank NEVER)
+    where
+      go : (b : Bool) → left_by (cond b o (written o)) v ≡ left_by o v
+      go true = refl
+      go false = sym (ap (λ x. kind_leaves x o.to v) e)
   leaves_kind Miss e = refl
 
 rank_kind : (o : Op) (k : Kind) → (ease_kind k o).rank ≡ o.rank
 rank_kind o Read = refl
 rank_kind o Write = refl
 rank_kind o Cas = go (nat_lt o.rank NEVER)
+  where
+    go : (b : Bool) → (cond b o (written o)).rank ≡ o.rank
+    go true = refl
+    go false = refl
+rank_kind o CasUnless = go (nat_lt o.rank NEVER)
   where
     go : (b : Bool) → (cond b o (written o)).rank ≡ o.rank
     go true = refl

@@ -6,7 +6,7 @@ use Rattle.std.proofs.lemmas.Option.{get_or_from_slice_get}
 use Rattle.slot_sets.specs.Sets.{has}
 use Rattle.configurations.specs.declared.op.Op.{Op}
 use Rattle.configurations.specs.declared.op.Kind.{Kind}
-use Rattle.configurations.specs.declared.op.Kind.TheVariants.{Read, Write, Cas, Miss}
+use Rattle.configurations.specs.declared.op.Kind.TheVariants.{Read, Write, Cas, CasUnless, Miss}
 use Rattle.configurations.specs.declared.table.Table.{Table}
 use Rattle.configurations.specs.declared.config.Config.{Config}
 use Rattle.configurations.specs.declared.config.Configs.{Configs}
@@ -24,6 +24,7 @@ kind_idle : (k : Kind) → kind_looks k ≡ true → (b v : ℕ) → kind_leaves
 kind_idle Read e b v = refl
 kind_idle Write e b v = absurd (false≢true e)
 kind_idle Cas e b v = absurd (false≢true e)
+kind_idle CasUnless e b v = absurd (false≢true e)
 kind_idle Miss e b v = refl
 
 pub looking_is_idle : (ops : List Op) (j : ℕ) (o : Op) → slice_get ops j ≡ Some o → kind_looks o.kind ≡ true

@@ -9,7 +9,7 @@ use Rattle.slot_sets.specs.Sets.{has}
 use Rattle.slot_sets.proofs.OneSlot.{has_past}
 use Rattle.configurations.specs.declared.op.Op.{Op}
 use Rattle.configurations.specs.declared.op.Kind.{Kind}
-use Rattle.configurations.specs.declared.op.Kind.TheVariants.{Read, Write, Cas, Miss}
+use Rattle.configurations.specs.declared.op.Kind.TheVariants.{Read, Write, Cas, CasUnless, Miss}
 use Rattle.configurations.specs.declared.table.Table.{Table}
 use Rattle.configurations.specs.Ops.{fits_at, option_fits, kind_fits, kind_looks, kind_misses, kind_writes}
 use Rattle.configurations.specs.Tables.{IsGiven, IsReleased, IsSlot, IsTable, call_at}
@@ -20,6 +20,7 @@ kind_tests : (k : Kind) (a v : ℕ)
 kind_tests Read a v = elim (v == a) as (λ b. (b || false) ≡ b) [ true ↦ refl | false ↦ refl ]
 kind_tests Write a v = elim (v == a) as (λ b. (b || true) ≡ true) [ true ↦ refl | false ↦ refl ]
 kind_tests Cas a v = elim (v == a) as (λ b. (b || false) ≡ b) [ true ↦ refl | false ↦ refl ]
+kind_tests CasUnless a v = elim (v == a) as (λ b. (not b || false) ≡ not b) [ true ↦ refl | false ↦ refl ]
 kind_tests Miss a v = elim (v == a) as (λ b. (not b || false) ≡ not b) [ true ↦ refl | false ↦ refl ]
 
 -- nothing is asked past the end

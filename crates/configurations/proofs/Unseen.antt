@@ -6,7 +6,7 @@ use Rattle.std.proofs.lemmas.Bool.{false≢true, cases_Bool}
 use Rattle.std.proofs.lemmas.Bool.Decides.{nat_tests}
 use Rattle.configurations.specs.declared.op.Op.{Op}
 use Rattle.configurations.specs.declared.op.Kind.{Kind}
-use Rattle.configurations.specs.declared.op.Kind.TheVariants.{Read, Write, Cas, Miss}
+use Rattle.configurations.specs.declared.op.Kind.TheVariants.{Read, Write, Cas, CasUnless, Miss}
 use Rattle.configurations.specs.declared.moment.Moment.{Moment}
 use Rattle.configurations.specs.declared.moment.Moment.TheVariants.{Call, Reply}
 use Rattle.history_model.specs.Lists.{In}
@@ -166,6 +166,7 @@ module _ (ops : List Op) where
       of_kind Read a b = absurd (false≢true b)
       of_kind Write a b = refl
       of_kind Cas a b = absurd (false≢true b)
+      of_kind CasUnless a b = absurd (false≢true b)
       of_kind Miss a b = absurd (false≢true b)
 
       go : (o : Option Op) → option_writes o ≡ true → option_fits o s ≡ true
@@ -179,6 +180,7 @@ module _ (ops : List Op) where
       of_kind Read a b = absurd (false≢true b)
       of_kind Write a b = refl
       of_kind Cas a b = absurd (false≢true b)
+      of_kind CasUnless a b = absurd (false≢true b)
       of_kind Miss a b = absurd (false≢true b)
 
       go : (o : Option Op) → option_writes o ≡ true → option_left_by o s ≡ option_left_by o t

@@ -2,7 +2,7 @@
 use Rattle.std.specs.Prelude.{cond, nat_lt}
 use Rattle.configurations.specs.declared.op.Op.{Op}
 use Rattle.configurations.specs.declared.op.Kind.{Kind}
-use Rattle.configurations.specs.declared.op.Kind.TheVariants.{Read, Write, Cas, Miss}
+use Rattle.configurations.specs.declared.op.Kind.TheVariants.{Read, Write, Cas, CasUnless, Miss}
 use Rattle.configurations.specs.declared.op.TheConstants.{NEVER}
 
 -- a write of what the operation gives
@@ -13,6 +13,7 @@ abbrev pub ease_kind : Kind → Op → Op
 ease_kind Read o = o
 ease_kind Write o = o
 ease_kind Cas o = cond (nat_lt o.rank NEVER) o (written o)
+ease_kind CasUnless o = cond (nat_lt o.rank NEVER) o (written o)
 ease_kind Miss o = o
 
 -- the operation, but that it is a write if it's a cas without a reply

@@ -2,7 +2,7 @@
 use Rattle.std.specs.Prelude.{ℕ, ◌==◌, ◌&&◌, not, Bool, true, false, List, slice_get, Option, Some, None}
 use Rattle.configurations.specs.declared.op.Op.{Op}
 use Rattle.configurations.specs.declared.op.Kind.{Kind}
-use Rattle.configurations.specs.declared.op.Kind.TheVariants.{Read, Write, Cas, Miss}
+use Rattle.configurations.specs.declared.op.Kind.TheVariants.{Read, Write, Cas, CasUnless, Miss}
 use Rattle.configurations.specs.declared.op.TheConstants.{NEVER}
 
 -- whether an operation of a kind that asks for a may meet the value v
@@ -10,6 +10,7 @@ abbrev pub kind_fits : Kind → ℕ → ℕ → Bool
 kind_fits Read a v = v == a
 kind_fits Write a v = true
 kind_fits Cas a v = v == a
+kind_fits CasUnless a v = not (v == a)
 kind_fits Miss a v = not (v == a)
 
 -- the value after it, if it gives b
@@ -17,6 +18,7 @@ abbrev pub kind_leaves : Kind → ℕ → ℕ → ℕ
 kind_leaves Read b v = v
 kind_leaves Write b v = b
 kind_leaves Cas b v = b
+kind_leaves CasUnless b v = b
 kind_leaves Miss b v = v
 
 abbrev pub fits : Op → ℕ → Bool
@@ -45,6 +47,7 @@ abbrev pub kind_looks : Kind → Bool
 kind_looks Read = true
 kind_looks Write = false
 kind_looks Cas = false
+kind_looks CasUnless = false
 kind_looks Miss = true
 
 -- a write takes effect at any value, and leaves its own
@@ -52,13 +55,15 @@ abbrev pub kind_writes : Kind → Bool
 kind_writes Read = false
 kind_writes Write = true
 kind_writes Cas = false
+kind_writes CasUnless = false
 kind_writes Miss = false
 
--- a cas that missed
+-- it takes effect at each value but one
 abbrev pub kind_misses : Kind → Bool
 kind_misses Read = false
 kind_misses Write = false
 kind_misses Cas = false
+kind_misses CasUnless = true
 kind_misses Miss = true
 
 abbrev pub option_writes : Option Op → Bool

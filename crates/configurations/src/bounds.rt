@@ -22,8 +22,9 @@ pub struct Bounds {
     /// How often two configurations may be compared, a call be tried in one, or one go over an event; each
     /// counts once for each 64 calls that are open at a time, their number rounded up to a power of two. That
     /// two calls are compared counts as four more, that a configuration finds its place among the best as
-    /// eight more. That a change takes effect counts as 256, since it is remembered, or as 16 in the place of
-    /// one that was forgotten.
+    /// eight more, that a call is tried or asked what it needs as two more. That a change takes effect counts
+    /// as 256, since it is remembered, or as 16 in the place of one that was forgotten. Depth first, a look
+    /// at the next call counts as five.
     pub steps: u64,
     /// How many configurations one list may hold.
     pub configurations: usize,

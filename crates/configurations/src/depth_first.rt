@@ -18,9 +18,12 @@ use crate::work::Limits;
 use std::alloc::{AllocError, Global};
 
 /// How many places it looks at: this many, plus some for each event.
-const STEPS: u64 = 1 << 20;
+const PLACES: u64 = 1 << 20;
 
-const STEPS_PER_EVENT: u64 = 64;
+const PLACES_PER_EVENT: u64 = 64;
+
+/// How many steps it spends to look at one of them, and perhaps to let its call take effect.
+const STEPS_PER_PLACE: u64 = 5;
 
 /// How many changes it tries without getting further. Where an order is found, few are in vain.
 const PATIENCE: u64 = 1 << 13;
@@ -72,7 +75,7 @@ struct Walk {
     chosen: Vec<Choice>,
 }
 
-/// Looks for an order, in a number of steps in proportion to the events.
+/// Looks for an order, at a number of places in proportion to the events.
 pub(crate) fn depth_first(
     alloc: Global,
     ops: &[Op],
@@ -82,16 +85,16 @@ pub(crate) fn depth_first(
     ensures { IfOk result (λ found. AreInOrder ops.now [] events.now → IsReached ops.now events.now found) }
 {
     let count = events.len();
-    let steps = (count as u64)
-        .saturating_mul(STEPS_PER_EVENT)
-        .saturating_add(STEPS)
-        .min(limits.steps);
+    let places = (count as u64)
+        .saturating_mul(PLACES_PER_EVENT)
+        .saturating_add(PLACES)
+        .min(limits.steps / STEPS_PER_PLACE);
     let mut walk = Walk::new(alloc, ops, events)?;
-    for _ in 0..steps {
+    for _ in 0..places {
         if walk.left == 0 {
             return Ok(Reached::Left(walk.changes(alloc, ops)?));
         }
-        limits.steps = limits.steps.saturating_sub(1);
+        limits.steps = limits.steps.saturating_sub(STEPS_PER_PLACE);
         walk.note_fewest();
         if walk.is_stuck() || !walk.step(ops, events)? {
             break;

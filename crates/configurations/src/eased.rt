@@ -42,7 +42,7 @@ fn eased(op: &Op) -> Op
     ensures { result ≡ ease op.now }
 {
     match op.kind {
-        Kind::Cas => {
+        Kind::Cas | Kind::CasUnless => {
             if op.rank < NEVER {
                 *op
             } else {

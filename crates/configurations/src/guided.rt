@@ -7,9 +7,10 @@ ghost use Rattle.configurations.specs.declared.moment.Moment.TheVariants.{Reply 
 ghost use Rattle.slot_sets.specs.Sets.{has};
 
 use crate::config::{Config, Configs};
-use crate::outlook::{Outlook, Supply, finders};
+use crate::outlook::{Outlook, STEPS_PER_FINDER, Supply, finders};
 use crate::reply::{
-    Lists, STEPS_PER_RIVAL, fitting, has_elder, is_led, is_of_use, offspring, put_down,
+    Lists, STEPS_PER_RIVAL, STEPS_PER_TRIAL, fitting, has_elder, is_led, is_of_use, offspring,
+    put_down,
 };
 use crate::table::Table;
 use crate::work::{Stop, Work};
@@ -190,7 +191,7 @@ fn cost_without<const W: usize>(
     requires table { IsTable table.now }
 {
     spent.spend(W as u64)?;
-    Ok(match outlook.supply(table, config, value) {
+    Ok(match outlook.supply(table, config, value, spent)? {
         Supply::Enough => Some(config.cost),
         Supply::Doubtful => Some(config.cost.saturating_add(DOUBT)),
         Supply::Missing => None,
@@ -216,7 +217,7 @@ fn try_slot<const W: usize>(
     if has_elder(table, config, slot) {
         return lists.spent.spend(STEPS_PER_RIVAL);
     }
-    lists.spent.spend(W as u64)?;
+    lists.spent.spend(STEPS_PER_TRIAL.saturating_add(W as u64))?;
     if !is_of_use(table, config, slot, reply) || is_led(table, config, slot, &mut lists.spent)? {
         return Ok(());
     }
@@ -319,7 +320,9 @@ fn spared<const W: usize>(
         return Ok(table.unanswered.minus(&table.alike(reply)));
     }
     let finders = finders(table, config);
-    spent.spend((finders.count() as u64).saturating_mul(W as u64))?;
+    spent.spend(
+        (finders.count() as u64).saturating_mul(STEPS_PER_FINDER.saturating_add(W as u64)),
+    )?;
     Ok(table.unanswered.minus(&given_to(table, outlook, &finders)))
 }
 

@@ -11,6 +11,8 @@ pub enum Kind {
     Write,
     /// A cas: it found `from`, and gave the register `to`.
     Cas,
+    /// A cas that found another value than `from`, and gave the register `to`.
+    CasUnless,
     /// A cas that missed: it found another value than `from`.
     Miss,
 }
@@ -34,7 +36,7 @@ pub(crate) fn left(op: &Op, value: u32) -> u32
     ensures { result ≡ left_by op.now value }
 {
     match op.kind {
-        Kind::Write | Kind::Cas => op.to,
+        Kind::Write | Kind::Cas | Kind::CasUnless => op.to,
         Kind::Read | Kind::Miss => value,
     }
 }
@@ -55,12 +57,12 @@ pub(crate) fn writes(op: &Op) -> bool
     matches!(op.kind, Kind::Write)
 }
 
-/// Whether it is a cas that missed.
+/// Whether it may meet each value but `from`.
 #[inline(always)]
 pub(crate) fn misses(op: &Op) -> bool
     ensures { result ≡ kind_misses op.now.kind }
 {
-    matches!(op.kind, Kind::Miss)
+    matches!(op.kind, Kind::CasUnless | Kind::Miss)
 }
 
 /// Whether it may meet this value.
@@ -71,7 +73,7 @@ pub(crate) fn suits(op: &Op, value: u32) -> bool
     match op.kind {
         Kind::Write => true,
         Kind::Read | Kind::Cas => value == op.from,
-        Kind::Miss => value != op.from,
+        Kind::CasUnless | Kind::Miss => value != op.from,
     }
 }
 
@@ -86,6 +88,7 @@ pub(crate) fn is_alike(one: &Op, other: &Op) -> bool
         && match (one.kind, other.kind) {
             (Kind::Write, Kind::Write) => true,
             (Kind::Cas, Kind::Cas) => one.from == other.from,
+            (Kind::CasUnless, Kind::CasUnless) => one.from == other.from,
             _ => false,
         }
 }

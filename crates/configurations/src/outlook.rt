@@ -7,8 +7,12 @@ use crate::config::Config;
 use crate::moment::Moment;
 use crate::op::{NEVER, Op, looks, misses, writes};
 use crate::table::Table;
+use crate::work::{Stop, Work};
 use slot_sets::Slots;
 use std::alloc::{AllocError, Global};
+
+/// How many steps it spends to look at an open call that may need a value.
+pub(crate) const STEPS_PER_FINDER: u64 = 2;
 
 /// What calls ask for, by value and by number. A value is needed if a read or a cas that replies finds it,
 /// and no call that gives it comes before that reply.
@@ -144,30 +148,42 @@ impl<const W: usize> Outlook<W> {
 
     /// Whether a configuration that has left a value, or dropped a call that gives it, can still have it
     /// where it is needed.
-    pub(crate) fn supply(&self, table: &Table<W>, config: &Config<W>, value: u32) -> Supply
+    pub(crate) fn supply(
+        &self,
+        table: &Table<W>,
+        config: &Config<W>,
+        value: u32,
+        spent: &mut Work,
+    ) -> Result<Supply, Stop>
         requires { IsTable table.now }
     {
         if config.value == value {
-            return Supply::Enough;
+            return Ok(Supply::Enough);
         }
         let open = config.owed.union(&config.free);
         let givers = self.givers(value).common(&open);
         let doubtful = table.unanswered.minus(&table.writes);
-        if !givers.is_within(&doubtful) || !self.needs(table, config, value) {
-            Supply::Enough
+        if !givers.is_within(&doubtful) || !self.needs(table, config, value, spent)? {
+            Ok(Supply::Enough)
         } else if givers.meets(&doubtful) {
-            Supply::Doubtful
+            Ok(Supply::Doubtful)
         } else {
-            Supply::Missing
+            Ok(Supply::Missing)
         }
     }
 
     /// Whether a value is needed: by a call to come, or by one that is open in the configuration.
-    fn needs(&self, table: &Table<W>, config: &Config<W>, value: u32) -> bool
+    fn needs(
+        &self,
+        table: &Table<W>,
+        config: &Config<W>,
+        value: u32,
+        spent: &mut Work,
+    ) -> Result<bool, Stop>
         requires { IsTable table.now }
     {
         if get_count(&self.needed, value) > 0 {
-            return true;
+            return Ok(true);
         }
         let open = finders(table, config).common(&table.asked(value));
         let mut at = 0;
@@ -175,12 +191,13 @@ impl<const W: usize> Outlook<W> {
             let Some(slot) = open.first_from(at) else {
                 break
             };
+            spent.spend(STEPS_PER_FINDER)?;
             if self.given_by_of(table.call(slot) as usize) <= self.called {
-                return true;
+                return Ok(true);
             }
             at = slot + 1;
         }
-        false
+        Ok(false)
     }
 }
 

@@ -104,6 +104,9 @@ const MOST_RIVALS: usize = 1_024;
 /// How many steps it spends to look at one of them, or to find the one that goes first if neither replies.
 pub(crate) const STEPS_PER_RIVAL: u64 = 4;
 
+/// How many steps it spends to try a call, beside one for each word.
+pub(crate) const STEPS_PER_TRIAL: u64 = 2;
+
 /// Whether the call of another slot goes first: it changes alike and replies sooner, and
 /// must take effect or needn't as this one. Some of those that reply are looked at.
 #[inline(always)]
@@ -250,7 +253,7 @@ fn try_slot<const W: usize>(
     if has_elder(table, config, slot) {
         return lists.spent.spend(STEPS_PER_RIVAL);
     }
-    lists.spent.spend(W as u64)?;
+    lists.spent.spend(STEPS_PER_TRIAL.saturating_add(W as u64))?;
     if is_of_use(table, config, slot, reply) {
         lists.spent.spend(W as u64 / 2)?;
         if is_led(table, config, slot, &mut lists.spent)? {

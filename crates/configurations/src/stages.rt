@@ -62,7 +62,7 @@ const ALL: u64 = 8;
 /// comes before the eased one, since the reply that the latter names need not be the first hopeless one. The
 /// last is as wide as the bounds allow.
 const STAGES: [Stage; 10] = [
-    stage!(DepthFirst, 1, 1, ALL),
+    stage!(DepthFirst, 1, 1, 4),
     stage!(Thrifty, 8, MOST, 6),
     stage!(Thrifty, 32, MOST, 4),
     stage!(Exact, MOST, 256, 2),

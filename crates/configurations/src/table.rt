@@ -15,7 +15,7 @@ use std::collections::BTreeMap;
 /// The cost of letting a write that never replies take effect; a call that must still take effect counts 1.
 const WRITE_COST: u32 = 12;
 
-/// The cost of letting a cas that never replies take effect.
+/// The cost of letting a cas from a value take effect that never replies.
 const CAS_COST: u32 = 8;
 
 /// No call.
@@ -36,6 +36,7 @@ pub(crate) struct Table<const W: usize> {
     /// The slots of reads and misses.
     pub looks: Slots<W>,
     pub writes: Slots<W>,
+    /// The slots of calls that may meet each value but one.
     pub misses: Slots<W>,
     /// The slots of calls that never reply. Nothing rests on them.
     pub unanswered: Slots<W>,
@@ -130,13 +131,13 @@ impl<const W: usize> Table<W> {
     }
 
     /// What it costs in all once the call of a slot has taken effect, too: more if it never replies, and most
-    /// if it is a write, which may serve at any value later.
+    /// if it may serve at any value later, or at any but one.
     #[inline(always)]
     pub(crate) fn cost_with(&self, slot: u32, cost: u32) -> u32 {
         if !self.unanswered.has(slot) {
             return cost;
         }
-        cost.saturating_add(if self.writes.has(slot) {
+        cost.saturating_add(if self.writes.has(slot) || self.misses.has(slot) {
             WRITE_COST
         } else {
             CAS_COST
@@ -249,7 +250,7 @@ fn elders(alloc: Global, ops: &[Op]) -> Result<Vec<usize>, AllocError> {
         let elder = if op.rank < NEVER {
             None
         } else {
-            last.insert((writes(op), op.from, op.to), place)?
+            last.insert((writes(op), misses(op), op.from, op.to), place)?
         };
         elders.push(elder.unwrap_or(NO_CALL))?;
     }

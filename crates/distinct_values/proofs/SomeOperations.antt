@@ -8,7 +8,7 @@ use Rattle.std.proofs.lemmas.Bool.{false≢true, cases_Bool}
 use Rattle.history_text.specs.declared.event.Val.{Val}
 use Rattle.history_model.proofs.Lists.{In-filter, filter-In, Before-filter, filter-Before, Before-first}
 use Rattle.history_model.specs.declared.act.Act.{Act}
-use Rattle.history_model.specs.declared.act.Act.TheVariants.{Read, Write, Cas, Miss}
+use Rattle.history_model.specs.declared.act.Act.TheVariants.{Read, Write, Cas, CasUnless, Miss}
 use Rattle.history_model.specs.declared.operation.Operation.{Operation}
 use Rattle.history_model.specs.Acts.{Suits, asks, given_by, is_plain}
 use Rattle.history_model.specs.Cut.{known_at, is_called_by, cut_at}
@@ -56,8 +56,10 @@ module _ (values : Val → Bool) (times : ℕ → Bool) where
       subst (λ x. values x ≡ true) (sym (value-true u v s)) (both-first (values v) (times n) k)
   met-kept (Write u) (Write v) m n y k q s = absurd (false≢true q)
   met-kept (Write u) (Cas from to) m n y k q s = absurd (false≢true k)
+  met-kept (Write u) (CasUnless unless to) m n y k q s = absurd (false≢true k)
   met-kept (Write u) (Miss from) m n y k q s = absurd (false≢true k)
   met-kept (Cas from to) r m n y k q s = absurd (false≢true y)
+  met-kept (CasUnless unless to) r m n y k q s = absurd (false≢true y)
   met-kept (Miss from) r m n y k q s = absurd (false≢true y)
 
   kept-legal : (ops order : List Operation) → ArePlain ops → IsLegal ops order

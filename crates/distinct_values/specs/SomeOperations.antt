@@ -8,7 +8,7 @@ use Rattle.history_text.specs.declared.event.Val.TheVariants.{Null}
 use Rattle.history_model.specs.Lists.{In}
 use Rattle.history_model.specs.Acts.{is_plain}
 use Rattle.history_model.specs.declared.act.Act.{Act}
-use Rattle.history_model.specs.declared.act.Act.TheVariants.{Read, Write, Cas, Miss}
+use Rattle.history_model.specs.declared.act.Act.TheVariants.{Read, Write, Cas, CasUnless, Miss}
 use Rattle.history_model.specs.declared.operation.Operation.{Operation}
 
 -- reads and writes alone
@@ -21,6 +21,7 @@ is_kept values times (Read None) call = false
 is_kept values times (Read (Some given)) call = values given && times call
 is_kept values times (Write written) call = values written
 is_kept values times (Cas from to) call = false
+is_kept values times (CasUnless unless to) call = false
 is_kept values times (Miss from) call = false
 
 -- these operations, the others left out

@@ -47,6 +47,7 @@ fn is_read_or_write(act: Act) -> bool
         Act::Read(_) => true,
         Act::Write(_) => true,
         Act::Cas { .. } => false,
+        Act::CasUnless { .. } => false,
         Act::Miss { .. } => false,
     }
 }
@@ -74,6 +75,7 @@ fn add_written(written: &mut BTreeSet<i64>, op: &Operation) -> Result<bool, Allo
         Act::Write(value) => add_value(written, value),
         Act::Read(_) => Ok(true),
         Act::Cas { .. } => Ok(true),
+        Act::CasUnless { .. } => Ok(true),
         Act::Miss { .. } => Ok(true),
     }
 }

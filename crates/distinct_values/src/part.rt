@@ -43,6 +43,7 @@ fn is_part(op: &Operation, shown: &Shown) -> bool
         }
         Act::Write(written) => is_one(written, shown.one, shown.other),
         Act::Cas { .. } => false,
+        Act::CasUnless { .. } => false,
         Act::Miss { .. } => false,
     }
 }

@@ -5,7 +5,7 @@ use Rattle.std.proofs.lemmas.Bool.{false≢true}
 use Rattle.history_text.specs.declared.event.Val.{Val}
 use Rattle.history_model.specs.Acts.{suits, asks}
 use Rattle.history_model.specs.declared.act.Act.{Act}
-use Rattle.history_model.specs.declared.act.Act.TheVariants.{Read, Write, Cas, Miss}
+use Rattle.history_model.specs.declared.act.Act.TheVariants.{Read, Write, Cas, CasUnless, Miss}
 
 -- what suits the value after an act that gives one suits the given one, and the other way round
 pub given-suits : (P : Val → Type 0) (o : Option Val) (v : Val) → is_some o ≡ true → P (unwrap_or o v)
@@ -28,4 +28,5 @@ unasking-suits (Read None) v n = refl
 unasking-suits (Read (Some given)) v n = absurd (false≢true (sym n))
 unasking-suits (Write written) v n = refl
 unasking-suits (Cas from to) v n = absurd (false≢true (sym n))
+unasking-suits (CasUnless unless to) v n = absurd (false≢true (sym n))
 unasking-suits (Miss from) v n = absurd (false≢true (sym n))

@@ -8,7 +8,7 @@ use Rattle.history_model.specs.Operations.{IsAsking, IsCompletedRead, IsHistory,
 use Rattle.history_model.specs.declared.operation.Operation.{Operation}
 use Rattle.history_model.specs.Legal.{HasLatest, IsCompletion, IsLegal, IsMet}
 use Rattle.history_model.specs.declared.act.Act.{Act}
-use Rattle.history_model.specs.declared.act.Act.TheVariants.{Read, Write, Cas, Miss}
+use Rattle.history_model.specs.declared.act.Act.TheVariants.{Read, Write, Cas, CasUnless, Miss}
 use Rattle.history_model.proofs.Lists.{Before-first}
 use Rattle.history_model.proofs.Values.{value-true, value-refl}
 
@@ -16,23 +16,27 @@ suited-same : (w r : Act) → is_plain w ≡ true → is_plain r ≡ true → ch
     → asks r ≡ true → IsSomeAnd (given_by w) (Suits r) → value_of_act w ≡ value_of_act r
 suited-same (Read u) r p q c d a s = absurd (false≢true c)
 suited-same (Cas from to) r p q c d a s = absurd (false≢true p)
+suited-same (CasUnless unless to) r p q c d a s = absurd (false≢true p)
 suited-same (Miss from) r p q c d a s = absurd (false≢true p)
 suited-same (Write u) (Read None) p q c d a s = absurd (false≢true a)
 suited-same (Write u) (Read (Some v)) p q c d a s = ap Some (value-true u v s)
 suited-same (Write u) (Write v) p q c d a s = absurd (false≢true (sym d))
 suited-same (Write u) (Cas from to) p q c d a s = absurd (false≢true q)
+suited-same (Write u) (CasUnless unless to) p q c d a s = absurd (false≢true q)
 suited-same (Write u) (Miss from) p q c d a s = absurd (false≢true q)
 
 same-suited : (w r : Act) → is_plain w ≡ true → is_plain r ≡ true → changes w ≡ true → changes r ≡ false
     → asks r ≡ true → value_of_act w ≡ value_of_act r → IsSomeAnd (given_by w) (Suits r)
 same-suited (Read u) r p q c d a s = absurd (false≢true c)
 same-suited (Cas from to) r p q c d a s = absurd (false≢true p)
+same-suited (CasUnless unless to) r p q c d a s = absurd (false≢true p)
 same-suited (Miss from) r p q c d a s = absurd (false≢true p)
 same-suited (Write u) (Read None) p q c d a s = absurd (false≢true a)
 same-suited (Write u) (Read (Some v)) p q c d a s =
     subst (λ o. Suits (Read o) u) s (value-refl u)
 same-suited (Write u) (Write v) p q c d a s = absurd (false≢true (sym d))
 same-suited (Write u) (Cas from to) p q c d a s = absurd (false≢true q)
+same-suited (Write u) (CasUnless unless to) p q c d a s = absurd (false≢true q)
 same-suited (Write u) (Miss from) p q c d a s = absurd (false≢true q)
 
 -- of reads and writes only a read asks anything
@@ -40,6 +44,7 @@ asking-reads : (a : Act) → is_plain a ≡ true → asks a ≡ true → changes
 asking-reads (Read v) p t = refl
 asking-reads (Write v) p t = absurd (false≢true t)
 asking-reads (Cas from to) p t = absurd (false≢true p)
+asking-reads (CasUnless unless to) p t = absurd (false≢true p)
 asking-reads (Miss from) p t = absurd (false≢true p)
 
 module _ (ops order : List Operation) (plain : (a : Operation) → In a ops → is_plain a.act ≡ true)

@@ -7,12 +7,13 @@ use Rattle.history_text.specs.declared.event.OpKind.TheVariants.{ReadOp, WriteOp
 use Rattle.history_model.specs.Acts.{asks, changes, is_plain, kind_of_act, plain_act, value_of_act}
 use Rattle.history_model.specs.Operations.{writes}
 use Rattle.history_model.specs.declared.act.Act.{Act}
-use Rattle.history_model.specs.declared.act.Act.TheVariants.{Read, Write, Cas, Miss}
+use Rattle.history_model.specs.declared.act.Act.TheVariants.{Read, Write, Cas, CasUnless, Miss}
 
 pub changes-kind : (a : Act) → changes a ≡ writes (kind_of_act a)
 changes-kind (Read given) = refl
 changes-kind (Write written) = refl
 changes-kind (Cas from to) = refl
+changes-kind (CasUnless unless to) = refl
 changes-kind (Miss from) = refl
 
 pub plain-kind : (k : OpKind) (v : Option Val) → kind_of_act (plain_act k v) ≡ k
@@ -47,4 +48,5 @@ read-asks (Read None) p r = refl
 read-asks (Read (Some u)) p r = refl
 read-asks (Write u) p r = absurd (false≢true (sym r))
 read-asks (Cas from to) p r = absurd (false≢true p)
+read-asks (CasUnless unless to) p r = absurd (false≢true p)
 read-asks (Miss from) p r = absurd (false≢true p)

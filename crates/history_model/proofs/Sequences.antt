@@ -4,7 +4,7 @@ use Rattle.std.proofs.lemmas.Bool.{false≢true}
 use Rattle.history_text.specs.declared.event.Val.{Val}
 use Rattle.history_text.specs.declared.event.Val.TheVariants.{Null, Int}
 use Rattle.history_model.specs.declared.act.Act.{Act}
-use Rattle.history_model.specs.declared.act.Act.TheVariants.{Read, Write, Cas, Miss}
+use Rattle.history_model.specs.declared.act.Act.TheVariants.{Read, Write, Cas, CasUnless, Miss}
 use Rattle.history_model.specs.declared.operation.Operation.{Operation}
 use Rattle.history_model.specs.InTurn.{Meets}
 
@@ -29,7 +29,13 @@ abbrev write : ℕ → Operation
 write n = did (Write (number n))
 
 abbrev swap : Val → ℕ → Operation
-swap from to = did (Cas from (pos to))
+swap from to = did (Cas from (number to))
+
+abbrev replace : Val → Val → Operation
+replace unless to = did (CasUnless unless to)
+
+abbrev delete : Val → Operation
+delete from = did (Cas from Null)
 
 abbrev missed : Val → Operation
 missed from = did (Miss from)
@@ -52,6 +58,24 @@ missed_other = (refl, (refl, (refl, tt)))
 
 pub missed_its_own : Meets Null (write 1 ∷ missed (number 1) ∷ []) → ⊥
 missed_its_own m = false≢true m.1.0
+
+-- a cas to null leaves no value, so a second one finds none
+pub deleted : Meets Null (write 1 ∷ delete (number 1) ∷ read Null ∷ [])
+deleted = (refl, (refl, (refl, tt)))
+
+pub deleted_twice : Meets Null (write 1 ∷ delete (number 1) ∷ delete (number 1) ∷ []) → ⊥
+deleted_twice m = false≢true m.1.1.0
+
+-- a cas unless null changes a value that is there, and none that isn't
+pub replaced : Meets Null (write 1 ∷ replace Null (number 5) ∷ read (number 5) ∷ [])
+replaced = (refl, (refl, (refl, tt)))
+
+pub nothing_to_replace : Meets Null (replace Null (number 5) ∷ []) → ⊥
+nothing_to_replace m = false≢true m.0
+
+-- and it takes no null back that a delete left
+pub revived : Meets Null (write 1 ∷ replace Null Null ∷ replace Null (number 5) ∷ []) → ⊥
+revived m = false≢true m.1.1.0
 
 -- the same value again, with another between: a read of the one between comes too late
 pub too_late : Meets Null (write 1 ∷ write 2 ∷ write 1 ∷ read (number 2) ∷ []) → ⊥

@@ -12,7 +12,9 @@ pub enum Act {
     /// It gives the register this value.
     Write(Val),
     /// A cas that took place, or one without a reply: it finds `from`, and gives the register `to`.
-    Cas { from: Val, to: i64 },
+    Cas { from: Val, to: Val },
+    /// The same of a cas that finds any value but `unless`.
+    CasUnless { unless: Val, to: Val },
     /// A cas that missed: it finds another value than `from`.
     Miss { from: Val },
 }
@@ -27,6 +29,7 @@ impl Act {
             Act::Read(Some(given)) => value == *given,
             Act::Write(_) => true,
             Act::Cas { from, .. } => value == *from,
+            Act::CasUnless { unless, .. } => value != *unless,
             Act::Miss { from } => value != *from,
         }
     }
@@ -38,7 +41,8 @@ impl Act {
         match self {
             Act::Read(_) => value,
             Act::Write(written) => *written,
-            Act::Cas { to, .. } => Val::Int(*to),
+            Act::Cas { to, .. } => *to,
+            Act::CasUnless { to, .. } => *to,
             Act::Miss { .. } => value,
         }
     }
@@ -51,6 +55,7 @@ impl Act {
             Act::Read(_) => false,
             Act::Write(_) => true,
             Act::Cas { .. } => true,
+            Act::CasUnless { .. } => true,
             Act::Miss { .. } => false,
         }
     }

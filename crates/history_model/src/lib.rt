@@ -7,12 +7,14 @@
 //!
 //! Read the definitions in this order: `Lists`; `Events`, what a line says; `Refusals`, which histories are
 //! refused and why; `History`, the events of an accepted one; `Operations`, their times and their order;
-//! `Legal` (Herlihy and Wing, 1990) and `Lamport` (1986), the three properties; `Walking`, `Naming` and
-//! `OfValue`, in whose words the calls of the crates above answer. `laws` is what these rely on.
+//! `Legal` (atomic: Herlihy and Wing, 1990; and weaker guarantees) and `Lamport` (safe and regular, 1986);
+//! `Walking`, `Naming` and `OfValue`, in whose words the calls of the crates above answer. `laws` is what
+//! these rely on.
 #![tactic(auto)]
 
 mod act;
 mod event;
+mod guarantee;
 mod ids;
 mod laws;
 mod op;
@@ -21,6 +23,7 @@ mod refusal;
 
 pub use act::Act;
 pub use event::{Event, What};
+pub use guarantee::Guarantee;
 pub use ids::{EvId, Oper, RegId};
 pub use laws::{
     accepted_is_history, events_have_operations, initial_is_there, names_are_unique,

@@ -18,7 +18,7 @@ use Rattle.history_text.specs.declared.event.OpWord.{OpWord}
 use Rattle.history_text.specs.declared.event.EventWord.{EventWord}
 use Rattle.history_text.specs.Limits.{MAX_PROCESS}
 use Rattle.history_text.specs.Members.{takes}
-use Rattle.history_text.specs.Flat.{Scalar, Named, Holds, Adds, Passes, whole_data}
+use Rattle.history_text.specs.Flat.{Scalar, Named, HasNoOther, Holds, Adds, Passes, whole_data}
 use Rattle.history_text.specs.Flat.{event_data, op_data, value_data}
 use Rattle.history_text.proofs.Lexed.{ascii_front}
 use denote.Ref.{Bor}
@@ -28,7 +28,17 @@ other : (k j : List ℕ) (d : Data) (ms : Members) → bytes_eq k j ≡ false
     → get_member k (put j d ms) ≡ get_member k ms
 other k j d ms h = get_member-put_other k j d ms (λ e. false≢true (sym h ∙ (bytes_eq-Decides k j).1 e))
 
--- a name that is none of those that have a part
+-- the members that no flat object has stay absent if one of another name is put
+still_without : (j : List ℕ) (d : Data) (ms : Members) → HasNoOther ms
+    → bytes_eq (codes "unless") j ≡ false → bytes_eq (codes "old") j ≡ false
+    → bytes_eq (codes "found") j ≡ false → HasNoOther (put j d ms)
+still_without j d ms without unless old found = record {
+  unless = other (codes "unless") j d ms unless ∙ without.unless;
+  old = other (codes "old") j d ms old ∙ without.old;
+  found = other (codes "found") j d ms found ∙ without.found;
+}
+
+-- a name that is none of those that have a part, and of which no flat object has a member
 record AreOther (k : List ℕ) : Type 0 where
   process : bytes_eq (codes "process") k ≡ false
   event : bytes_eq (codes "event") k ≡ false
@@ -38,6 +48,9 @@ record AreOther (k : List ℕ) : Type 0 where
   from : bytes_eq (codes "from") k ≡ false
   to : bytes_eq (codes "to") k ≡ false
   ok : bytes_eq (codes "ok") k ≡ false
+  unless : bytes_eq (codes "unless") k ≡ false
+  old : bytes_eq (codes "old") k ≡ false
+  found : bytes_eq (codes "found") k ≡ false
 
 module _ (taken : Operations) (f : FlatMembers) (ms : Members) (h : Holds taken ms f) where
   put_process : (p : ℕ) → p ≤ MAX_PROCESS → Holds taken (put (codes "process") (whole_data p) ms) (record {
@@ -61,6 +74,7 @@ module _ (taken : Operations) (f : FlatMembers) (ms : Members) (h : Holds taken 
     from = other (codes "from") (codes "process") (whole_data p) ms refl ∙ h.from;
     to = other (codes "to") (codes "process") (whole_data p) ms refl ∙ h.to;
     ok = other (codes "ok") (codes "process") (whole_data p) ms refl ∙ h.ok;
+    without = still_without (codes "process") (whole_data p) ms h.without refl refl refl;
   }
 
   put_event : (w : EventWord) → Holds taken (put (codes "event") (event_data w) ms) (record {
@@ -84,6 +98,7 @@ module _ (taken : Operations) (f : FlatMembers) (ms : Members) (h : Holds taken 
     from = other (codes "from") (codes "event") (event_data w) ms refl ∙ h.from;
     to = other (codes "to") (codes "event") (event_data w) ms refl ∙ h.to;
     ok = other (codes "ok") (codes "event") (event_data w) ms refl ∙ h.ok;
+    without = still_without (codes "event") (event_data w) ms h.without refl refl refl;
   }
 
   put_op : (w : OpWord) → takes taken w ≡ true → Holds taken (put (codes "op") (op_data w) ms) (record {
@@ -107,6 +122,7 @@ module _ (taken : Operations) (f : FlatMembers) (ms : Members) (h : Holds taken 
     from = other (codes "from") (codes "op") (op_data w) ms refl ∙ h.from;
     to = other (codes "to") (codes "op") (op_data w) ms refl ∙ h.to;
     ok = other (codes "ok") (codes "op") (op_data w) ms refl ∙ h.ok;
+    without = still_without (codes "op") (op_data w) ms h.without refl refl refl;
   }
 
   put_register : (s : Bor (List ℕ)) → Holds taken (put (codes "register") (string s.now) ms) (record {
@@ -130,6 +146,7 @@ module _ (taken : Operations) (f : FlatMembers) (ms : Members) (h : Holds taken 
     from = other (codes "from") (codes "register") (string s.now) ms refl ∙ h.from;
     to = other (codes "to") (codes "register") (string s.now) ms refl ∙ h.to;
     ok = other (codes "ok") (codes "register") (string s.now) ms refl ∙ h.ok;
+    without = still_without (codes "register") (string s.now) ms h.without refl refl refl;
   }
 
   put_value : (v : Val) → Holds taken (put (codes "value") (value_data v) ms) (record {
@@ -153,6 +170,7 @@ module _ (taken : Operations) (f : FlatMembers) (ms : Members) (h : Holds taken 
     from = other (codes "from") (codes "value") (value_data v) ms refl ∙ h.from;
     to = other (codes "to") (codes "value") (value_data v) ms refl ∙ h.to;
     ok = other (codes "ok") (codes "value") (value_data v) ms refl ∙ h.ok;
+    without = still_without (codes "value") (value_data v) ms h.without refl refl refl;
   }
 
   put_from : (v : Val) → Holds taken (put (codes "from") (value_data v) ms) (record {
@@ -176,6 +194,7 @@ module _ (taken : Operations) (f : FlatMembers) (ms : Members) (h : Holds taken 
     from = get_member-put (codes "from") (value_data v) ms;
     to = other (codes "to") (codes "from") (value_data v) ms refl ∙ h.to;
     ok = other (codes "ok") (codes "from") (value_data v) ms refl ∙ h.ok;
+    without = still_without (codes "from") (value_data v) ms h.without refl refl refl;
   }
 
   put_to : (v : Val) → Holds taken (put (codes "to") (value_data v) ms) (record {
@@ -199,6 +218,7 @@ module _ (taken : Operations) (f : FlatMembers) (ms : Members) (h : Holds taken 
     from = other (codes "from") (codes "to") (value_data v) ms refl ∙ h.from;
     to = get_member-put (codes "to") (value_data v) ms;
     ok = other (codes "ok") (codes "to") (value_data v) ms refl ∙ h.ok;
+    without = still_without (codes "to") (value_data v) ms h.without refl refl refl;
   }
 
   put_ok : (b : Bool) → Holds taken (put (codes "ok") (boolean b) ms) (record {
@@ -222,6 +242,7 @@ module _ (taken : Operations) (f : FlatMembers) (ms : Members) (h : Holds taken 
     from = other (codes "from") (codes "ok") (boolean b) ms refl ∙ h.from;
     to = other (codes "to") (codes "ok") (boolean b) ms refl ∙ h.to;
     ok = get_member-put (codes "ok") (boolean b) ms;
+    without = still_without (codes "ok") (boolean b) ms h.without refl refl refl;
   }
 
   -- a member of another name
@@ -237,6 +258,7 @@ module _ (taken : Operations) (f : FlatMembers) (ms : Members) (h : Holds taken 
     from = other (codes "from") k d ms o.from ∙ h.from;
     to = other (codes "to") k d ms o.to ∙ h.to;
     ok = other (codes "ok") k d ms o.ok ∙ h.ok;
+    without = still_without k d ms h.without o.unless o.old o.found;
   }
 
 -- a member's name with its colon
@@ -418,6 +440,9 @@ module _ (taken : Operations) (text mid rest : List ℕ) where
         from = refl;
         to = refl;
         ok = refl;
+        unless = refl;
+        old = refl;
+        found = refl;
       }))
 
   pub passes_node : (s : Bor (List ℕ)) → Named (codes "\"node\":") text mid → Scalar mid (string s.now) rest
@@ -435,6 +460,9 @@ module _ (taken : Operations) (text mid rest : List ℕ) where
         from = refl;
         to = refl;
         ok = refl;
+        unless = refl;
+        old = refl;
+        found = refl;
       }))
 
   pub passes_time : (n : ℕ) → Named (codes "\"time\":") text mid → Scalar mid (whole_data n) rest
@@ -452,4 +480,7 @@ module _ (taken : Operations) (text mid rest : List ℕ) where
         from = refl;
         to = refl;
         ok = refl;
+        unless = refl;
+        old = refl;
+        found = refl;
       }))

@@ -21,7 +21,7 @@ use Rattle.history_text.specs.declared.event.ReplyParts.{ReplyParts}
 use Rattle.history_text.specs.declared.event.Kind.{Kind}
 use Rattle.history_text.specs.declared.event.Kind.TheVariants.{CallRead, CallWrite, Reply, Fail, Crash}
 use Rattle.history_text.specs.declared.event.AnyKind.{AnyKind}
-use Rattle.history_text.specs.declared.event.AnyKind.TheVariants.{Plain, CallCas}
+use Rattle.history_text.specs.declared.event.AnyKind.TheVariants.{Plain, CallOther, Telling}
 use Rattle.history_text.specs.declared.event.AnyEvent.{AnyEvent}
 use Rattle.history_text.specs.declared.event.LineEvent.{LineEvent}
 use Rattle.history_text.specs.declared.fault.LineFault.{LineFault}
@@ -41,7 +41,8 @@ Gives P (Err fault) = IsPlainFault fault
 
 abbrev IsPlain : AnyKind → Type 0
 IsPlain (Plain kind) = SaysNoCas kind
-IsPlain (CallCas name from to) = ⊥
+IsPlain (CallOther name call) = ⊥
+IsPlain (Telling parts told) = ⊥
 
 -- what is read after a member
 after : {A B : Type 0} (P : B → Type 0) (o : Option A) (fault : LineKind) (next : A → Result B LineKind)
@@ -64,6 +65,8 @@ taken_word (Some op.Read) w e =
 taken_word (Some op.Write) w e =
     let same : op.Write ≡ w = cc (e) in subst (λ x. takes ReadsAndWrites x ≡ true) same refl
 taken_word (Some op.Cas) w e = absurd (cc (e))
+taken_word (Some op.Delete) w e = absurd (cc (e))
+taken_word (Some op.Swap) w e = absurd (cc (e))
 
 abbrev IsTaken : Option OpWord → Type 0
 IsTaken o = IfSome o (λ w. takes ReadsAndWrites w ≡ true)
@@ -87,6 +90,8 @@ module _ (d : Data) where
       after IsPlain (written_form (get (codes "value") d)) BadValue (λ v. Ok (Plain (CallWrite name v)))
       (λ e. cc (e), λ e. cc (e)) (λ v _. tt)
   called op.Cas name t = absurd (cc (t))
+  called op.Delete name t = absurd (cc (t))
+  called op.Swap name t = absurd (cc (t))
 
   call-plain : Gives IsPlain (call_kind ReadsAndWrites d)
   call-plain =
@@ -104,16 +109,17 @@ module _ (d : Data) where
       after NamesNoCas (optional value_form (get (codes "value") d)) BadValue _
       (λ e. cc (e), λ e. cc (e)) (λ value _. (optional_word (get (codes "op") d) op e, refl))))
 
-  end-plain : (end : ReplyParts → Kind) (r : Result ReplyParts LineKind)
-      → ((p : ReplyParts) → NamesNoCas p → SaysNoCas (end p)) → Gives NamesNoCas r
+  end-plain : (end : ReplyParts → AnyKind) (r : Result ReplyParts LineKind)
+      → ((p : ReplyParts) → NamesNoCas p → IsPlain (end p)) → Gives NamesNoCas r
       → Gives IsPlain (with_parts end r)
   end-plain end (Ok p) says h = says p h
   end-plain end (Err fault) says h = h
 
   kind-plain : (w : EventWord) → Gives IsPlain (kind_of ReadsAndWrites d w)
   kind-plain word.Call = call-plain
-  kind-plain word.Reply = end-plain (λ p. Reply p) (parts_form ReadsAndWrites d) (λ p h. h) parts-plain
-  kind-plain word.Fail = end-plain (λ p. Fail p) (parts_form ReadsAndWrites d) (λ p h. h) parts-plain
+  kind-plain word.Reply =
+      end-plain (λ p. Plain (Reply p)) (parts_form ReadsAndWrites d) (λ p h. h) parts-plain
+  kind-plain word.Fail = end-plain (λ p. Plain (Fail p)) (parts_form ReadsAndWrites d) (λ p h. h) parts-plain
   kind-plain word.Crash = tt
 
 module _ (n : ℕ) where
@@ -144,7 +150,8 @@ module _ (n : ℕ) where
 
   of-event : (process m : ℕ) (kind : AnyKind) → m ≡ n → IsPlain kind → IsRead (plain_event m process kind)
   of-event process m (Plain kind) e h = (e, h)
-  of-event process m (CallCas name from to) e h = absurd h
+  of-event process m (CallOther name call) e h = absurd h
+  of-event process m (Telling parts told) e h = absurd h
 
   reads : (r : Result AnyEvent LineKind) → Gives IsOfLine r → IsRead (plain_reading (at_line n r))
   reads (Ok e) h = of-event e.process e.line e.kind h.0 h.1

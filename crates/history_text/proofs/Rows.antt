@@ -13,7 +13,9 @@ use Rattle.history_text.specs.Values.{same_value}
 use Rattle.history_text.specs.declared.event.Val.TheVariants.{Null, Int}
 use Rattle.history_text.specs.declared.event.Operations.TheVariants.{ReadsAndWrites, WithCas}
 use Rattle.history_text.specs.declared.event.OpWord.TheVariants as op
-use Rattle.history_text.specs.declared.event.AnyKind.TheVariants.{Plain, CallCas}
+use Rattle.history_text.specs.declared.event.AnyKind.TheVariants.{Plain, CallOther, Telling}
+use Rattle.history_text.specs.declared.event.OtherCall.TheVariants.{Cas, CasOf, Delete, Swap}
+use Rattle.history_text.specs.declared.event.Compared.TheVariants.{From, Unless}
 use Rattle.history_text.specs.declared.event.Kind.TheVariants.{CallRead, CallWrite, Reply, Fail, Crash}
 use Rattle.history_text.specs.declared.fault.LineKind.TheVariants.{NotJson, NotObject, BadProcess, BadEvent}
 use Rattle.history_text.specs.declared.fault.LineKind.TheVariants.{BadOp, BadRegister, BadValue}
@@ -223,7 +225,7 @@ op_before_register = refl
 cas_call : event_reading WithCas 1
     (codes
     "{\"process\":1,\"event\":\"call\",\"op\":\"cas\",\"register\":\"x\",\"from\":null,\"to\":2,\"value\":null,\"ok\":1}")
-    ≡ Ok (record { line = 1; process = 1; kind = CallCas (codes "x") Null (pos 2) })
+    ≡ Ok (record { line = 1; process = 1; kind = CallOther (codes "x") (Cas Null (pos 2)) })
 unfolding json_of serde_json_on_literals is_utf8 chars
 cas_call = refl
 
@@ -258,18 +260,135 @@ value_before_from : event_reading WithCas 1
 unfolding json_of serde_json_on_literals is_utf8 chars
 value_before_from = refl
 
-to_is_null : event_reading WithCas 1
-    (codes "{\"process\":1,\"event\":\"call\",\"op\":\"cas\",\"register\":\"x\",\"from\":1,\"to\":null}")
+to_is_absent : event_reading WithCas 1
+    (codes "{\"process\":1,\"event\":\"call\",\"op\":\"cas\",\"register\":\"x\",\"from\":1}")
     ≡ Err (record { line = 1; kind = BadFromOrTo })
 unfolding json_of serde_json_on_literals is_utf8 chars
-to_is_null = refl
+to_is_absent = refl
 
--- where they aren't, the word is none, and `ok` says nothing
+from_and_unless : event_reading WithCas 1
+    (codes
+    "{\"process\":1,\"event\":\"call\",\"op\":\"cas\",\"register\":\"x\",\"from\":1,\"unless\":2,\"to\":3}")
+    ≡ Err (record { line = 1; kind = BadFromOrTo })
+unfolding json_of serde_json_on_literals is_utf8 chars
+from_and_unless = refl
+
+-- cas of other forms, deletes and swaps
+
+cas_to_null : event_reading WithCas 1
+    (codes "{\"process\":1,\"event\":\"call\",\"op\":\"cas\",\"register\":\"x\",\"from\":1,\"to\":null}")
+    ≡ Ok (record {
+      line = 1;
+      process = 1;
+      kind =
+          CallOther (codes "x")
+          (CasOf (record { compared = From (Int (pos 1)); to = Null; asks_old = false }));
+    })
+unfolding json_of serde_json_on_literals is_utf8 chars
+cas_to_null = refl
+
+cas_unless : event_reading WithCas 1
+    (codes "{\"process\":1,\"event\":\"call\",\"op\":\"cas\",\"register\":\"x\",\"unless\":null,\"to\":2}")
+    ≡ Ok (record {
+      line = 1;
+      process = 1;
+      kind =
+          CallOther (codes "x")
+          (CasOf (record { compared = Unless Null; to = Int (pos 2); asks_old = false }));
+    })
+unfolding json_of serde_json_on_literals is_utf8 chars
+cas_unless = refl
+
+cas_asks_old : event_reading WithCas 1
+    (codes
+    "{\"process\":1,\"event\":\"call\",\"op\":\"cas\",\"register\":\"x\",\"from\":1,\"to\":2,\"old\":true}")
+    ≡ Ok (record {
+      line = 1;
+      process = 1;
+      kind =
+          CallOther (codes "x")
+          (CasOf (record { compared = From (Int (pos 1)); to = Int (pos 2); asks_old = true }));
+    })
+unfolding json_of serde_json_on_literals is_utf8 chars
+cas_asks_old = refl
+
+-- in a call, `old` counts only if it is true
+old_of_another_form : event_reading WithCas 1
+    (codes
+    "{\"process\":1,\"event\":\"call\",\"op\":\"cas\",\"register\":\"x\",\"from\":1,\"to\":2,\"old\":1}")
+    ≡ Ok (record { line = 1; process = 1; kind = CallOther (codes "x") (Cas (Int (pos 1)) (pos 2)) })
+unfolding json_of serde_json_on_literals is_utf8 chars
+old_of_another_form = refl
+
+delete : event_reading WithCas 1
+    (codes "{\"process\":1,\"event\":\"call\",\"op\":\"delete\",\"register\":\"x\",\"value\":null}")
+    ≡ Ok (record { line = 1; process = 1; kind = CallOther (codes "x") Delete })
+unfolding json_of serde_json_on_literals is_utf8 chars
+delete = refl
+
+delete_of_a_value : event_reading WithCas 1
+    (codes "{\"process\":1,\"event\":\"call\",\"op\":\"delete\",\"register\":\"x\",\"value\":1}")
+    ≡ Err (record { line = 1; kind = BadValue })
+unfolding json_of serde_json_on_literals is_utf8 chars
+delete_of_a_value = refl
+
+swap : event_reading WithCas 1
+    (codes "{\"process\":1,\"event\":\"call\",\"op\":\"swap\",\"register\":\"x\",\"value\":7}")
+    ≡ Ok (record { line = 1; process = 1; kind = CallOther (codes "x") (Swap (pos 7)) })
+unfolding json_of serde_json_on_literals is_utf8 chars
+swap = refl
+
+swap_without_a_value : event_reading WithCas 1
+    (codes "{\"process\":1,\"event\":\"call\",\"op\":\"swap\",\"register\":\"x\",\"value\":null}")
+    ≡ Err (record { line = 1; kind = BadValue })
+unfolding json_of serde_json_on_literals is_utf8 chars
+swap_without_a_value = refl
+
+-- what a reply tells of the value that its operation met
+
+reply_tells : event_reading WithCas 2
+    (codes "{\"process\":1,\"event\":\"reply\",\"found\":false,\"old\":null}") ≡ Ok (record {
+      line = 2;
+      process = 1;
+      kind =
+          Telling (record { op = None; register = None; value = None; ok = None })
+          (record { found = Some (Some false); old = Some (Some Null) });
+    })
+unfolding json_of serde_json_on_literals is_utf8 chars
+reply_tells = refl
+
+reply_of_another_form : event_reading WithCas 2
+    (codes "{\"process\":1,\"event\":\"reply\",\"found\":null,\"old\":1.5}") ≡ Ok (record {
+      line = 2;
+      process = 1;
+      kind =
+          Telling (record { op = None; register = None; value = None; ok = None })
+          (record { found = None; old = None });
+    })
+unfolding json_of serde_json_on_literals is_utf8 chars
+reply_of_another_form = refl
+
+-- where reads and writes alone are taken, the words are none, and `ok`, `found` and `old` say nothing
 cas_not_taken : line_reading 1
     (codes "{\"process\":1,\"event\":\"call\",\"op\":\"cas\",\"register\":\"x\",\"from\":null,\"to\":2}")
     ≡ Err (record { line = 1; kind = BadOp ReadsAndWrites })
 unfolding json_of serde_json_on_literals is_utf8 chars
 cas_not_taken = refl
+
+delete_not_taken : line_reading 1
+    (codes "{\"process\":1,\"event\":\"call\",\"op\":\"delete\",\"register\":\"x\"}")
+    ≡ Err (record { line = 1; kind = BadOp ReadsAndWrites })
+unfolding json_of serde_json_on_literals is_utf8 chars
+delete_not_taken = refl
+
+found_not_taken : line_reading 2
+    (codes "{\"process\":1,\"event\":\"reply\",\"found\":true,\"old\":1}") ≡ Ok (record {
+      line = 2;
+      process = 1;
+      kind = Reply (record { op = None; register = None; value = None; ok = None });
+    })
+unfolding json_of serde_json_on_literals is_utf8 chars
+found_not_taken = refl
 
 ok_not_taken : line_reading 2 (codes "{\"process\":1,\"event\":\"reply\",\"ok\":true}") ≡ Ok (record {
   line = 2;

@@ -3,6 +3,7 @@
 -- The outer `None` of a form stands for a member of another form.
 use Rattle.std.specs.Prelude.{ℕ, ◌&&◌, ℤ, List, length, codes, Bool, true, false, nat_lt, nat_le}
 use Rattle.std.specs.Prelude.{bytes_eq, if◌then◌else◌, Option, Some, None, option_map, option_and_then}
+use Rattle.std.specs.Prelude.{unwrap_or}
 use Rattle.serde_json.specs.Data.{Data, null, boolean, number, string, array, object}
 use Rattle.serde_json.specs.Find.{as_bool, as_number, as_u64, as_i64, as_str}
 use Rattle.history_text.specs.Limits.{MAX_NAME, MAX_PROCESS}
@@ -11,7 +12,10 @@ use Rattle.history_text.specs.declared.event.Val.TheVariants.{Null, Int}
 use Rattle.history_text.specs.declared.event.Operations.{Operations}
 use Rattle.history_text.specs.declared.event.Operations.TheVariants.{ReadsAndWrites, WithCas}
 use Rattle.history_text.specs.declared.event.OpWord.{OpWord}
-use Rattle.history_text.specs.declared.event.OpWord.TheVariants.{Read, Write, Cas}
+use Rattle.history_text.specs.declared.event.OpWord.TheVariants.{Read, Write, Cas, Delete, Swap}
+use Rattle.history_text.specs.declared.event.Compared.{Compared}
+use Rattle.history_text.specs.declared.event.Compared.TheVariants.{From, Unless}
+use Rattle.history_text.specs.declared.event.Told.{Told}
 use Rattle.history_text.specs.declared.event.EventWord.{EventWord}
 use Rattle.history_text.specs.declared.event.EventWord.TheVariants as word
 
@@ -38,12 +42,18 @@ event_form m =
     else (if bytes_eq s (codes "reply") then Some word.Reply else other_word s))
     (option_and_then as_str m)
 
--- the word for a read, for a write or for a cas
+-- the word for a cas, for a delete or for a swap
+abbrev pub other_op : List ℕ → Option OpWord
+other_op s =
+    if bytes_eq s (codes "cas") then Some Cas
+    else (if bytes_eq s (codes "delete") then Some Delete
+    else (if bytes_eq s (codes "swap") then Some Swap else None))
+
+-- the word for an operation
 abbrev pub word_form : Member → Option OpWord
 word_form m =
     option_and_then (λ s. if bytes_eq s (codes "read") then Some Read
-    else (if bytes_eq s (codes "write") then Some Write
-    else (if bytes_eq s (codes "cas") then Some Cas else None))) (option_and_then as_str m)
+    else (if bytes_eq s (codes "write") then Some Write else other_op s)) (option_and_then as_str m)
 
 -- the operations of this word are taken
 abbrev pub takes : Operations → OpWord → Bool
@@ -51,6 +61,10 @@ takes taken Read = true
 takes taken Write = true
 takes ReadsAndWrites Cas = false
 takes WithCas Cas = true
+takes ReadsAndWrites Delete = false
+takes WithCas Delete = true
+takes ReadsAndWrites Swap = false
+takes WithCas Swap = true
 
 -- the word for an operation that is taken
 abbrev pub op_form : Operations → Member → Option OpWord
@@ -95,3 +109,24 @@ has_no_value (Some (object ms)) = false
 abbrev pub optional : {A : Type 0} → (Member → Option A) → Member → Option (Option A)
 optional form None = Some None
 optional form (Some d) = option_map (λ x. Some x) (form (Some d))
+
+-- what a cas asks of the value that its register holds: of `from` and `unless` exactly one is there
+abbrev pub compared_form : Member → Member → Option Compared
+compared_form None None = None
+compared_form None (Some d) = option_map Unless (value_form (Some d))
+compared_form (Some d) None = option_map From (value_form (Some d))
+compared_form (Some d) (Some e) = None
+
+-- true itself
+abbrev pub is_true : Member → Bool
+is_true m = unwrap_or (option_and_then as_bool m) false
+
+-- whether there was a value: true or false
+abbrev pub found_form : Member → Option Bool
+found_form m = option_and_then as_bool m
+
+-- what the members `found` and `old` of a reply tell; where there are reads and writes alone, nothing is
+-- looked at
+abbrev pub told_form : Operations → Member → Member → Told
+told_form ReadsAndWrites found old = record { found = Some None; old = Some None }
+told_form WithCas found old = record { found = optional found_form found; old = optional value_form old }

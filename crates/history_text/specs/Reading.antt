@@ -1,7 +1,7 @@
 -- The one event of a line, or the least fault that applies to it; this project's profile. Which operations
 -- are taken is an argument: `line_reading` is where reads and writes are, and no other.
 use Rattle.std.specs.Prelude.{◌≡◌, ◌≢◌, ℕ, ◌<◌, ◌≤◌, ◌++◌, Bool, List, drop, length, map, codes, nat_lt}
-use Rattle.std.specs.Prelude.{slice_range, if◌then◌else◌, Option, Some, None, is_some, IfSome, true}
+use Rattle.std.specs.Prelude.{slice_range, if◌then◌else◌, Option, Some, None, is_some, IfSome, true, false}
 use Rattle.std.specs.Prelude.{Result, Ok, Err}
 use Rattle.std.specs.List.{All, AllPairs}
 use Rattle.std.specs.Str.{is_utf8}
@@ -12,6 +12,7 @@ use Rattle.history_text.specs.Limits.{MAX_LINE}
 use Rattle.history_text.specs.Lines.{MayCome, numbered_from, numbered_lines}
 use Rattle.history_text.specs.Members.{process_form, event_form, op_form, name_form}
 use Rattle.history_text.specs.Members.{written_form, value_form, has_no_value, ok_form, optional, takes}
+use Rattle.history_text.specs.Members.{compared_form, told_form, is_true}
 use Rattle.history_text.specs.declared.lines.Span.{Span}
 use Rattle.history_text.specs.declared.lines.WholeLines.{WholeLines}
 use Rattle.history_text.specs.declared.event.Operations.{Operations}
@@ -20,7 +21,15 @@ use Rattle.history_text.specs.declared.event.OpWord.{OpWord}
 use Rattle.history_text.specs.declared.event.OpWord.TheVariants as op
 use Rattle.history_text.specs.declared.event.Kind.{Kind}
 use Rattle.history_text.specs.declared.event.AnyKind.{AnyKind}
-use Rattle.history_text.specs.declared.event.AnyKind.TheVariants.{Plain, CallCas}
+use Rattle.history_text.specs.declared.event.AnyKind.TheVariants.{Plain, CallOther, Telling}
+use Rattle.history_text.specs.declared.event.OtherCall.{OtherCall}
+use Rattle.history_text.specs.declared.event.OtherCall.TheVariants.{Cas, CasOf, Delete, Swap}
+use Rattle.history_text.specs.declared.event.Compared.{Compared}
+use Rattle.history_text.specs.declared.event.Compared.TheVariants.{From, Unless}
+use Rattle.history_text.specs.declared.event.Told.{Told}
+use Rattle.history_text.specs.declared.event.Val.{Val}
+use Rattle.history_text.specs.declared.event.Val.TheVariants.{Null, Int}
+use Rattle.history_text.specs.Values.{tells_nothing}
 use Rattle.history_text.specs.declared.event.AnyEvent.{AnyEvent}
 use Rattle.history_text.specs.declared.event.EventWord.{EventWord}
 use Rattle.history_text.specs.declared.event.EventWord.TheVariants as word
@@ -39,21 +48,34 @@ abbrev pub or_fault : {A B : Type 0} → Option A → LineKind → (A → Result
 or_fault None fault next = Err fault
 or_fault (Some x) fault next = next x
 
--- the call of a cas on a register: it names no value, and has the value `from` at which it takes place and
--- the number `to` that it writes
+-- the call of a cas, by its parts: what is common has a form of its own
+abbrev pub cas_form : Compared → Val → Bool → OtherCall
+cas_form (From v) (Int n) false = Cas v n
+cas_form (From v) (Int n) true = CasOf (record { compared = From v; to = Int n; asks_old = true })
+cas_form (From v) Null asks = CasOf (record { compared = From v; to = Null; asks_old = asks })
+cas_form (Unless v) to asks = CasOf (record { compared = Unless v; to = to; asks_old = asks })
+
+-- the call of a cas on a register: it names no value, and has what it asks of the value that it meets, and
+-- the value `to` that it writes; it may ask for the old value
 abbrev pub cas_call : Data → List ℕ → Result AnyKind LineKind
 cas_call d name = if has_no_value (get (codes "value") d)
-    then or_fault (value_form (get (codes "from") d)) BadFromOrTo (λ from.
-    or_fault (written_form (get (codes "to") d)) BadFromOrTo (λ to. Ok (CallCas name from to)))
+    then or_fault (compared_form (get (codes "from") d) (get (codes "unless") d)) BadFromOrTo (λ compared.
+    or_fault (value_form (get (codes "to") d)) BadFromOrTo (λ to.
+    Ok (CallOther name (cas_form compared to (is_true (get (codes "old") d))))))
     else Err BadValue
 
--- a call on a register: a read names no value, and a write names the value that it writes
+-- a call on a register: a read and a delete name no value, and a write and a swap name the value that they
+-- write
 abbrev pub call_of : Data → OpWord → List ℕ → Result AnyKind LineKind
 call_of d op.Read name =
     if has_no_value (get (codes "value") d) then Ok (Plain (CallRead name)) else Err BadValue
 call_of d op.Write name =
     or_fault (written_form (get (codes "value") d)) BadValue (λ v. Ok (Plain (CallWrite name v)))
 call_of d op.Cas name = cas_call d name
+call_of d op.Delete name =
+    if has_no_value (get (codes "value") d) then Ok (CallOther name Delete) else Err BadValue
+call_of d op.Swap name =
+    or_fault (written_form (get (codes "value") d)) BadValue (λ v. Ok (CallOther name (Swap v)))
 
 -- a call of the object: its operation and its register are there
 abbrev pub call_kind : Operations → Data → Result AnyKind LineKind
@@ -68,15 +90,23 @@ parts_form taken d = or_fault (optional (op_form taken) (get (codes "op") d)) (B
     Ok (record { op = op; register = name; value = value; ok = ok_form taken (get (codes "ok") d) }))))
 
 -- the end of a call, a reply or a fail, with what it says
-abbrev pub with_parts : (ReplyParts → Kind) → Result ReplyParts LineKind → Result AnyKind LineKind
-with_parts end (Ok parts) = Ok (Plain (end parts))
+abbrev pub with_parts : (ReplyParts → AnyKind) → Result ReplyParts LineKind → Result AnyKind LineKind
+with_parts end (Ok parts) = Ok (end parts)
 with_parts end (Err fault) = Err fault
+
+-- a reply, with what it tells of the value that its operation met
+abbrev pub telling : Told → ReplyParts → AnyKind
+telling told parts = if tells_nothing told then Plain (Reply parts) else Telling parts told
+
+abbrev pub reply_kind : Operations → Data → Result AnyKind LineKind
+reply_kind taken d =
+    with_parts (telling (told_form taken (get (codes "found") d) (get (codes "old") d))) (parts_form taken d)
 
 -- what happened, by the word of the event; of a crash no other member is read
 abbrev pub kind_of : Operations → Data → EventWord → Result AnyKind LineKind
 kind_of taken d word.Call = call_kind taken d
-kind_of taken d word.Reply = with_parts (λ parts. Reply parts) (parts_form taken d)
-kind_of taken d word.Fail = with_parts (λ parts. Fail parts) (parts_form taken d)
+kind_of taken d word.Reply = reply_kind taken d
+kind_of taken d word.Fail = with_parts (λ parts. Plain (Fail parts)) (parts_form taken d)
 kind_of taken d word.Crash = Ok (Plain Crash)
 
 -- the event of a process at line `n`
@@ -114,7 +144,8 @@ event_reading taken n bytes = at_line n (line_form taken n bytes)
 -- the event, where operations are reads and writes
 abbrev pub plain_event : ℕ → ℕ → AnyKind → Result LineEvent LineFault
 plain_event n process (Plain kind) = Ok (record { line = n; process = process; kind = kind })
-plain_event n process (CallCas name from to) = Err (record { line = n; kind = BadOp ReadsAndWrites })
+plain_event n process (CallOther name call) = Err (record { line = n; kind = BadOp ReadsAndWrites })
+plain_event n process (Telling parts told) = Err (record { line = n; kind = BadOp ReadsAndWrites })
 
 abbrev pub plain_reading : Result AnyEvent LineFault → Result LineEvent LineFault
 plain_reading (Ok event) = plain_event event.line event.process event.kind

@@ -1,7 +1,8 @@
 //! What a line of a history says: one event, or why it has none.
 ghost use Rattle.std.specs.Prelude.{◌≡◌};
-ghost use Rattle.history_text.specs.Values.{word_of};
+ghost use Rattle.history_text.specs.Values.{tells_nothing, word_of};
 
+use crate::apart::Apart;
 use crate::fault::LineFault;
 use crate::name::Name;
 use crate::optional_name::OptionalName;
@@ -18,9 +19,10 @@ pub enum Val {
 /// Which operations a program takes.
 #[derive(Clone, Copy, Debug, PartialEq, Eq)]
 pub enum Operations {
-    /// Reads and writes. To such a program `"cas"` is no word for an operation, and it looks at no `ok`.
+    /// Reads and writes. To such a program no other word is one for an operation, and it looks at no member
+    /// that only other operations have.
     ReadsAndWrites,
-    /// Compare-and-swap (cas) besides.
+    /// Deletes, swaps and compare-and-swap (cas) as well.
     WithCas,
 }
 
@@ -52,8 +54,44 @@ pub enum OpWord {
     Read,
     /// A write.
     Write,
-    /// A cas, which writes one number if its register holds the value that it names.
+    /// A cas, which writes one value if its register holds the value that it names, or another one.
     Cas,
+    /// A delete, which writes null.
+    Delete,
+    /// A swap, which writes one number, and whose reply tells of the value before.
+    Swap,
+}
+
+/// What a cas asks of the value that its register holds.
+#[derive(Clone, Copy, Debug, PartialEq, Eq)]
+pub enum Compared {
+    /// That it is this one.
+    From(Val),
+    /// That it is another one.
+    Unless(Val),
+}
+
+/// A cas: if the value that its register holds is as it asks, the cas writes `to`, and else it changes
+/// nothing.
+#[derive(Clone, Copy, Debug, PartialEq, Eq)]
+pub struct CasCall {
+    pub compared: Compared,
+    pub to: Val,
+    /// Whether the member `old` of its reply counts.
+    pub asks_old: bool,
+}
+
+/// The call of an operation that is neither a read nor a write.
+#[derive(Debug, Drop)]
+pub enum OtherCall {
+    /// A cas from the value to the number, which doesn't ask for the old value.
+    Cas(Val, i64),
+    /// Any other cas.
+    CasOf(Apart<CasCall>),
+    /// A delete.
+    Delete,
+    /// A swap, which writes the number.
+    Swap(i64),
 }
 
 /// The word by which a line says what happened.
@@ -83,6 +121,31 @@ pub struct ReplyParts {
     pub ok: Option<bool>,
 }
 
+/// What a reply tells of the value that its operation met. The outer `None` stands for a member of another
+/// form, the inner one for none.
+#[derive(Clone, Copy, Debug, PartialEq, Eq)]
+pub struct Told {
+    /// Whether there was a value, as a member `found` that is true or false says.
+    pub found: Option<Option<bool>>,
+    /// The value, as a member `old` says.
+    pub old: Option<Option<Val>>,
+}
+
+impl Told {
+    /// What a reply with neither member tells.
+    pub const NOTHING: Told = Told {
+        found: Some(None),
+        old: Some(None),
+    };
+
+    /// Whether the reply has neither member.
+    pub fn is_nothing(self) -> bool
+        ensures { result ≡ tells_nothing self }
+    {
+        matches!((self.found, self.old), (Some(None), Some(None)))
+    }
+}
+
 /// What happened, where operations are reads and writes.
 #[derive(Debug, Drop, PartialEq)]
 pub enum Kind {
@@ -98,14 +161,15 @@ pub enum Kind {
     Crash,
 }
 
-/// What happened, whatever the operation is.
-#[derive(Debug, Drop, PartialEq)]
+/// What happened, whatever the operation is. What rarely occurs lies apart: no event is longer for it.
+#[derive(Debug, Drop)]
 pub enum AnyKind {
-    /// What may happen to a read or a write; a reply or a fail may be that of a cas.
+    /// What may happen to a read or a write; a reply or a fail may be that of another operation.
     Plain(Kind),
-    /// The call of a cas on the register: if that holds the value, the cas writes the number, and else it
-    /// changes nothing.
-    CallCas(Name, Val, i64),
+    /// The call of another operation on the register.
+    CallOther(Name, OtherCall),
+    /// A reply that has something to tell of the value that its operation met.
+    Telling(ReplyParts, Apart<Told>),
 }
 
 /// The event of one line, where operations are reads and writes.
@@ -120,7 +184,7 @@ pub struct LineEvent {
 }
 
 /// The event of one line, whatever its operation is.
-#[derive(Debug, Drop, PartialEq)]
+#[derive(Debug, Drop)]
 pub struct AnyEvent {
     /// The line's number, from 1.
     pub line: u32,

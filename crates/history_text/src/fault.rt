@@ -11,7 +11,7 @@ impl fmt::Display for Operations {
     fn fmt<W: fmt::Write>(&self, f: &mut fmt::Formatter<W>) -> fmt::Result {
         f.write_str(match self {
             Operations::ReadsAndWrites => "read nor write",
-            Operations::WithCas => "read, write nor cas",
+            Operations::WithCas => "read, write, delete, swap nor cas",
         })
     }
 }
@@ -43,9 +43,9 @@ pub enum LineKind {
     /// `value` does not fit the event.
     #[error("value does not fit the event")]
     BadValue,
-    /// In the call of a cas, `from` is absent, or neither `null` nor a whole number of 64 bits; or `to` is
-    /// absent, or not a whole number of 64 bits.
-    #[error("from or to does not fit the event")]
+    /// In the call of a cas, `from` and `unless` are both absent or both there, `to` is absent, or one of
+    /// them is neither `null` nor a whole number of 64 bits.
+    #[error("from, unless or to does not fit the event")]
     BadFromOrTo,
 }
 

@@ -4,17 +4,19 @@
 //! The contract of `read_event` says what it would say without this module: [`flat_event`] gives an event
 //! only if `line_form` gives it, which is defined over the JSON that `serde_json` reads. A line that is
 //! not flat, or has a fault, gives `None`, and `line` reads it as JSON. So faults are judged there alone.
-ghost use Rattle.std.specs.Prelude.{◌≡◌, ◌≤◌, length, codes, IfSome, IfOk, Ok, ⊤};
+ghost use Rattle.std.specs.Prelude.{◌≡◌, ◌≤◌, length, codes, IfSome, IfOk, Ok, Some, ⊤};
 ghost use Rattle.std.specs.Bool.{MatchBool};
 ghost use Rattle.serde_json.specs.Data.{Members, object};
 ghost use Rattle.serde_json.specs.Find.{get_member};
 ghost use Rattle.history_text.specs.Limits.{IsName, MAX_LINE};
-ghost use Rattle.history_text.specs.Members.{ok_form};
+ghost use Rattle.history_text.specs.Members.{ok_form, op_form, optional};
 ghost use Rattle.history_text.specs.Reading.{cas_call, call_kind, parts_form, kind_of, line_form};
 ghost use Rattle.history_text.specs.Flat.{Holds};
 ghost use Rattle.history_text.specs.declared.event.Operations.{Operations as Taken};
 
-use crate::event::{AnyEvent, AnyKind, EventWord, Kind, OpWord, Operations, ReplyParts, Val};
+use crate::event::{
+    AnyEvent, AnyKind, EventWord, Kind, OpWord, Operations, OtherCall, ReplyParts, Val,
+};
 use crate::flat_members::{FlatMembers, flat_object};
 use crate::limits::MAX_NAME;
 use crate::name::Name;
@@ -112,6 +114,7 @@ fn call(
             Ok(Some(AnyKind::Plain(Kind::CallWrite(Name::new(alloc, text)?, number))))
         }
         OpWord::Cas => cas(alloc, found, text),
+        OpWord::Delete | OpWord::Swap => Ok(None),
     }
 }
 
@@ -130,7 +133,7 @@ fn cas(alloc: Global, found: FlatMembers<'_>, text: &str) -> Result<Option<AnyKi
     let Some(Val::Int(to)) = found.to else {
         return Ok(None);
     };
-    Ok(Some(AnyKind::CallCas(Name::new(alloc, text)?, from, to)))
+    Ok(Some(AnyKind::CallOther(Name::new(alloc, text)?, OtherCall::Cas(from, to))))
 }
 
 /// What a reply or a fail says of its call.
@@ -150,11 +153,20 @@ fn parts(
         register = OptionalName::new(alloc, text)?;
     }
     Ok(Some(ReplyParts {
-        op: found.op,
+        op: op(found),
         register,
         value: found.value,
         ok: ok(found, operations),
     }))
+}
+
+/// The word for the operation, if there is one: then it is taken.
+#[inline(always)]
+fn op(found: FlatMembers<'_>) -> Option<OpWord>
+    ensures { (taken : Taken) (ms : Members) → Holds taken ms found.entry
+        → optional (op_form taken) (get_member (codes "op") ms) ≡ Some result }
+{
+    found.op
 }
 
 /// Whether a cas took place, if cas are taken.

@@ -9,11 +9,12 @@
 //! a line of the common form alone, for a reader of more forms. Nothing here knows how events follow one
 //! another; that is the floor above.
 //!
-//! Read it in this order: `limits`; `name`, `optional_name`, `event` and `fault`, which say what a line can
-//! mean; `members`, `refused` and `line`, which read one line; `scan`, `flat_members` and `flat_line`, which
-//! read a line of the common form faster; `lines` and `read`, which read them all.
+//! Read it in this order: `limits`; `name`, `optional_name`, `apart`, `event` and `fault`, which say what a
+//! line can mean; `members`, `refused` and `line`, which read one line; `scan`, `flat_members` and
+//! `flat_line`, which read a line of the common form faster; `lines` and `read`, which read them all.
 #![tactic(auto)]
 
+mod apart;
 mod event;
 mod fault;
 mod flat_line;
@@ -28,8 +29,10 @@ mod read;
 mod refused;
 mod scan;
 
+pub use apart::Apart;
 pub use event::{
-    AnyEvent, AnyKind, Kind, Line, LineEvent, OpKind, OpWord, Operations, ReplyParts, Val,
+    AnyEvent, AnyKind, CasCall, Compared, Kind, Line, LineEvent, OpKind, OpWord, Operations,
+    OtherCall, ReplyParts, Told, Val,
 };
 pub use fault::{LineFault, LineKind};
 pub use limits::{MAX_EVENTS, MAX_INPUT, MAX_LINE, MAX_NAME};

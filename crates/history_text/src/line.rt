@@ -3,14 +3,19 @@
 //! `flat_line` reads the common form of a line with no tree. Every other line, and each one that has a fault,
 //! is read as a JSON value here, if it isn't too long. Faults are looked for by ascending number, so the
 //! first that is found is the lowest-numbered.
+ghost use Rattle.std.specs.Prelude.{◌≡◌, IfOk};
 ghost use Rattle.serde_json.specs.View.{view};
 ghost use Rattle.history_text.specs.Reading.{cas_call, call_kind, call_of, parts_form, kind_of, event_of};
 ghost use Rattle.history_text.specs.Reading.{line_form, event_reading, line_reading, plain_event};
-ghost use Rattle.history_text.specs.Reading.{IsWithoutCas};
+ghost use Rattle.history_text.specs.Reading.{IsWithoutCas, cas_form, reply_kind};
 ghost use Rattle.history_text.specs.Limits.{IsName};
 ghost use Rattle.history_text.specs.Memory.{Gives, GivesLine};
 
-use crate::event::{AnyEvent, AnyKind, EventWord, Kind, LineEvent, OpWord, Operations, ReplyParts};
+use crate::apart::Apart;
+use crate::event::{
+    AnyEvent, AnyKind, CasCall, Compared, EventWord, Kind, LineEvent, OpWord, Operations,
+    OtherCall, ReplyParts, Val,
+};
 use crate::fault::{LineFault, LineKind};
 use crate::flat_line::flat_event;
 use crate::limits::MAX_LINE;
@@ -19,7 +24,7 @@ use crate::name::Name;
 use crate::optional_name::OptionalName;
 use crate::refused::Refused;
 use serde_json::Value;
-use std::alloc::Global;
+use std::alloc::{AllocError, Global};
 use thiserror::Error;
 
 /// Why a line gave no event. Nothing of the line is kept.
@@ -57,7 +62,7 @@ fn plain(event: AnyEvent) -> Result<LineEvent, LineError>
             process,
             kind,
         }),
-        AnyKind::CallCas(_, _, _) => Err(LineError::Fault(LineFault {
+        AnyKind::CallOther(_, _) | AnyKind::Telling(_, _) => Err(LineError::Fault(LineFault {
             line,
             kind: LineKind::BadOp(Operations::ReadsAndWrites),
         })),
@@ -142,7 +147,7 @@ fn kind(
 {
     match event {
         EventWord::Call => call(alloc, value, operations),
-        EventWord::Reply => Ok(AnyKind::Plain(Kind::Reply(parts(alloc, value, operations)?))),
+        EventWord::Reply => reply(alloc, value, operations),
         EventWord::Fail => Ok(AnyKind::Plain(Kind::Fail(parts(alloc, value, operations)?))),
         EventWord::Crash => Ok(AnyKind::Plain(Kind::Crash)),
     }
@@ -173,6 +178,16 @@ fn called(alloc: Global, value: &Value, op: OpWord, register: &str) -> Result<An
             Ok(AnyKind::Plain(Kind::CallWrite(Name::new(alloc, register)?, written)))
         }
         OpWord::Cas => cas_called(alloc, value, register),
+        OpWord::Delete => {
+            if !members::names_no_value(value) {
+                return Err(Refused::Fault(LineKind::BadValue));
+            }
+            Ok(AnyKind::CallOther(Name::new(alloc, register)?, OtherCall::Delete))
+        }
+        OpWord::Swap => {
+            let written = members::written(value).ok_or(LineKind::BadValue)?;
+            Ok(AnyKind::CallOther(Name::new(alloc, register)?, OtherCall::Swap(written)))
+        }
     }
 }
 
@@ -183,9 +198,45 @@ fn cas_called(alloc: Global, value: &Value, register: &str) -> Result<AnyKind, R
     if !members::names_no_value(value) {
         return Err(Refused::Fault(LineKind::BadValue));
     }
-    let from = members::from(value).ok_or(LineKind::BadFromOrTo)?;
+    let compared = members::compared(value).ok_or(LineKind::BadFromOrTo)?;
     let to = members::to(value).ok_or(LineKind::BadFromOrTo)?;
-    Ok(AnyKind::CallCas(Name::new(alloc, register)?, from, to))
+    let asks_old = members::asks_old(value);
+    let call = cas_of(alloc, compared, to, asks_old)?;
+    Ok(AnyKind::CallOther(Name::new(alloc, register)?, call))
+}
+
+/// A cas, in the form that its parts allow.
+fn cas_of(
+    alloc: Global,
+    compared: Compared,
+    to: Val,
+    asks_old: bool,
+) -> Result<OtherCall, AllocError>
+    ensures { IfOk result (λ call. call ≡ cas_form compared to asks_old) }
+{
+    match (compared, to, asks_old) {
+        (Compared::From(from), Val::Int(number), false) => Ok(OtherCall::Cas(from, number)),
+        _ => {
+            let cas = CasCall {
+                compared,
+                to,
+                asks_old,
+            };
+            Ok(OtherCall::CasOf(Apart::new(alloc, cas)?))
+        }
+    }
+}
+
+/// A reply, with what it tells of the value that its operation met.
+fn reply(alloc: Global, value: &Value, operations: Operations) -> Result<AnyKind, Refused>
+    ensures { Gives (reply_kind operations (view value.now)) result }
+{
+    let parts = parts(alloc, value, operations)?;
+    let told = members::told(value, operations);
+    if told.is_nothing() {
+        return Ok(AnyKind::Plain(Kind::Reply(parts)));
+    }
+    Ok(AnyKind::Telling(parts, Apart::new(alloc, told)?))
 }
 
 /// What a reply or a fail says of its call.

@@ -5,9 +5,10 @@ ghost use Rattle.serde_json.specs.View.{view};
 ghost use Rattle.serde_json.specs.Find.{get};
 ghost use Rattle.history_text.specs.Members.{process_form, event_form, other_word as other_word_form};
 ghost use Rattle.history_text.specs.Members.{word_form, takes as takes_of, op_form, name_form, written_form};
-ghost use Rattle.history_text.specs.Members.{value_form, has_no_value, ok_form, optional};
+ghost use Rattle.history_text.specs.Members.{value_form, has_no_value, ok_form, optional, is_true};
+ghost use Rattle.history_text.specs.Members.{compared_form, found_form, told_form, other_op as other_op_form};
 
-use crate::event::{EventWord, OpWord, Operations, Val};
+use crate::event::{Compared, EventWord, OpWord, Operations, Told, Val};
 use crate::limits::MAX_NAME;
 use serde_json::Value;
 
@@ -54,8 +55,21 @@ fn word(member: &Value) -> Option<OpWord>
         Some(OpWord::Read)
     } else if word == "write" {
         Some(OpWord::Write)
-    } else if word == "cas" {
+    } else {
+        other_op(word)
+    }
+}
+
+/// The word for an operation that is neither a read nor a write.
+fn other_op(word: &str) -> Option<OpWord>
+    ensures { result ≡ other_op_form word.now }
+{
+    if word == "cas" {
         Some(OpWord::Cas)
+    } else if word == "delete" {
+        Some(OpWord::Delete)
+    } else if word == "swap" {
+        Some(OpWord::Swap)
     } else {
         None
     }
@@ -67,6 +81,7 @@ fn takes(operations: Operations, word: OpWord) -> bool
 {
     match (operations, word) {
         (Operations::ReadsAndWrites, OpWord::Cas) => false,
+        (Operations::ReadsAndWrites, OpWord::Delete | OpWord::Swap) => false,
         _ => true,
     }
 }
@@ -129,18 +144,33 @@ pub(crate) fn written(object: &Value) -> Option<i64>
     object.get("value")?.as_i64()
 }
 
-/// The number that a cas writes.
-pub(crate) fn to(object: &Value) -> Option<i64>
-    ensures { result ≡ written_form (get (codes "to") (view object.now)) }
+/// The value that a cas writes.
+pub(crate) fn to(object: &Value) -> Option<Val>
+    ensures { result ≡ value_form (get (codes "to") (view object.now)) }
 {
-    object.get("to")?.as_i64()
+    value(object.get("to")?)
 }
 
-/// The value at which a cas takes place.
-pub(crate) fn from(object: &Value) -> Option<Val>
-    ensures { result ≡ value_form (get (codes "from") (view object.now)) }
+/// What a cas asks of the value that its register holds.
+pub(crate) fn compared(object: &Value) -> Option<Compared>
+    ensures { result
+        ≡ compared_form (get (codes "from") (view object.now)) (get (codes "unless") (view object.now)) }
 {
-    value(object.get("from")?)
+    match (object.get("from"), object.get("unless")) {
+        (Some(member), None) => Some(Compared::From(value(member)?)),
+        (None, Some(member)) => Some(Compared::Unless(value(member)?)),
+        _ => None,
+    }
+}
+
+/// Whether a cas asks for the old value.
+pub(crate) fn asks_old(object: &Value) -> bool
+    ensures { result ≡ is_true (get (codes "old") (view object.now)) }
+{
+    match object.get("old") {
+        None => false,
+        Some(member) => matches!(member.as_bool(), Some(true)),
+    }
 }
 
 /// Whether the value is absent or null.
@@ -168,6 +198,38 @@ pub(crate) fn reply_value(object: &Value) -> Option<Option<Val>>
     match object.get("value") {
         None => Some(None),
         Some(member) => Some(Some(value(member)?)),
+    }
+}
+
+fn found(object: &Value) -> Option<Option<bool>>
+    ensures { result ≡ optional found_form (get (codes "found") (view object.now)) }
+{
+    match object.get("found") {
+        None => Some(None),
+        Some(member) => Some(Some(member.as_bool()?)),
+    }
+}
+
+fn old(object: &Value) -> Option<Option<Val>>
+    ensures { result ≡ optional value_form (get (codes "old") (view object.now)) }
+{
+    match object.get("old") {
+        None => Some(None),
+        Some(member) => Some(Some(value(member)?)),
+    }
+}
+
+/// What a reply tells of the value that its operation met.
+pub(crate) fn told(object: &Value, operations: Operations) -> Told
+    ensures { result ≡ told_form operations (get (codes "found") (view object.now))
+        (get (codes "old") (view object.now)) }
+{
+    match operations {
+        Operations::ReadsAndWrites => Told::NOTHING,
+        Operations::WithCas => Told {
+            found: found(object),
+            old: old(object),
+        },
     }
 }
 

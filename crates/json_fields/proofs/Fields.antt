@@ -1,13 +1,14 @@
 -- Fields that are sent one after another make an object, which has no float if none of them has.
-use Rattle.std.proofs.Common.{◌≡◌, ℕ, List, [], ◌∷◌, ◌++◌, length, map, false, Option}
-use Rattle.std.proofs.Common.{Some, None, refl, sym, ◌∙◌, subst, arith}
+use Rattle.std.proofs.Common.{◌≡◌, ℕ, ◌+◌, List, [], ◌∷◌, ◌++◌, length, map, Bool, true, false, Option}
+use Rattle.std.proofs.Common.{Some, None, refl, sym, ◌∙◌, ap, subst, arith, length-append}
+use Rattle.std.specs.Prelude.{is_some, if◌then◌else◌}
 use Rattle.std.proofs.lemmas.Bool.{or_from, or_parts}
 use Rattle.serde.specs.Event.{Log, Logs, map_begins, map_ends}
 use Rattle.serde_json.specs.Data.{Data}
 use Rattle.serde_json.specs.Events.{SendsValue, SendsMembers, members_len, items_len}
 use Rattle.serde_json.specs.Written.{has_float, members_have_float}
 use Rattle.json_fields.specs.Fields.{Field, fields_of, members_of, items_of, number_json}
-use Rattle.json_fields.specs.Fields.{numbers_json, object_json, always, shown}
+use Rattle.json_fields.specs.Fields.{numbers_json, object_json, pair_json, yes_or_no, always, shown}
 use Rattle.json_fields.specs.Sends.{SendsFields, SendsParts}
 
 sends_append : (xs ys : List Field) (old mid new : Log) → SendsFields xs old mid → SendsFields ys mid new
@@ -15,7 +16,7 @@ sends_append : (xs ys : List Field) (old mid new : Log) → SendsFields xs old m
 sends_append [] ys old mid new e h = subst (λ l. SendsFields ys l new) e h
 sends_append (x ∷ xs) ys old mid new h k = (h.0, h.1, h.2, h.3, sends_append xs ys h.1 mid new h.4 k)
 
-sends_parts : (ps : List (List Field)) (old new : Log) → SendsParts ps old new
+pub sends_parts : (ps : List (List Field)) (old new : Log) → SendsParts ps old new
     → SendsFields (fields_of ps) old new
 sends_parts [] old new e = e
 sends_parts (p ∷ ps) old new h = sends_append p (fields_of ps) old h.0 new h.1 (sends_parts ps h.0 new h.2)
@@ -44,6 +45,29 @@ pub items_len-numbers : (ns : List ℕ) → items_len (items_of (map number_json
 items_len-numbers [] = refl
 items_len-numbers (n ∷ ns) = let e = items_len-numbers ns in grind arith
 
+-- ---- how many fields there are
+
+unfoldable pub parts_len : List (List Field) → ℕ
+parts_len [] = 0
+parts_len (p ∷ ps) = length p + parts_len ps
+
+pub length-fields_of : (ps : List (List Field)) → length (fields_of ps) ≡ parts_len ps
+unfolding parts_len
+length-fields_of [] = refl
+length-fields_of (p ∷ ps) = length-append p (fields_of ps) ∙ ap (λ n. length p + n) (length-fields_of ps)
+
+pub shown_len : {A : Type 0} (key : List ℕ) (json : A → Data) (o : Option A)
+    → length (shown key json o) ≡ (if is_some o then 1 else 0)
+shown_len key json None = refl
+shown_len key json (Some x) = refl
+
+abbrev pub one_when : Bool → ℕ
+one_when b = if b then 1 else 0
+
+pub one_of : {A : Type 0} (o : Option A) (b : Bool) (n : ℕ) → b ≡ is_some o → n ≡ one_when b
+    → n ≡ one_when (is_some o)
+one_of o b n e h = h ∙ ap one_when e
+
 -- ---- no floats
 
 pub ArePlain : List Field → Type 0
@@ -62,13 +86,14 @@ abbrev pub AllPlain : List (List Field) → Type 0
 AllPlain [] = Unit {0}
 AllPlain (p ∷ ps) = ArePlain p × AllPlain ps
 
+pub plain_fields : (ps : List (List Field)) → AllPlain ps → ArePlain (fields_of ps)
+unfolding ArePlain
+plain_fields [] h = refl
+plain_fields (p ∷ ps) h = plain_append p (fields_of ps) h.0 (plain_fields ps h.1)
+
 pub plain_parts : (ps : List (List Field)) → AllPlain ps → has_float (object_json ps) ≡ false
 unfolding ArePlain
-plain_parts ps h = are_plain ps h
-  where
-    are_plain : (qs : List (List Field)) → AllPlain qs → ArePlain (fields_of qs)
-    are_plain [] g = refl
-    are_plain (q ∷ qs) g = plain_append q (fields_of qs) g.0 (are_plain qs g.1)
+plain_parts ps h = plain_fields ps h
 
 pub plain_always : (key : List ℕ) (d : Data) → has_float d ≡ false → ArePlain (always key d)
 unfolding ArePlain
@@ -83,3 +108,13 @@ plain_shown key json (Some x) h = or_from (has_float (json x)) false (h x) refl
 pub plain_numbers : (ns : List ℕ) → has_float (numbers_json ns) ≡ false
 plain_numbers [] = refl
 plain_numbers (n ∷ ns) = plain_numbers ns
+
+pub plain_pair : (p : ℕ × ℕ) → has_float (pair_json p) ≡ false
+plain_pair p = plain_numbers (p.0 ∷ p.1 ∷ [])
+
+pub plain_number : (n : ℕ) → has_float (number_json n) ≡ false
+plain_number n = refl
+
+pub plain_yes : (b : Bool) → has_float (yes_or_no b) ≡ false
+plain_yes true = refl
+plain_yes false = refl

@@ -1,6 +1,6 @@
 -- The fields of a JSON object (RFC 8259), and a line of compact JSON.
-use Rattle.std.specs.Prelude.{ℕ, List, [], ◌∷◌, ◌++◌, map, Option, Some, None}
-use Rattle.serde_json.specs.Data.{Data, number, unsigned, array, object, Items}
+use Rattle.std.specs.Prelude.{ℕ, codes, List, [], ◌∷◌, ◌++◌, map, Bool, true, false, Option, Some, None}
+use Rattle.serde_json.specs.Data.{Data, number, unsigned, string, array, object, Items}
 use Rattle.serde_json.specs.Data.{no_items, item, Members, no_members, member}
 use Rattle.serde_json.specs.Written.{compact_text}
 
@@ -22,6 +22,13 @@ number_json n = number (unsigned n)
 
 abbrev pub numbers_json : List ℕ → Data
 numbers_json ns = array (items_of (map number_json ns))
+
+abbrev pub pair_json : ℕ × ℕ → Data
+pair_json p = numbers_json (p.0 ∷ p.1 ∷ [])
+
+abbrev pub yes_or_no : Bool → Data
+yes_or_no true = string (codes "yes")
+yes_or_no false = string (codes "no")
 
 -- a key that is always there, and one that is there with a value
 abbrev pub always : List ℕ → Data → List Field

@@ -2,7 +2,7 @@
 ghost use Rattle.std.specs.Prelude.{OnOk};
 ghost use Rattle.serde_json.specs.Data.{string};
 ghost use Rattle.serde_json.specs.Events.{SendsValue};
-ghost use Rattle.json_fields.specs.Fields.{always, number_json, numbers_json};
+ghost use Rattle.json_fields.specs.Fields.{always, number_json, numbers_json, pair_json, shown, yes_or_no};
 ghost use Rattle.json_fields.specs.Sends.{SendsFields};
 
 use serde::Serializer;
@@ -51,4 +51,44 @@ pub fn send_numbers<S: Serializer>(out: &mut S, key: &str, numbers: &[u32]) -> R
 {
     out.key(key)?;
     send_items(out, numbers)
+}
+
+/// Sends a field whose value is a pair of numbers.
+///
+/// # Errors
+/// If the serializer fails.
+pub fn send_pair<S: Serializer>(out: &mut S, key: &str, pair: (u32, u32)) -> Result<(), S::Error>
+    ensures { OnOk result
+        (SendsFields (always key.now (pair_json pair)) (S.written out.old) (S.written out.new)) }
+{
+    send_numbers(out, key, &[pair.0, pair.1])
+}
+
+/// Sends a field whose value is `"yes"` or `"no"`.
+///
+/// # Errors
+/// If the serializer fails.
+pub fn send_yes_or_no<S: Serializer>(out: &mut S, key: &str, yes: bool) -> Result<(), S::Error>
+    ensures { OnOk result
+        (SendsFields (always key.now (yes_or_no yes)) (S.written out.old) (S.written out.new)) }
+{
+    if yes {
+        send_text(out, key, "yes")
+    } else {
+        send_text(out, key, "no")
+    }
+}
+
+/// Sends a field whose value is a number, if there is one.
+///
+/// # Errors
+/// If the serializer fails.
+pub fn show_number<S: Serializer>(out: &mut S, key: &str, n: Option<u32>) -> Result<(), S::Error>
+    ensures { OnOk result
+        (SendsFields (shown key.now number_json n) (S.written out.old) (S.written out.new)) }
+{
+    match n {
+        Some(n) => send_number(out, key, u64::from(n)),
+        None => Ok(()),
+    }
 }

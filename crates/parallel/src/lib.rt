@@ -16,6 +16,6 @@ mod steps;
 pub use pairs::{both, both_mut, map_jobs};
 pub use sizes::{
     FEWEST_LINES, LINES_PER_LIST, NUMBERS_PER_PART, OPERATIONS_PER_PART, POINTS_PER_PART,
-    REGISTER_PARTS, has_one_processor, share_size,
+    REGISTER_PARTS, has_one_processor, share_of, share_size,
 };
 pub use steps::{map_each, map_parts};

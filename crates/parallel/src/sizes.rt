@@ -39,3 +39,16 @@ pub fn share_size(rt: &impl Threads, count: usize, fewest: usize) -> usize
     let others = current_num_threads(rt).saturating_sub(1).max(1);
     (count / others).max(fewest).max(1)
 }
+
+/// How many of some items a worker takes at least. [`map_each`](crate::map_each) halves a list for as long as
+/// each half has that many, so there are as many shares as the greatest power of two up to the workers, or
+/// fewer if there aren't twice as many items.
+pub fn share_of(items: usize, workers: u32) -> usize {
+    let shares = (1_usize << workers.max(1).ilog2()).max(1);
+    let even = items / shares;
+    if even < 2 {
+        items.div_ceil(shares)
+    } else {
+        even
+    }
+}

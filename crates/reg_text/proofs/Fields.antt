@@ -1,12 +1,13 @@
 -- How many fields the lines of a report have, and that none of their values is a float.
-use Rattle.std.proofs.Common.{◌≡◌, ℕ, ◌+◌, List, [], ◌∷◌, length, Bool, true, false, Option}
-use Rattle.std.proofs.Common.{Some, None, refl, ◌∙◌, ap, arith, length-append, codes}
+use Rattle.std.proofs.Common.{◌≡◌, ℕ, ◌+◌, length, false, refl, arith, codes}
 use Rattle.std.specs.Prelude.{is_some, if◌then◌else◌}
-use Rattle.serde_json.specs.Data.{Data, string}
+use Rattle.serde_json.specs.Data.{string}
 use Rattle.serde_json.specs.Written.{has_float}
-use Rattle.json_fields.specs.Fields.{Field, fields_of, number_json, numbers_json, shown}
-use Rattle.json_fields.proofs.Fields.{plain_always, plain_numbers, plain_parts, plain_shown}
-use Rattle.reg_text.specs.Text.{pair_json, yes_or_no, verdict_json, fault_json}
+use Rattle.json_fields.specs.Fields.{fields_of, number_json, numbers_json, pair_json, yes_or_no}
+use Rattle.json_fields.proofs.Fields.{length-fields_of, one_when, parts_len, shown_len}
+use Rattle.json_fields.proofs.Fields.{plain_always, plain_number, plain_numbers, plain_pair, plain_parts}
+use Rattle.json_fields.proofs.Fields.{plain_shown, plain_yes}
+use Rattle.reg_text.specs.Text.{verdict_json, fault_json}
 use Rattle.reg_text.specs.Text.{register_parts, register_json, summary_parts, summary_json}
 use Rattle.reg_text.specs.declared.report.Verdict.{Verdict}
 use Rattle.reg_text.specs.declared.report.Verdict.TheVariants.{Yes, No, SeveralWriters}
@@ -16,27 +17,6 @@ use Rattle.reg_text.specs.declared.report.RegReport.{RegReport}
 use Rattle.reg_text.specs.declared.report.Report.{Report}
 
 -- ---- how many fields there are
-
-pub parts_len : List (List Field) → ℕ
-parts_len [] = 0
-parts_len (p ∷ ps) = length p + parts_len ps
-
-length-fields_of : (ps : List (List Field)) → length (fields_of ps) ≡ parts_len ps
-unfolding parts_len
-length-fields_of [] = refl
-length-fields_of (p ∷ ps) = length-append p (fields_of ps) ∙ ap (λ n. length p + n) (length-fields_of ps)
-
-shown_len : {A : Type 0} (key : List ℕ) (json : A → Data) (o : Option A)
-    → length (shown key json o) ≡ (if is_some o then 1 else 0)
-shown_len key json None = refl
-shown_len key json (Some x) = refl
-
-abbrev pub one_when : Bool → ℕ
-one_when b = if b then 1 else 0
-
-pub one_of : {A : Type 0} (o : Option A) (b : Bool) (n : ℕ) → b ≡ is_some o → n ≡ one_when b
-    → n ≡ one_when (is_some o)
-one_of o b n e h = h ∙ ap one_when e
 
 pub register_parts_len : (reg : RegReport)
     → length (fields_of (register_parts reg)) ≡ 7 + (if is_some reg.fault then 1
@@ -70,16 +50,6 @@ summary_count report a h =
     omega arith
 
 -- ---- no floats
-
-plain_pair : (p : ℕ × ℕ) → has_float (pair_json p) ≡ false
-plain_pair p = plain_numbers (p.0 ∷ p.1 ∷ [])
-
-plain_number : (n : ℕ) → has_float (number_json n) ≡ false
-plain_number n = refl
-
-plain_yes : (b : Bool) → has_float (yes_or_no b) ≡ false
-plain_yes true = refl
-plain_yes false = refl
 
 plain_verdict : (v : Verdict) → has_float (verdict_json v) ≡ false
 plain_verdict Yes = refl

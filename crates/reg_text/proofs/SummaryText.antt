@@ -8,7 +8,8 @@ use Rattle.json.specs.Print.{escape_byte}
 use Rattle.serde_json.specs.Written.{compact_text, items_text}
 use Rattle.reg_text.specs.SummaryText.{yes_or_no_text, beginning_text, end_text, numbers_text}
 use Rattle.json_fields.specs.Fields.{items_of, line_text, number_json}
-use Rattle.reg_text.specs.Text.{summary_json, yes_or_no}
+use Rattle.json_fields.specs.Fields.{yes_or_no}
+use Rattle.reg_text.specs.Text.{summary_json}
 use Rattle.reg_text.specs.declared.report.Report.{Report}
 
 -- ---- the text in three parts

@@ -1,10 +1,10 @@
 -- The bytes of a report: compact JSON (RFC 8259), a line for each register and
 -- one for the summary, keys in byte order.
-use Rattle.std.specs.Prelude.{ℕ, codes, List, [], ◌∷◌, ◌++◌, map, Bool, true, false}
+use Rattle.std.specs.Prelude.{ℕ, codes, List, [], ◌∷◌, ◌++◌, map}
 use Rattle.std.specs.List.{concat}
 use Rattle.serde_json.specs.Data.{Data, string}
 use Rattle.json_fields.specs.Fields.{Field, always, shown, number_json, numbers_json}
-use Rattle.json_fields.specs.Fields.{object_json}
+use Rattle.json_fields.specs.Fields.{object_json, pair_json, yes_or_no}
 pub use Rattle.json_fields.specs.Fields.{line_text}
 use Rattle.reg_text.specs.declared.report.Verdict.{Verdict}
 use Rattle.reg_text.specs.declared.report.Verdict.TheVariants.{Yes, No, SeveralWriters}
@@ -12,13 +12,6 @@ use Rattle.reg_text.specs.declared.report.FaultLines.{FaultLines}
 use Rattle.reg_text.specs.declared.report.FaultLines.TheVariants.{Unwritten, Early, Zones}
 use Rattle.reg_text.specs.declared.report.RegReport.{RegReport}
 use Rattle.reg_text.specs.declared.report.Report.{Report}
-
-abbrev pub pair_json : ℕ × ℕ → Data
-pair_json p = numbers_json (p.0 ∷ p.1 ∷ [])
-
-abbrev pub yes_or_no : Bool → Data
-yes_or_no true = string (codes "yes")
-yes_or_no false = string (codes "no")
 
 abbrev pub verdict_json : Verdict → Data
 verdict_json Yes = string (codes "yes")

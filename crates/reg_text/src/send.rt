@@ -1,14 +1,14 @@
 //! What the lines of a report send to a serializer.
-ghost use Rattle.std.specs.Prelude.{◌≡◌, ◌+◌, length, OnOk, if◌then◌else◌};
+ghost use Rattle.std.specs.Prelude.{◌≡◌, ◌+◌, length, OnOk};
 ghost use Rattle.serde_json.specs.Events.{SendsValue};
-ghost use Rattle.json_fields.specs.Fields.{always, fields_of, shown, number_json, numbers_json};
+ghost use Rattle.json_fields.specs.Fields.{always, fields_of, number_json, numbers_json, pair_json, shown};
 ghost use Rattle.json_fields.specs.Sends.{SendsFields, SendsParts};
-ghost use Rattle.reg_text.specs.Text.{pair_json, yes_or_no, verdict_json, fault_json, register_json};
+ghost use Rattle.reg_text.specs.Text.{verdict_json, fault_json, register_json};
 ghost use Rattle.reg_text.specs.Text.{register_parts, summary_json, summary_parts};
 
 use crate::lists::Lines;
 use crate::report::{FaultLines, RegReport, Report, Verdict};
-use json_fields::{send_numbers, send_text};
+use json_fields::{one_if, send_numbers, send_pair, send_text, send_yes_or_no, show_number};
 use serde::{Described, Serialize, Serializer};
 
 fn send_number<S: Serializer>(out: &mut S, key: &str, n: u32) -> Result<(), S::Error>
@@ -16,24 +16,6 @@ fn send_number<S: Serializer>(out: &mut S, key: &str, n: u32) -> Result<(), S::E
         (SendsFields (always key.now (number_json n)) (S.written out.old) (S.written out.new)) }
 {
     json_fields::send_number(out, key, u64::from(n))
-}
-
-fn send_pair<S: Serializer>(out: &mut S, key: &str, pair: (u32, u32)) -> Result<(), S::Error>
-    ensures { OnOk result
-        (SendsFields (always key.now (pair_json pair)) (S.written out.old) (S.written out.new)) }
-{
-    send_numbers(out, key, &[pair.0, pair.1])
-}
-
-fn send_yes_or_no<S: Serializer>(out: &mut S, key: &str, yes: bool) -> Result<(), S::Error>
-    ensures { OnOk result
-        (SendsFields (always key.now (yes_or_no yes)) (S.written out.old) (S.written out.new)) }
-{
-    if yes {
-        send_text(out, key, "yes")
-    } else {
-        send_text(out, key, "no")
-    }
 }
 
 fn send_verdict<S: Serializer>(out: &mut S, key: &str, verdict: Verdict) -> Result<(), S::Error>
@@ -44,16 +26,6 @@ fn send_verdict<S: Serializer>(out: &mut S, key: &str, verdict: Verdict) -> Resu
         Verdict::Yes => send_text(out, key, "yes"),
         Verdict::No => send_text(out, key, "no"),
         Verdict::SeveralWriters => send_text(out, key, "several writers"),
-    }
-}
-
-fn show_number<S: Serializer>(out: &mut S, key: &str, n: Option<u32>) -> Result<(), S::Error>
-    ensures { OnOk result
-        (SendsFields (shown key.now number_json n) (S.written out.old) (S.written out.new)) }
-{
-    match n {
-        Some(n) => send_number(out, key, n),
-        None => Ok(()),
     }
 }
 
@@ -148,12 +120,6 @@ fn show_pair<S: Serializer>(
         Some(pair) => send_pair(out, key, pair),
         None => Ok(()),
     }
-}
-
-fn one_if(b: bool) -> usize
-    ensures { result ≡ (if b then 1 else 0) }
-{
-    if b { 1 } else { 0 }
 }
 
 fn register_len(reg: &RegReport) -> usize

@@ -2,12 +2,14 @@
 //! allow, and writes its report to standard output.
 #![tactic(auto)]
 
+mod ending;
 mod words;
 
 ghost use Rattle.std.specs.Prelude.{◌-◌, ◌^◌, ◌<◌};
 
 use command_words::{Ended, WordsFault, status, tell, tell_no_words, tell_unopened, words_given};
-use search_report::{FromReader, FromWriter, Outcome, Refusal, Settings, Source, run};
+use ending::ending_of;
+use search_report::{FromReader, FromWriter, Refusal, Settings, Source, run};
 use std::io;
 use std::process::ExitCode;
 use std::rt::{Env, Files};
@@ -24,9 +26,7 @@ fn report<S: Source>(
 {
     let mut sink = FromWriter::new(io::writer(rt));
     match run(rt, rt.alloc(), source, &mut sink, settings) {
-        Ok(Outcome::Yes) => Ended::Atomic,
-        Ok(Outcome::No) => Ended::NotAtomic,
-        Ok(Outcome::Unknown) => Ended::Unknown,
+        Ok(outcome) => ending_of(outcome),
         Err(refusal) => tell(rt, &refusal, refusal.number()),
     }
 }

@@ -24,6 +24,7 @@ pub(crate) fn read(call: u32, reply: u32, value: Val) -> Operation {
 }
 
 pub(crate) fn cas(call: u32, reply: Option<u32>, from: Val, to: i64) -> Operation {
+    let to = Val::Int(to);
     operation(call, reply, Act::Cas { from, to })
 }
 

@@ -11,7 +11,7 @@ use std::test::Fail;
 /// A call and a reply.
 type Times = (u32, Option<u32>);
 
-const ACTS: u32 = 6;
+const ACTS: u32 = 8;
 
 fn act(number: u32) -> Act {
     match number % ACTS {
@@ -19,7 +19,12 @@ fn act(number: u32) -> Act {
         1 => Act::Write(TWO),
         2 => Act::Read(Some(ONE)),
         3 => Act::Read(Some(Val::Null)),
-        4 => Act::Cas { from: ONE, to: 2 },
+        4 => Act::Cas { from: ONE, to: TWO },
+        5 => Act::CasUnless {
+            unless: Val::Null,
+            to: TWO,
+        },
+        6 => Act::Write(Val::Null),
         _ => Act::Miss { from: ONE },
     }
 }
@@ -72,7 +77,8 @@ fn agrees(alloc: Global, ops: &[Operation], verdict: Verdict) -> Result<bool, Al
     }
 }
 
-/// Whether a bound may keep the operations from being decided: there is a cas, or a value is written twice.
+/// Whether a bound may keep the operations from being decided: there is a cas, or a value is written twice,
+/// or null is.
 fn may_give_up(ops: &[Operation]) -> bool {
     for (place, op) in ops.iter().enumerate() {
         if is_cas(op.act) || is_written_again(&ops[..place], op.act) {
@@ -86,13 +92,14 @@ fn may_give_up(ops: &[Operation]) -> bool {
 fn is_cas(act: Act) -> bool {
     match act {
         Act::Read(_) | Act::Write(_) => false,
-        Act::Cas { .. } | Act::Miss { .. } => true,
+        Act::Cas { .. } | Act::CasUnless { .. } | Act::Miss { .. } => true,
     }
 }
 
-/// Whether an act is a write of what was written before.
+/// Whether an act is a write of what was there before.
 fn is_written_again(before: &[Operation], act: Act) -> bool {
     match act {
+        Act::Write(Val::Null) => true,
         Act::Write(_) => before.iter().any(|op| op.act == act),
         _ => false,
     }

@@ -19,7 +19,7 @@ use Rattle.search_text.specs.declared.report.Atomicity.{Atomicity}
 use Rattle.search_text.specs.declared.report.Atomicity.TheVariants.{Yes, No, Unknown}
 use Rattle.search_text.specs.declared.report.RegisterReport.{RegisterReport}
 use Rattle.search_report.specs.Meaning.{IsAtomicity, IsRegisterReport, IsWholeOutcome}
-use Rattle.search_report.specs.Meaning.{event_lines, is_no, is_unknown, outcome_of}
+use Rattle.search_report.specs.Meaning.{event_lines, event_words, is_no, is_unknown, outcome_of}
 use Rattle.search_report.specs.Registers.{AreFirstLines, IsLine}
 use Rattle.search_report.proofs.Told.{timed_with_initial}
 
@@ -148,7 +148,8 @@ module _ (events : List AnyEvent) where
     line-is r report at =
         let l = lines.each r report at in
         let ops : l.1.items ≡ calls_of events r = is.registers r l.1 l.3 in
-        let line = subst (λ xs. IsLine h.lines.items l.0 xs report) ops l.4 in
+        let told = subst (λ words. IsLine h.lines.items l.0 words l.1.items report) is.words l.4 in
+        let line = subst (λ xs. IsLine h.lines.items l.0 (event_words events) xs report) ops told in
         record {
           name =
               subst (λ names. slice_get names r ≡ Some report.register) is.names (l.2

@@ -21,7 +21,8 @@ no-line h = record {
 pub one-line-more : (h : History) (n : ℕ) (reports : List RegisterReport) (report : RegisterReport)
     (name : List ℕ) (ops : Vec Operation Global) → AreFirstLines h n reports
     → slice_get h.names.items n ≡ Some name → slice_get h.registers.items n ≡ Some ops
-    → IsLine h.lines.items name ops.items report → AreFirstLines h (n + 1) (reports ++ report ∷ [])
+    → IsLine h.lines.items name h.words.items ops.items report
+    → AreFirstLines h (n + 1) (reports ++ report ∷ [])
 one-line-more h n reports report name ops first named there line = record {
   count_is = length_push reports report ∙ ap (λ k. k + 1) first.count_is;
   each = λ r other at. elim (cases_eq r (length reports)) [
@@ -34,7 +35,7 @@ one-line-more h n reports report name ops first named there line = record {
           ops,
           ap (slice_get h.names.items) r_is ∙ named,
           ap (slice_get h.registers.items) r_is ∙ there,
-          subst (IsLine h.lines.items name ops.items) same line,
+          subst (IsLine h.lines.items name h.words.items ops.items) same line,
         )
     | inr d ↦ first.each r other (sym (slice_get-push_other reports report r d) ∙ at)
   ];
@@ -61,20 +62,28 @@ module _ (h : History) (as_many : length h.registers.items ≡ length h.names.it
       let l = slice_get_within h.registers.items n one.0 one.1 in
       omega (arith, l, as_many)
 
+  pub has-ops : (n : ℕ) (findings rest : List Finding) (finding : Finding)
+      → AreLeft h n findings → findings ≡ finding ∷ rest → n < length h.registers.items
+  has-ops n findings rest finding go is =
+      let one = first-left h.lines.items n h.registers.items finding rest (subst (AreLeft h n) is go) in
+      slice_get_within h.registers.items n one.0 one.1
+
   pub next-line : (reports after : List RegisterReport) (findings rest : List Finding) (finding : Finding)
-      (report : RegisterReport) (name : List ℕ)
+      (report : RegisterReport) (name : List ℕ) (ops : Vec Operation Global)
       → AreFirstLines h (length reports) reports → AreLeft h (length reports) findings
       → findings ≡ finding ∷ rest
       → slice_get h.names.items (length reports) ≡ Some name
-      → ((lines : List ℕ) (ops : List Operation) → IsFinding lines ops finding → IsLine lines name ops report)
+      → slice_get h.registers.items (length reports) ≡ Some ops
+      → ((lines : List ℕ) → IsFinding lines ops.items finding
+      → IsLine lines name h.words.items ops.items report)
       → after ≡ reports ++ report ∷ [] → AreFirstLines h (length after) after
       × AreLeft h (length after) rest
-  next-line reports after findings rest finding report name first go is named line grown =
+  next-line reports after findings rest finding report name ops first go is named there line grown =
       let n = length reports in
       let one = first-left h.lines.items n h.registers.items finding rest (subst (AreLeft h n) is go) in
-      let more =
-      one-line-more h n reports report name one.0 first named one.1
-      (line h.lines.items one.0.items one.2) in
+      let same : one.0 ≡ ops = same_Some _ _ (sym one.1 ∙ there) in
+      let found = subst (λ (v : Vec Operation Global). IsFinding h.lines.items v.items finding) same one.2 in
+      let more = one-line-more h n reports report name ops first named there (line h.lines.items found) in
       let size : length after ≡ n + 1 = ap length grown ∙ length_push reports report in (
         subst (λ k. AreFirstLines h k after) (sym size) (subst (AreFirstLines h (n + 1)) (sym grown) more),
         subst (λ k. AreLeft h k rest) (sym (size ∙ one_more n)) one.3,

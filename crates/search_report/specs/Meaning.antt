@@ -6,14 +6,14 @@ use Rattle.std.specs.Prelude.{if◌then◌else◌, List, ◌∷◌, length, map,
 use Rattle.std.specs.Prelude.{slice_get, not, Bool, true, false, Some, None, IfSome}
 use Rattle.history_model.specs.Lists.{In}
 use Rattle.history_text.specs.declared.event.AnyEvent.{AnyEvent}
-use Rattle.history_model.specs.declared.act.Act.{Act}
-use Rattle.history_model.specs.declared.act.Act.TheVariants.{Read, Write, Cas, Miss}
+use Rattle.history_text.specs.declared.event.OpWord.{OpWord}
+use Rattle.history_text.specs.declared.event.OpWord.TheVariants as word
 use Rattle.history_model.specs.declared.operation.Operation.{Operation}
 use Rattle.history_model.specs.Cut.{cut_at}
 use Rattle.history_model.specs.Legal.{IsLegal, IsAtomic}
 use Rattle.history_model.specs.Operations.{initial_write, reply_of}
 use Rattle.history_model.specs.Placed.{IsWithinLife, PlacedOperation, placed}
-use Rattle.cas_history.specs.History.{register_names, calls, calls_of, operations}
+use Rattle.cas_history.specs.History.{call_word, register_names, calls, calls_of, operations}
 use Rattle.cas_search.specs.Unwritten.{IsFirstUnwritten}
 use Rattle.search_text.specs.declared.report.Outcome.{Outcome}
 use Rattle.search_text.specs.declared.report.Outcome.TheVariants as outcome
@@ -26,33 +26,45 @@ use Rattle.search_text.specs.declared.report.Report.{Report}
 
 -- ---- counts
 
-abbrev pub is_read_act : Act → Bool
-is_read_act (Read value) = true
-is_read_act (Write value) = false
-is_read_act (Cas from to) = false
-is_read_act (Miss from) = false
+abbrev pub is_read_word : Option OpWord → Bool
+is_read_word None = false
+is_read_word (Some word.Read) = true
+is_read_word (Some word.Write) = false
+is_read_word (Some word.Cas) = false
+is_read_word (Some word.Delete) = false
+is_read_word (Some word.Swap) = false
 
-abbrev pub is_write_act : Act → Bool
-is_write_act (Read value) = false
-is_write_act (Write value) = true
-is_write_act (Cas from to) = false
-is_write_act (Miss from) = false
+-- deletes and swaps count as writes
+abbrev pub is_write_word : Option OpWord → Bool
+is_write_word None = false
+is_write_word (Some word.Read) = false
+is_write_word (Some word.Write) = true
+is_write_word (Some word.Cas) = false
+is_write_word (Some word.Delete) = true
+is_write_word (Some word.Swap) = true
 
 -- a cas, whether it took place, missed or is pending
-abbrev pub is_cas_act : Act → Bool
-is_cas_act (Read value) = false
-is_cas_act (Write value) = false
-is_cas_act (Cas from to) = true
-is_cas_act (Miss from) = true
+abbrev pub is_cas_word : Option OpWord → Bool
+is_cas_word None = false
+is_cas_word (Some word.Read) = false
+is_cas_word (Some word.Write) = false
+is_cas_word (Some word.Cas) = true
+is_cas_word (Some word.Delete) = false
+is_cas_word (Some word.Swap) = false
 
-abbrev pub is_read : Operation → Bool
-is_read a = is_read_act a.act
+-- the word of the call at a time, where events have these words; the event at place i has time i + 2
+abbrev pub word_at : List (Option OpWord) → ℕ → Option OpWord
+word_at words t = get_or words (t - 2) None
 
-abbrev pub is_write : Operation → Bool
-is_write a = is_write_act a.act
+-- an operation counts by the word of its call
+abbrev pub is_read : List (Option OpWord) → Operation → Bool
+is_read words a = is_read_word (word_at words a.call)
 
-abbrev pub is_cas : Operation → Bool
-is_cas a = is_cas_act a.act
+abbrev pub is_write : List (Option OpWord) → Operation → Bool
+is_write words a = is_write_word (word_at words a.call)
+
+abbrev pub is_cas : List (Option OpWord) → Operation → Bool
+is_cas words a = is_cas_word (word_at words a.call)
 
 abbrev pub is_pending : Operation → Bool
 is_pending a = not a.completed
@@ -139,13 +151,17 @@ IsAtomicity lines r ops (Unknown bound) = IsFirstUnwritten ops None
 abbrev pub event_lines : List AnyEvent → List ℕ
 event_lines events = map (λ e. e.line) events
 
+-- the words of the calls among events
+abbrev pub event_words : List AnyEvent → List (Option OpWord)
+event_words events = map call_word events
+
 -- the line of register r
 pub record IsRegisterReport (events : List AnyEvent) (r : ℕ) (report : RegisterReport) : Type 0 where
   pub name : slice_get (register_names events) r ≡ Some report.register
-  pub cas : report.cas ≡ count_by is_cas (calls_of events r)
+  pub cas : report.cas ≡ count_by (is_cas (event_words events)) (calls_of events r)
   pub pending : report.pending ≡ count_by is_pending (calls_of events r)
-  pub reads : report.reads ≡ count_by is_read (calls_of events r)
-  pub writes : report.writes ≡ count_by is_write (calls_of events r)
+  pub reads : report.reads ≡ count_by (is_read (event_words events)) (calls_of events r)
+  pub writes : report.writes ≡ count_by (is_write (event_words events)) (calls_of events r)
   pub atomicity : IsAtomicity (event_lines events) r (calls_of events r) report.atomicity
 
 -- ---- the whole history

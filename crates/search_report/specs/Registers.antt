@@ -2,6 +2,7 @@
 use Rattle.std.specs.Global.{Global}
 use Rattle.std.specs.Prelude.{◌≡◌, ℕ, Vec, count_by, length, slice_get, List, Option, Some, None}
 use Rattle.std.specs.List.{AllZip, filter}
+use Rattle.history_text.specs.declared.event.OpWord.{OpWord}
 use Rattle.history_model.specs.declared.operation.Operation.{Operation}
 use Rattle.history_model.specs.Operations.{reply_of}
 use Rattle.cas_search.specs.Timeline.{operations_at}
@@ -31,10 +32,7 @@ AreLinesBefore ops (Some places) lines =
 
 -- what is found of the register with these calls, of a history whose events have these lines
 pub record IsFinding (lines : List ℕ) (ops : List Operation) (finding : Finding) : Type 0 where
-  pub cas : finding.cas ≡ count_by is_cas ops
   pub pending : finding.pending ≡ count_by is_pending ops
-  pub reads : finding.reads ≡ count_by is_read ops
-  pub writes : finding.writes ≡ count_by is_write ops
   pub atomicity : (r : ℕ) → AreTimedCalls r ops → IsAtomicity lines r ops finding.atomicity
 
 -- of each of the registers with these calls, in order
@@ -46,13 +44,14 @@ AreFindingsOf lines registers findings =
 abbrev pub AreFindings : History → List Finding → Type 0
 AreFindings h findings = AreFindingsOf h.lines.items h.registers.items findings
 
--- the line of the register with these calls, which has this name
-pub record IsLine (lines name : List ℕ) (ops : List Operation) (report : RegisterReport) : Type 0 where
+-- the line of the register with these calls, which has this name; events have these words
+pub record IsLine (lines name : List ℕ) (words : List (Option OpWord)) (ops : List Operation)
+    (report : RegisterReport) : Type 0 where
   pub name_is : report.register ≡ name
-  pub cas : report.cas ≡ count_by is_cas ops
+  pub cas : report.cas ≡ count_by (is_cas words) ops
   pub pending : report.pending ≡ count_by is_pending ops
-  pub reads : report.reads ≡ count_by is_read ops
-  pub writes : report.writes ≡ count_by is_write ops
+  pub reads : report.reads ≡ count_by (is_read words) ops
+  pub writes : report.writes ≡ count_by (is_write words) ops
   pub atomicity : (r : ℕ) → AreTimedCalls r ops → IsAtomicity lines r ops report.atomicity
 
 -- of each of the first registers, in order
@@ -60,4 +59,4 @@ pub record AreFirstLines (h : History) (count : ℕ) (reports : List RegisterRep
   pub count_is : length reports ≡ count
   pub each : (r : ℕ) (report : RegisterReport) → slice_get reports r ≡ Some report
       → (name : List ℕ) × (ops : Vec Operation Global) × (slice_get h.names.items r ≡ Some name)
-      × (slice_get h.registers.items r ≡ Some ops) × IsLine h.lines.items name ops.items report
+      × (slice_get h.registers.items r ≡ Some ops) × IsLine h.lines.items name h.words.items ops.items report

@@ -1,48 +1,68 @@
-//! How many operations of each kind there are.
+//! How many operations of each kind there are, by the words of their calls.
 ghost use Rattle.std.specs.Prelude.{◌≡◌, count_by};
-ghost use Rattle.search_report.specs.Meaning.{is_cas, is_cas_act, is_pending, is_read, is_write};
+ghost use Rattle.search_report.specs.Meaning as meant;
 
-use history_model::{Act, Operation};
+use history_model::Operation;
+use history_text::OpWord;
 
 /// How many reads there are.
-pub(crate) fn reads(ops: &[Operation]) -> usize
-    ensures { result ≡ count_by is_read ops.now }
+pub(crate) fn reads(words: &[Option<OpWord>], ops: &[Operation]) -> usize
+    ensures { result ≡ count_by (meant.is_read words.now) ops.now }
 {
     ops.iter()
-        .filter(|op| matches!(&op.act, Act::Read(_)))
+        .filter(|op| is_read_word(word_of(words, op)))
         .count()
 }
 
-/// How many writes there are.
-pub(crate) fn writes(ops: &[Operation]) -> usize
-    ensures { result ≡ count_by is_write ops.now }
+/// How many writes there are, deletes and swaps among them.
+pub(crate) fn writes(words: &[Option<OpWord>], ops: &[Operation]) -> usize
+    ensures { result ≡ count_by (meant.is_write words.now) ops.now }
 {
     ops.iter()
-        .filter(|op| matches!(&op.act, Act::Write(_)))
+        .filter(|op| is_write_word(word_of(words, op)))
         .count()
 }
 
 /// How many cas there are.
-pub(crate) fn cas(ops: &[Operation]) -> usize
-    ensures { result ≡ count_by is_cas ops.now }
+pub(crate) fn cas(words: &[Option<OpWord>], ops: &[Operation]) -> usize
+    ensures { result ≡ count_by (meant.is_cas words.now) ops.now }
 {
-    ops.iter().filter(|op| is_of_cas(&op.act)).count()
+    ops.iter()
+        .filter(|op| is_cas_word(word_of(words, op)))
+        .count()
 }
 
-fn is_of_cas(act: &Act) -> bool
-    ensures { result ≡ is_cas_act act.now }
+/// The word of an operation's call, where events have these words.
+fn word_of(words: &[Option<OpWord>], op: &Operation) -> Option<OpWord>
+    ensures { result ≡ meant.word_at words.now op.now.call }
 {
-    match act {
-        Act::Read(_) => false,
-        Act::Write(_) => false,
-        Act::Cas { .. } => true,
-        Act::Miss { .. } => true,
-    }
+    words
+        .get(op.call.saturating_sub(2) as usize)
+        .copied()
+        .unwrap_or(None)
+}
+
+fn is_read_word(word: Option<OpWord>) -> bool
+    ensures { result ≡ meant.is_read_word word }
+{
+    matches!(word, Some(OpWord::Read))
+}
+
+fn is_write_word(word: Option<OpWord>) -> bool
+    ensures { result ≡ meant.is_write_word word }
+{
+    matches!(word, Some(OpWord::Write | OpWord::Delete | OpWord::Swap))
+}
+
+fn is_cas_word(word: Option<OpWord>) -> bool
+    ensures { result ≡ meant.is_cas_word word }
+{
+    matches!(word, Some(OpWord::Cas))
 }
 
 /// How many operations have no reply.
 pub(crate) fn pending(ops: &[Operation]) -> usize
-    ensures { result ≡ count_by is_pending ops.now }
+    ensures { result ≡ count_by meant.is_pending ops.now }
 {
     ops.iter().filter(|op| !op.completed).count()
 }

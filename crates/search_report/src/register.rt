@@ -14,14 +14,11 @@ use history_model::Operation;
 use search_text::{Atomicity, Fault};
 use std::alloc::{AllocError, Global};
 
-/// All that a report says of a register but its name.
+/// What a report says of a register by the times of its operations: all but its name and its counts by words.
 #[derive(Debug, Drop)]
 pub(crate) struct Finding {
     pub(crate) atomicity: Atomicity,
-    pub(crate) cas: usize,
     pub(crate) pending: usize,
-    pub(crate) reads: usize,
-    pub(crate) writes: usize,
 }
 
 /// Whether the search gave up.
@@ -134,9 +131,6 @@ pub(crate) fn finding_of(
 {
     Ok(Finding {
         atomicity: atomicity(alloc, lines, ops, bounds)?,
-        cas: counts::cas(ops),
         pending: counts::pending(ops),
-        reads: counts::reads(ops),
-        writes: counts::writes(ops),
     })
 }

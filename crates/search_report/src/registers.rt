@@ -1,26 +1,33 @@
 //! The lines of all registers, of what is found of them.
 ghost use Rattle.std.specs.Prelude.{◌≡◌, ℕ, List, length, IfOk};
-ghost use Rattle.history_model.specs.declared.operation.Operation.{Operation as AnOperation};
 ghost use Rattle.search_report.specs.Registers.{AreFindings, AreFirstLines, IsFinding, IsLine};
 
+use crate::counts;
 use crate::register::Finding;
 use cas_history::History;
-use history_text::Name;
+use history_model::Operation;
+use history_text::{Name, OpWord};
 use search_text::RegisterReport;
 use std::alloc::{AllocError, Global};
 
-/// A register's line, of its name and what is found of it.
-fn named(alloc: Global, name: &Name, finding: Finding) -> Result<RegisterReport, AllocError>
-    ensures { IfOk result (λ report. (lines : List ℕ) (ops : List AnOperation) → IsFinding lines ops finding
-        → IsLine lines name.now ops report) }
+/// A register's line, of its name, the words of the history's calls, its operations and what is found of it.
+fn named(
+    alloc: Global,
+    name: &Name,
+    words: &[Option<OpWord>],
+    ops: &[Operation],
+    finding: Finding,
+) -> Result<RegisterReport, AllocError>
+    ensures { IfOk result (λ report. (lines : List ℕ) → IsFinding lines ops.now finding
+        → IsLine lines name.now words.now ops.now report) }
 {
     Ok(RegisterReport {
         register: Name::new(alloc, name.as_str())?,
         atomicity: finding.atomicity,
-        cas: finding.cas,
+        cas: counts::cas(words, ops),
         pending: finding.pending,
-        reads: finding.reads,
-        writes: finding.writes,
+        reads: counts::reads(words, ops),
+        writes: counts::writes(words, ops),
     })
 }
 
@@ -35,10 +42,12 @@ pub(crate) fn lines_of_registers(
     ensures { IfOk result (λ reports.
         AreFirstLines history.now (length history.now.names.items) reports.items) }
 {
+    let words = history.words.as_slice();
     let mut reports = Vec::new(alloc);
     for finding in findings {
         let name = &history.names[reports.len()];
-        reports.push(named(alloc, name, finding)?)?;
+        let ops = &history.registers[reports.len()];
+        reports.push(named(alloc, name, words, ops, finding)?)?;
     }
     Ok(reports)
 }

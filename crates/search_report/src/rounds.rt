@@ -10,7 +10,7 @@ use crate::settings::Settings;
 use cas_history::History;
 use cas_search::Bounds;
 use history_model::Operation;
-use parallel::map_each;
+use parallel::{map_each, share_of};
 use std::alloc::{AllocError, Global};
 use std::thread::Threads;
 
@@ -105,19 +105,6 @@ fn second_round(
         return Ok(first);
     }
     found_again(alloc, lines, registers, first, second)
-}
-
-/// How many registers a worker takes at least. `map_each` halves a list for as long as each half has that
-/// many, so there are as many shares as the greatest power of two up to the workers, or fewer if there aren't
-/// twice as many registers.
-fn share_of(registers: usize, workers: u32) -> usize {
-    let shares = (1_usize << workers.max(1).ilog2()).max(1);
-    let even = registers / shares;
-    if even < 2 {
-        registers.div_ceil(shares)
-    } else {
-        even
-    }
 }
 
 /// What is found of each register, in order, by at most this many workers, which share the registers.

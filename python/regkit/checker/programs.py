@@ -1,7 +1,7 @@
 """Asks the checker: the program `regcheck`, or for a small history the library, where it is installed.
 
-`regcheck` decides whatever it accepts. If it refuses a history for a repeated value or a cas, `regsearch`
-decides it, if it is there."""
+`regcheck` decides whatever it accepts. If it refuses a history for a repeated value, or for a cas or another
+operation that it doesn't take, `regsearch` decides it, if it is there."""
 import io
 import os
 import pathlib
@@ -13,13 +13,14 @@ from types import TracebackType
 from typing import Any, BinaryIO, NamedTuple, Optional, Sequence, Union
 
 from regkit.base.statuses import ExitStatus
-from regkit.checker.refusals import BAD_OP, REPEATED, read_refusal
+from regkit.checker.refusals import BAD_OP, NO_VALUE, REPEATED, read_refusal
 from regkit.history.lines import NotJson, json_of
 
 LIBRARY_BYTES = 1_048_576  # the program has several workers: it is as quick with a longer history
 NOT_FOUND = "regcheck was not found: put it on PATH, or set REGCHECK to its path"
 CHECK, SEARCH = "regcheck", "regsearch"
 VARIABLES = {CHECK: "REGCHECK", SEARCH: "REGSEARCH"}  # with the paths of the programs
+SEARCHED = frozenset({"cas", "delete", "swap"})  # the words of operations that only regsearch takes
 WOULD_DECIDE = ("regsearch would decide it, since it takes repeated values and cas: put it beside regcheck "
                 "or on PATH, or set REGSEARCH to its path")
 
@@ -180,17 +181,19 @@ def judge(history: bytes, options: Sequence[str] = ()) -> Answer:
 
 
 def is_for_search(history: bytes, answer: Answer) -> bool:
-    """Whether regcheck refused the history for a value that was written already, or at the line of a cas."""
+    """Whether regcheck refused the history for a value that was written already, or at the line of a cas, of
+    another operation that it doesn't take, or of a read's reply that only tells whether there was a value."""
     if answer.status != ExitStatus.REFUSED or answer.by_search:
         return False
     refusal = read_refusal(answer.refusal)
-    if refusal is None or refusal.number != BAD_OP:
+    if refusal is None or refusal.number not in (BAD_OP, NO_VALUE):
         return refusal is not None and refusal.number == REPEATED
     try:
         event = json_of(next(islice(io.BytesIO(history), refusal.line - 1, None)).rstrip(b"\n"))
     except (NotJson, StopIteration):
         return False
-    return isinstance(event, dict) and event.get("op") == "cas"
+    return isinstance(event, dict) and (
+        event.get("op") in SEARCHED if refusal.number == BAD_OP else "found" in event)
 
 
 def with_search_hint(words: str, history: bytes, answer: Answer) -> str:

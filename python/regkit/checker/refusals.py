@@ -4,7 +4,9 @@ from typing import Callable, NamedTuple, Optional
 
 from regkit.base.limits import MAX_LINE, MAX_NAME, MAX_PROCESS
 
-BAD_OP, REPEATED = 6, 13  # the numbers of the refusals of a cas and of a repeated value
+# The numbers of the refusals of an op that only regsearch takes, of a read that doesn't give the value, and
+# of a repeated value.
+BAD_OP, NO_VALUE, REPEATED = 6, 12, 13
 
 # The texts of the refusals of a line, by their numbers in docs/format.md. On one line the lowest counts.
 TEXTS = {
@@ -19,15 +21,16 @@ TEXTS = {
     9: "the process has an open call",
     10: "reply without an open call",
     11: "reply disagrees with its call",
-    12: "a read's reply has no value",
+    NO_VALUE: "a read's reply has no value",
     REPEATED: "value already written to this register",
     19: "the process crashed",
 }
 # Those of `regsearch` that differ.
 SEARCH_TEXTS = {
-    BAD_OP: "op is neither read, write nor cas",
-    20: "from or to does not fit the event",
+    BAD_OP: "op is neither read, write, delete, swap nor cas",
+    20: "from, unless or to does not fit the event",
     21: "a cas's reply has no ok, true or false",
+    22: "old or found does not fit the event",
 }
 NUMBERS = {text: number for texts in (TEXTS, SEARCH_TEXTS) for number, text in texts.items()}
 WORDS = re.compile(r"line (\d+): (.+?)(?: at line (\d+))?")

@@ -35,8 +35,8 @@ it was taken for. It is refused if it may have two forms, or if something has to
 A history that says nothing is no success: a yes needs at least one completed read, or what --least-reads and
 --least-overlaps ask for.
 
-regcheck decides what it takes. A history in which values repeat, or with compare-and-swap (cas), is decided
-by regsearch, if that is there; a cas that was answered counts as a completed read.
+regcheck decides what it takes. A history in which values repeat, or with compare-and-swap (cas), deletes or
+swaps, is decided by regsearch, if that is there; a cas that was answered counts as a completed read.
 
 exit status, of several histories the first in the order 4, 3, 2, 1, 6, 5, 0:
   0  linearizable (atomic), with that evidence

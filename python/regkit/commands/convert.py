@@ -36,6 +36,9 @@ With compare-and-swap (cas) and values that repeat:
     --outcomes ErrVersion=missed --null ,ErrNoKey | regkit check       # MIT 6.5840
   regkit convert etcd.jsonl --revisions ModRevision --ok-when Succeeded=true \\
     --outcomes false=missed | regkit check                             # etcd's mod revisions
+  regkit convert etcd.csv --revisions asked --new-revisions gave | regkit check
+  regkit convert log.csv --store redis --initial null | regkit check   # or memcached
+  regkit convert mutex.edn --ops acquire=lock,release=unlock | regkit check
 
 What needs no options needs no conversion: `regkit check`, `explain` and `draw` take these files themselves.
 

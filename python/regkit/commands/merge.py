@@ -31,7 +31,8 @@ other within the clock error: some operations of one history then overlap. So th
 precedence that the run hadn't. A large clock error can hide a fault, and never makes one up.
 
 Processes get numbers of their own, history by history. Registers of one name are one register. Values may
-repeat, and cas stay; a message says so, since regsearch decides such a history, and regcheck doesn't.
+repeat, and cas, deletes and swaps stay; a message says so, since regsearch decides such a history, and
+regcheck doesn't.
 
 examples:
   regkit merge a.jsonl b.jsonl | regkit check
@@ -124,7 +125,7 @@ def program_told(files: Sequence[Recorded]) -> Iterator[str]:
         write, first = again
         yield (f"{plain(write.in_words(first))}: if each recorder was meant to write values of its own, let "
                "it, as in Recorder(\"history.jsonl\", values_after=number * 1_000_000)")
-    words = for_regsearch(any(file.has_cas for file in files), again is not None)
+    words = for_regsearch({op for file in files for op in file.searched}, again is not None)
     if words:
         yield words
 

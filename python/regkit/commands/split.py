@@ -28,7 +28,7 @@ HELP = "split a history of any size into parts that can be checked apart"
 EPILOG = """\
 Each part has whole registers, and is a history again. A history is atomic exactly if each of its registers
 is, so the parts answer for the whole: an engine checks each of them, then regkit join DIR. One program checks
-all parts, and split.json names it: regsearch if a value is written again or there is any cas, else regcheck.
+all parts, and split.json names it: regsearch if regcheck doesn't take a line or a value again, else regcheck.
 docs/scale.md says more. docs/ and engines/ are in the repository, and in share/doc/regcheck of a release.
 
 examples:

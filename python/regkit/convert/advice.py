@@ -12,9 +12,14 @@ _ADDS = frozenset({"add", "addandget", "fetch-add", "fetch_add", "fetchadd", "ge
                    "inc", "incr", "incrby", "increment", "incrementandget"})
 _TAKES = ("dec", "sub")  # how words begin for what takes away from a number
 _APPENDS = frozenset({"addlast", "concat", "push", "rpush", "strappend"})
-_LOCKS = frozenset({"acquire", "lock", "release", "try-lock", "trylock", "unlock"})
-_DELETES = frozenset({"clear", "del", "delete", "evict", "expire", "expireat", "flush", "flushall", "getdel",
-                      "invalidate", "persist", "remove", "ttl", "unset"})
+_REPLACES = frozenset({"put-if-present", "put_if_present", "putifpresent", "setxx"})
+_LOCKS = frozenset({"acquire", "lock", "try-lock", "try_lock", "trylock"})
+_UNLOCKS = frozenset({"release", "unlock"})
+_DELETES = frozenset({"del", "erase", "getanddelete", "getandremove", "getdel", "remove", "rm", "unlink",
+                      "unset"})
+_ASKS = frozenset({"contains", "contains-key", "contains_key", "containskey", "has"})
+_FORGETS = frozenset({"clear", "evict", "expire", "expireat", "flush", "flushall", "invalidate", "persist",
+                      "ttl"})
 
 
 def takes_away(word: str) -> bool:
@@ -38,7 +43,8 @@ def not_taken(kind: str) -> str:
 
 
 def _is_known(word: str) -> bool:
-    return word in _CREATES | _SWAPS | _ADDS | _APPENDS | _LOCKS | _DELETES or takes_away(word)
+    return takes_away(word) or word in (_CREATES | _REPLACES | _SWAPS | _ADDS | _APPENDS | _LOCKS | _UNLOCKS
+                                        | _DELETES | _ASKS | _FORGETS)
 
 
 def _what(word: str, option: str) -> str:
@@ -58,10 +64,28 @@ def _what(word: str, option: str) -> str:
     if word in _APPENDS:
         return (f"may append to a text or a list: say {option}append if what is appended stands behind all "
                 "that was there, and reads give the whole, or ")
+    return _what_without(word, option)
+
+
+def _what_without(word: str, option: str) -> str:
+    """The same of what takes a value away, asks for one, or is of a lock."""
+    if word in _REPLACES:
+        return (f"writes only where there is a value: say {option}replace if its reply tells whether it did, "
+                "or ")
     if word in _LOCKS:
-        return ("is of a lock, and that is a cas: record that a client takes it as a cas from 0 to the "
-                "client's number, and that it gives it back as one back to 0, with --initial 0, or ")
+        return (f"is of a lock: say {option}lock if nobody gets it while anybody has it, the same client "
+                "neither (a reentrant lock or a semaphore is no register), with --ops WORD=unlock for what "
+                "gives it back, or ")
+    if word in _UNLOCKS:
+        return f"is of a lock: say {option}unlock if it gives back what --ops WORD=lock took, or "
     if word in _DELETES:
-        return "may take a value away, which no read, write or cas does, so it can't be said yet: "
+        return (f"may delete a value: say {option}delete if its reply tells nothing of what was there, "
+                f"{option}count-delete if it has how many values there were, 1 or 0, {option}fetch-delete "
+                f"if it has the old value, {option}delete-if if it deletes one value alone, or ")
+    if word in _ASKS:
+        return f"may ask whether there is a value: say {option}exists if its reply tells that, or "
+    if word in _FORGETS:
+        return ("may take values away at a moment that it doesn't say: a recorder writes that as "
+                "docs/recipes.md says of expiry, or ")
     return (f"is no word for a read ({', '.join(sorted(READS))}) or a write ({', '.join(sorted(WRITES))}) or "
             f"a cas: say {option}read or {option}write or {option}cas if it is one, ")

@@ -14,11 +14,12 @@ out which additions make up what is read is NP-complete if they differ, so none 
 from typing import Callable, Iterable, Optional
 
 from regkit.base.limits import GREATEST_VALUE, LEAST_VALUE
-from regkit.convert.model import (ADD, ADDITIONS, CAS, CREATE, FETCH_ADD, FETCH_SUBTRACT, SUBTRACT, SWAP,
-                                  Choices, Refused, Source, SourceOperation, Value)
+from regkit.convert.model import (ADD, ADDITIONS, CAS, CREATE, DELETE, FETCH_ADD, FETCH_SUBTRACT, SUBTRACT,
+                                  SWAP, Choices, Refused, Source, SourceOperation, Value)
 from regkit.convert.values import initial_value, shown
 from regkit.words.phrases import counted
 
+AS_CAS = ADDITIONS | {CREATE, SWAP}
 NO_EFFECT = "no effect"  # the kind of an addition that failed, which is left out
 _REPEATING = frozenset({"jepsen", "porcupine", "jsonl"})  # forms in which a reply may repeat its call
 
@@ -54,8 +55,12 @@ def as_cas(operation: SourceOperation, read_value: Reader) -> None:
         _refuse_answer(operation, answer)
     elif kind == SWAP and operation.ending != "reply":
         operation.kind, operation.value = "write", asked
+    elif kind == SWAP and operation.found is not None and not operation.tells_old:
+        operation.value = asked
     elif kind == SWAP:
-        operation.kind, operation.expected, operation.value = CAS, answer, asked
+        operation.kind, operation.value = CAS, asked
+        operation.expected = operation.old if operation.tells_old else answer
+        operation.found, operation.old, operation.tells_old = None, None, False
     elif operation.ending == "fail":
         operation.kind = NO_EFFECT
     elif operation.ending != "reply":
@@ -83,7 +88,8 @@ def meet_nothing(added: list[SourceOperation], source: Source, choices: Choices)
     if choices.initial is not None and initial_value(choices.initial, choices.form) is not None:
         _refuse_nothing((each for each in source.operations() if each.key in keys), choices)
         return
-    empty = _perhaps_empty(set(added), source)
+    empty = _perhaps_empty(set(added), source) | {
+        each.key for each in source.operations() if each.kind == DELETE or each.clears}
     zeros = {each.key: each for each in source.operations() if each.key in keys and each.kind != "read"
              and each.value == 0 and each.ending != "fail" and not each.missed}
     for each in added:
@@ -119,7 +125,7 @@ def _refuse_unclear(addition: SourceOperation, zero: Optional[SourceOperation], 
 
 def _refuse_nothing(operations: Iterable[SourceOperation], choices: Choices) -> None:
     for each in operations:
-        if (each.kind, each.ending, each.value) == ("read", "reply", None):
+        if (each.kind, each.ending, each.value) == ("read", "reply", None) and not each.found:
             raise Refused(f"a read found no value, and by --initial {choices.initial} {shown(each.key)} "
                           "starts with one: say --initial null if it starts without a value, which counts as 0 for "
                           "an addition", each.end_line)

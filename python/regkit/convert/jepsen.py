@@ -21,8 +21,8 @@ from regkit.convert.independent import are_independent, nothing_for, pair_of, pa
 from regkit.convert.jepsen_lines import NO_OPERATION, line_events
 from regkit.convert.json_values import as_edn, is_json, json_values
 from regkit.convert.members import Ended, KeyMember, Known, Outcomes, by_folded_name, same_key, word_of
-from regkit.convert.model import (ANSWERED, CONDITIONAL, ENDINGS, KNOWN, NO_KEY, OTHER, READS, STATED,
-                                  Choices, Refused, Source, SourceOperation, folded)
+from regkit.convert.model import (ANSWERED, CONDITIONAL, DELETES, ENDINGS, KNOWN, NO_KEY, OTHER, READS,
+                                  STATED, Choices, Refused, Source, SourceOperation, folded)
 from regkit.convert.pairing import Pairing
 from regkit.convert.settle import settle
 from regkit.convert.spellings import spelled
@@ -246,7 +246,7 @@ class _JepsenLog:
         """
         ending, error = self.choices.failure_of(called.kind), _error(event)
         word = folded(word_of(error))
-        if called.kind in CONDITIONAL and self.choices.outcomes.get(word) == "missed":
+        if called.kind in CONDITIONAL | DELETES and self.choices.outcomes.get(word) == "missed":
             return "missed"
         if ending != "missed" or error is None or word == _OTHER_VALUE:
             return ending

@@ -122,7 +122,8 @@ class _Register:
 
     def _refuse_others(self, operations: Iterable[SourceOperation]) -> None:
         mine = {*self.appends, *self.puts}
-        other = next((each for each in operations if each not in mine and each.kind != "read"), None)
+        other = next((each for each in operations
+                      if each not in mine and (each.kind != "read" or each.found is not None)), None)
         if other is not None:
             raise Refused(f"{shown(self.key)} is appended to or emptied, and this is a {other.kind}: beside "
                           "appends only gets and puts of the whole value are taken, since no other "

@@ -34,20 +34,22 @@ UNDERSTOOD: dict[str, frozenset[str]] = {
     "csv": frozenset(),  # a table and objects name their own
     "operations": frozenset(),
     "jsonl": frozenset({"process", "event", "op", "value"}),
-    "jsonl's cas": frozenset({"process", "event", "op", "value", "from", "to"}),
-    "jsonl's end of a cas": frozenset({"process", "event", "op", "value", "from", "to", "ok"}),
+    "jsonl's cas": frozenset({"process", "event", "op", "value", "from", "unless", "to", "old"}),
+    "jsonl's end of a cas": frozenset({"process", "event", "op", "value", "from", "unless", "to", "ok"}),
+    "jsonl's end of a cas that asks": frozenset(
+        {"process", "event", "op", "value", "from", "unless", "to", "ok", "old"}),
+    "jsonl's end of a read": frozenset({"process", "event", "op", "value", "found"}),
+    "jsonl's end of a change": frozenset({"process", "event", "op", "value", "found", "old"}),
 }
 # The places where a member may be the key.
-_KEYED = frozenset({"jepsen", "input", "cas input", "etcd input", "jsonl", "jsonl's cas",
-                    "jsonl's end of a cas"})
+_JSONL = frozenset(place for place in UNDERSTOOD if place.startswith("jsonl"))
+_KEYED = frozenset({"jepsen", "input", "cas input", "etcd input"}) | _JSONL
 # By form, members that say who, where and when, and never how an operation ended.
 HARMLESS: dict[str, frozenset[str]] = {
     "jepsen": frozenset({"index", "time", "node", "final?"}),
     "csv": frozenset({"index", "node"}),
     "operations": frozenset({"index", "node"}),
-    "jsonl": frozenset({"client", "node", "time"}),
-    "jsonl's cas": frozenset({"client", "node", "time"}),
-    "jsonl's end of a cas": frozenset({"client", "node", "time"}),
+    **dict.fromkeys(_JSONL, frozenset({"client", "node", "time"})),
 }
 # By form, the name of what a write's reply says, for a person.
 WRITE_ANSWERS = {"jepsen": "value", "porcupine": "Output", "csv": "value", "operations": "value",

@@ -18,9 +18,15 @@ STATED = WRITES | {APPEND}  # whose calls have their values, which replies at mo
 CREATE, SWAP, ADD, FETCH_ADD = "create", "swap", "add", "fetch-add"
 SUBTRACT, FETCH_SUBTRACT = "subtract", "fetch-subtract"
 ADDITIONS = frozenset({ADD, FETCH_ADD, SUBTRACT, FETCH_SUBTRACT})
-ANSWERED = READS | ADDITIONS | {SWAP}  # whose reply has a value that the call doesn't have
-CHANGES = ADDITIONS | {CREATE, SWAP}
-CONDITIONAL = frozenset({CAS, CREATE})  # that take place only if the key has what they ask for
+# To write a value only where there is one, to delete one value alone, to take a lock and to give it back.
+REPLACE, DELETE_IF, LOCK, UNLOCK = "replace", "delete-if", "lock", "unlock"
+# To delete, and be answered nothing, how many values there were, or the old one; and to ask for no value.
+DELETE, COUNT_DELETE, FETCH_DELETE, EXISTS = "delete", "count-delete", "fetch-delete", "exists"
+DELETES = frozenset({DELETE, COUNT_DELETE, FETCH_DELETE})
+UNASKED = READS | {COUNT_DELETE, FETCH_DELETE, EXISTS}  # whose calls have no value, but whose replies may
+ANSWERED = READS | ADDITIONS | {SWAP, FETCH_DELETE, EXISTS}  # whose reply has a value that no call has
+CHANGES = ADDITIONS | DELETES | {CREATE, SWAP, REPLACE, DELETE_IF, LOCK, UNLOCK, EXISTS}
+CONDITIONAL = frozenset({CAS, CREATE, REPLACE, DELETE_IF, LOCK, UNLOCK})  # that need not take place
 OTHER = "other"  # by --ops, an operation that is no read, no write and no cas
 NO_KEY: Any = object()  # the key of an operation that names none
 KEY_NAMES = ("register", "key", "k")  # members and columns that are the key, unless --key names another
@@ -43,17 +49,23 @@ class WrongWords(Exception):
 class SourceOperation:
     """A call with what ended it, as the source has it. `kind` is crash for a crash without an open call."""
 
-    __slots__ = ("line", "end_line", "client", "kind", "key", "value", "expected", "missed", "answer",
-                 "ending", "process", "time", "end_time", "name", "node", "version", "told_version")
+    __slots__ = ("line", "end_line", "client", "kind", "key", "value", "expected", "unless", "clears",
+                 "missed", "answer", "found", "old", "tells_old", "ending", "process", "time", "end_time",
+                 "name", "node", "version", "told_version")
 
     def __init__(self, line: int, client: Client, kind: str, key: Any, value: Any) -> None:
         self.line = line
         self.client = client
-        self.kind = kind  # "read", "write" or "cas" once it is settled
+        self.kind = kind  # "read", "write", "delete", "swap" or "cas" once it is settled
         self.key = key  # the source's own; once it is settled, the text by which EDN writes it
         self.value = value  # written; once it is settled, of a read what it gave. Of a cas both its values
         self.expected: Any = None  # once it is settled, the value that a cas asks for
+        self.unless = False  # once it is settled, whether a cas asks for each value but that one
+        self.clears = False  # once it is settled, whether a cas writes null, and so deletes
         self.missed = False  # once it is settled, whether a cas replied that it found another value
+        self.found: Optional[bool] = None  # whether there was a value, if the reply says no more than that
+        self.old: Any = None  # the value that a change met
+        self.tells_old = False  # whether its reply says that
         self.answer: Any = None  # the value of the line that ended it
         self.ending: Optional[str] = None  # one of ENDINGS or "crash", and not "missed" once it is settled
         self.end_line: Optional[int] = None
@@ -64,6 +76,17 @@ class SourceOperation:
         self.node = ""  # that was asked, if the source says which
         self.version: Optional[int] = None  # that a put by version asks for, or that a read found
         self.told_version: Optional[int] = None  # that a put's reply tells
+
+    @property
+    def tells(self) -> bool:
+        """Once it is settled, whether its reply says something of the value that it met."""
+        told = self.kind in ("read", CAS) or self.tells_old or self.found is not None
+        return told and self.ending == "reply"
+
+    @property
+    def values(self) -> tuple[Any, ...]:
+        """Once it is settled, the values that its lines have."""
+        return self.expected, self.value, self.old
 
 
 class Choices(NamedTuple):
@@ -81,6 +104,7 @@ class Choices(NamedTuple):
     failed_cas: str = "fail"  # or missed
     versions: Optional[str] = None  # the member by which a put is a cas
     revisions: bool = False  # whether versions may skip numbers
+    new_revisions: Optional[str] = None  # the member in which a put is answered the version that it gave
     drop_versions: bool = False  # whether each value is [version value]
     columns: dict[str, str] = {}
     delimiter: Optional[str] = None
@@ -88,6 +112,7 @@ class Choices(NamedTuple):
     outcomes: dict[str, str] = {}  # the source's word for an outcome -> one of ENDINGS
     ok_when: dict[str, frozenset[str]] = {}  # a member -> the words in it that say that all went well
     ignored: frozenset[str] = frozenset()  # members that mean nothing
+    answers: dict[str, bool] = {}  # a word that a store answers -> whether the operation took place
     clock_error: Optional[str] = None
     clock_unit: Optional[str] = None
     duration_unit: Optional[str] = None

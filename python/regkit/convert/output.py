@@ -13,7 +13,7 @@ import itertools
 import json
 from typing import Any, Iterable, Iterator, NamedTuple, TextIO
 
-from regkit.convert.model import CAS, Source, SourceOperation, Value
+from regkit.convert.model import CAS, DELETE, Source, SourceOperation, Value
 from regkit.convert.values import Table, readable
 from regkit.convert.whole import Converted
 from regkit.history import texts
@@ -44,16 +44,10 @@ def history_lines(converted: Converted) -> Iterator[str]:
         elif not is_call:
             if step.ending != "reply":
                 yield f'{{"process":{process},"event":"{step.ending}"{who}}}\n'
-            elif step.kind == "read":
-                text = said.of(step.key, value)  # it goes with the register
-                key = f',"register":{quoted[step.key]}' if text else ""
-                found = f'"value":{_shown_value(value)}{text}'
-                yield f'{{"process":{process},"event":"reply"{key},{found}{who}}}\n'
-            elif step.kind == CAS:
-                told = "false" if step.missed else "true"
-                yield f'{{"process":{process},"event":"reply","ok":{told}{who}}}\n'
             else:
-                yield f'{{"process":{process},"event":"reply"{who}}}\n'
+                text = said.of(step.key, value) if step.kind == "read" else said.of(step.key, step.old)
+                key = f',"register":{quoted[step.key]}' if text else ""  # the text goes with the register
+                yield f'{{"process":{process},"event":"reply"{key}{_answered(step)}{text}{who}}}\n'
         else:
             text = "" if step.kind == "read" else said.of(step.key, step.expected, value)
             yield (f'{{"process":{process},"event":"call","op":"{step.kind}","register":{quoted[step.key]}'
@@ -63,8 +57,19 @@ def history_lines(converted: Converted) -> Iterator[str]:
 def _asked(step: SourceOperation) -> str:
     """The members that say what a call asks for."""
     if step.kind == CAS:
-        return f',"from":{_shown_value(step.expected)},"to":{step.value}'
-    return "" if step.kind == "read" else f',"value":{step.value}'
+        asked, old = "unless" if step.unless else "from", ',"old":true' if step.tells_old else ""
+        return f',"{asked}":{_shown_value(step.expected)},"to":{_shown_value(step.value)}{old}'
+    return "" if step.kind in ("read", DELETE) else f',"value":{step.value}'
+
+
+def _answered(step: SourceOperation) -> str:
+    """The members that say what a reply tells."""
+    if step.kind == "read" and step.found is None:
+        return f',"value":{_shown_value(step.value)}'
+    told = f',"ok":{"false" if step.missed else "true"}' if step.kind == CAS else ""
+    if step.found is not None:
+        told += f',"found":{"true" if step.found else "false"}'
+    return told + (f',"old":{_shown_value(step.old)}' if step.tells_old else "")
 
 
 def _shown_value(value: Value) -> Value:
@@ -128,5 +133,5 @@ def _whole_numbers(source: Source, key: str, numbers: dict[str, int]) -> Iterato
     """The whole numbers that a register has itself, beside those that stand for texts."""
     standing = set(numbers.values())
     return (value for operation in source.operations() if operation.key == key
-            for value in (operation.expected, operation.value)
+            for value in operation.values
             if type(value) is int and value not in standing)

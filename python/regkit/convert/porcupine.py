@@ -19,8 +19,9 @@ from typing import Any, Iterable, Optional
 from regkit.convert import etcd, jepsen, versions
 from regkit.convert.json_values import is_json, json_values
 from regkit.convert.members import KeyMember, Known, Members, Outcomes, by_folded_name, ok_of
-from regkit.convert.model import (ANSWERED, CAS, CONDITIONAL, CREATE, READS, STATED, WRITES, Choices, Refused,
-                                  Source, SourceOperation, WrongWords)
+from regkit.convert.model import (ANSWERED, CAS, CONDITIONAL, COUNT_DELETE, CREATE, DELETE, LOCK, READS,
+                                  STATED, UNASKED, UNLOCK, WRITES, Choices, Refused, Source, SourceOperation,
+                                  WrongWords)
 from regkit.convert.pairing import Pairing
 from regkit.convert.rows import client_of
 from regkit.convert.settle import settle
@@ -106,8 +107,8 @@ class _Values:
                           f"--ops {_READS_BY_HABIT[word]}", line)
         if self.choices.versions is not None:
             versions.refuse_asked(found.get(self.choices.versions), line)
-        asked = None if kind in READS and _is_zero(found.get("value")) else found.get("value")
-        return SourceOperation(line, client, kind, key, asked)
+        is_none = kind in UNASKED | {DELETE, LOCK, UNLOCK} and _is_zero(found.get("value"))
+        return SourceOperation(line, client, kind, key, None if is_none else found.get("value"))
 
     def _put(self, line: int, client: Any, kind: str, found: Members) -> SourceOperation:
         """A put by version; to create is one by version 0."""
@@ -151,8 +152,10 @@ class _Values:
             return self._end_cas({**beside, **members}, line)
         if is_read and not found_nothing:
             self._answer(operation, members, line)
-        elif operation.kind in STATED and not self.choices.explains("output", "value"):
+        elif operation.kind in STATED | {DELETE} and not self.choices.explains("output", "value"):
             operation.answer = _written(members)
+        elif operation.kind == COUNT_DELETE:
+            operation.answer = members.get("value", members.get("output"))
         return ending
 
     def _answer(self, get: SourceOperation, members: Members, line: int) -> None:

@@ -6,8 +6,9 @@ from typing import Any, NamedTuple, Optional
 from regkit.convert import versions
 from regkit.convert.columns import Used
 from regkit.convert.members import Known, Members, Outcomes, ok_of
-from regkit.convert.model import (ANSWERED, CAS, CONDITIONAL, CREATE, ENDINGS, NO_KEY, READS, STATED, WRITES,
-                                  Choices, Client, Refused, Source, SourceOperation, folded)
+from regkit.convert.model import (ANSWERED, CAS, CONDITIONAL, CREATE, DELETE_IF, DELETES, ENDINGS, NO_KEY,
+                                  READS, STATED, UNASKED, WRITES, Choices, Client, Refused, Source,
+                                  SourceOperation, folded)
 from regkit.convert.settle import settle
 from regkit.convert.spellings import spelled
 from regkit.convert.timed import TimedOperations, Times
@@ -61,6 +62,7 @@ class Rows:
         is_blank = self.is_csv and is_nothing(row.register)
         register = NO_KEY if is_blank or row.register in (None, ABSENT) else row.register
         kind = self.choices.kind_of(row.op.strip().lower() if type(row.op) is str else spelled(row.op))
+        row = self._with_answer(row, kind) if self.choices.answers else row
         operation = SourceOperation(row.line, client_of(row.process, self.is_csv), kind, register, None)
         operation.ending = self._ending(row, kind)
         times = Times(_or_nothing(row.start), _or_nothing(row.end), _or_nothing(row.duration), row.used.times)
@@ -79,6 +81,17 @@ class Rows:
         if operation.end_line is not None:
             operation.end_line = row.end_line or row.line
 
+    def _with_answer(self, row: Row, kind: str) -> Row:
+        """The row of a change with what its store answered, by --store, as its output alone. To a write that
+        is all, and means nothing more."""
+        word = "" if is_nothing(row.outcome) else folded(spelled(row.outcome))
+        if kind not in CONDITIONAL | DELETES | WRITES:
+            return row
+        if word in self.choices.answers and word not in OUTCOMES and is_nothing(row.output):
+            row = row._replace(outcome=ABSENT, output=row.outcome)
+        is_done = not is_nothing(row.output) and self.choices.answers.get(folded(spelled(row.output)))
+        return row._replace(output=ABSENT) if kind in WRITES and is_done else row
+
     def _take_version(self, operation: SourceOperation, row: Row, found_nothing: bool) -> None:
         """The version that a put asks for, or that a read found. To create is to put by version 0.
 
@@ -92,16 +105,34 @@ class Rows:
             if given is not None or "value" in self.choices.ignored:
                 operation.version = versions.found(given, member, row.line)
         elif operation.kind in WRITES or operation.kind == CREATE:
-            operation.version = versions.asked(
-                0 if operation.kind == CREATE and given is None else given, member, row.line)
+            is_blind = given is None and operation.kind != CREATE and self.choices.new_revisions is not None
+            if not is_blind:
+                operation.version = versions.asked(
+                    0 if operation.kind == CREATE and given is None else given, member, row.line)
             operation.kind = "write"
             if operation.ending == "reply" and not self._says_ok(row):
                 raise Refused("the row of a put by version doesn't say whether it took place: write ok, "
                               "missed, fail or unknown as its outcome", row.line)
+            operation.told_version = self._told_version(operation, row)
+        elif operation.kind == DELETE_IF:
+            operation.version = versions.asked(given, member, row.line)
+        elif given is not None and operation.kind in DELETES:
+            raise Refused(f"a {operation.kind} has the version {spelled(given)[:40]}: say --ops "
+                          f"WORD={DELETE_IF} if it deletes this version alone, or leave the version out",
+                          row.line)
+
+    def _told_version(self, put: SourceOperation, row: Row) -> Optional[int]:
+        """The version that a put is answered, in a member of its own."""
+        if self.choices.new_revisions is None:
+            return None
+        given = _or_nothing(row.members.get(self.choices.new_revisions))
+        if self.is_csv:
+            given = settled(given, frozenset(), True)
+        return versions.told(given, put.version or 0, put.ending, self.choices, row.line)
 
     def _take_values(self, operation: SourceOperation, row: Row, found_nothing: bool) -> None:
         """What a read or a write asked, and what it was answered."""
-        is_read, answers = operation.kind in READS, operation.kind in ANSWERED
+        is_read, answers = operation.kind in UNASKED, operation.kind in ANSWERED
         if row.used.is_plain and (is_read or not answers) and (row.value is not ABSENT or not is_read):
             asked = answer = row.value
         elif is_read:
@@ -109,16 +140,19 @@ class Rows:
             self._refuse_unused(row, "input", [row.register, answer])
         else:
             asked, answer = self._agreed(row, "input", "value"), row.output
+            answers = answers or operation.kind in DELETES
             if operation.kind in STATED:
                 self._refuse_unused(row, "output", [asked])
-        if answers and answer is ABSENT and not found_nothing and operation.ending == "reply":
+        is_lacking = operation.kind in ANSWERED and answer is ABSENT and not found_nothing
+        if is_lacking and operation.ending == "reply":
             column = "value" if is_read else "output"
-            kind = "read" if is_read else operation.kind
+            kind = "read" if operation.kind in READS else operation.kind
             raise Refused(f"a {kind} without {row.used.name(column)}: write null if it found none, or say "
                           f"which {self.known.what} has what was answered with --columns {column}=NAME",
                           row.line)
         operation.value = None if is_read else _or_none(asked)
-        operation.answer = _or_none(answer) if answers and not found_nothing else None
+        told = answers or operation.kind in UNASKED
+        operation.answer = _or_none(answer) if told and not found_nothing else None
 
     def _agreed(self, row: Row, *columns: str) -> Any:
         """What the columns have that may say a value. Raises Refused if two differ."""
@@ -156,11 +190,13 @@ class Rows:
         """Gives a cas its two values, and its ending by `ok` or its output. To create is a cas from null."""
         line, (name, told) = row.line, self._told(row)
         operation.value = self._halves(operation.kind, row)
-        operation.kind = CAS
+        operation.kind = CAS if operation.kind == CREATE else operation.kind
         is_said = operation.ending is None and self.outcomes.say(row.members)  # by --ok-when
         if is_said or self.choices.explains(folded(name)):
             told = ABSENT
         took_place = ok_of(told)
+        if took_place is None and not is_nothing(told):
+            took_place = self.choices.answers.get(folded(spelled(told)))
         if took_place is None and not is_nothing(told):
             raise Refused(f"{name} is {spelled(told)[:40]}, and true or false is expected, whether the cas "
                           f"took place: or say --ok-when {name}=WORD,.. with the words by which it did", line)
@@ -175,15 +211,19 @@ class Rows:
     def _told(self, row: Row) -> tuple[str, Any]:
         """Which column says whether a cas took place, and what it says."""
         told = is_nothing(row.ok) and not is_nothing(row.output)
-        if told and not (is_there(row.input) and spelled(row.output) == spelled(row.input)):
+        is_repeated = is_there(row.input) and spelled(row.output) == spelled(row.input)
+        if told and (not is_repeated or folded(spelled(row.output)) in self.choices.answers):
             return row.used.name("output"), row.output
         self._refuse_unused(row, "output", [row.ok, row.input])
         return row.used.name("ok"), row.ok
 
-    def _halves(self, kind: str, row: Row) -> tuple[Any, Any]:
-        """What a cas asks for and what it writes: from its own columns, or both from what was asked."""
+    def _halves(self, kind: str, row: Row) -> Any:
+        """What a cas asks for and what it writes: from its own columns, or both from what was asked. Of an
+        operation with one value, that."""
         if kind == CREATE:
             return None, self._agreed(row, "to", "input", "value")
+        if kind != CAS:
+            return self._half(kind, row)
         if row.from_ is ABSENT or row.to is ABSENT:
             asked = self._agreed(row, "input", "value")
             if type(asked) is list and len(asked) == 2:
@@ -199,6 +239,15 @@ class Rows:
                 raise Refused(f"a cas has from and to, and no {name}, but this is "
                               f"{spelled(value)[:40]}", row.line)
         return row.from_, row.to
+
+    def _half(self, kind: str, row: Row) -> Any:
+        """The one value that an operation asks for or writes."""
+        said, other = (row.from_, row.to) if kind == DELETE_IF else (row.to, row.from_)
+        if not is_nothing(other):
+            raise Refused(f"a {kind} has one value, and this row has {row.used.name('from')} and "
+                          f"{row.used.name('to')}: is it a cas?", row.line)
+        value = said if not is_nothing(said) else self._agreed(row, "input", "value")
+        return None if is_nothing(value) else value
 
     def _says_ok(self, row: Row) -> bool:
         """Whether the outcome of a row, or a member by --ok-when, says by a word that all went well."""

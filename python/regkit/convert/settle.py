@@ -3,12 +3,13 @@ from functools import partial
 from typing import Any, Callable, Optional
 
 from regkit.convert import edn, lists
+from regkit.convert.absences import as_act, look_at_locks, refuse_cleared
 from regkit.convert.advice import not_taken
-from regkit.convert.changes import as_cas, leave_out_failed, meet_nothing, refuse_repeated
+from regkit.convert.changes import AS_CAS, as_cas, leave_out_failed, meet_nothing, refuse_repeated
 from regkit.convert.keys import settle_keys
 from regkit.convert.members import WRITE_ANSWERS
-from regkit.convert.model import (ADDITIONS, APPEND, CAS, CHANGES, CONDITIONAL, READS, WRITES, Choices,
-                                  Refused, Source, SourceOperation, Value)
+from regkit.convert.model import (ADDITIONS, APPEND, CAS, CHANGES, CONDITIONAL, DELETES, LOCK, READS, UNLOCK,
+                                  WRITES, Choices, Refused, Source, SourceOperation, Value)
 from regkit.convert.values import ALL_TEXTS, settled, shown
 
 _OPAQUE = frozenset({"object", "error"})  # tags of values that can't be compared by how they are written
@@ -24,19 +25,26 @@ def settle(source: Source, choices: Choices) -> None:
     kept = [operation for operation in operations if operation.key not in skipped]
     source.lists = lists.keys_of(kept, read_value)
     added = [operation for operation in kept if operation.kind in ADDITIONS]
+    locks = {operation for operation in kept if operation.kind in (LOCK, UNLOCK)}
     for operation in kept:
         is_list = operation.key in source.lists
         _settle_one(operation, partial(lists.raw, nulls=choices.nulls) if is_list else read_value, choices)
+    look_at_locks(kept, locks)
+    refuse_cleared(kept, locks, choices)
     meet_nothing(added, source, choices)
     leave_out_failed(source)
     lists.fold(source, kept, choices)
 
 
 def _settle_one(operation: SourceOperation, read_value: Callable[[Any], Any], choices: Choices) -> None:
-    _settle_kind(operation, choices.cas == "keep")
+    _settle_kind(operation, choices)
     _settle_ending(operation)
-    if operation.kind in CHANGES:
+    operation.tells_old = operation.tells_old and operation.ending == "reply"
+    operation.old = read_value(operation.old)
+    if operation.kind in AS_CAS:
         as_cas(operation, read_value)
+    elif operation.kind in CHANGES:
+        as_act(operation, read_value, choices)
     elif operation.kind == CAS:
         _settle_cas(operation, read_value, choices.form)
     elif operation.kind == "read":
@@ -45,19 +53,20 @@ def _settle_one(operation: SourceOperation, read_value: Callable[[Any], Any], ch
         _settle_write(operation, read_value, choices.form)
 
 
-def _settle_kind(operation: SourceOperation, takes_cas: bool) -> None:
+def _settle_kind(operation: SourceOperation, choices: Choices) -> None:
     if operation.kind in READS:
         operation.kind = "read"
     elif operation.kind in WRITES:
         operation.kind = "write"
-    elif operation.kind not in CHANGES | {APPEND, CAS} or not takes_cas:
+    elif operation.kind not in CHANGES | {APPEND, CAS} or choices.cas != "keep" or (
+            operation.kind in (LOCK, UNLOCK) and operation.kind not in choices.ops.values()):
         raise Refused(not_taken(operation.kind), operation.line)
 
 
 def _settle_ending(operation: SourceOperation) -> None:
     if operation.ending != "missed":
         return
-    if operation.kind not in CONDITIONAL and operation.version is None:
+    if operation.kind not in CONDITIONAL | DELETES and operation.version is None:
         raise Refused(f"by --outcomes it missed, and it is a {operation.kind}, not a cas: say what the word "
                       "means of all operations, such as WORD=fail or WORD=unknown", operation.end_line)
     operation.ending, operation.missed = "reply", True
@@ -78,6 +87,11 @@ def _settle_cas(operation: SourceOperation, read_value: Callable[[Any], Value], 
     for half in called:
         _refuse_opaque(half, operation.line)
     operation.expected, operation.value = map(read_value, called)
+    suits = (operation.old == operation.expected) != operation.unless
+    if operation.tells_old and operation.missed == suits:
+        raise Refused(f"the cas found {shown(operation.old)[:40]} by old, and by ok it "
+                      f"{'missed' if operation.missed else 'took place'}: which of them is right?",
+                      operation.end_line)
     if operation.ending != "reply" or operation.missed or operation.answer is None:
         return
     answered = _halves(operation.answer)

@@ -2,7 +2,7 @@
 from typing import Iterator
 
 from regkit.base.limits import MAX_BYTES, MAX_EVENTS
-from regkit.convert.model import CAS
+from regkit.convert.model import CAS, DELETE, SWAP, SourceOperation
 from regkit.convert.values import repeats
 from regkit.convert.whole import Converted
 from regkit.words.phrases import counted, for_regsearch
@@ -14,11 +14,11 @@ def told(converted: Converted) -> Iterator[str]:
     for what, lines in sorted(converted.source.left_out.items()):
         yield f"left out {counted(lines, 'line')} {what}"
     yield from converted.source.notes
-    words = for_regsearch(any(each.kind == CAS for each in converted.operations),
+    words = for_regsearch({_op_of(each) for each in converted.operations},
                           repeats(converted.source.operations()))
     if words:
         yield words
-    if not any(each.kind != "write" and each.ending == "reply" for each in converted.operations):
+    if not any(each.tells for each in converted.operations):
         yield ("there is no completed read or cas, so a yes would say nothing: regkit check will find too "
                "little evidence")
     yield from _renamed(converted)
@@ -28,6 +28,11 @@ def told(converted: Converted) -> Iterator[str]:
                "history says what each number stands for")
 
 
+def _op_of(operation: SourceOperation) -> str:
+    """The word of an operation; of a read that only told whether there was a value, `exists`."""
+    return "exists" if operation.kind == "read" and operation.found is not None else operation.kind
+
+
 def _read(converted: Converted) -> str:
     operations = converted.operations
     writes = sum(operation.kind == "write" for operation in operations)
@@ -35,10 +40,14 @@ def _read(converted: Converted) -> str:
     missed = sum(operation.missed for operation in operations)
     unknown = sum(operation.ending in (None, "crash") for operation in operations)
     cas = sum(operation.kind == CAS for operation in operations)
+    deletes = sum(operation.kind == DELETE for operation in operations)
+    swaps = sum(operation.kind == SWAP for operation in operations)
+    reads = len(operations) - writes - cas - deletes - swaps
     clients = len({operation.client for operation in operations})
     return (f"read {counted(len(operations), 'operation')} of {counted(clients, 'client')} on "
             f"{counted(len(converted.names), 'register')}: {counted(writes, 'write')}, "
-            f"{counted(len(operations) - writes - cas, 'read')}{f', {cas:,} cas' if cas else ''}; "
+            f"{counted(reads, 'read')}{f', {cas:,} cas' if cas else ''}"
+            f"{''.join(f', {counted(*each)}' for each in ((deletes, DELETE), (swaps, SWAP)) if each[0])}; "
             f"{failed:,} failed, {f'{missed:,} missed, ' if missed else ''}{unknown:,} of unknown outcome")
 
 

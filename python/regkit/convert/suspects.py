@@ -61,11 +61,13 @@ def look_at_reads(source: Source, written: Written, choices: Choices) -> Iterato
 
 
 def _find(operation: SourceOperation) -> Value:
-    """What a completed read, or a cas that took place, found."""
-    if operation.ending != "reply" or operation.missed:
+    """What an operation that was answered certainly found, if that is one value and not null."""
+    if operation.ending != "reply":
         return None
-    if operation.kind == CAS:
-        return operation.expected  # type: ignore[no-any-return]
+    if operation.tells_old:
+        return operation.old  # type: ignore[no-any-return]
+    if operation.kind == CAS:  # the value that it names, if it asks for that and took place, or the contrary
+        return operation.expected if operation.missed == operation.unless else None
     return operation.value if operation.kind == "read" else None
 
 
@@ -75,7 +77,8 @@ def _refuse_suspect(read: SourceOperation, found: Value, spellings: "_Spellings"
     if why is None and choices.values != "exact":
         why = spellings.why(read.key, found, choices)
     if why is not None:
-        kind = "read gave" if read.kind != CAS else "cas found" if read.ending == "reply" else "cas asks for"
+        kind = ("read gave" if read.kind == "read" else f"{read.kind} found" if read.ending == "reply"
+                else "cas asks for")
         which = f", which nothing writes to {shown(read.key)}"
         if spellings.has(read.key, found):
             which = " of " + shown(read.key) if spellings.has_twin(read.key, found) else which + " before"

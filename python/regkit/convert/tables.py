@@ -120,7 +120,7 @@ def _needs_members(choices: Choices) -> bool:
 
 
 def _version_of(choices: Choices) -> list[str]:
-    return [] if choices.versions is None else [choices.versions]
+    return [each for each in (choices.versions, choices.new_revisions) if each is not None]
 
 
 def _source(rows: Iterable[Row], choices: Choices) -> Source:

@@ -4,7 +4,7 @@ from typing import AbstractSet, Any, Iterable
 
 from regkit.base.limits import GREATEST_VALUE, LEAST_VALUE
 from regkit.convert import edn
-from regkit.convert.model import Refused, SourceOperation, Value
+from regkit.convert.model import DELETE, Refused, SourceOperation, Value
 from regkit.convert.spellings import bare, spelled
 
 ALL_TEXTS = frozenset({"csv", "porcupine"})  # forms in which a text of a whole number is that number
@@ -90,11 +90,10 @@ class _Numbers:
 def number_texts(operations: Iterable[SourceOperation]) -> Table:
     """Gives each text a number, register by register, and says which."""
     held = list(operations)
-    numbers = {operation.key: _Numbers() for operation in held
-               if type(operation.value) is str or type(operation.expected) is str}
+    numbers = {operation.key: _Numbers() for operation in held if str in map(type, operation.values)}
     mixed = [operation for operation in held if operation.key in numbers]
     for operation in mixed:
-        for value in (operation.expected, operation.value):
+        for value in operation.values:
             if type(value) is int:
                 numbers[operation.key].taken.add(value)
     for operation in mixed:
@@ -102,6 +101,8 @@ def number_texts(operations: Iterable[SourceOperation]) -> Table:
             operation.expected = numbers[operation.key].number(operation.expected)
         if type(operation.value) is str:
             operation.value = numbers[operation.key].number(operation.value)
+        if type(operation.old) is str:
+            operation.old = numbers[operation.key].number(operation.old)
     return {key: mine.texts for key, mine in numbers.items()}
 
 
@@ -109,12 +110,12 @@ def all_written(operations: Iterable[SourceOperation]) -> Written:
     """What is written to each register, by writes and by each cas that didn't miss. Raises Refused."""
     written: Written = {}
     for operation in operations:
-        if operation.kind == "read":
+        if operation.kind in ("read", DELETE) or operation.clears:
             continue
         if operation.value is None and operation.version is None:
             raise Refused(f"a {operation.kind} of null to {shown(operation.key)}: only the initial value is "
-                          "null. Let the workload delete nothing, or go on with another key; or name fewer "
-                          "spellings of null with --null", operation.line)
+                          "null. If it deletes, say --ops WORD=delete of its word (delete-if if it deletes "
+                          "one value alone); or name fewer spellings of null with --null", operation.line)
         if operation.missed:
             continue
         known = written.setdefault(operation.key, {})

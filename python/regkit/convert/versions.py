@@ -15,7 +15,7 @@ without a reply that would give a version another value than the one it has can'
 from typing import Any, Iterable, Iterator, Optional
 
 from regkit.base.limits import GREATEST_VALUE
-from regkit.convert import edn
+from regkit.convert import edn, revisions
 from regkit.convert.model import CAS, Choices, Refused, Source, SourceOperation, Value
 from regkit.convert.spellings import spelled
 from regkit.convert.values import shown, unsettled
@@ -94,7 +94,13 @@ def fold(source: Source, operations: Iterable[SourceOperation], choices: Choices
     by_key: dict[str, list[SourceOperation]] = {}
     for operation in operations:
         by_key.setdefault(operation.key, []).append(operation)
-    impossible = {each for mine in by_key.values() for each in _Key(mine, choices).fold()}
+    impossible: set[SourceOperation] = set()
+    for mine in by_key.values():
+        if choices.revisions and revisions.are_for(mine):
+            revisions.refuse_back(source, mine)
+            revisions.Revisions(mine, choices).fold()
+        else:
+            impossible |= set(_Key(mine, choices).fold())
     source.notes.append(_ALONE if "value" in choices.ignored else _BOTH)
     if impossible:
         source.leave_out(impossible)
@@ -142,7 +148,8 @@ class _Key:
 
     def _refuse_others(self, operations: Iterable[SourceOperation]) -> None:
         for each in operations:
-            if each.kind not in ("read", "write") or (each.kind == "write" and each.version is None):
+            is_get = each.kind == "read" and each.found is None
+            if not is_get and (each.kind != "write" or each.version is None):
                 raise Refused(f"this {each.kind} of {shown(each.key)} asks for no version, and others do: "
                               "what changes a key whatever its version is doesn't tell the version that it met. "
                               "Let it ask for a version, or leave out such keys with --ops WORD=other "

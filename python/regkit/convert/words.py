@@ -3,17 +3,20 @@ import argparse
 import re
 from typing import Collection, Optional
 
-from regkit.convert import versions, write_back
+from regkit.convert import stores, versions, write_back
 from regkit.convert.advice import takes_away
 from regkit.convert.columns import COLUMNS, columns
-from regkit.convert.model import (ADD, APPEND, CAS, CREATE, ENDINGS, FETCH_ADD, FETCH_SUBTRACT, OTHER,
-                                  READ_AND_WRITE, SUBTRACT, SWAP, Choices, WrongWords, folded)
+from regkit.convert.model import (ADD, APPEND, CAS, COUNT_DELETE, CREATE, DELETE, DELETE_IF, ENDINGS, EXISTS,
+                                  FETCH_ADD, FETCH_DELETE, FETCH_SUBTRACT, LOCK, OTHER, READ_AND_WRITE,
+                                  REPLACE, SUBTRACT, SWAP, UNLOCK, Choices, WrongWords, folded)
 from regkit.convert.whole import READERS
 
 AUTO = "auto"  # the form is what the source's beginning says
 TIMED = ("porcupine", "csv", "operations")
+_TABLES = ("csv", "operations")
 NULLS = {"porcupine": "", "csv": ""}  # by form, what spells null if --null doesn't say
-OPS = ("read", "write", CAS, CREATE, SWAP, ADD, FETCH_ADD, SUBTRACT, FETCH_SUBTRACT, APPEND, OTHER)
+OPS = ("read", "write", CAS, CREATE, REPLACE, SWAP, DELETE, COUNT_DELETE, FETCH_DELETE, DELETE_IF, EXISTS,
+       LOCK, UNLOCK, ADD, FETCH_ADD, SUBTRACT, FETCH_SUBTRACT, APPEND, OTHER)
 DELIMITERS = {"comma": ",", "semicolon": ";", "tab": "\t", "\\t": "\t", "pipe": "|", "bar": "|"}
 
 
@@ -52,6 +55,9 @@ def add_arguments(parser: argparse.ArgumentParser) -> None:
         "version there. Values and versions are checked at once, versions alone with --ignore-member Value")
     add("--revisions", metavar="MEMBER", help="the same for versions that may skip numbers, if each put "
         "gives a greater one, as etcd's revisions and memcached's cas tokens")
+    add("--new-revisions", metavar="MEMBER", help="csv, operations, with --revisions: the member in which a "
+        "put is answered the version that it gave. Then a put may ask for no version, and a delete for one "
+        "(delete-if) or for none")
     add("--drop-versions", action="store_true", help="jepsen: each value is [version value], as in Jepsen's "
         "test of etcd; only the values are checked")
     add("--keys", choices=["auto", "independent", "none"], default="auto",
@@ -71,9 +77,13 @@ def _add_meanings(parser: argparse.ArgumentParser) -> None:
     add("--delimiter", metavar="C", help="csv: what stands between the fields: a character, or comma, "
         "semicolon or tab (default: whichever the header has)")
     add("--ops", metavar="WORD=OP,..", action="append", default=[],
-        help="what the source's words for operations mean: read, write, cas; create (a put-if-absent), swap "
-        "(a get-and-set), append; add and subtract (answered the new value), fetch-add and fetch-subtract (the "
-        "old one); or other, whose keys --skip-key leaves out")
+        help="what the source's words for operations mean: read, write, cas; create (a put-if-absent), "
+        "replace (a put where there is a value), swap (a get-and-set), append; delete (answered nothing), "
+        "count-delete (1 or 0), fetch-delete (the old value), delete-if (this value alone), exists; lock and "
+        "unlock; add and subtract (answered the new value), fetch-add and fetch-subtract (the old one); or "
+        "other, whose keys --skip-key leaves out")
+    add("--store", choices=sorted(stores.OPS), help="csv, operations: the source's words for operations, and "
+        "for what they are answered, are those of this store; --ops may say of some what else they mean")
     add("--outcomes", metavar="WORD=OUTCOME,..", action="append", default=[],
         help="what the source's words for outcomes mean: ok, fail (it certainly had no effect), unknown, or "
              "of a cas missed (the store found another value)")
@@ -96,6 +106,7 @@ def choices_of(arguments: argparse.Namespace, form: str) -> Choices:
     for option, value, forms in (("--columns", arguments.columns, ("csv", "operations")),
                                  ("--delimiter", arguments.delimiter, ("csv",)),
                                  ("--duration-unit", arguments.duration_unit, ("csv", "operations")),
+                                 ("--store", arguments.store, ("csv", "operations")),
                                  ("--drop-versions", arguments.drop_versions or None, ("jepsen",)),
                                  ("--clock-error", arguments.clock_error, TIMED),
                                  ("--clock-unit", arguments.clock_unit, TIMED)):
@@ -109,8 +120,11 @@ def choices_of(arguments: argparse.Namespace, form: str) -> Choices:
         initial=arguments.initial, values=arguments.values, key=arguments.key and folded(arguments.key),
         cas=arguments.cas, skip_key=arguments.skip_key, failed_cas=arguments.failed_cas,
         versions=_version_member(arguments), revisions=arguments.revisions is not None,
+        new_revisions=arguments.new_revisions and folded(arguments.new_revisions),
         drop_versions=arguments.drop_versions, columns=_columns(arguments),
-        delimiter=_delimiter(arguments.delimiter), ops=_meanings("--ops", arguments.ops, OPS),
+        delimiter=_delimiter(arguments.delimiter),
+        ops={**stores.OPS.get(arguments.store, {}), **_meanings("--ops", arguments.ops, OPS)},
+        answers=stores.ANSWERS.get(arguments.store, {}),
         outcomes=_meanings("--outcomes", arguments.outcomes, ENDINGS), ok_when=_ok_when(arguments.ok_when),
         ignored=frozenset(map(folded, arguments.ignore_member)), clock_error=arguments.clock_error,
         clock_unit=arguments.clock_unit, duration_unit=arguments.duration_unit)
@@ -122,6 +136,8 @@ def _version_member(arguments: argparse.Namespace) -> Optional[str]:
 
 
 def _look_at_versions(arguments: argparse.Namespace, form: str) -> None:
+    if arguments.new_revisions is not None and (arguments.revisions is None or form not in _TABLES):
+        raise WrongWords(f"--new-revisions is for {', '.join(_TABLES)} with --revisions")
     if _version_member(arguments) is None:
         return
     if form not in TIMED:

@@ -8,18 +8,44 @@ import json
 from typing import Any, Callable, Iterator
 
 from regkit.convert import edn
-from regkit.convert.model import CAS, Source, SourceOperation, Value
+from regkit.convert.model import (CAS, COUNT_DELETE, DELETE, DELETE_IF, EXISTS, FETCH_DELETE, REPLACE,
+                                  Refused, Source, SourceOperation, Value)
 from regkit.convert.columns import PLAIN_COLUMNS, WRITTEN
 from regkit.convert.values import unsettled
 
 _TYPES = {"reply": ":ok", "fail": ":fail", "crash": ":info"}
+_TRUTHS = {True: "true", False: "false"}
 _OK = {True: "true", False: "false", None: ""}
 _FUNCTIONS = {"read": "get", "write": "put", CAS: CAS}
 _OUTCOMES = {"reply": "ok", "fail": "fail", "crash": "unknown", None: "unknown"}
 
 
+def _word_of(step: SourceOperation) -> str:
+    """The word for an operation that says what its reply tells. Raises Refused if there is none."""
+    if step.kind == "read":
+        return "read" if step.found is None else EXISTS
+    if step.kind == DELETE:
+        return FETCH_DELETE if step.tells_old else DELETE if step.found is None else COUNT_DELETE
+    is_replace = step.unless and step.expected is None and not step.clears
+    if step.kind == CAS and not step.tells_old and is_replace == step.unless:
+        return REPLACE if is_replace else DELETE_IF if step.clears else CAS
+    if step.kind == "write":
+        return "write"
+    raise Refused(f"a {step.kind} {'unless a value' if step.unless else 'that tells what was there'} has no "
+                  "word in this form: leave out --to", step.line)
+
+
+def _value_of(step: SourceOperation) -> Any:
+    """The one value of an operation: what it asks for or writes, or what its reply tells."""
+    if step.kind == DELETE or (step.kind == "read" and step.found is not None):
+        if step.kind == DELETE and step.found is not None:
+            return int(step.found)  # how many values there were
+        return step.old if step.kind == DELETE else step.found
+    return step.expected if step.clears else step.value
+
+
 def _edn_value(value: Value) -> str:
-    return "nil" if value is None else str(value)
+    return _TRUTHS[value] if type(value) is bool else "nil" if value is None else str(value)
 
 
 def _events(source: Source, shown: Callable[[Value], str]) -> Iterator[tuple[SourceOperation, str, str, str]]:
@@ -32,17 +58,19 @@ def _events(source: Source, shown: Callable[[Value], str]) -> Iterator[tuple[Sou
         kind = ":info" if step.kind == "crash" else ":invoke" if is_call else _TYPES[step.ending or ""]
         if step.kind == CAS:
             failed = not is_call and step.ending == "fail"
+            is_pair = _word_of(step) == CAS
             yield (step, ":fail" if step.missed and not is_call else kind,
-                   f"[{shown(step.expected)} {shown(step.value)}]", ", :error :no-effect" if failed else "")
+                   f"[{shown(step.expected)} {shown(step.value)}]" if is_pair else shown(_value_of(step)),
+                   ", :error :no-effect" if failed else "")
         else:
             known = step.kind == "write" or (not is_call and step.ending == "reply")
-            yield step, kind, shown(step.value if known else None), ""
+            yield step, kind, shown(_value_of(step) if known else None), ""
 
 
 def to_jepsen(source: Source) -> Iterator[str]:
     """EDN as Jepsen writes it, with independent keys."""
     for place, (step, kind, value, error) in enumerate(_events(source, _edn_value)):
-        function = "read" if step.kind == "crash" else step.kind
+        function = "read" if step.kind == "crash" else _word_of(step)
         held = "nil" if step.kind == "crash" else f"[{step.key} {value}]"
         yield (f"{{:process {step.process}, :type {kind}, :f :{function}, :value {held}, "
                f":index {place}, :time {place * 1000}{error}}}\n")
@@ -53,19 +81,21 @@ def to_porcupine(source: Source) -> Iterator[str]:
     for step, kind, value, error in _events(source, _edn_text):
         if step.kind == "crash":
             continue
-        function = _FUNCTIONS[step.kind]
+        word = _word_of(step)
+        function = _FUNCTIONS.get(word, word)
         yield (f"{{:process {step.process}, :type {kind}, :f :{function}, :key "
                f"{edn.quote(_plain(step.key))}, :value {value}{error}}}\n")
 
 
 def _edn_text(value: Value) -> str:
-    return "nil" if value is None else edn.quote(_plain(value))
+    return _edn_value(value) if value is None or type(value) is bool else edn.quote(_plain(value))
 
 
 def _plain(value: Value) -> str:
     """A key or a value as a text: a text is itself."""
     found = unsettled(value)
-    return found if type(found) is str else "" if found is None else edn.write(found)
+    return found if type(found) is str else "" if found is None else _edn_value(found) if (
+        type(found) is bool) else edn.write(found)
 
 
 def _rows(source: Source) -> list[list[Any]]:
@@ -75,10 +105,14 @@ def _rows(source: Source) -> list[list[Any]]:
         if step.kind == "crash":
             continue
         if is_call:
-            rows[step] = [step.process, place, None, step.key, step.kind, step.value, _OUTCOMES[step.ending]]
-            if step.kind == CAS:
+            word = _word_of(step)
+            rows[step] = [step.process, place, None, step.key, word, _value_of(step), _OUTCOMES[step.ending]]
+            took_place = not step.missed if step.ending == "reply" else None
+            if word == CAS:
                 rows[step][5] = None
-                rows[step] += [step.expected, step.value, not step.missed if step.ending == "reply" else None]
+                rows[step] += [step.expected, step.value, took_place]
+            elif step.kind == CAS:
+                rows[step] += [None, None, took_place]
         elif step.ending != "crash":
             rows[step][2] = place
     return list(rows.values())
@@ -109,7 +143,7 @@ def to_operations(source: Source) -> Iterator[str]:
 def _json_value(value: Value) -> Any:
     """A key or a value as JSON has it: whole numbers and texts are themselves."""
     found = unsettled(value)
-    return found if found is None or type(found) in (int, str) else edn.write(found)
+    return found if found is None or type(found) in (bool, int, str) else edn.write(found)
 
 
 WRITERS: dict[str, Callable[[Source], Iterator[str]]] = {

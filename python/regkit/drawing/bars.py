@@ -12,6 +12,7 @@ SMALL_LETTER = 6.2  # of the process and of the place in the order, beside the l
 PADDING = 7.0  # between a bar's ends and its label
 SIGN = 19.0  # the width of a sign after the label
 LONGEST_VALUE = 13  # characters of a value that are shown
+NOT = "\u2260"  # before a value: each but that
 
 
 class Bar(NamedTuple):
@@ -44,12 +45,34 @@ def shown_value(value: str) -> str:
 
 
 def label_of(operation: Operation) -> str:
-    if operation.kind == "cas":
-        missed = " missed" if operation.missed else ""
-        return f"c {shown_value(wanted_of(operation))}\u2192{shown_value(value_of(operation))}{missed}"
+    if operation.kind == "read":
+        return f"r {read_label(operation)}" if operation.completed else "r ?"
     if operation.kind == "write":
         return f"w {shown_value(value_of(operation))}"
-    return f"r {shown_value(value_of(operation))}" if operation.completed else "r ?"
+    found = f" found {found_label(operation)}" if found_label(operation) else ""
+    missed = " missed" if operation.kind == "cas" and operation.missed else ""
+    return change_label(operation) + found + missed
+
+
+def read_label(read: Operation) -> str:
+    """What a read gave; of one that only told whether there was a value, that."""
+    return f"{NOT}null" if read.found else shown_value(value_of(read))
+
+
+def change_label(call: Operation) -> str:
+    """What a call asks for and what it writes."""
+    value = shown_value(value_of(call))
+    if call.kind != "cas":
+        return "d" if call.kind == "delete" else f"s {value}"
+    asked = shown_value("null" if call.asked is None else str(call.asked))
+    return f"c {NOT if call.unless else ''}{asked}\u2192{value}"
+
+
+def found_label(call: Operation) -> str:
+    """What a change found, if its reply tells it beside whether it took place."""
+    if call.tells_old:
+        return shown_value(wanted_of(call))
+    return {True: f"{NOT}null", False: "null", None: ""}[call.found]
 
 
 def signs_of(operation: Operation, marks: Marks) -> list[str]:

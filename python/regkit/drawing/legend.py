@@ -2,6 +2,7 @@
 from typing import Iterable
 
 from regkit.drawing import shapes
+from regkit.drawing.bars import NOT
 from regkit.drawing.scene import Scene
 from regkit.drawing.svg import tag
 from regkit.drawing.text import words
@@ -24,6 +25,8 @@ def signs_of(scene: Scene) -> set[str]:
     for bar in scene.bars:
         call = bar.operation
         found.add(call.kind)
+        if NOT in bar.label:
+            found.add("other")
         found.update(bar.signs)
         if call.pending:
             found.add("pending")
@@ -45,7 +48,8 @@ def entries(found: set[str]) -> list[str]:
     zone = tag("g", band, class_="zone first")
     samples = [
         ("write", sample("write"), "w: write"), ("read", sample("read"), "r: read"),
-        ("cas", sample("write"), "c: compare-and-swap"),
+        ("cas", sample("write"), "c: compare-and-swap"), ("delete", sample("write"), "d: delete"),
+        ("swap", sample("write"), "s: swap"), ("other", "", f"{NOT}: each value but this one"),
         ("first", sample("first"), "one value"), ("second", sample("second"), "the other value"),
         ("arrow", sign_alone(arrow, 36), "ended before"),
         ("zone", sign_alone(zone, WIDTH), "zone of a value, explained below the picture"),

@@ -8,7 +8,7 @@ from regkit.drawing.text import words
 from regkit.explain.reaching import Moment, moments
 from regkit.explain.search_explanation import answered, enough
 from regkit.explain.searched import Contradicted
-from regkit.explain.sentences import change_of, value_of
+from regkit.explain.sentences import change_of, told_of, value_of
 from regkit.explain.shrinking import ShrinkSettings, asker, shrink, until
 from regkit.history.operations import Operation
 from regkit.history.who import process_of
@@ -61,11 +61,11 @@ def table(found: list[Moment]) -> str:
 def event(moment: Moment) -> str:
     call, who = moment.call, process_of(moment.call)
     if moment.is_call:
-        asked = {"read": "read", "write": f"write of {value_of(call)}", "cas": change_of(call)}
-        return f"{who} calls a {asked[call.kind]}"
-    gave = {"read": f"the read gave {value_of(call)}", "write": f"the write of {value_of(call)} is done",
-            "cas": f"the {change_of(call)} {'missed' if call.missed else 'took place'}"}
-    return f"{who} has its answer: {gave[call.kind]}"
+        return f"{who} calls a {change_of(call)}"
+    if call.kind == "read" and call.found is None:
+        return f"{who} has its answer: the read gave {value_of(call)}"
+    told = told_of(call)
+    return f"{who} has its answer: the {change_of(call)} {told.removeprefix('that ') if told else 'is done'}"
 
 
 def values(moment: Moment) -> str:

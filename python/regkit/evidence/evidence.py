@@ -15,27 +15,28 @@ class Evidence(NamedTuple):
 
     operations: int
     registers: int
-    completed_reads: int  # a cas that was answered is one too, since it tells what the value was
+    completed_reads: int  # a change whose answer tells what the value was, as a cas's does, is one too
     overlapping_reads: int  # of the completed reads, those that overlap a write of their register
     at_least: bool = False  # whether there may be more reads of either kind than were counted
 
 
 def count_overlapping(calls: list[Operation]) -> int:
-    """How many completed reads of one register overlap a write. A pending write never ends. A cas that was
-    answered counts as a read, and one that may have taken place as a write too."""
+    """How many completed reads of one register overlap a write. A pending write never ends. A change whose
+    answer tells what the value was, as a cas's does, counts as a read; and as a write too unless it
+    missed."""
     writes = [call for call in calls if call.writes and not call.failed]
     begun = [write.line for write in writes]
     ended = sorted(write.end_line for write in writes if write.completed and write.end_line is not None)
     count = 0
     for read in calls:
-        if read.kind != "write" and read.completed and read.end_line is not None:
+        if read.tells and read.end_line is not None:
             # The writes that ended before the read are among those that began before its end.
             count += bisect_left(begun, read.end_line) > bisect_left(ended, read.line) + read.writes
     return count
 
 
 def count_evidence(history: History) -> Evidence:
-    completed = sum(call.kind != "write" and call.completed for call in history.calls)
+    completed = sum(call.tells for call in history.calls)
     overlapping = sum(count_overlapping(calls) for calls in history.registers.values())
     operations = sum(not call.failed for call in history.calls)
     return Evidence(operations, len(history.registers), completed, overlapping)

@@ -3,6 +3,7 @@ import json
 from typing import Any, Callable, NamedTuple, Optional
 
 from regkit.base.limits import MAX_EVENTS
+from regkit.checker.programs import SEARCHED
 from regkit.checker.refusals import Refusal, read_refusal
 from regkit.convert.advice import not_taken
 from regkit.convert.forms import EVENTS, forms_of
@@ -25,7 +26,8 @@ OTHER_EVENTS = {
     "reply": ["ok", "return", "response", "end", "done", "complete"],
     "fail": ["error", "failed", "failure"],
 }
-OTHER_OPS = {"read": ["r", "get", "load"], "write": ["w", "put", "set", "store"]}
+OTHER_OPS = {"read": ["r", "get", "load"], "write": ["w", "put", "set", "store"],
+             "delete": ["del", "erase", "remove"]}
 UNKNOWN_OUTCOMES = ["info", "timeout", "unknown"]
 LONGEST = 60  # characters of a value that is shown
 SPLIT = "check parts of it: `regkit split` makes them, each with whole registers"
@@ -139,11 +141,11 @@ def no_op(place: Place) -> str:
     own = synonym(op, OTHER_OPS)
     if own:
         return f"the op is {shown(op)}: write `{own}`"
-    if op == "cas":
+    if op in SEARCHED:
         return f"the op is {shown(op)}: regcheck takes reads and writes alone"
     what = f", or let `regkit convert` take it for what it is: {not_taken(op)}" if isinstance(op, str) else ""
-    return (f"the op is {shown(op)}: only reads, writes and cas can be checked, so leave this register "
-            f"out{what}")
+    return (f"the op is {shown(op)}: only reads, writes, deletes, swaps and cas can be checked, so leave "
+            f"this register out{what}")
 
 
 def no_register(place: Place) -> str:
@@ -158,9 +160,12 @@ def no_value(place: Place) -> str:
     event, value = place.event, place.event.get("value")
     if event.get("event") == "call" and event.get("op") == "read":
         return "a read's call has no value: leave it out, and give the value in the reply"
+    if event.get("event") == "call" and event.get("op") == "delete":
+        return ("a delete's call has no value: leave it out; or write a cas from this value to null, if only "
+                "this value is deleted")
     if value is None:
         absent = misnamed(event, "value")
-        return absent or 'a write of null has no form: let the key be another register from then on, as "x#2"'
+        return absent or 'a write of null has no form: write `"op":"delete"`, without a value'
     if isinstance(value, bool) or not isinstance(value, (int, float)):
         return f"the value is {shown(value)}: {CONVERT_VALUES}"
     if isinstance(value, float):
@@ -204,14 +209,21 @@ def repeated(place: Place) -> str:
 
 def no_change(place: Place) -> str:
     """A cas whose values don't fit."""
-    return ("a cas has the value that it asks for in `from`, a whole number or null, and the one that it "
-            "writes in `to`, a whole number")
+    return ("a cas has the value that it asks for in `from`, or the only one for which it doesn't in "
+            "`unless`, and the one that it writes in `to`: each is a whole number or null")
 
 
 def unsaid(place: Place) -> str:
     """A cas's reply that doesn't say whether it took place."""
     return ("write `\"ok\":true` if it took place, and `\"ok\":false` if the store found another value; if "
             "you don't know, write no reply, as the call then stays pending")
+
+
+def unfit(place: Place) -> str:
+    """What was found, in a form that says nothing or another thing."""
+    return ("`found` is true if there was a value, and else false; `old` is that value, a whole number or "
+            "null: leave out what the store doesn't tell, but the reply of a swap needs one of them, and "
+            "`ok` and `old` of a cas have to agree")
 
 
 def crashed(place: Place) -> str:
@@ -222,7 +234,8 @@ def crashed(place: Place) -> str:
 MEMBERS = {4: "process", 5: "event", 6: "op", 7: "register"}  # by refusal, the member that has to be there
 ADVICE: dict[int, Callable[[Place], str]] = {
     2: no_json, 3: no_object, 4: no_process, 5: no_event, 6: no_op, 7: no_register, 8: no_value, 9: busy,
-    10: unasked, 11: disagreeing, 12: unread, 13: repeated, 19: crashed, 20: no_change, 21: unsaid}
+    10: unasked, 11: disagreeing, 12: unread, 13: repeated, 19: crashed, 20: no_change, 21: unsaid,
+    22: unfit}
 
 
 def advice(history: bytes, refusal: str, name: str = "-") -> str:

@@ -80,7 +80,7 @@ class EventFinder:
     def texts_of(self, history: History) -> Texts:
         """What the lines say of the values of some operations."""
         texts = Texts()
-        values = {value for call in history.calls for value in (call.value, call.asked) if value is not None}
+        values = {value for call in history.calls for value in call.values if value is not None}
         for value in values if MARK in self.data else ():
             for match in re.finditer(rb'"texts"[^\n]*"%d"\s*:' % value, self.data):
                 event = self.event_at(self.data.rfind(b"\n", 0, match.start()) + 1)

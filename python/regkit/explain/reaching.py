@@ -13,7 +13,7 @@ MOST_STEPS = 300_000
 class State(NamedTuple):
     """Where an order may have come. Calls are named by their lines."""
 
-    by: int  # the write or cas whose value the register has; 0 is none yet
+    by: int  # the call whose value the register has; 0 is none yet
     done: frozenset[int]  # the calls that took effect
     seen: frozenset[int]  # those whose values the register had since the call in question began
     is_taken: bool  # whether that call took effect
@@ -93,10 +93,7 @@ class Orders:
 
     def suits(self, call: Operation, by: int) -> bool:
         """Whether a call may take effect on the value of a write."""
-        if call.kind == "write":
-            return True
-        wanted = call.asked if call.kind == "cas" else call.value
-        return (self.value(by) == wanted) != call.missed
+        return call.suits(self.value(by))
 
     def value(self, line: int) -> Optional[int]:
         return self.by_line[line].value if line else None

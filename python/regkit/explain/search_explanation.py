@@ -102,9 +102,10 @@ def why_not(told: Contradicted, calls: list[Operation], left: Left, found: Optio
 def nothing_gives(told: Contradicted, calls: list[Operation], left: Left) -> list[str]:
     """What becomes of the writes of the value that the reply needs."""
     call = told.call
-    if call.missed:
-        return ["so it could only have found what it asks for"]
-    wanted = call.asked if call.kind == "cas" else call.value
+    if call.guard is not None and call.guard.is_other:
+        asked = "what it asks for" if call.missed and not call.unless else wanted_of(call)
+        return [f"so it could only have found {asked}"]
+    wanted = None if call.guard is None else call.guard.value
     writes = [each for each in calls
               if each.writes and each.value == wanted and not each.failed and each is not call]
     later = [each for each in writes if each.line > told.line]

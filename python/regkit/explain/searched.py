@@ -47,18 +47,9 @@ def value_after(order: Sequence[Operation]) -> Optional[Operation]:
     return next((call for call in reversed(order) if call.writes), None)
 
 
-def suits(value: Optional[int], call: Operation) -> bool:
-    """Whether a call that was answered may have found a value."""
-    return (value == wanted_by(call)) != call.missed
-
-
-def wanted_by(call: Operation) -> Optional[int]:
-    return call.asked if call.kind == "cas" else call.value
-
-
 def may_explain(other: Operation, call: Operation) -> bool:
     """Whether another call would leave a value that the answer to a call needs."""
-    return call.kind != "write" and other.writes and suits(other.value, call)
+    return call.guard is not None and other.writes and call.suits(other.value)
 
 
 def likeliest_first(opened: Sequence[Operation], call: Operation) -> list[Operation]:
@@ -73,13 +64,14 @@ def likeliest_first(opened: Sequence[Operation], call: Operation) -> list[Operat
 
 def needed(call: Operation) -> str:
     """The value that the answer to a call needs."""
-    return f"something else than {wanted_of(call)}" if call.missed else wanted_of(call)
+    is_other = call.guard is not None and call.guard.is_other
+    return f"something else than {wanted_of(call)}" if is_other else wanted_of(call)
 
 
 def must_have_been(told: Contradicted) -> str:
     """What the reply says of the value, and that no order has it."""
     call, line = told.call, told.line
-    must = "it must have taken effect" if call.kind == "write" else f"the value must have been {needed(call)}"
+    must = f"the value must have been {needed(call)}" if call.guard else "it must have taken effect"
     return (f"{named(call)}: {must} at some moment from line {call.line} to line {line}, and no order of the "
             f"operations called before line {line} in which it comes at such a moment gives the other answers")
 
@@ -98,7 +90,7 @@ def why_none_of(told: Contradicted) -> list[str]:
     if not opened:
         return ["no other call of this register was open then"]
     lines = [open_then(other, told) for other in opened[:MOST_OPEN]]
-    if told.call.kind != "write" and not may_explain(opened[0], told.call):
+    if told.call.guard is not None and not may_explain(opened[0], told.call):
         lines.insert(0, f"no call that was open then would leave {needed(told.call)}")
     if len(opened) > MOST_OPEN:
         lines.append(f"and {counted(len(opened) - MOST_OPEN, 'other open call')}")
@@ -117,8 +109,8 @@ def search_sentences(history: History, row: Row) -> list[str]:
 
 
 def without_effect(history: History, call: Operation) -> Optional[Operation]:
-    """A write or a cas of the value that a call found, which failed or missed, if there is one."""
-    value = call.asked if call.kind == "cas" else call.value
+    """A call that failed or missed, and would have written the value that a call found, if there is one."""
+    value = None if call.guard is None else call.guard.value
     for other in history.registers[call.register]:
         if other.kind != "read" and other.value == value and (other.failed or other.missed):
             return other
@@ -126,12 +118,12 @@ def without_effect(history: History, call: Operation) -> Optional[Operation]:
 
 
 def unwritten_sentences(history: History, row: Row) -> list[str]:
-    """A value that a read or a cas found, and nobody wrote."""
+    """A value that a call found, and nobody wrote."""
     register, line = row["register"], row["fault"]["call"]
     call = history.operation(register, line)
     if call not in history.registers[register]:
         raise KeyError(line)
-    found = "found" if call.kind == "cas" else "gave"
+    found = "gave" if call.kind == "read" else "found"
     other = without_effect(history, call)
     if other is not None:
         why = "failed" if other.failed else "missed"

@@ -12,15 +12,27 @@ def value_of(operation: Operation) -> str:
     return "null" if operation.value is None else str(operation.value)
 
 
-def change_of(cas: Operation) -> str:
-    """`cas from 0 to 1`."""
-    return f"cas from {wanted_of(cas)} to {value_of(cas)}"
+def change_of(call: Operation) -> str:
+    """`write of 11`, `cas from 0 to 1`, `cas to 5 unless null`, `delete` or `swap to 7`."""
+    if call.kind == "cas":
+        asked, value = "null" if call.asked is None else str(call.asked), value_of(call)
+        return f"cas to {value} unless {asked}" if call.unless else f"cas from {asked} to {value}"
+    said = {"write": f"write of {value_of(call)}", "swap": f"swap to {value_of(call)}"}
+    return said.get(call.kind, call.kind)
 
 
 def wanted_of(call: Operation) -> str:
-    """The value that a read gave, or that a cas asks for."""
-    value = call.asked if call.kind == "cas" else call.value
+    """The value that a call found or asks for, or the only one that it doesn't."""
+    value = None if call.guard is None else call.guard.value
     return "null" if value is None else str(value)
+
+
+def told_of(call: Operation) -> str:
+    """`that took place`, `that found nothing`: what the reply to a change tells. Empty if that is nothing."""
+    told = {True: "took place", False: "missed", None: ""}[call.took]
+    found = wanted_of(call) if call.tells_old else {True: "a value", False: "nothing", None: ""}[call.found]
+    said = " and ".join(filter(None, (found and f"found {found}", told)))
+    return f"that {said}" if said else ""
 
 
 def lines_of(operation: Operation) -> str:
@@ -39,12 +51,15 @@ def named(operation: Operation) -> str:
     """`the write of 11 by process 3 (lines 196 to 200)`."""
     if operation.line == 0:
         return "the initial write of null"
-    if operation.kind == "cas":
-        told = {True: " that took place,", False: " that missed,", None: ""}[operation.took]
-        return f"the {change_of(operation)}{told} by {process_of(operation)} ({lines_of(operation)})"
-    gave = operation.kind == "write" or operation.completed
-    what = f"{operation.kind} of {value_of(operation)}" if gave else operation.kind
-    return f"the {what} by {process_of(operation)} ({lines_of(operation)})"
+    told = f" {told_of(operation)}," if told_of(operation) else ""
+    return f"the {what_of(operation)}{told} by {process_of(operation)} ({lines_of(operation)})"
+
+
+def what_of(operation: Operation) -> str:
+    """`read of 3`, or a change."""
+    if operation.kind != "read":
+        return change_of(operation)
+    return f"read of {value_of(operation)}" if operation.completed and operation.found is None else "read"
 
 
 def precedence(before: Operation, after: Operation) -> str:

@@ -10,7 +10,7 @@ from typing import Callable, NamedTuple, Optional, Sequence
 
 from regkit.base.statuses import ExitStatus
 from regkit.checker.programs import SEARCH, NoChecker, find_program, run_checker
-from regkit.history.operations import Operation
+from regkit.history.operations import Guard, Operation
 
 MOST_RUNS = 200  # of regsearch
 STEPS = 20_000_000  # of each run, unless fewer were asked for
@@ -41,18 +41,18 @@ def until(calls: Sequence[Operation], reply: int) -> list[Kept]:
     return [each for each in kept if each.replied or each.call.writes]
 
 
-def asked_values(kept: Sequence[Kept]) -> set[Optional[int]]:
-    """The values that reads gave, and that a cas asks for."""
-    return {each.call.asked if each.call.kind == "cas" else each.call.value
-            for each in kept if each.call.kind != "write"}
+def guards_of(kept: Sequence[Kept]) -> list[Guard]:
+    """Which values are asked for, by replies that count and by calls."""
+    found = (each.call.guard if each.replied else each.call.asks for each in kept)
+    return [guard for guard in found if guard is not None]
 
 
 def without_idle(kept: list[Kept]) -> list[Kept]:
-    """The same without the writes and cas that have no reply and write a value for which nobody asks. In an
-    order nothing that asks stands between such a one and the next write, so it may be left out, unless a cas
-    missed: that asks for any other value."""
-    while not any(each.call.missed for each in kept):
-        asked = asked_values(kept)
+    """The same without the changes that have no reply and leave a value for which nobody asks. In an order
+    nothing that asks stands between such a one and the next change, so it may be left out, unless something
+    asks for any value but one, as a cas that missed does."""
+    while not any(guard.is_other for guard in guards_of(kept)):
+        asked = {guard.value for guard in guards_of(kept)}
         fewer = [each for each in kept if each.replied or each.call.value in asked]
         if len(fewer) == len(kept):
             break
@@ -61,12 +61,12 @@ def without_idle(kept: list[Kept]) -> list[Kept]:
 
 
 def fences(kept: Sequence[Kept]) -> list[Operation]:
-    """The writes that were answered and overlap nothing else that was answered, by line."""
+    """The writes, and deletes of whatever there is, that overlap nothing else that was answered, by line."""
     answered = sorted((each.call for each in kept if each.replied), key=lambda call: call.line)
     found, latest = [], 0
     for call, following in zip(answered, [*answered[1:], None]):
         end = call.end_line or 0
-        if call.kind == "write" and latest < call.line and (following is None or end < following.line):
+        if call.guard is None and latest < call.line and (following is None or end < following.line):
             found.append(call)
         latest = max(latest, end)
     return found
@@ -90,18 +90,28 @@ def events_of(process: int, each: Kept) -> list[tuple[int, str]]:
     call = each.call
     said = {"process": process, "event": "call", "op": call.kind, "register": "x"}
     if call.kind == "cas":
-        said.update({"from": call.asked, "to": call.value})
-    elif call.kind == "write":
+        said.update({"unless" if call.unless else "from": call.asked, "to": call.value})
+    elif call.kind in ("write", "swap"):
         said["value"] = call.value
+    if call.kind == "cas" and call.asks_old:
+        said["old"] = True
     lines = [(call.line, json.dumps(said))]
     if each.replied and call.end_line is not None:
         end = {"process": process, "event": "reply"}
-        if call.kind == "cas":
-            end["ok"] = bool(call.took)
-        elif call.kind == "read":
-            end["value"] = call.value
-        lines.append((call.end_line, json.dumps(end)))
+        lines.append((call.end_line, json.dumps({**end, **answer_of(call)})))
     return lines
+
+
+def answer_of(call: Operation) -> dict[str, Optional[int]]:
+    """The members of a reply that say what a call found."""
+    answer: dict[str, Optional[int]] = {"ok": bool(call.took)} if call.kind == "cas" else {}
+    if call.kind == "read" and call.found is None:
+        answer["value"] = call.value
+    if call.found is not None:
+        answer["found"] = call.found
+    if call.tells_old:
+        answer["old"] = call.old
+    return answer
 
 
 def history_of(kept: Sequence[Kept]) -> bytes:

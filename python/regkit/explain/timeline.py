@@ -1,7 +1,7 @@
 """A picture in text: a row for each call, and a column for each line where one of them begins or ends."""
 from typing import NamedTuple
 
-from regkit.explain.sentences import change_of, value_of
+from regkit.explain.sentences import change_of, value_of, wanted_of
 from regkit.history.operations import Operation
 from regkit.words.quoting import columns
 
@@ -31,11 +31,19 @@ def labels(call: Operation) -> list[str]:
     if call.line == 0:
         return ["before line 1", "", "write null"]
     lines = f"{call.line}" if call.end_line is None else f"{call.line} to {call.end_line}"
-    if call.kind == "cas":
-        took = {True: ", true", False: ", false", None: ""}[call.took]
-        return [lines, f"process {call.process}", change_of(call) + took]
-    value = f" {value_of(call)}" if call.kind == "write" or call.completed else ""
-    return [lines, f"process {call.process}", call.kind + value]
+    return [lines, f"process {call.process}", asked_and_told(call)]
+
+
+def asked_and_told(call: Operation) -> str:
+    """`write 11`, `cas from 0 to 1, true`, `delete, found a value`."""
+    took = {True: ", true", False: ", false", None: ""}[call.took]
+    if call.tells_old:
+        return f"{change_of(call)}, found {wanted_of(call)}{took}"
+    if call.found is not None:
+        return f"{change_of(call)}, found {'a value' if call.found else 'nothing'}"
+    if call.kind in ("read", "write"):
+        return call.kind + (f" {value_of(call)}" if call.kind == "write" or call.completed else "")
+    return change_of(call) + took
 
 
 def columns_of(entries: list[Entry]) -> dict[int, int]:

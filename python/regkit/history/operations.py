@@ -1,5 +1,5 @@
 """An accepted history as its operations, for everything that explains or draws."""
-from typing import Callable, Iterable, Optional
+from typing import Callable, Iterable, NamedTuple, Optional
 
 from regkit.history import lines
 from regkit.history.texts import MEMBER, Texts
@@ -19,21 +19,36 @@ class NoRegister(ValueError):
         super().__init__(f"no register has the name {quoted(name)}")
 
 
+class Guard(NamedTuple):
+    """Which values an operation may meet: this one, or each but this one."""
+
+    value: Optional[int]
+    is_other: bool = False
+
+    def allows(self, value: Optional[int]) -> bool:
+        return (value == self.value) != self.is_other
+
+
 class Operation:
     """A call with what ended it. `line` is the line of the call, 0 for a register's initial write of null."""
 
-    __slots__ = ("line", "process", "register", "kind", "value", "asked", "took", "ending", "end_line",
-                 "client", "node", "time")
+    __slots__ = ("line", "process", "register", "kind", "value", "asked", "unless", "took", "found",
+                 "asks_old", "tells_old", "old", "ending", "end_line", "client", "node", "time")
 
     def __init__(self, line: int, process: Optional[int], register: str, kind: str,
                  value: Optional[int]) -> None:
         self.line = line
         self.process = process
         self.register = register
-        self.kind = kind  # "read", "write" or "cas"
+        self.kind = kind  # "read", "write", "delete", "swap" or "cas"
         self.value = value  # written, or read; None is null, and also what a read that isn't completed gave
         self.asked: Optional[int] = None  # of a cas, the value that it asks for; `value` is the one it writes
+        self.unless = False  # whether a cas asks for each value but `asked`
         self.took: Optional[bool] = None  # of a completed cas, whether it took place
+        self.found: Optional[bool] = None  # whether there was a value, if the reply says no more than that
+        self.asks_old = False  # whether the reply of a change may give the value that it met
+        self.tells_old = False  # whether it gave that
+        self.old: Optional[int] = None  # that value
         self.ending: Optional[str] = None  # "reply", "fail", "crash", or None if nothing ended it
         self.end_line: Optional[int] = None  # the line of that ending
         self.client: Optional[str] = None  # who called, of which server, and when, as far as the lines say it
@@ -51,13 +66,46 @@ class Operation:
 
     @property
     def missed(self) -> bool:
-        """A cas that found another value than it asked for, and changed nothing."""
-        return self.took is False
+        """A cas that found another value than it asked for, or a delete that found none: it changed
+        nothing."""
+        return self.took is False or (self.kind == "delete" and self.guard == Guard(None))
 
     @property
     def writes(self) -> bool:
-        """Whether it may have changed the value: a write, or a cas that didn't miss."""
+        """Whether it may have changed the value: all but reads and what missed."""
         return self.kind != "read" and not self.missed
+
+    @property
+    def asks(self) -> Optional[Guard]:
+        """Which values its call asks for, whatever its reply says; None if any."""
+        return Guard(self.asked, self.unless) if self.kind == "cas" else None
+
+    @property
+    def guard(self) -> Optional[Guard]:
+        """Which values it may meet, as far as its call and its reply say it; None if any."""
+        if not self.completed or self.kind == "write":
+            return self.asks
+        if self.tells_old:
+            return Guard(self.old)
+        if self.kind == "cas":
+            return Guard(self.asked, self.unless != self.missed)
+        if self.found is not None:
+            return Guard(None, self.found)
+        return Guard(self.value) if self.kind == "read" else None
+
+    def suits(self, value: Optional[int]) -> bool:
+        """Whether it may take effect where its register has this value."""
+        return self.guard is None or self.guard.allows(value)
+
+    @property
+    def tells(self) -> bool:
+        """Whether its reply says something of the value that it met."""
+        return self.completed and self.guard is not None
+
+    @property
+    def values(self) -> tuple[Optional[int], ...]:
+        """The values that its lines have."""
+        return self.value, self.asked, self.old
 
     @property
     def pending(self) -> bool:
@@ -136,12 +184,15 @@ def put_texts(calls: Iterable[Operation], texts: Texts) -> None:
     for call in calls if texts else ():
         call.value = texts.label(call.register, call.value)
         call.asked = texts.label(call.register, call.asked)
+        call.old = texts.label(call.register, call.old)
 
 
 def call_of(line: int, event: lines.Event) -> Operation:
     call = Operation(line, event["process"], event["register"], event["op"], event.get("value"))
     if call.kind == "cas":
-        call.value, call.asked = event["to"], event["from"]
+        call.unless = "from" not in event
+        call.value, call.asked = event["to"], event["unless" if call.unless else "from"]
+    call.asks_old = event.get("old") is True if call.kind == "cas" else call.kind in ("delete", "swap")
     return call
 
 
@@ -177,10 +228,21 @@ def end_call(open_calls: dict[int, Operation], crashes: dict[int, int], line: in
         return
     ended.ending, ended.end_line = what, line
     ended.node = text_in(event, "node") or ended.node  # an answer may tell which server gave it
-    if what == "reply" and ended.kind == "read":
-        ended.value = event["value"]
-    if what == "reply" and ended.kind == "cas":
-        ended.took = event["ok"]
+    if what == "reply":
+        note_answer(ended, event)
+
+
+def note_answer(call: Operation, event: lines.Event) -> None:
+    """Notes what the reply of a call says of the value that it met."""
+    if call.kind == "read":
+        call.value = event.get("value")
+        call.found = None if "value" in event else event["found"]
+    elif call.kind == "cas":
+        call.took = event["ok"]
+    elif call.kind != "write":
+        call.found = event.get("found")
+    if call.asks_old and "old" in event:
+        call.tells_old, call.old = True, event["old"]
 
 
 def operations(calls: Iterable[Operation]) -> list[Operation]:

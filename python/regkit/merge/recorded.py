@@ -2,6 +2,7 @@
 import json
 from typing import Any, Iterator, NamedTuple, Optional, Sequence
 
+from regkit.checker.programs import SEARCHED
 from regkit.history.lines import numbered_lines
 from regkit.history.operations import history_of
 from regkit.history.texts import MARK, Contradictory, Texts
@@ -47,7 +48,7 @@ class Recorded:
         self.name = name
         self.events: list[RecordedEvent] = []
         self.writes: list[ValueWrite] = []
-        self.has_cas = False
+        self.searched: set[str] = set()  # the words of its operations that only regsearch takes
         self.has_texts = MARK in data
         history = History(FOREVER, search=True)
         try:
@@ -69,7 +70,8 @@ class Recorded:
                               "time.monotonic_ns doesn't; and a merged history can't be merged again")
         if event["event"] == "call" and event["op"] == "write":
             self.writes.append(ValueWrite(self.name, number, event["register"], event["value"]))
-        self.has_cas = self.has_cas or (event["event"] == "call" and event["op"] == "cas")
+        if event["event"] == "call" and event["op"] in SEARCHED:
+            self.searched.add(event["op"])
         self.events.append(RecordedEvent(time, process, event["event"], _ENCODER.encode(event)[1:]))
 
     @property
@@ -80,7 +82,7 @@ class Recorded:
         """Each register with a number that it has, and what that stands for."""
         events = ({"process": event.process, **json.loads("{" + event.rest)} for event in self.events)
         for call in history_of(enumerate(events, 1)).calls:
-            yield from ((call.register, int(value), str(value)) for value in (call.value, call.asked)
+            yield from ((call.register, int(value), str(value)) for value in call.values
                         if value is not None)
 
 
@@ -99,7 +101,7 @@ def refuse_twice(files: Sequence[Recorded]) -> None:
     """Raises Unmergeable if two histories are one: what it writes would count twice."""
     for place, file in enumerate(files):
         for other in files[:place]:
-            if (file.writes or file.has_cas) and file.events == other.events:
+            if (file.writes or file.searched) and file.events == other.events:
                 raise Unmergeable(f"{file.name}: it has the same events as {other.name}, at the same times: "
                                   "name each history once; if they are two, let each recorder name its "
                                   "clients")

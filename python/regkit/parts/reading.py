@@ -7,15 +7,17 @@ from functools import lru_cache
 from typing import Any, NamedTuple, Optional
 
 from regkit.base.limits import GREATEST_VALUE, LEAST_VALUE, MAX_LINE, MAX_NAME, MAX_PROCESS
+from regkit.checker.programs import SEARCHED
 from regkit.history.lines import NotJson, json_of
 
 
 @lru_cache(maxsize=None)
-def usual_form(space: bytes, with_cas: bool) -> "re.Pattern[bytes]":
+def usual_form(space: bytes, with_search: bool) -> "re.Pattern[bytes]":
     """Lines with this after each comma and colon. Their groups are a process; of a call its register and its
     value; and the whole line if it has another form.
 
-    A cas has this form only once it is known that there are any, and then values don't matter any more."""
+    A cas, a delete and a swap have this form only once it is known that there are any, and then values don't
+    matter any more."""
     comma, colon = b"," + space, b":" + space
     text = rb'"[^"\\\x00-\x1f]{0,%d}"' % MAX_NAME
     number = rb"(?:[1-9][0-9]{0,17}|0|null|-[1-9][0-9]{0,17})"
@@ -30,14 +32,16 @@ def usual_form(space: bytes, with_cas: bool) -> "re.Pattern[bytes]":
     who = perhaps(member(b"client", text)) + perhaps(member(b"node", text)) + perhaps(time)
     end = rb"(?:\}\n|" + who + rb"\}\r?\n)"
     value = member(b"value", rb"(?:([1-9][0-9]{0,17}|0|-[1-9][0-9]{0,17})|null)")
-    ops = b'"(?:read|write)"'
-    if with_cas:
-        value = member(b"value", number) + b"()|" + member(b"from", number) + member(b"to", number)
-        ops = b'"(?:read|write|cas)"'
+    ops, truth = b'"(?:read|write)"', b"(?:true|false)"
+    if with_search:
+        change = member(b"(?:from|unless)", number) + member(b"to", number) + perhaps(member(b"old", b"true"))
+        value = member(b"value", number) + b"()|" + change
+        ops = b'"(?:read|write|delete|swap|cas)"'
     call = (b'"call"' + member(b"op", ops) + member(b"register", rb'"([^"\\\x00-\x1f]{1,%d})"' % MAX_NAME)
             + perhaps(value) + end)
+    found = perhaps(member(b"found", truth)) + perhaps(member(b"old", number)) if with_search else b""
     answer = (perhaps(member(b"op", ops)) + perhaps(member(b"register", text))
-              + perhaps(member(b"value", number)) + perhaps(member(b"ok", b"(?:true|false)")) + end)
+              + perhaps(member(b"value", number)) + perhaps(member(b"ok", truth)) + found + end)
     return re.compile(rb'\{"process"' + colon + b"([1-9][0-9]{0,8}|0)" + comma + rb'"event"' + colon
                       + b"(?:" + call + rb'|"(?:reply|fail)"(?:\}\n|' + answer + b"))"
                       + rb"|([^\n]*\n|[^\n]+)")
@@ -47,14 +51,14 @@ NO_FORM = re.compile(rb"()()()([^\n]*\n|[^\n]+)")  # each line goes the slow way
 SPACED_START = b'{"process": '
 
 
-def form_of(block: bytes, with_cas: bool) -> "re.Pattern[bytes]":
+def form_of(block: bytes, with_search: bool) -> "re.Pattern[bytes]":
     """The pattern that reads most of some whole lines."""
     if not block.isascii():
         try:
             block.decode("utf-8")
         except UnicodeDecodeError:
             return NO_FORM
-    return usual_form(b" " if block.startswith(SPACED_START) else b"", with_cas)
+    return usual_form(b" " if block.startswith(SPACED_START) else b"", with_search)
 
 
 class ReadEvent(NamedTuple):
@@ -64,7 +68,7 @@ class ReadEvent(NamedTuple):
     event: str
     register: bytes = b""  # of a call
     value: bytes = b""  # of a call: a whole number, or empty
-    is_cas: bool = False  # of a call
+    is_searched: bool = False  # whether only regsearch takes it
 
 
 def read_event(line: bytes) -> Optional[ReadEvent]:
@@ -83,7 +87,12 @@ def read_event(line: bytes) -> Optional[ReadEvent]:
         return None
     if what == "call":
         return read_call(b"%d" % process, event)
-    return ReadEvent(b"%d" % process, what) if what in ("reply", "fail", "crash") else None
+    # A read's reply may tell no more than whether there was a value.
+    only_found = what == "reply" and "found" in event and "value" not in event and (
+        event.get("op", "read") not in ("write", "cas"))
+    if what not in ("reply", "fail", "crash"):
+        return None
+    return ReadEvent(b"%d" % process, what, is_searched=only_found)
 
 
 def read_call(process: bytes, event: dict[str, Any]) -> Optional[ReadEvent]:
@@ -92,4 +101,4 @@ def read_call(process: bytes, event: dict[str, Any]) -> Optional[ReadEvent]:
     if not 1 <= len(name) <= MAX_NAME:
         return None
     number = b"%d" % value if type(value) is int and LEAST_VALUE <= value <= GREATEST_VALUE else b""
-    return ReadEvent(process, "call", name, number, event.get("op") == "cas")
+    return ReadEvent(process, "call", name, number, event.get("op") in SEARCHED)

@@ -51,7 +51,7 @@ class Router:
         self.open: dict[bytes, Optional[Part]] = {}  # of each open call its part, None of a crashed process
         self.crashed: dict[bytes, Part] = {}
         self.lines = 0  # that were read
-        self.has_cas = False
+        self.is_searched = False  # whether only regsearch takes some line
         self._least = [(0, number) for number in range(parts)]
 
     def route(self, block: bytes) -> None:
@@ -71,7 +71,8 @@ class Router:
         registers, busy = self.registers, self.open
         index = -1
         try:
-            for index, (process, name, value, line) in enumerate(form_of(block, self.has_cas).findall(block)):
+            read = form_of(block, self.is_searched).findall(block)
+            for index, (process, name, value, line) in enumerate(read):
                 if line:
                     event = self._unusual(line)
                     if event is None:
@@ -100,7 +101,7 @@ class Router:
         event = read_event(line)
         if event is None:
             raise CertainRefusal(self.parts[0])
-        self.has_cas = self.has_cas or event.is_cas
+        self.is_searched = self.is_searched or event.is_searched
         return event
 
     def _add(self, name: bytes, process: bytes) -> Part:

@@ -73,9 +73,9 @@ def write_parts(history: BinaryIO, plan: Plan, router: Router, writers: Sequence
 
 
 def program_for(router: Router, writers: Sequence[PartWriter]) -> str:
-    """Which program takes all parts: regcheck, unless there is a cas or a value is written again.
+    """Which program takes all parts: regcheck, unless it doesn't take a line or a value is written again.
 
     Two different writes have one hash in fewer than one history of a hundred thousand, however large. Then
     regsearch checks what regcheck could, and decides it as well."""
     repeats = [writer.repeats(part.writes) for part, writer in zip(router.parts, writers)]
-    return SEARCH if router.has_cas or any(repeats) else CHECK
+    return SEARCH if router.is_searched or any(repeats) else CHECK

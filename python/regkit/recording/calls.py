@@ -14,6 +14,7 @@ class Call:
     """A call, open from the beginning of its `with` block to the end."""
 
     op = ""
+    word = ""  # by which a client calls it, if that isn't its op
     rest = ""  # of its arguments, for a person
     behind: Optional[str] = ""  # what its line says after the register; None for a value that is chosen
 
@@ -38,11 +39,15 @@ class Call:
         self._said = ending
 
     def outside(self) -> RecordingError:
-        block = f"with client.{self.op}({self.register!r}{self.rest}) as {self.op}:"
+        block = f"with client.{self.name}({self.register!r}{self.rest}) as {self.name}:"
         return self.mistake(f"is used outside its block: `{block}`")
 
     def mistake(self, text: str) -> RecordingError:
-        return self._client.journal.mistake(f"a {self.op} of {self.register!r} {text}")
+        return self._client.journal.mistake(f"a {self.name} of {self.register!r} {text}")
+
+    @property
+    def name(self) -> str:
+        return self.word or self.op
 
     def checked(self, check: Callable[[object], Number], value: object) -> Number:
         """The number of a value. A value that is none is a mistake."""
@@ -114,7 +119,7 @@ class Write(Call):
         return self._number
 
     def missing(self) -> str:
-        return "" if self._asked else "never asked for its value: give the store `write.value`"
+        return "" if self._asked else f"never asked for its value: give the store `{self.name}.value`"
 
     def reply_value(self) -> str:
         return ""
@@ -152,13 +157,14 @@ class Cas(Call):
 
     op = "cas"
     rest = ", from_, to"
+    asks = "from"  # the member that has `from_`
     _ok: Optional[bool] = None
 
     def __init__(self, client: Caller, register: str, from_: Optional[int], to: int) -> None:
         super().__init__(client, register)
         self.from_ = None if from_ is None else self.checked(chosen, from_)
-        self.to = self.checked(chosen, to)
-        self.behind = f',"from":{member(self.from_)},"to":{self.to}'
+        self.to: Optional[int] = self.checked(chosen, to)
+        self.behind = f',"{self.asks}":{member(self.from_)},"to":{self.to}'
 
     @property
     def ok(self) -> Optional[bool]:
@@ -173,12 +179,13 @@ class Cas(Call):
         if self._stage != "open":
             raise self.outside()
         if type(ok) is not bool:
-            raise self.mistake(f"was told {ok!r}: `cas.ok` is True if it took place, and False if it missed")
+            raise self.mistake(f"was told {ok!r}: `{self.name}.ok` is True if it took place, and False if it "
+                               "missed")
         self._ok = ok
 
     def missing(self) -> str:
         return ("" if self._ok is not None
-                else "wasn't told how it ended: set `cas.ok` to whether it took place")
+                else f"wasn't told how it ended: set `{self.name}.ok` to whether it took place")
 
     def reply_value(self) -> str:
         return f',"ok":{"true" if self._ok else "false"}'

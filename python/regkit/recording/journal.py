@@ -9,7 +9,7 @@ import pathlib
 import threading
 from typing import IO, Any, Callable, NamedTuple, NoReturn, Optional, Union
 
-from regkit.base.limits import GREATEST_VALUE, MAX_NAME
+from regkit.base.limits import GREATEST_VALUE, LEAST_VALUE, MAX_NAME
 from regkit.history.who import members
 from regkit.words.phrases import counted
 
@@ -28,7 +28,8 @@ class RecordingError(Exception):
 
 
 class Counts(NamedTuple):
-    """How many calls were recorded, by what they are, and how they ended so far."""
+    """How many calls were recorded, by what they are, and how they ended so far. Deletes and swaps are
+    writes, as in a report."""
 
     reads: int
     writes: int
@@ -113,7 +114,7 @@ class Journal:
         self._lock = threading.Lock()
         self._closed = False
         self._maker = os.getpid()
-        self._count = {"read": 0, "write": 0, "cas": 0, "reply": 0, "fail": 0, "crash": 0}
+        self._count = dict.fromkeys(("read", "write", "delete", "swap", "cas", "reply", "fail", "crash"), 0)
         self._free: dict[str, list[int]] = {}  # by whose they are, heaps of the process numbers given back
         self._processes = 0
         self._values_after = values_after
@@ -163,7 +164,8 @@ class Journal:
     def counts(self) -> Counts:
         with self._lock:
             count = dict(self._count)
-        return Counts(count["read"], count["write"], count["cas"], count["reply"], count["fail"])
+        writes = count["write"] + count["delete"] + count["swap"]
+        return Counts(count["read"], writes, count["cas"], count["reply"], count["fail"])
 
     def take(self, owner: Optional[str]) -> int:
         """A process number: one that was given back for this owner, or a new one."""
@@ -197,6 +199,12 @@ class Journal:
             self._append(f'{{"process":{process},"event":"call","op":"{op}","register":{name}{behind}{who}')
             self._count[op] += 1
         return value
+
+    def expire(self, register: str, value: int, who: str) -> None:
+        """Writes that a value may expire from here on: the call of a cas to no value, never answered."""
+        if type(value) is not int or not LEAST_VALUE <= value <= GREATEST_VALUE:
+            raise self.mistake(f"{value!r} can't expire: a value is a whole number of 64 bits")
+        self.call(self.take(None), "cas", register, f',"from":{value},"to":null', who)
 
     def reply(self, process: int, register: str, value: str, who: str) -> None:
         """Writes a reply. It names its register, so that the line can be read alone."""

@@ -3,6 +3,7 @@ import pathlib
 from typing import Optional
 
 from regkit.recording.calls import Cas, Read, Write
+from regkit.recording.changes import Create, Delete, Lock, Replace, Swap, Unlock
 from regkit.recording.client import Client
 from regkit.recording.journal import Clock, Counts, Failures, Journal, Output, RecordingError
 from regkit.recording.wrapped import Methods, Wrapped
@@ -53,6 +54,34 @@ class Recorder:
     def cas(self, register: str, from_: Optional[int], to: int) -> Cas:
         """A cas under any free process number. Take a client where one thread makes several calls."""
         return Cas(self._client_of_one_call(), register, from_, to)
+
+    def delete(self, register: str) -> Delete:
+        """A delete under any free process number. Take a client where one thread makes several calls."""
+        return Delete(self._client_of_one_call(), register)
+
+    def swap(self, register: str, value: Optional[int] = None) -> Swap:
+        """A swap under any free process number. Take a client where one thread makes several calls."""
+        return Swap(self._client_of_one_call(), register, value)
+
+    def create(self, register: str, value: int) -> Create:
+        """A put-if-absent under any free process number."""
+        return Create(self._client_of_one_call(), register, value)
+
+    def replace(self, register: str, value: int) -> Replace:
+        """A put where there is a value, under any free process number."""
+        return Replace(self._client_of_one_call(), register, value)
+
+    def lock(self, register: str, owner: int) -> Lock:
+        """A lock or a try-lock under any free process number."""
+        return Lock(self._client_of_one_call(), register, owner)
+
+    def unlock(self, register: str, owner: int) -> Unlock:
+        """An unlock, or a delete of one value alone, under any free process number."""
+        return Unlock(self._client_of_one_call(), register, owner)
+
+    def expires(self, register: str, value: int) -> None:
+        """Says that a value may expire from now on, as a client's `expires` does."""
+        self._client_of_one_call().expires(register, value)
 
     @property
     def path(self) -> Optional[pathlib.Path]:

@@ -12,7 +12,7 @@ FOREVER = float("inf")  # the line of a reply that never came: it is after every
 
 EVENTS = ("call", "reply", "fail", "crash")
 OPS = ("read", "write")
-SEARCH_OPS = (*OPS, "cas")
+SEARCH_OPS = (*OPS, "delete", "swap", "cas")
 
 BAD_OP_OF_SEARCH = -6  # 6 has another text there
 REASONS = {
@@ -32,9 +32,10 @@ REASONS = {
     14: f"more than {MAX_EVENTS} events",
     15: f"input is longer than {MAX_BYTES} bytes",
     19: "the process crashed at line {}",
-    20: "from or to does not fit the event",
+    20: "from, unless or to does not fit the event",
     21: "a cas's reply has no ok, true or false",
-    BAD_OP_OF_SEARCH: "op is neither read, write nor cas",
+    22: "old or found does not fit the event",
+    BAD_OP_OF_SEARCH: "op is neither read, write, delete, swap nor cas",
 }
 
 
@@ -48,21 +49,27 @@ class Refused(Exception):
 
 
 class Operation:
-    """A read or a write, identified by the line of its call. A register's initial write of null has 0."""
+    """A call with its reply, identified by the line of its call. A register's initial write of null has 0."""
 
-    __slots__ = ("line", "end", "process", "register", "is_write", "value", "failed", "is_cas", "asked",
-                 "took")
+    __slots__ = ("line", "end", "process", "register", "op", "is_write", "value", "failed", "is_cas", "asked",
+                 "unless", "took", "found", "asks_old", "tells_old", "old")
 
-    def __init__(self, line: int, register: str, is_write: bool, value: Optional[int]) -> None:
+    def __init__(self, line: int, register: str, op: str, value: Optional[int]) -> None:
         self.line = line
         self.end: float = FOREVER  # the line of its reply
         self.process: Optional[int] = None  # the initial write is nobody's
         self.register = register
-        self.is_write = is_write
+        self.op = op
+        self.is_write = op in ("write", "delete", "swap")
         self.value = value  # written, or read; None is null
-        self.is_cas = False  # then `value` is what it writes if it finds
+        self.is_cas = op == "cas"  # then `value` is what it writes if it finds `asked`, or anything else
         self.asked: Optional[int] = None
+        self.unless = False
         self.took: Optional[bool] = None  # of a cas that was answered, whether it took place
+        self.found: Optional[bool] = None  # whether there was a value, if the reply says that
+        self.asks_old = self.op in ("delete", "swap")  # whether `old` of the reply counts
+        self.tells_old = False
+        self.old: Optional[int] = None  # the value that it met
         self.failed = False  # a call that failed is no operation
 
     @property
@@ -71,7 +78,7 @@ class Operation:
 
 
 def initial_write(register: str) -> Operation:
-    write = Operation(0, register, True, None)
+    write = Operation(0, register, "write", None)
     write.end = 0
     return write
 
@@ -99,8 +106,8 @@ class History:
             raise Refused(14, line)
         if process in self.crashes:
             raise Refused(19, line, self.crashes[process])
-        if what == "reply" and self.open_calls[process].is_cas and type(event.get("ok")) is not bool:
-            raise Refused(21, line)
+        if what == "reply":
+            check_answer(line, event, self.open_calls[process])
         self.events += 1
         if what == "call":
             self.begin(line, event)
@@ -128,18 +135,21 @@ class History:
             return
         if not agrees(event, call):
             raise Refused(11, line)
-        if event["event"] == "reply" and is_read(call) and "value" not in event:
+        told = "value" in event or (self.search and "found" in event)
+        if event["event"] == "reply" and is_read(call) and not told:
             raise Refused(12, line)
 
     def begin(self, line: int, event: dict[str, Any]) -> None:
-        process, register, is_write = event["process"], event["register"], event["op"] == "write"
-        call = Operation(line, register, is_write, event.get("value"))
+        process, register, op = event["process"], event["register"], event["op"]
+        call = Operation(line, register, op, event.get("value"))
         call.process = process
-        if event["op"] == "cas":
-            call.is_cas, call.asked, call.value = True, event["from"], event["to"]
+        if op == "cas":
+            call.unless = "unless" in event
+            call.asked, call.value = event["unless" if call.unless else "from"], event["to"]
+            call.asks_old = event.get("old") is True
         self.open_calls[process] = call
         self.registers.setdefault(register, []).append(call)
-        if is_write:
+        if op == "write":
             self.written.setdefault(register, {})[event["value"]] = line
 
     def end(self, line: int, event: dict[str, Any]) -> None:
@@ -150,8 +160,12 @@ class History:
         call.end = line
         if call.is_cas:
             call.took = event["ok"]
-        elif not call.is_write:
-            call.value = event["value"]
+        elif call.op != "write" and not ("value" in event and is_read(call)):
+            call.found = event.get("found")
+        if is_read(call):
+            call.value = event.get("value")
+        if call.asks_old and "old" in event:
+            call.tells_old, call.old = True, event["old"]
 
     def without_failed(self) -> None:
         """Leaves out the calls that failed; a register keeps its place even if none is left."""
@@ -161,8 +175,8 @@ class History:
 
 def agrees(event: dict[str, Any], call: Operation) -> bool:
     """Each thing that a reply or a fail says is as in its call."""
-    op = "write" if call.is_write else "cas" if call.is_cas else "read"
-    if event.get("op", op) != op or event.get("register", call.register) != call.register:
+    op, register = event.get("op", call.op), event.get("register", call.register)
+    if op != call.op or register != call.register:
         return False
     value = event.get("value")
     if call.is_write:
@@ -170,8 +184,31 @@ def agrees(event: dict[str, Any], call: Operation) -> bool:
     return (event["event"] == "reply" and not call.is_cas) or value is None
 
 
+def check_answer(line: int, event: dict[str, Any], call: Operation) -> None:
+    """What the reply of a call tells beside its value. Raises Refused with 21 or 22."""
+    if call.is_cas and type(event.get("ok")) is not bool:
+        raise Refused(21, line)
+    if not answer_fits(event, call):
+        raise Refused(22, line)
+
+
+def answer_fits(event: dict[str, Any], call: Operation) -> bool:
+    """Whether `found` and `old`, where they count, have their form, are there if they must, and agree."""
+    has_old, old = call.asks_old and "old" in event, event.get("old")
+    if has_old and not (old is None or is_value(old)):
+        return False
+    if call.is_cas:
+        took = (old == call.asked) != call.unless
+        return not has_old or event["ok"] == took
+    if call.op == "write" or (is_read(call) and "value" in event):
+        return True
+    if "found" not in event:
+        return has_old or call.op == "delete"
+    return type(event["found"]) is bool and (not has_old or event["found"] == (old is not None))
+
+
 def is_read(call: Operation) -> bool:
-    return not call.is_write and not call.is_cas
+    return call.op == "read"
 
 
 def read_history(history: bytes, limits: bool, search: bool = False) -> History:
@@ -215,15 +252,17 @@ def call_fault(event: dict[str, Any], ops: tuple[str, ...]) -> int:
         return 6
     if not is_name(event.get("register")):
         return 7
-    fits = is_value(value) if op == "write" else value is None
+    fits = is_value(value) if op in ("write", "swap") else value is None
     if not fits:
         return 8
     return 20 if op == "cas" and not is_change(event) else 0
 
 
 def is_change(cas: dict[str, Any]) -> bool:
-    """Whether the two values of a cas are there and of their form."""
-    return "from" in cas and (cas["from"] is None or is_value(cas["from"])) and is_value(cas.get("to"))
+    """Whether the two values of a cas are there and of their form: `to`, and one of `from` and `unless`."""
+    named = [name for name in ("from", "unless") if name in cas]
+    return len(named) == 1 and "to" in cas and all(
+        cas[name] is None or is_value(cas[name]) for name in (*named, "to"))
 
 
 def end_fault(event: dict[str, Any], ops: tuple[str, ...]) -> int:

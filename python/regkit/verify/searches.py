@@ -110,9 +110,22 @@ def changes(a: Operation) -> bool:
 
 def suits(a: Operation, value: Value) -> bool:
     """Whether an operation may take effect where its register has a value."""
+    if a.tells_old and value != a.old:
+        return False
+    if a.found is not None:
+        return a.found == (value is not None)
     if a.is_cas:
-        return (value == a.asked) != (a.took is False)
+        return ((value == a.asked) != a.unless) != (a.took is False)
     return a.is_write or not a.completed or value == a.value
+
+
+def surely_found(a: Operation) -> Value:
+    """The value that a completed operation must have met; None if several would do, or if it is null."""
+    if a.tells_old:
+        return a.old
+    if a.is_cas:
+        return a.asked if a.took != a.unless else None
+    return a.value if is_read(a) else None
 
 
 def left_by(a: Operation, value: Value) -> Value:
@@ -155,10 +168,10 @@ def check_open(operations: list[Operation], asks: Lines, reply: int) -> None:
 
 
 def unwritten_calls(operations: list[Operation]) -> Iterator[Operation]:
-    """The completed reads, and the cas that took place, which found a number that nobody wrote."""
+    """The completed operations which found a number that nobody wrote."""
     written = {None, *(a.value for a in operations if changes(a))}
     for a in operations:
-        if a.completed and is_read(a) and a.value not in written or a.took and a.asked not in written:
+        if a.completed and surely_found(a) not in written:
             yield a
 
 

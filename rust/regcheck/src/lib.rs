@@ -30,7 +30,7 @@ mod recorder;
 
 pub use answer::{check, Answer, Bounds, Verdict};
 pub use error::{Error, Refusal, Trouble};
-pub use recorder::{Cas, Client, Read, Recorder, Write};
+pub use recorder::{Cas, Client, Delete, Read, Recorder, Swap, Write};
 
 #[cfg(not(feature = "library"))]
 use by_program::{ask, search};

@@ -54,7 +54,7 @@ struct Journal {
     processes: u32,
     values_after: i64,
     values: HashMap<String, i64>, // the latest of each register
-    reads: u64,                   // completed ones, and cas that were answered
+    reads: u64,                   // completed ones, and changes whose answers told what was there
     mistakes: Vec<String>,
 }
 
@@ -256,9 +256,82 @@ impl Client {
     /// # Panics
     /// If the name is no text of 1 to 255 bytes.
     pub fn cas(&mut self, register: &str, from: Option<i64>, to: i64) -> Cas<'_> {
-        let said = format!(",\"from\":{},\"to\":{to}", member(from));
+        self.change(register, "from", from, Some(to))
+    }
+
+    /// The call of a cas by whatever name; `asks` is the member that has the value asked for.
+    fn change(
+        &mut self,
+        register: &str,
+        asks: &str,
+        asked: Option<i64>,
+        to: Option<i64>,
+    ) -> Cas<'_> {
+        let said = format!(",\"{asks}\":{},\"to\":{}", member(asked), member(to));
         let call = Call::begin(self, "cas", register, &said);
         Cas { call }
+    }
+
+    /// The call of a put-if-absent, which writes the value if there is none.
+    ///
+    /// # Panics
+    /// If the name is no text of 1 to 255 bytes.
+    pub fn create(&mut self, register: &str, value: i64) -> Cas<'_> {
+        self.change(register, "from", None, Some(value))
+    }
+
+    /// The call of a put that takes place only where there is a value.
+    ///
+    /// # Panics
+    /// If the name is no text of 1 to 255 bytes.
+    pub fn replace(&mut self, register: &str, value: i64) -> Cas<'_> {
+        self.change(register, "unless", None, Some(value))
+    }
+
+    /// The call of a lock or a try-lock by an owner, who doesn't get it while anybody has it.
+    ///
+    /// # Panics
+    /// If the name is no text of 1 to 255 bytes.
+    pub fn lock(&mut self, register: &str, owner: i64) -> Cas<'_> {
+        self.change(register, "from", None, Some(owner))
+    }
+
+    /// The call by which an owner gives a lock back, or of a delete of one value alone.
+    ///
+    /// # Panics
+    /// If the name is no text of 1 to 255 bytes.
+    pub fn unlock(&mut self, register: &str, owner: i64) -> Cas<'_> {
+        self.change(register, "from", Some(owner), None)
+    }
+
+    /// The call of a delete.
+    ///
+    /// # Panics
+    /// If the name is no text of 1 to 255 bytes.
+    pub fn delete(&mut self, register: &str) -> Delete<'_> {
+        let call = Call::begin(self, "delete", register, "");
+        Delete { call }
+    }
+
+    /// The call of a swap, also called get-and-set, which writes the value and is answered the old one.
+    ///
+    /// # Panics
+    /// If the name is no text of 1 to 255 bytes.
+    pub fn swap(&mut self, register: &str, value: i64) -> Swap<'_> {
+        let call = Call::begin(self, "swap", register, &format!(",\"value\":{value}"));
+        Swap { call }
+    }
+
+    /// Says that a value may expire from now on, if it is still there. Call it at the earliest moment: when
+    /// its time is over, less the error of the clocks; for a cache that evicts, before the store is given the
+    /// value.
+    ///
+    /// # Panics
+    /// If the name is no text of 1 to 255 bytes.
+    pub fn expires(&mut self, register: &str, value: i64) {
+        let kept = self.process.take(); // the call is nobody's, and stays open
+        drop(self.change(register, "from", Some(value), None));
+        self.process = kept;
     }
 }
 
@@ -360,6 +433,53 @@ impl Cas<'_> {
     /// refused without comparing, the call has failed.
     pub fn replied(self, took_place: bool) {
         self.call.end("reply", &format!(",\"ok\":{took_place}"));
+    }
+
+    /// The call certainly had no effect, and never will have.
+    pub fn failed(self) {
+        self.call.end("fail", "");
+    }
+}
+
+/// The call of a delete, pending until the store answered.
+#[must_use = "a call that is dropped stays pending"]
+pub struct Delete<'c> {
+    call: Call<'c>,
+}
+
+impl Delete<'_> {
+    /// The store said that it is done, and nothing of what was there.
+    pub fn replied(self) {
+        self.call.end("reply", "");
+    }
+
+    /// The store said whether there was a value.
+    pub fn found(self, found: bool) {
+        self.call.end("reply", &format!(",\"found\":{found}"));
+    }
+
+    /// The store gave the value that was there, or said that there was none.
+    pub fn old(self, value: Option<i64>) {
+        self.call
+            .end("reply", &format!(",\"old\":{}", member(value)));
+    }
+
+    /// The call certainly had no effect, and never will have.
+    pub fn failed(self) {
+        self.call.end("fail", "");
+    }
+}
+
+/// The call of a swap, pending until the store answered.
+#[must_use = "a call that is dropped stays pending"]
+pub struct Swap<'c> {
+    call: Call<'c>,
+}
+
+impl Swap<'_> {
+    /// The store gave the value that was there, or said that there was none.
+    pub fn replied(self, old: Option<i64>) {
+        self.call.end("reply", &format!(",\"old\":{}", member(old)));
     }
 
     /// The call certainly had no effect, and never will have.

@@ -3,4 +3,4 @@ use Rattle.history_model.proofs.Lists.{option_or-none}
 use Rattle.cas_history.proofs.reason.event_reason.Goals as goal
 
 pub returns : goal.returns
-returns c = let last = option_or-none c.reply_without_ok.result in cc
+returns c = let last = option_or-none c.reply_tells_wrong.result in cc

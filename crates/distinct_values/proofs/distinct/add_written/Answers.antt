@@ -12,6 +12,11 @@ returns-in-Cas c =
     λ _ ops h. one-other ops c.args.op.now c.args.written.now
     (λ v e. let q = sym c.in-Cas.is ∙ e in cc (q)) h
 
+pub returns-in-CasUnless : goal.returns-in-CasUnless
+returns-in-CasUnless c =
+    λ _ ops h. one-other ops c.args.op.now c.args.written.now
+    (λ v e. let q = sym c.in-CasUnless.is ∙ e in cc (q)) h
+
 pub returns-in-Miss : goal.returns-in-Miss
 returns-in-Miss c =
     λ _ ops h. one-other ops c.args.op.now c.args.written.now

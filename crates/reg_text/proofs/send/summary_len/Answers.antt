@@ -1,4 +1,5 @@
-use Rattle.reg_text.proofs.Fields.{summary_count, one_of}
+use Rattle.json_fields.proofs.Fields.{one_of}
+use Rattle.reg_text.proofs.Fields.{summary_count}
 use Rattle.reg_text.proofs.send.summary_len.Goals as goal
 
 pub returns : goal.returns

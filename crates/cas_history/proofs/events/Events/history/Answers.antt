@@ -14,4 +14,5 @@ returns c = record {
       ∙ (sym (length-reverse c.in_ok-backward.backward.items)
       ∙ (ap length c.in_ok-backward.ensures ∙ search rules)));
   lines = search rules;
+  words = search rules;
 }

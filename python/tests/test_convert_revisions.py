@@ -1,0 +1,160 @@
+"""Puts, creates and deletes by revision, as in etcd: their histories are as linearizable as what `regkit
+convert` makes of them.
+
+    REGKIT_REVISIONS=20000 nice python3 -m unittest tests.test_convert_revisions    more, in some minutes
+"""
+import os
+import random
+import re
+import unittest
+from typing import Any, List, Tuple
+
+from regkit.convert.model import Refused
+from tests import acts
+from tests.convert_support import history_of, run
+from tests.search_sources import find_regsearch, verdicts
+from tests.sequential import Asked, Done, State, is_linearizable
+from tests.sequential import history_of as random_history
+
+MANY = int(os.environ.get("REGKIT_REVISIONS", "800"))
+REGSEARCH = find_regsearch()
+GREATEST = 14  # revision
+START: State = (None, 0, frozenset())  # the value, its revision or 0, and all revisions that were given
+BACK = "so revisions don't go up"
+NOBODY = "several puts of unknown outcome|nobody can tell"
+UNTOLD = f"{BACK}|{NOBODY}|two puts to k gave the revision|has the version .* and the put asks"
+OPTIONS = ("--revisions", "revision", "--new-revisions", "gave", "--ops",
+           "putif=write,drop=count-delete,dropif=delete-if", "--initial", "null", "--values", "exact")
+
+
+def after(state: State, asked: Asked, rises: bool) -> List[Tuple[State, Any]]:
+    """All that may come of an operation, for each revision that a put may give."""
+    (value, revision, given), (op, (written, asks)) = state, asked
+    if op == "get":
+        return [(state, (value, revision) if revision else None)]
+    if op == "drop":
+        return [((None, 0, given), int(revision > 0))]
+    if op == "dropif":
+        return [((None, 0, given), True)] if revision == asks else [(state, False)]
+    if op != "put" and revision != asks:
+        return [(state, "missed")]
+    least = max(given, default=0) if rises else 0
+    free = (new for new in range(least + 1, GREATEST + 1) if new not in given)
+    return [((written, new, given | {new}), new) for new in free]
+
+
+def rising(state: State, asked: Asked) -> List[Tuple[State, Any]]:
+    return after(state, asked, True)
+
+
+def unique(state: State, asked: Asked) -> List[Tuple[State, Any]]:
+    return after(state, asked, False)
+
+
+def simulated(state: State, asked: Asked) -> List[Tuple[State, Any]]:
+    """A store whose revisions go up by 1 or 2."""
+    return rising(state, asked)[:2]
+
+
+def made(chance: random.Random) -> List[Done]:
+    """A history, right or with one answer changed."""
+    words = chance.sample(["put", "putif", "create", "drop", "dropif", "get", "get"], chance.randrange(3, 8))
+
+    def ask(state: State) -> Asked:
+        op = chance.choice(words)
+        asks = state[1] if chance.random() < 0.7 else chance.choice([0, *state[2]])
+        asks = 0 if op == "create" else max(asks, 1) if op == "dropif" else asks
+        return op, (chance.choice("abc"), asks)
+
+    while True:
+        done = random_history(chance, simulated, START, ask)
+        is_small = len(done) < 9 and not any(
+            type(each.answer) is int and each.answer >= GREATEST - 4 for each in done)
+        if is_small and any(each.outcome == "ok" for each in done):
+            return changed(done, chance) if chance.random() < 0.6 else done
+
+
+def changed(done: List[Done], chance: random.Random) -> List[Done]:
+    place = chance.choice([place for place, each in enumerate(done) if each.outcome == "ok"])
+    op, answer = done[place].asked[0], done[place].answer
+    if op == "get":
+        revision = chance.randrange(1, 7)
+        answer = chance.choice([None, (chance.choice("abc"), revision), ("a", revision)])
+    elif op == "drop":
+        answer = 1 - answer
+    elif op == "dropif":
+        answer = not answer
+    else:
+        given = chance.randrange(1, 8)
+        answer = chance.choice(["missed", given] if op != "put" else [given])
+    return done[:place] + [done[place]._replace(answer=answer)] + done[place + 1:]
+
+
+def table(done: List[Done]) -> str:
+    lines = ["process,start,end,op,key,value,revision,gave,ok,outcome"]
+    for each in done:
+        op, (written, asks) = each.asked
+        value: Any = written if op in ("put", "putif", "create") else ""
+        revision: Any = asks if op in ("putif", "dropif") else ""
+        gave: Any = ""
+        ok, outcome = "", each.outcome
+        if outcome == "ok" and op == "get" and each.answer is not None:
+            value, revision = each.answer
+        elif outcome == "ok" and op == "drop":
+            value = each.answer
+        elif outcome == "ok" and op == "dropif":
+            ok = str(each.answer).lower()
+        elif outcome == "ok" and op != "get":
+            outcome = "missed" if each.answer == "missed" else "ok"
+            gave = "" if outcome == "missed" else each.answer
+        end = "" if each.end is None else each.end
+        lines.append(f"{each.client},{each.start},{end},{op},k,{value},{revision},{gave},{ok},{outcome}")
+    return "\n".join(lines)
+
+
+class Revisions(unittest.TestCase):
+    def test_each_verdict_is_that_of_the_store(self) -> None:
+        """A right history stays right. What is found right has an order, if not one in which revisions
+        rise."""
+        chance, kept = random.Random("revisions"), []
+        counts = {"refused": 0, "right": 0, "faulty": 0}
+        for _ in range(MANY):
+            done = made(chance)
+            source = table(done)
+            is_right = is_linearizable(done, rising, START)
+            try:
+                history = history_of(source, "csv", *OPTIONS)
+            except Refused as error:
+                counts["refused"] += 1
+                self.assertRegex(str(error), UNTOLD, source)
+                if not re.search(NOBODY, str(error)):
+                    self.assertFalse(is_right, (str(error), source))
+                continue
+            found = acts.is_atomic(history)
+            counts["right" if found else "faulty"] += 1
+            self.assertTrue(found or not is_right, (source, history))
+            self.assertTrue(not found or is_right or is_linearizable(done, unique, START), (source, history))
+            kept.append((history, found))
+        with self.subTest(**counts):
+            self.assertLess(counts["refused"], MANY // 2)
+            self.assertGreater(min(counts["right"], counts["faulty"]), MANY // 8)
+        if REGSEARCH:
+            self.assertEqual(verdicts([history for history, _ in kept], REGSEARCH),
+                             [each for _, each in kept])
+
+    def test_what_is_refused(self) -> None:
+        begin = "process,start,end,op,key,value,revision,gave,ok,outcome\n1,1,2,create,k,a,,5,,ok\n"
+        for rows, words in [
+                ("1,3,4,put,k,b,,,,ok\n", "this put doesn't tell the revision that it gave: let each put"),
+                ("1,3,4,put,k,b,,5,,ok\n", "two puts to k gave the revision 5"),
+                ("1,3,4,put,k,b,,4,,ok\n", "names the revision 4, and what named 5, at line 2, had ended"),
+                ("1,3,4,delete,k,,5,,,ok\n", "a delete has the version 5: say --ops WORD=delete-if"),
+                ("1,3,4,fetch-delete,k,a,,,,ok\n", "this delete of k asks for a value, or is answered one"),
+                ("1,3,,put,k,b,,,,unknown\n2,3,,put,k,b,,,,unknown\n3,4,5,get,k,b,7,,,ok\n",
+                 "several puts of unknown outcome may have given the revision 7")]:
+            with self.subTest(rows):
+                self.assertIn(words, run(begin + rows, "csv", *OPTIONS).told)
+
+
+if __name__ == "__main__":
+    unittest.main()
