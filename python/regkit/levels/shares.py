@@ -16,7 +16,7 @@ def name_of(operation: Operation, what: str) -> Name:
 
 
 def share(name: str, what: str, stale: int, reads: int) -> str:
-    """`client worker-3 12 of 40 reads`."""
+    """`client worker-3 12 of 40`."""
     shown = in_words(name if what == "client" else None, name if what == "node" else None, LONGEST)[0]
     return f"{shown} {stale:,} of {reads:,}"
 
@@ -40,7 +40,7 @@ def shares_of(subject: Subject, what: str) -> str:
     said = [share(name, what, stale[name], reads[name]) for name in worst[:MOST]]
     rest = len(worst) - MOST
     more = f", and {rest:,} more" if rest > 0 else ""
-    return f"stale reads by {what}: {', '.join(said)}{more}"
+    return f"stale reads: {', '.join(said)}{more}"
 
 
 def shares_in_words(subject: Subject) -> list[str]:
