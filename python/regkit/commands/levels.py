@@ -113,7 +113,8 @@ def told_of(name: str, arguments: argparse.Namespace, progress: Progress) -> int
     except (KeyError, TypeError, ValueError, IndexError) as error:
         raise Stop(ExitStatus.FAILED, "the answer of reglevel isn't of this history") from error
     paint = painter(arguments.color, sys.stdout)
-    said = paint("good" if found.answer.status == ExitStatus.ATOMIC else "bad", heading(levels))
+    whole = heading(kept(levels.summary), levels.summary["operations"], levels.summary["registers"])
+    said = paint("good" if found.answer.status == ExitStatus.ATOMIC else "bad", whole)
     asked = [required(levels, level.replace("-", "_"))] if level else []
     progress.say("\n".join([f"{label}: {said}", *asked, *lines, *(f"  {plain(line)}" for line in found.told)]),
                  sys.stdout)

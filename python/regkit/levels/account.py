@@ -14,15 +14,13 @@ from regkit.words.quoting import quoted
 MOST_NAMED = 6  # registers
 
 
-def heading(levels: Levels) -> str:
+def heading(found: Sequence[str], operations: int, registers: int) -> str:
     """The levels that all registers kept, and those that some didn't."""
-    summary = levels.summary
-    size = f"{counted(summary['operations'], 'operation')} on {counted(summary['registers'], 'register')}"
-    found = kept(summary)
+    size = f"{counted(operations, 'operation')} on {counted(registers, 'register')}"
     if "atomic" in found:
         return f"linearizable, so it keeps every level: {size}"
-    said = f"keeps {in_words(strongest(found))}" if found else "keeps no level"
-    lacking = [level for level in LEVELS if level not in found]
+    held, lacking = ([level for level in LEVELS if (level in found) == holds] for holds in (True, False))
+    said = f"keeps {in_words(strongest(held))}" if held else "keeps no level"
     return f"{said}; not {in_words(lacking, 'or')}: {size}"
 
 
