@@ -1,8 +1,8 @@
 """Asks the checker: the program `regcheck`, or for a small history the library, where it is installed.
 
 `regcheck` decides whatever it accepts. If it refuses a history for a repeated value, or for a cas or another
-operation that it doesn't take, `regsearch` decides it, if it is there. Which weaker guarantees a history kept,
-`reglevel` says."""
+operation that it doesn't take, `regsearch` decides it, if it is there. `reglevel` says which weaker levels a
+history kept."""
 import io
 import os
 import pathlib

@@ -113,7 +113,8 @@ def settings_of(arguments: argparse.Namespace) -> CheckSettings:
     return CheckSettings(
         most=arguments.most, least_reads=arguments.least_reads, least_overlaps=arguments.least_overlaps,
         first=arguments.first, verify=arguments.verify, count_all=arguments.count_all,
-        bounds=bounds_of(arguments), pages=None if arguments.draw is None else Pages(arguments.draw), levels=True)
+        bounds=bounds_of(arguments), levels=True,
+        pages=None if arguments.draw is None else Pages(arguments.draw))
 
 
 def run(arguments: argparse.Namespace) -> int:

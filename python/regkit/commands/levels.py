@@ -116,8 +116,8 @@ def told_of(name: str, arguments: argparse.Namespace, progress: Progress) -> int
     whole = heading(kept(levels.summary), levels.summary["operations"], levels.summary["registers"])
     said = paint("good" if found.answer.status == ExitStatus.ATOMIC else "bad", whole)
     asked = [required(levels, level.replace("-", "_"))] if level else []
-    progress.say("\n".join([f"{label}: {said}", *asked, *lines, *(f"  {plain(line)}" for line in found.told)]),
-                 sys.stdout)
+    told = [f"  {plain(line)}" for line in found.told]
+    progress.say("\n".join([f"{label}: {said}", *asked, *lines, *told]), sys.stdout)
     return found.answer.status
 
 
@@ -127,7 +127,8 @@ def stopped(name: str, arguments: argparse.Namespace, progress: Progress) -> int
         with many_objects():
             return told_of(name, arguments, progress)
     except TooLong as error:
-        raise Stop(ExitStatus.REFUSED, f"refused: {error}", advice(error.beginning, str(error), name)) from error
+        hint = advice(error.beginning, str(error), name)
+        raise Stop(ExitStatus.REFUSED, f"refused: {error}", hint) from error
     except NotTaken as error:
         raise Stop(ExitStatus.REFUSED, f"refused: {error}", hint_of(error, name, "levels")) from error
     except (NotAHistory, Contradictory) as error:

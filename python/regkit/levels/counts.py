@@ -14,7 +14,7 @@ from regkit.words.quoting import quoted
 class Kind(NamedTuple):
     """A kind of old reads."""
 
-    count: str  # the key of their number
+    number: str  # the key of how many there are
     first: str  # and that of the first of them
     none: str
     one: str
@@ -42,7 +42,8 @@ def of_register(subject: Subject, row: Row) -> str:
 
 
 def before_that(seen: Operation) -> str:
-    """What shows that the value of an old read is older. It needs no words of what every register begins with."""
+    """What shows that the value of an old read is older. Of what each register begins with it goes without
+    saying."""
     return f", and {named(seen)} had ended before that write began" if seen.line else ""
 
 
@@ -68,14 +69,14 @@ def old_reads(subject: Subject) -> list[str]:
     """The kinds of which there are some, with lines below their numbers that are indented."""
     lines = []
     for kind in KINDS:
-        number = subject.levels.summary[kind.count]
+        number = subject.levels.summary[kind.number]
         if not number:
             continue
         reads, all_reads = counted(number, "read"), subject.levels.summary["reads"]
-        if kind.count == "stale":
+        if kind.number == "stale":
             reads = f"{number:,} of {counted(all_reads, 'read')} ({number / all_reads:.1%})"
         lines += [f"{reads} {kind.one if number == 1 else kind.many}", f"  {first_in_words(subject, kind)}"]
-        lines += stale_in_words(subject) if kind.count == "stale" else []
+        lines += stale_in_words(subject) if kind.number == "stale" else []
     return lines
 
 
@@ -83,7 +84,8 @@ def lost_writes(subject: Subject) -> list[str]:
     number = subject.levels.summary["lost"]
     if not number:
         return []
-    row = min((row for row in subject.levels.rows if "lost_write" in row), key=lambda row: int(row["lost_write"]))
+    rows = [row for row in subject.levels.rows if "lost_write" in row]
+    row = min(rows, key=lambda row: int(row["lost_write"]))
     ended = "was never read after it" if number == 1 else "were never read after they"
     return [f"{counted(number, 'acknowledged write')} {ended} ended, nor anything newer",
             f"  the first{of_register(subject, row)}: {named(subject.operation(row, row['lost_write']))}",
@@ -95,7 +97,7 @@ def counts(subject: Subject) -> list[str]:
     if all("stale" not in row for row in subject.levels.rows):
         return []
     summary = subject.levels.summary
-    none = [kind.none for kind in KINDS if not summary[kind.count]]
+    none = [kind.none for kind in KINDS if not summary[kind.number]]
     none += [] if summary["lost"] else ["no acknowledged write was lost"]
     return [*old_reads(subject), *lost_writes(subject), *(["; ".join(none)] if none else [])]
 
@@ -111,5 +113,6 @@ def uncounted(subject: Subject) -> list[str]:
     else:
         sentences = early(*(subject.operation(row, row["early"][key]) for key in ("read", "write")))
     where = "there" if number == 1 else "in each"
-    return [f"the reads of {counted(number, 'register')} aren't counted: {where} a value was read that nobody had "
-            "written yet", f"  the first{of_register(subject, row)}: {sentences[0]}", *(f"  {each}" for each in sentences[1:])]
+    return [f"the reads of {counted(number, 'register')} aren't counted: {where} a value was read that "
+            "nobody had written yet", f"  the first{of_register(subject, row)}: {sentences[0]}",
+            *(f"  {each}" for each in sentences[1:])]

@@ -10,7 +10,7 @@ from regkit.verify.rows import Wrong, need
 
 
 def check_gap(register: Register, gap: Any, places: Places) -> None:
-    """Two clusters conflict if reads must be younger; and if they may be one event older, there is an order."""
+    """Two clusters conflict if reads must be younger. If reads may be that old, there is an order."""
     need(type(gap) is dict, "`gap` is not an object")
     need(set(gap) == {"events", "first", "second", "writes"},
          "the keys of `gap` are not events, first, second, writes")
@@ -32,7 +32,8 @@ def check_step(register: Register, gap: dict[str, Any], key: str, writes: tuple[
     (a, b), (before, after), events = pair_of(register, gap, key), writes, gap["events"]
     need(is_in_cluster(a, before) and is_in_cluster(b, after), f"`{key}` of `gap` is not of the two clusters")
     cluster = next(each for each in clusters_of(register) if each.write is before)
-    need(a is cluster.first_reply, f"line {a.line}, in `{key}` of `gap`, isn't the first of its cluster to end")
+    need(a is cluster.first_reply,
+         f"line {a.line}, in `{key}` of `gap`, isn't the first of its cluster to end")
     need(must_come_before(within(events), a, b, places),
          f"`gap` is less than {events} events, by `{key}`: line {a.line} doesn't have to come before line "
          f"{b.line} if reads may be younger than that")

@@ -1,8 +1,8 @@
 """What each level asks of an order, and the two things that show whether a register kept it.
 
 An order that keeps the level shows a yes. A cycle shows a no: each write has to come before the next, and the
-last before the first. In an order, a write and the reads of its value stand together; so if an operation of one
-such cluster has to come before one of another, all of the first come before all of the second.
+last before the first. In an order, a write and the reads of its value stand together; so if an operation of
+one such cluster has to come before one of another, all of the first come before all of the second.
 """
 from typing import Any, Hashable, NamedTuple
 
@@ -42,7 +42,7 @@ def within(age: int) -> Guarantee:
 
 
 def is_before_in_session(a: Operation, b: Operation) -> bool:
-    """One process called both, a first. Nobody called the initial write, which comes first in each session."""
+    """One process called both, a first. The initial write, which is nobody's, comes first in each session."""
     if a.process is None:
         return b.process is not None
     return a.process == b.process and a.line < b.line
@@ -94,8 +94,8 @@ def check_values(operations: list[Operation]) -> None:
 
 
 def check_precedence(operations: list[Operation], guarantee: Guarantee, places: Places) -> None:
-    """No operation stands behind one that it has to come before. It goes from the end, and looks of each group
-    at the operation behind that ended first."""
+    """No operation stands behind one that it has to come before. The order is gone through from its end; of
+    each group, the operation behind that ended first is looked at."""
     first: dict[Hashable, Operation] = {}
     for b in reversed(operations):
         for group in groups_before(guarantee, b):
@@ -136,7 +136,8 @@ def check_level_fault(register: Register, fault: Any, guarantee: Guarantee, plac
 def check_cycle(register: Register, fault: dict[str, Any], guarantee: Guarantee, places: Places) -> None:
     writes = [operation_of(register, line) for line in lines_of(fault, "writes")]
     steps = fault["steps"]
-    need(type(steps) is list and len(steps) == len(writes) >= 2, "a cycle needs two writes, and as many steps")
+    need(type(steps) is list and len(steps) == len(writes) >= 2,
+         "a cycle needs two writes, and as many steps")
     for step, v, w in zip(steps, writes, [*writes[1:], writes[0]]):
         need(v.is_write and w.is_write and v is not w, f"lines {v.line} and {w.line} are not two writes")
         check_step(register, step, (v, w), guarantee, places)
@@ -149,4 +150,5 @@ def check_step(register: Register, step: Any, clusters: tuple[Operation, Operati
     (a, b), (v, w) = (operation_of(register, line) for line in step), clusters
     need(is_in_cluster(a, v), f"line {a.line} is not of the cluster of line {v.line}")
     need(is_in_cluster(b, w), f"line {b.line} is not of the cluster of line {w.line}")
-    need(must_come_before(guarantee, a, b, places), f"line {a.line} doesn't have to come before line {b.line}")
+    need(must_come_before(guarantee, a, b, places),
+         f"line {a.line} doesn't have to come before line {b.line}")

@@ -53,7 +53,8 @@ def check_summary(lines: Sequence[Row], summary: Row) -> None:
         due["gap"] = max(line["gap"]["events"] for line in lines if "gap" in line)
     for key, value in due.items():
         need(key in summary and same(summary[key], value), f"the summary's `{key}` is {value}")
-    need(set(summary) == set(due), f"the summary has other keys: {', '.join(sorted(set(summary) - set(due)))}")
+    others = sorted(set(summary) - set(due))
+    need(not others, f"the summary has other keys: {', '.join(others)}")
 
 
 def total(lines: Sequence[Row], key: str) -> int:
@@ -109,8 +110,8 @@ def due_by_reads(register: Register, line: Row) -> Iterator[str]:
     if unwritten is None and early is None:
         yield from due_if_clean(register, line)
         return
-    need(line["atomic"] == line["regular"] == "no", "a read gave a value before it was written, so `atomic` and "
-         "`regular` are no")
+    need(line["atomic"] == line["regular"] == "no",
+         "a read gave a value before it was written, so `atomic` and `regular` are no")
     if unwritten is not None:
         need(is_number(line.get("unwritten"), unwritten.line), f"`unwritten` is line {unwritten.line}")
         yield "unwritten"
@@ -120,17 +121,18 @@ def due_by_reads(register: Register, line: Row) -> Iterator[str]:
 
 
 def first_unclean(register: Register) -> tuple[Optional[Operation], Optional[Operation]]:
-    """The first read whose value nobody wrote, and the first that ended before the write of its value began."""
+    """The first read whose value nobody wrote, and the first that ended before the write of its value."""
     reads, written = register.completed_reads, register.write_of
     unwritten = next((read for read in reads if read.value not in written), None)
-    early = next((read for read in reads if read.value in written and read.end < written[read.value].line), None)
-    return unwritten, early
+    known = [read for read in reads if read.value in written]
+    return unwritten, next((read for read in known if read.end < written[read.value].line), None)
 
 
 def due_if_clean(register: Register, line: Row) -> Iterator[str]:
     found = find_old(register)
-    for key, old in zip(COUNTS, found):
-        need(is_number(line.get(key), len(old)), f"`{key}` is {len(old)}")
+    numbers = (len(found.stale), len(found.own), len(found.back), len(found.inverted), len(found.lost))
+    for key, number in zip(COUNTS, numbers):
+        need(is_number(line.get(key), number), f"`{key}` is {number}")
         yield key
     need(line["regular"] == yes_if(not found.stale), f"`regular` is {yes_if(not found.stale)}, by `stale`")
     yield from check_firsts(register, line, found)
@@ -167,7 +169,7 @@ def shown(register: Register, old: Old) -> dict[str, int]:
 
 
 def check_object(line: Row, key: str, due: dict[str, int]) -> None:
-    told = line.get(key)
+    told: Any = line.get(key)
     need(type(told) is dict, f"`{key}` is {due}")
     need(set(told) == set(due), f"the keys of `{key}` are not {', '.join(sorted(due))}")
     for part, number in due.items():
@@ -175,7 +177,7 @@ def check_object(line: Row, key: str, due: dict[str, int]) -> None:
 
 
 def check_went_back(register: Register, line: Row, key: str, old: Old) -> None:
-    """Of a session's reads of the newest value any may be named; of the reads that precede, the first to end."""
+    """Of a session's reads of the newest value any may be named; of reads that precede, the first to end."""
     due = {**shown(register, old), "earlier": old.earlier.line}
     told = line.get(key)
     if key == "back_read" and type(told) is dict and type(told.get("earlier")) is int:
@@ -213,7 +215,7 @@ def check_guarantees(register: Register, line: Row, places: Places) -> None:
 
 def built_of(line: Row) -> Iterator[str]:
     """The levels for which an order is built: those that no order of another level, or of the report, shows.
-    An order that keeps `atomic` keeps all, and one that keeps `session` keeps `sequential`, which asks less."""
+    An order that keeps `atomic` keeps all, and one of `session` keeps `sequential`, which asks less."""
     kept = [level for level in BY_STRENGTH if line.get(level) == "yes"]
     for level in kept:
         implied = (level != "atomic" and "atomic" in kept) or (level == "sequential" and "session" in kept)

@@ -51,7 +51,8 @@ def find_old(register: Register) -> Found:
                  lost_writes(register, since))
 
 
-def preceded(reads: Sequence[Operation], having: Sequence[Operation], source: Source, since: Since) -> list[Old]:
+def preceded(reads: Sequence[Operation], having: Sequence[Operation], source: Source,
+             since: Since) -> list[Old]:
     """The reads that come after one of some operations with a newer value, each with the one of these that
     ended first."""
     ranked = sorted(having, key=lambda a: source(a).line)

@@ -33,5 +33,5 @@ def for_regsearch(ops: AbstractSet[str], repeats: bool) -> str:
     found = [what for op, what in SEARCHED.items() if op in ops] + (["repeated values"] if repeats else [])
     if not found:
         return ""
-    return (f"the history has {joined(found)}, so it is one for regsearch; regkit check chooses the program by "
-            "itself")
+    return (f"the history has {joined(found)}, so it is one for regsearch; regkit check chooses the program "
+            "by itself")
