@@ -47,8 +47,8 @@ class Placed(unittest.TestCase):
         path, answer, words = (self.folder / name for name in ("reglevel", "answer", "words"))
         answer.write_bytes(report)
         said = f"printf '%s\\n' {shlex.quote(refusal)} >&2" if refusal else ""
-        lines = ["#!/bin/sh", "cat > /dev/null", f'echo "$@" >> {words}', f"cat {answer}", said, f"exit {status}"]
-        path.write_text("\n".join(lines))
+        noted, given = f'echo "$@" >> {words}', f"cat {answer}"
+        path.write_text("\n".join(["#!/bin/sh", "cat > /dev/null", noted, given, said, f"exit {status}"]))
         path.chmod(0o755)
         return mock.patch.dict(os.environ, {"REGLEVEL": str(path)})
 
@@ -267,8 +267,8 @@ class Ages(unittest.TestCase):
 
         table = [([7], None, "it came 7 events after a newer write had ended"),
                  ([1], None, "it came 1 event after a newer write had ended"),
-                 ([9, 1], None, "half of them came at least 9 events after a newer write had ended, the worst "
-                                "9 events"),
+                 ([9, 1], None, "half of them came at least 9 events after a newer write had ended, the "
+                                "worst 9 events"),
                  ([9, 5, 1], None, "half of them came at least 5 events after"),
                  ([8, 6, 4, 2], 1000, "at least 6.0 us after a newer write had ended, the worst 8.0 us"),
                  (list(range(100, 0, -1)), 10**6,
@@ -374,9 +374,9 @@ class Strength(unittest.TestCase):
     def test_groups_of_registers(self) -> None:
         names = [f"r{place}" for place in range(9)]
         whole = {"atomic": "no", "regular": "no", "session": "yes", "sequential": "yes"}
-        rows = [{**whole, "register": name} for name in names]
+        rows: List[Dict[str, Any]] = [{**whole, "register": name} for name in names]
         rows[8].update(dict.fromkeys(LEVELS, "no"))
-        report = "".join(json.dumps(row) + "\n" for row in (*rows, {**rows[8], "registers": 9}))
+        report = "".join(json.dumps(row) + "\n" for row in [*rows, {**rows[8], "registers": 9}])
         self.assertEqual(groups(read_levels(report.encode())), [
             '8 registers kept session: "r0", "r1", "r2", "r3", "r4", "r5", and 2 more',
             '1 register kept no level: "r8"'])
