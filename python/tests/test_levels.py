@@ -184,7 +184,7 @@ so 2 comes before 1
 class Required(Placed):
     def test_the_level_is_handed_on(self) -> None:
         table = [("session", 0, "  required: session, and that holds\n"),
-                 ("own-writes", 0, "  required: read your writes, and that holds\n"),
+                 ("own_writes", 0, "  required: read your writes, and that holds\n"),
                  ("regular", 1, '  required: regular, which doesn\'t hold of 1 of 2 registers: "cart"\n')]
         for level, status, line in table:
             ran = self.told("follower_behind", "--require", level, status=status, stale_reads=STALE)

@@ -32,7 +32,7 @@ It runs reglevel, which takes the histories that regcheck takes. docs/levels.md 
   atomic      linearizable: each read gives the latest write
   regular     no read is stale: none misses a write that ended before it began
   session     writes in real time; each session sees its own operations in order
-  own-writes  writes in real time; no session misses a write of its own (read your writes)
+  own_writes  writes in real time; no session misses a write of its own (read your writes)
   monotonic   writes in real time; no session goes back to an older value (monotonic reads)
   sequential  each session in order, and all agree on one order of the writes
 
@@ -58,7 +58,7 @@ class Found(NamedTuple):
 
 def add_arguments(parser: argparse.ArgumentParser) -> None:
     parser.add_argument("files", metavar="FILE", nargs="*", help="histories; - or none is standard input")
-    parser.add_argument("--require", choices=[level.replace("_", "-") for level in LEVELS],
+    parser.add_argument("--require", choices=LEVELS,
                         help="the level on which the exit status depends (default atomic)")
     parser.add_argument("--color", choices=CHOICES, default="auto",
                         help="colour: on a terminal unless NO_COLOR is set (default), always, or never")
@@ -91,8 +91,7 @@ def report_in(found: Found, name: str, level: Optional[str]) -> Levels:
         levels = read_levels(answer.report)
     except (ValueError, KeyError) as error:
         raise Stop(ExitStatus.FAILED, f"the answer of reglevel is wrong: {error}") from error
-    asked = (level or "atomic").replace("-", "_")
-    due = ExitStatus.ATOMIC if asked in kept(levels.summary) else ExitStatus.NOT_ATOMIC
+    due = ExitStatus.ATOMIC if (level or "atomic") in kept(levels.summary) else ExitStatus.NOT_ATOMIC
     if answer.status != due:
         words = f"its exit status is {answer.status}, and by its report {int(due)}"
         raise Stop(ExitStatus.FAILED, f"the answer of reglevel is wrong: {words}")
@@ -115,7 +114,7 @@ def told_of(name: str, arguments: argparse.Namespace, progress: Progress) -> int
     paint = painter(arguments.color, sys.stdout)
     whole = heading(kept(levels.summary), levels.summary["operations"], levels.summary["registers"])
     said = paint("good" if found.answer.status == ExitStatus.ATOMIC else "bad", whole)
-    asked = [required(levels, level.replace("-", "_"))] if level else []
+    asked = [required(levels, level)] if level else []
     told = [f"  {plain(line)}" for line in found.told]
     progress.say("\n".join([f"{label}: {said}", *asked, *lines, *told]), sys.stdout)
     return found.answer.status
