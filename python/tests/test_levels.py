@@ -1,4 +1,5 @@
 """`regkit levels`: what reglevel reports, in words. In most tests a script gives the report in its place."""
+import gzip
 import json
 import os
 import pathlib
@@ -243,6 +244,12 @@ class Failures(Placed):
         self.assertEqual(ran.out.count("keeps session"), 2)
         self.assertEqual(run("levels", "-", "-").status, 3)
 
+    def test_a_packed_history(self) -> None:
+        path = self.folder / "h.gz"
+        path.write_bytes(gzip.compress((EXAMPLES / "lost_write.jsonl").read_bytes()))
+        with self.in_place(stored("lost_write", stale_reads=[[7, 5], [9, 5]])):
+            self.assertIn("keeps session", run("levels", str(path)).out)
+
     def test_contradictory_texts(self) -> None:
         events: List[Line] = [{**write(1, 1), "texts": {"1": "a"}}, reply(1),
                               {**read(1), "texts": {"1": "b"}}, gave(1, 1)]
@@ -299,7 +306,10 @@ class Ages(unittest.TestCase):
         subject = subject_of(stamped, {"register": "x", "gap": initial}, gap=1)
         self.assertTrue(gap_in_words(subject).endswith("that takes 3.0 us or more"))
         del stamped[6]["time"]
-        subject = subject_of(stamped, {"register": "x", "gap": gap}, gap=1)
+        back = [{**line, "time": -line["time"]} for line in stamped if "time" in line]
+        for others in (stamped, [*back[:6], {**stamped[6], "time": -9000}, back[6]]):
+            subject = subject_of(others, {"register": "x", "gap": gap}, gap=1)
+            self.assertNotIn("times", gap_in_words(subject))
         self.assertEqual(gap_in_words(subject),
                          "it would be linearizable if reads might be up to 1 event old, and not if they must be "
                          "younger")

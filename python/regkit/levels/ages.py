@@ -10,11 +10,12 @@ class Age(NamedTuple):
     """From the end of an operation to the beginning of a later one."""
 
     events: int
-    nanoseconds: Optional[int]  # None if a line has no time
+    nanoseconds: Optional[int]  # None if the times of the lines don't tell
 
 
 def nanoseconds_between(before: Operation, after: Operation) -> Optional[int]:
-    if before.end_time is None or after.time is None:
+    """None if a line has no time, or the clock went back."""
+    if before.end_time is None or after.time is None or after.time < before.end_time:
         return None
     return after.time - before.end_time
 

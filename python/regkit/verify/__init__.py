@@ -27,7 +27,7 @@ from typing import NamedTuple, Optional, Sequence
 from regkit.base.garbage import many_objects
 from regkit.history.lines import numbered_lines
 from regkit.verify.claims import check_report
-from regkit.verify.levels import BY_STRENGTH, LEVELS, check_levels_report
+from regkit.verify.levels import HALVES, LEVELS, check_levels_report
 from regkit.verify.operations import History, Refused, read_history
 from regkit.verify.rows import Row, Unreadable, Wrong, read_rows
 from regkit.verify.searches import Nos, check_search_report
@@ -87,7 +87,7 @@ def _verify_levels(history: bytes, rows: list[Row], joined: bool) -> Verified:
     places = {0: 0, **{line: place for place, (line, _) in enumerate(numbered_lines(history), 1)}}
     check_levels_report(read, rows, places)
     summary = rows[-1]
-    kept = [level for level in {*LEVELS, *BY_STRENGTH} if summary.get(level, summary["session"]) == "yes"]
+    kept = [level for level in (*LEVELS, *HALVES) if summary.get(level, summary["session"]) == "yes"]
     faulty = sum(row["atomic"] == "no" for row in rows[:-1])
     return Verified(faulty == 0, summary["operations"], len(read.registers), faulty, kept=kept)
 
