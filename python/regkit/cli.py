@@ -9,7 +9,7 @@ from regkit import __version__
 from regkit.base.statuses import ExitStatus
 
 # Each module has HELP, EPILOG, add_arguments(parser) and run(arguments), which returns the exit status.
-COMMANDS = ["check", "explain", "draw", "index", "verify", "convert", "merge", "split", "join"]
+COMMANDS = ["check", "explain", "levels", "draw", "index", "verify", "convert", "merge", "split", "join"]
 
 
 class Parser(argparse.ArgumentParser):

@@ -1,7 +1,8 @@
 """Asks the checker: the program `regcheck`, or for a small history the library, where it is installed.
 
 `regcheck` decides whatever it accepts. If it refuses a history for a repeated value, or for a cas or another
-operation that it doesn't take, `regsearch` decides it, if it is there."""
+operation that it doesn't take, `regsearch` decides it, if it is there. `reglevel` says which weaker levels a
+history kept."""
 import io
 import os
 import pathlib
@@ -18,15 +19,16 @@ from regkit.history.lines import NotJson, json_of
 
 LIBRARY_BYTES = 1_048_576  # the program has several workers: it is as quick with a longer history
 NOT_FOUND = "regcheck was not found: put it on PATH, or set REGCHECK to its path"
-CHECK, SEARCH = "regcheck", "regsearch"
-VARIABLES = {CHECK: "REGCHECK", SEARCH: "REGSEARCH"}  # with the paths of the programs
+NO_LEVELS = "reglevel was not found: put it beside regcheck or on PATH, or set REGLEVEL to its path"
+CHECK, SEARCH, LEVEL = "regcheck", "regsearch", "reglevel"
+VARIABLES = {CHECK: "REGCHECK", SEARCH: "REGSEARCH", LEVEL: "REGLEVEL"}  # with the paths of the programs
 SEARCHED = frozenset({"cas", "delete", "swap"})  # the words of operations that only regsearch takes
 WOULD_DECIDE = ("regsearch would decide it, since it takes repeated values and cas: put it beside regcheck "
                 "or on PATH, or set REGSEARCH to its path")
 
 
 class NoChecker(Exception):
-    """The program `regcheck` wasn't found, or couldn't be started."""
+    """A program wasn't found, or couldn't be started."""
 
     def __init__(self, words: str = NOT_FOUND) -> None:
         super().__init__(words)
@@ -154,6 +156,15 @@ def run_checker(history: bytes, options: Sequence[str] = (), program: Optional[s
 def run_search(history: bytes, options: Sequence[str], program: str) -> Answer:
     """Runs `regsearch`, at a path, on a history. Raises NoChecker if it can't be started."""
     with RunningProgram(history, options, program, SEARCH) as run:
+        return run.answer()
+
+
+def run_levels(history: bytes, options: Sequence[str] = ()) -> Answer:
+    """Runs `reglevel` on a history. Raises NoChecker if it isn't there or can't be started."""
+    path = find_program(LEVEL)
+    if path is None:
+        raise NoChecker(NO_LEVELS)
+    with RunningProgram(history, options, path, LEVEL) as run:
         return run.answer()
 
 

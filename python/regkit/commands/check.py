@@ -36,7 +36,8 @@ A history that says nothing is no success: a yes needs at least one completed re
 --least-overlaps ask for.
 
 regcheck decides what it takes. A history in which values repeat, or with compare-and-swap (cas), deletes or
-swaps, is decided by regsearch, if that is there; a cas that was answered counts as a completed read.
+swaps, is decided by regsearch, if that is there; a cas that was answered counts as a completed read. Where
+regcheck says no, a line says which weaker guarantee was kept, if reglevel is there.
 
 exit status, of several histories the first in the order 4, 3, 2, 1, 6, 5, 0:
   0  linearizable (atomic), with that evidence
@@ -112,7 +113,8 @@ def settings_of(arguments: argparse.Namespace) -> CheckSettings:
     return CheckSettings(
         most=arguments.most, least_reads=arguments.least_reads, least_overlaps=arguments.least_overlaps,
         first=arguments.first, verify=arguments.verify, count_all=arguments.count_all,
-        bounds=bounds_of(arguments), pages=None if arguments.draw is None else Pages(arguments.draw))
+        bounds=bounds_of(arguments), levels=True,
+        pages=None if arguments.draw is None else Pages(arguments.draw))
 
 
 def run(arguments: argparse.Namespace) -> int:

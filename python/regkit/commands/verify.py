@@ -7,6 +7,7 @@ from typing import Optional
 from regkit import verify
 from regkit.base.statuses import ExitStatus
 from regkit.history.inputs import opened
+from regkit.levels.account import heading
 
 HELP = "check each claim of a report against its history, by the definitions alone"
 EPILOG = """\
@@ -14,6 +15,7 @@ examples:
   regcheck h.jsonl > h.report; regkit verify h.jsonl h.report
   regcheck h.jsonl | regkit verify h.jsonl -
   regsearch h.jsonl | regkit verify h.jsonl -
+  reglevel --stale --orders h.jsonl | regkit verify h.jsonl -
   regkit verify h.jsonl --refusal h.err       what regcheck wrote to standard error
   regkit verify whole.jsonl joined.report --joined
 
@@ -24,6 +26,9 @@ format.
 Of a report of regsearch a no is searched again, in a plain way that shares nothing with regsearch. If that would
 take too long, the line says so, and the status is 6. Which calls were open at the reply is looked up (`asks`).
 
+Of a report of reglevel each cycle of a no is checked, each count, each first read, and the gap from both sides.
+A yes is replayed along its order, or along one that is built here if the report gives none.
+
 The report may be an early answer (regcheck --first). It gives no order of the registers before the one that
 it names, so orders are built here, and replayed.
 
@@ -33,7 +38,7 @@ layout of the report.
 exit status:
   0  each claim holds
   1  one doesn't, and it is named
-  2  the report is no report of regcheck or regsearch, or says nothing of the history
+  2  the report is none of regcheck, regsearch or reglevel, or says nothing of the history
   3  the command line is wrong
   4  a file couldn't be read
   6  each claim that was checked holds, but a no of regsearch would take too long to search again
@@ -100,6 +105,8 @@ def in_words(found: verify.Verified) -> str:
         return f"the history is refused{' by regsearch' if found.by_search else ''}: {found.refusal}"
     if not found.registers:
         return "linearizable, since the history has no operation"
+    if found.kept is not None:
+        return heading(found.kept, found.operations, found.registers)
     size = f"{counted(found.operations, 'operation')} on {counted(found.registers, 'register')}"
     if found.early:
         return f"{'linearizable' if found.atomic else 'not linearizable'}, by an early answer: {size}"

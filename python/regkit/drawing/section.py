@@ -15,7 +15,7 @@ from regkit.explain.sentences import named
 from regkit.explain.shrinking import ShrinkSettings
 from regkit.explain.unexplained import Unexplained, find_unexplained
 from regkit.history.operations import History, Operation
-from regkit.words.phrases import capital, counted
+from regkit.words.phrases import capital, counted, joined
 
 WHOLE = 600  # events; a register of no more is drawn whole, below its fault
 FIRST_EVENTS = 400  # of a register that is atomic: this many are drawn
@@ -205,8 +205,7 @@ def listed(writes: list[Operation]) -> str:
     shown = [named(write) for write in writes[:MOST_NAMED]]
     if len(writes) > MOST_NAMED:
         shown.append(counted(len(writes) - MOST_NAMED, "more write"))
-    before = ", ".join(shown[:-1]) + " and " if len(shown) > 1 else ""
-    return before + shown[-1]
+    return joined(shown)
 
 
 def unexplained_words(found: Unexplained, count: int, overlapped: list[Operation]) -> str:

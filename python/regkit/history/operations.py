@@ -33,7 +33,7 @@ class Operation:
     """A call with what ended it. `line` is the line of the call, 0 for a register's initial write of null."""
 
     __slots__ = ("line", "process", "register", "kind", "value", "asked", "unless", "took", "found",
-                 "asks_old", "tells_old", "old", "ending", "end_line", "client", "node", "time")
+                 "asks_old", "tells_old", "old", "ending", "end_line", "client", "node", "time", "end_time")
 
     def __init__(self, line: int, process: Optional[int], register: str, kind: str,
                  value: Optional[int]) -> None:
@@ -54,6 +54,7 @@ class Operation:
         self.client: Optional[str] = None  # who called, of which server, and when, as far as the lines say it
         self.node: Optional[str] = None
         self.time: Optional[int] = None  # in nanoseconds, from the history's first call on
+        self.end_time: Optional[int] = None  # the same of the line that ended it
 
     @property
     def completed(self) -> bool:
@@ -199,8 +200,12 @@ def call_of(line: int, event: lines.Event) -> Operation:
 def note_who(call: Operation, event: lines.Event) -> None:
     """Notes who calls and when, if the line says so in the recorder's form. The checker takes any form."""
     call.client, call.node = text_in(event, "client"), text_in(event, "node")
+    call.time = time_in(event)
+
+
+def time_in(event: lines.Event) -> Optional[int]:
     time = event.get("time")
-    call.time = time if type(time) is int else None
+    return time if type(time) is int else None
 
 
 def text_in(event: lines.Event, name: str) -> Optional[str]:
@@ -215,6 +220,8 @@ def count_from_first(calls: list[Operation]) -> None:
     for call in calls:
         if call.time is not None:
             call.time -= first
+        if call.end_time is not None:
+            call.end_time -= first
 
 
 def end_call(open_calls: dict[int, Operation], crashes: dict[int, int], line: int,
@@ -226,7 +233,7 @@ def end_call(open_calls: dict[int, Operation], crashes: dict[int, int], line: in
     ended = open_calls.pop(process, None)
     if ended is None:
         return
-    ended.ending, ended.end_line = what, line
+    ended.ending, ended.end_line, ended.end_time = what, line, time_in(event)
     ended.node = text_in(event, "node") or ended.node  # an answer may tell which server gave it
     if what == "reply":
         note_answer(ended, event)

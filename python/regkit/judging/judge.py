@@ -15,8 +15,8 @@ from regkit.judging.outcome import Outcome, evidence_in_words, lacks
 from regkit.judging.pages import Pages
 from regkit.judging.reads import enough_evidence, first_evidence, whole_evidence
 from regkit.judging.settings import CheckSettings
-from regkit.judging.trust import (Untrue, check_status, faults_in, unknown_advice, verdict_in, verify_refusal,
-                                  verify_report)
+from regkit.judging.trust import (Untrue, check_status, faults_in, levels_kept, unknown_advice, verdict_in,
+                                  verify_refusal, verify_report)
 from regkit.words.phrases import counted
 from regkit.words.progress import Progress
 from regkit.words.quoting import plain
@@ -146,8 +146,9 @@ def faulty(subject: Subject, answer: Answer, report: Report, outcome: Outcome) -
     if subject.settings.first:
         known, number, most = 1, "the first faulty register", 1
     faults = faults_in(subject.data, answer, report.faulty[:most])
+    asked = subject.settings.levels and not (answer.by_search or subject.settings.first)
     return outcome._replace(status=ExitStatus.NOT_ATOMIC, words=f"{number}; {outcome.words}", faulty=known,
-                            faults=faults)
+                            faults=faults, kept=levels_kept(subject.data) if asked else None)
 
 
 def as_verified(outcome: Outcome, unsearched: int) -> Outcome:

@@ -7,6 +7,7 @@ from regkit.checker.report import Row
 from regkit.evidence.evidence import Evidence
 from regkit.explain.sentences import fault_of, inversion
 from regkit.history.operations import History
+from regkit.words.levels import in_words
 from regkit.words.phrases import counted
 from regkit.words.quoting import plain, quoted
 from regkit.words.verdicts import VERDICTS
@@ -42,6 +43,7 @@ class Outcome(NamedTuple):
     unknown: Sequence[str] = ()  # the registers that a search gave up
     form: str = ""  # of `regkit convert`, if the file wasn't a history of our own
     told: Sequence[str] = ()  # what there is to say of that
+    kept: Optional[Sequence[str]] = None  # the strongest levels that held, short of linearizable, if known
 
 
 class TimedOutcome(NamedTuple):
@@ -111,6 +113,8 @@ def text_of(outcome: Outcome) -> list[str]:
     rest = outcome.faulty - len(outcome.faults)
     if rest > 0:
         lines.append(f"  and {counted(rest, 'more register')}: --most says how many are shown")
+    if outcome.kept is not None:
+        lines.append(f"  it keeps {in_words(outcome.kept) or 'no weaker level'}: `regkit levels` says more")
     if outcome.advice:
         lines.append(f"  {outcome.advice}")
     if outcome.drawing:
@@ -129,6 +133,8 @@ def json_of(outcome: Outcome) -> dict[str, Any]:
                           for register, row, sentences in outcome.faults]
         said["verified"] = outcome.verified
         said["program"] = outcome.program
+    if outcome.kept is not None:
+        said["kept"] = outcome.kept
     if outcome.unknown:
         said["unknown_registers"] = outcome.unknown
     if outcome.status != ExitStatus.NOT_ATOMIC and outcome.words:

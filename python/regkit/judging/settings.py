@@ -16,6 +16,7 @@ class CheckSettings(NamedTuple):
     count_all: bool = False  # count the reads of the whole history, however long it is
     bounds: Sequence[str] = ()  # of a search: options of regsearch
     pages: Optional[Pages] = None  # where each history is drawn
+    levels: bool = False  # ask reglevel what was kept where a history isn't linearizable
 
     def is_enough(self, found: Evidence) -> bool:
         """Whether a yes may rest on it."""

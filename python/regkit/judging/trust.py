@@ -1,8 +1,9 @@
 """What is taken from a checker's answer. Whatever can't be so raises Untrue."""
-from typing import Sequence
+from typing import Optional, Sequence
 
 from regkit.base.statuses import ExitStatus
-from regkit.checker.programs import Answer
+from regkit.checker.levels import kept, read_levels, strongest
+from regkit.checker.programs import Answer, NoChecker, run_levels
 from regkit.checker.report import Report, Row, read_verdict
 from regkit.history.lines import NotJson
 from regkit.history.operations import read_history
@@ -41,6 +42,18 @@ def faults_in(data: bytes, answer: Answer, rows: Sequence[Row]) -> list[Fault]:
         return faults_of(read_history(data) if len(data) <= SHORT else excerpt(data, rows), rows)
     except (KeyError, TypeError, ValueError, NotJson) as error:
         raise Untrue("its faults aren't those of the history") from error
+
+
+def levels_kept(data: bytes) -> Optional[list[str]]:
+    """The strongest levels that a history kept which isn't atomic. None if reglevel isn't there, or gives no
+    report. Raises Untrue if it calls the history atomic."""
+    try:
+        found = kept(read_levels(run_levels(data).report).summary)
+    except (NoChecker, ValueError):
+        return None
+    if "atomic" in found:
+        raise Untrue("reglevel calls the history atomic")
+    return strongest(found)
 
 
 def unknown_advice(report: Report) -> str:

@@ -1,4 +1,4 @@
-"""Checks each claim of a report of regcheck or regsearch against its history, by the definitions alone.
+"""Checks each claim of a report against its history, by the definitions alone.
 
 Read this package if you trust neither the proof, nor the compiler, nor the toolchain. It is plain code, and
 shares little with the rest of regkit: `regkit/history/lines.py`, which splits a history into lines and reads
@@ -10,6 +10,8 @@ JSON, the numbers of `regkit/base/limits.py`, and the guard of `regkit/base/garb
 - `orders.py`, `faults.py`: what a yes claims of a register, and what a no does.
 - `claims.py`: the whole report of regcheck: what each key claims, and how it is checked.
 - `searches.py`: the same of regsearch. A no is searched again, up to a bound.
+- `levels.py`: the same of reglevel. `guarantees.py` has what each level asks of an order, `clusters.py` the
+  orders that are built where the report gives none, `old_reads.py` the counts, and `gap.py` the gap.
 
 Time is counted in lines. An operation lasts from the line of its call to the line of its reply; one precedes
 another if its reply comes before the other's call. Checking n events takes n log n steps.
@@ -20,10 +22,12 @@ What isn't checked:
 - the layout: the order of the keys, the spaces between them, and how a name is escaped;
 - the recording: whether the lines stand in the order in which things happened.
 """
-from typing import NamedTuple, Optional
+from typing import NamedTuple, Optional, Sequence
 
 from regkit.base.garbage import many_objects
+from regkit.history.lines import numbered_lines
 from regkit.verify.claims import check_report
+from regkit.verify.levels import HALVES, LEVELS, check_levels_report
 from regkit.verify.operations import History, Refused, read_history
 from regkit.verify.rows import Row, Unreadable, Wrong, read_rows
 from regkit.verify.searches import Nos, check_search_report
@@ -46,6 +50,7 @@ class Verified(NamedTuple):
     by_search: bool = False  # the report, or the refusal, is one of regsearch
     early: bool = False  # the report is an early answer: it has the line of the first such register at most
     refusal: str = ""
+    kept: Optional[Sequence[str]] = None  # of a report of reglevel, the levels that every register keeps
 
 
 def verify(history: bytes, report: bytes, joined: bool = False) -> Verified:
@@ -58,6 +63,8 @@ def verify(history: bytes, report: bytes, joined: bool = False) -> Verified:
         rows = read_rows(report)
         if any("cas" in row for row in rows[:-1]):
             return _verify_search(history, rows, joined)
+        if "session" in rows[-1]:
+            return _verify_levels(history, rows, joined)
         read = _accepted(history, limits=not joined)
         early = check_report(read, rows, joined)
     faulty = sum(row["atomic"] == "no" for row in rows[:-1])
@@ -72,6 +79,17 @@ def _verify_search(history: bytes, rows: list[Row], joined: bool) -> Verified:
     faulty = sum(row["atomic"] == "no" for row in rows[:-1])
     return Verified(faulty == unknown == 0, rows[-1]["operations"], len(read.registers), faulty, unknown, nos,
                     by_search=True)
+
+
+def _verify_levels(history: bytes, rows: list[Row], joined: bool) -> Verified:
+    """The same of a report of reglevel."""
+    read = _accepted(history, limits=not joined)
+    places = {0: 0, **{line: place for place, (line, _) in enumerate(numbered_lines(history), 1)}}
+    check_levels_report(read, rows, places)
+    summary = rows[-1]
+    kept = [level for level in (*LEVELS, *HALVES) if summary.get(level, summary["session"]) == "yes"]
+    faulty = sum(row["atomic"] == "no" for row in rows[:-1])
+    return Verified(faulty == 0, summary["operations"], len(read.registers), faulty, kept=kept)
 
 
 def _accepted(history: bytes, limits: bool, search: bool = False) -> History:

@@ -1,0 +1,64 @@
+"""What a run kept, as lines for people."""
+from typing import Sequence
+
+from regkit.checker.levels import LEVELS, Levels, kept, strongest
+from regkit.levels.ages import gap_in_words
+from regkit.levels.counts import counts, uncounted
+from regkit.levels.faults import faults
+from regkit.levels.guesses import guess
+from regkit.levels.subject import Subject
+from regkit.words.levels import WORDS, in_words
+from regkit.words.phrases import counted
+from regkit.words.quoting import quoted
+
+MOST_NAMED = 6  # registers
+
+
+def heading(found: Sequence[str], operations: int, registers: int) -> str:
+    """The levels that all registers kept, and those that some didn't."""
+    size = f"{counted(operations, 'operation')} on {counted(registers, 'register')}"
+    if "atomic" in found:
+        return f"linearizable, so it keeps every level: {size}"
+    held, lacking = ([level for level in LEVELS if (level in found) == holds] for holds in (True, False))
+    said = f"keeps {in_words(strongest(held))}" if held else "keeps no level"
+    return f"{said}; not {in_words(lacking, 'or')}: {size}"
+
+
+def some(registers: Sequence[str]) -> str:
+    """The first few names, and how many more there are."""
+    rest = len(registers) - MOST_NAMED
+    return ", ".join(map(quoted, registers[:MOST_NAMED])) + (f", and {rest:,} more" if rest > 0 else "")
+
+
+def groups(levels: Levels) -> list[str]:
+    """The registers by the strongest levels that each kept. Empty if all kept the same."""
+    found: dict[tuple[str, ...], list[str]] = {}
+    for row in levels.rows:
+        found.setdefault(tuple(strongest(kept(row))), []).append(row["register"])
+    if len(found) < 2:
+        return []
+    lines = []
+    for own, names in sorted(found.items(), key=lambda group: -len(group[1])):
+        verb = "is" if len(names) == 1 else "are"
+        what = f"{verb} linearizable" if "atomic" in own else f"kept {in_words(own) or 'no level'}"
+        lines.append(f"{counted(len(names), 'register')} {what}: {some(names)}")
+    return lines
+
+
+def required(levels: Levels, level: str) -> str:
+    """Whether each register kept the level that was asked for."""
+    lacking = [row["register"] for row in levels.rows if level not in kept(row)]
+    if not lacking:
+        return f"  required: {WORDS[level]}, and that holds"
+    return (f"  required: {WORDS[level]}, which doesn't hold of {len(lacking):,} of "
+            f"{counted(len(levels.rows), 'register')}: {some(lacking)}")
+
+
+def account(subject: Subject) -> list[str]:
+    """All lines below the heading."""
+    levels = subject.levels
+    if levels.summary["atomic"] == "yes":
+        return []
+    lines = [*groups(levels), gap_in_words(subject), *uncounted(subject), *counts(subject), *faults(subject),
+             guess(levels.summary)]
+    return [f"  {line}" for line in lines if line]

@@ -1,0 +1,12 @@
+"""The levels in words: what a register keeps."""
+from typing import Sequence
+
+from regkit.words.phrases import joined
+
+WORDS = {"atomic": "linearizable", "regular": "regular", "session": "session",
+         "own_writes": "read your writes", "monotonic": "monotonic reads", "sequential": "sequential"}
+
+
+def in_words(levels: Sequence[str], last: str = "and") -> str:
+    """`session and regular`; empty if there are none."""
+    return joined([WORDS[level] for level in levels], last)
