@@ -8,9 +8,9 @@ value behind them if it is told; `p1 found`, `p1 missing` and `p1 old 5` tell wh
 met; `p1 fail` and `p1 crash` are events of these names."""
 import json
 import os
-import subprocess
 from typing import Any, Dict, List, NamedTuple, Tuple
 
+import judging
 import reference
 import search_judge
 
@@ -130,9 +130,8 @@ def refused_cases() -> List[Case]:
 
 def search_case(program: str, name: str, words: Tuple[str, ...], given: bytes) -> Case:
     """The answer is the program's own, if nothing is wrong with it: more than one may be right."""
-    ran = subprocess.run([program, *words], input=given, capture_output=True, check=False)
-    ended = search_judge.Ended(ran.returncode, ran.stdout, ran.stderr)
-    why = search_judge.complaint(given, ended, not {"--steps", "--configurations"} & {*words})
+    ended = judging.run([program, *words], given)
+    why = search_judge.complaint_about(given, ended, words)
     if why:
         raise SystemExit(f"{name}: {why}")
     return Case(name, words, given, ended)
