@@ -39,9 +39,8 @@ class Asked(NamedTuple):
 
 
 def asked_by(options: Sequence[str]) -> Asked:
-    """The levels have names of several words in two ways: own-writes as an option, own_writes as a key."""
     require = options[options.index("--require") + 1] if "--require" in options else "atomic"
-    return Asked(require.replace("-", "_"), "--stale" in options, "--orders" in options)
+    return Asked(require, "--stale" in options, "--orders" in options)
 
 
 def lines_of(operations: Sequence[Operation]) -> List[int]:
