@@ -12,6 +12,7 @@ is legal and keeps its level, each step of a cycle is one that the level asks fo
 conflict that shows a gap. All orders of a register are tried, so it should have few operations. `-` is
 standard input.
 """
+import argparse
 import itertools
 import sys
 from typing import Any, Dict, Iterator, List, NamedTuple, Optional, Sequence, Tuple
@@ -33,14 +34,18 @@ COUNTS = [*levels.KINDS, "lost"]
 class Asked(NamedTuple):
     """What a program is told by its options."""
 
-    require: str = "atomic"
-    stale: bool = False
-    orders: bool = False
+    require: str
+    stale: bool
+    orders: bool
 
 
 def asked_by(options: Sequence[str]) -> Asked:
-    require = options[options.index("--require") + 1] if "--require" in options else "atomic"
-    return Asked(require, "--stale" in options, "--orders" in options)
+    parser = argparse.ArgumentParser(allow_abbrev=False)
+    parser.add_argument("--require", choices=LEVELS, default="atomic")
+    parser.add_argument("--stale", action="store_true")
+    parser.add_argument("--orders", action="store_true")
+    known, _ = parser.parse_known_args(options)
+    return Asked(known.require, known.stale, known.orders)
 
 
 def lines_of(operations: Sequence[Operation]) -> List[int]:
