@@ -54,9 +54,9 @@ MUST: Dict[str, Must] = {"atomic": precedes, "session": must_in_session, "own_wr
 
 
 def legal_order(register: Register, must: Must) -> Optional[List[Operation]]:
-    """An order of all that is completed and of some pending writes, in which nothing stands after what it must
-    come before, and each read gives the value of the nearest write before it. A pending read is left out:
-    without it an order stays legal. What is pending precedes nothing, so nothing waits for it."""
+    """An order of all that is completed and of some pending writes, in which nothing stands after what it
+    must come before, and each read gives the value of the nearest write before it. A pending read is left
+    out: without it an order stays legal. What is pending precedes nothing, so nothing waits for it."""
     operations = [*register.writes, *register.reads]
     needed = sum(1 << at for at, a in enumerate(operations) if not a.pending)
     before = [sum(1 << at for at, b in enumerate(operations) if must(b, a)) for a in operations]
@@ -193,8 +193,8 @@ def lost_writes(register: Register) -> List[Operation]:
 
 
 def gap(register: Register) -> Optional[int]:
-    """None if the register is atomic. Else the greatest age such that reads less than that old don't explain a
-    clean register: reads as old as that do."""
+    """None if the register, which is clean, is atomic. Else the greatest age such that reads which are less
+    than so many events old don't explain it."""
     if has_order(register, precedes):
         return None
     age = 1

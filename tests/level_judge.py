@@ -217,9 +217,10 @@ def answer(history: bytes, options: Sequence[str]) -> Ended:
 
 
 def operations_at(register: Register, lines: Any) -> List[Operation]:
-    if not isinstance(lines, list) or not all(type(line) is int and line in register.by_line for line in lines):
+    at = register.by_line
+    if not isinstance(lines, list) or not all(type(line) is int and line in at for line in lines):
         wrong(lines, "aren't lines of calls")
-    return [register.by_line[line] for line in lines]
+    return [at[line] for line in lines]
 
 
 def members_of(row: Any, names: Sequence[str]) -> List[Any]:
@@ -272,15 +273,16 @@ def judge_gap(register: Register, gap: Any, want: Row) -> None:
 
 
 def judge_old_read(register: Register, kind: levels.Kind, row: Any, want: Row) -> None:
-    """Several reads may have given the newest value before."""
+    """Of a session that goes back, several reads may have given the newest value before."""
     if "earlier" not in want:
         return compare("the first old read", row, want)
     members_of(row, ["earlier", "newer", "read", "seen"])
     compare("the first old read", {**row, "earlier": None}, {**want, "earlier": None})
     earlier, read, newer = operations_at(register, [row["earlier"], row["read"], row["newer"]])
     shown = levels.shown_old(register, kind, read)
-    if OldAfter(earlier, newer) not in shown or kind.rank(OldAfter(earlier, newer)) > min(map(kind.rank, shown)):
-        wrong(row["earlier"], "isn't what comes before", row["read"])
+    least = min(map(kind.rank, shown))
+    if OldAfter(earlier, newer) not in [each for each in shown if kind.rank(each) == least]:
+        wrong(row["earlier"], "isn't what shows first that", row["read"], "is old")
 
 
 def judge_order(register: Register, lines: Any, level: str) -> None:

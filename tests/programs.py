@@ -8,6 +8,7 @@ import os
 import pathlib
 from typing import Any, Dict, List, NamedTuple, Tuple
 
+NAMES = ("regcheck", "regsearch", "reglevel")
 Answer = Tuple[int, str, str]  # exit status, standard output, standard error
 Row = Dict[str, Any]
 COMPACT = json.JSONEncoder(sort_keys=True, separators=(",", ":"), ensure_ascii=False)
