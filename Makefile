@@ -1,8 +1,8 @@
-# make: prove and build bin/regcheck and bin/regsearch.
+# make: prove and build bin/regcheck, bin/regsearch and bin/reglevel.
 # make help: show these lines.
 # make run: run regcheck on a shipped example, or on FILE=...
 # make try: the same at once, unproved and with checks at run time; for a first look. PROGRAM=regsearch takes
-#   repeated values and cas.
+#   repeated values and cas, and PROGRAM=reglevel says which weaker levels hold.
 # make test: the gate: every proof from nothing, edits that must fail, tests, and scripts over the built
 #   program.
 # make edits: try the wrong bodies that `make test` leaves out, in half an hour: after a change of a contract
@@ -22,6 +22,7 @@
 #   minutes or more; needs cargo.
 # make bench-search-worst: run regsearch over histories that are made to be hard, and say where it takes more
 #   time or memory than is promised.
+# make bench-levels: time reglevel beside regcheck, on a million events of histories that are hard for it.
 # make install: all of the next two below PREFIX, within DESTDIR.
 # make install-programs: the programs, man pages, documents, examples, completions, and the packages for
 #   other languages.
@@ -60,7 +61,7 @@ PACKAGES := $(shell find clojure go java javascript rust -name target -prune -o 
 	\( -name '*.clj' -o -name '*.go' -o -name '*.java' -o -name '*.cjs' -o -name '*.cts' -o -name '*.rs' \
 	-o -name go.mod -o -name Cargo.toml -o -name pom.xml -o -name package.json -o -name deps.edn \
 	-o -name README.md \) -print | sort)
-PROGRAMS := regcheck regsearch
+PROGRAMS := regcheck regsearch reglevel
 # The folder that has them; a release has those of bin/static.
 BUILT := bin
 DOCUMENTS = $(DESTDIR)$(PREFIX)/share/doc/regcheck
@@ -68,8 +69,8 @@ DOCUMENTS = $(DESTDIR)$(PREFIX)/share/doc/regcheck
 SHARED = $(DESTDIR)$(PREFIX)/share/regcheck
 
 .PHONY: all help run try test edits costs fuzz picture-test bench bench-compare bench-search \
-	bench-search-worst library embed-test bench-library install install-programs install-library dist \
-	dist-library wheel arm64-test stores clean
+	bench-search-worst bench-levels library embed-test bench-library install install-programs \
+	install-library dist dist-library wheel arm64-test stores clean
 
 all: $(PROGRAMS:%=bin/%)
 
@@ -156,9 +157,8 @@ edits:
 	tests/check_edits
 	tests/try_edits
 
-costs: bin/regcheck bin/regsearch
-	tests/costs bin/regcheck --write
-	tests/costs bin/regsearch --write
+costs: $(PROGRAMS:%=bin/%)
+	for program in $^; do tests/costs $$program --write || exit 1; done
 
 fuzz: bin/regcheck bin/history_generator
 	tests/spoiled_bytes bin/regcheck --seconds $(SECONDS)
@@ -177,6 +177,9 @@ bench-search: bin/regsearch
 
 bench-search-worst: bin/regsearch
 	bench/search_worst
+
+bench-levels: bin/reglevel bin/regcheck
+	bench/levels
 
 bin/regkit: $(PYTHON) python/make_archive
 	mkdir -p bin
@@ -201,7 +204,10 @@ install-programs: $(PROGRAMS:%=bin/%) bin/regkit bin/completions
 	install -D -m 644 -t $(DOCUMENTS)/docs/stores docs/stores/*
 	install -D -m 644 -t $(DOCUMENTS)/examples examples/README.md \
 		examples/*.jsonl examples/*.report examples/*.refusal
-	install -D -m 644 -t $(DOCUMENTS)/examples/search examples/search/*.jsonl examples/search/*.report
+	for folder in search levels; do \
+	    install -D -m 644 -t $(DOCUMENTS)/examples/$$folder \
+	        examples/$$folder/*.jsonl examples/$$folder/*.report || exit 1; \
+	done
 	install -D -m 755 -t $(DOCUMENTS)/examples examples/recorder.py
 	install -D -m 644 -t $(DOCUMENTS)/examples/tutorial examples/tutorial/*.py
 	install -D -m 644 -t $(DOCUMENTS)/examples/stores examples/stores/harness.py
@@ -226,6 +232,7 @@ $(foreach program,$(PROGRAMS),crates/$(program)/out/$(program).o): %.o: | $(PROG
 
 bin/static/regcheck: crates/regcheck/out/regcheck.o
 bin/static/regsearch: crates/regsearch/out/regsearch.o
+bin/static/reglevel: crates/reglevel/out/reglevel.o
 $(PROGRAMS:%=bin/static/%): bin/static/%: bin/% packaging/link_static
 	packaging/link_static crates/$*/out/$*.o $@
 

@@ -33,7 +33,7 @@ class Command(NamedTuple):
 
 def brief(text: str) -> str:
     """The first clause of a help text."""
-    return re.split(r"[;:(]|, or|, as ", " ".join(text.split()))[0].strip()
+    return re.split(r"[;:([]|, or|, as ", " ".join(text.split()))[0].strip()
 
 
 def help_of(action: argparse.Action) -> str:
@@ -52,8 +52,10 @@ def built_options(said: str) -> List[Option]:
     for line in said.split("Options:\n")[1].split("\n\n")[0].splitlines():
         names, _, text = line.strip().partition("  ")
         value = re.search(r"<(\S+)>", names)
+        possible = re.search(r"\[possible values: (.*?)\]", text)
+        choices = possible.group(1).split(", ") if possible else []
         spelled = re.findall(r"-[\w-]+", names.split("<")[0])
-        options.append(Option(spelled, value.group(1) if value else "", [], brief(text)))
+        options.append(Option(spelled, value.group(1) if value else "", choices, brief(text)))
     return options
 
 

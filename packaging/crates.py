@@ -3,6 +3,7 @@ import pathlib
 from typing import Dict, List, Set
 
 ROOT = pathlib.Path(__file__).resolve().parents[1]
+PROGRAMS = ("regcheck", "regsearch", "reglevel")  # those of a release that are built; regkit is Python
 
 
 def uses() -> Dict[str, List[str]]:

@@ -7,12 +7,13 @@
 
 A line of the history is an event in short form (tests/rows.py), a text in double quotes as JSON writes it,
 which has no line end but its own, or else the line itself. A line `~ {..}` of the answer stands for a line
-of the report that has these members, and maybe others."""
+of the report that has these members, and maybe others; so do the objects in it."""
 import json
 import pathlib
 import re
-from typing import Any, Dict, Iterator, NamedTuple, Tuple
+from typing import Any, Iterator, NamedTuple, Tuple
 
+import reference
 import rows
 
 FOLDER = pathlib.Path(__file__).resolve().parent / "expected"
@@ -51,21 +52,16 @@ def read_rows(folder: pathlib.Path = FOLDER) -> Iterator[Row]:
             yield row._replace(name=f"{path.stem}: {row.name}")
 
 
-def without_before(fault: Any) -> Any:
-    if not isinstance(fault, dict):
-        return fault
-    return {key: value for key, value in fault.items() if key != "before"}
+def has_members(found: Any, wanted: Any) -> bool:
+    if not isinstance(wanted, dict) or not isinstance(found, dict):
+        return reference.same(found, wanted)
+    return all(key in found and has_members(found[key], value) for key, value in wanted.items())
 
 
 def is_as_expected(want: str, have: str) -> bool:
-    """A `~ {..}` whose fault has no `before` doesn't ask for one."""
     if not want.startswith("~ "):
         return want == have
     try:
-        wanted: Dict[str, Any] = json.loads(want[2:])
-        found: Dict[str, Any] = json.loads(have)
-        if "before" not in wanted.get("fault", {}) and "fault" in found:
-            found["fault"] = without_before(found["fault"])
-        return wanted.items() <= found.items()
-    except (AttributeError, TypeError, ValueError):
+        return has_members(json.loads(have), json.loads(want[2:]))
+    except ValueError:
         return False

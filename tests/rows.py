@@ -1,16 +1,18 @@
 """Small histories that several test scripts use, and what the program has to answer to each: regcheck by
-tests/reference.py, and regsearch anything that tests/search_judge.py finds right.
+tests/reference.py, and the others anything that tests/search_judge.py or tests/level_judge.py finds right.
 
 They are written in a short form: `p1 W x 5` calls a write, `p2 R x` a read, `p1 C x 1 2` a cas from 1 to 2,
 `p1 U x 1 2` a cas unless 1 to 2, `p1 D x` a delete, `p1 S x 5` a swap; a cas that ends in `old` asks for the
 old value. `p1 ok`, `p2 = 5` and, for a cas, `p1 true` and `p1 false` are replies, the last two with the old
 value behind them if it is told; `p1 found`, `p1 missing` and `p1 old 5` tell what a delete, a swap or a read
 met; `p1 fail` and `p1 crash` are events of these names."""
+import functools
 import json
 import os
-import subprocess
 from typing import Any, Dict, List, NamedTuple, Tuple
 
+import judging
+import level_judge
 import reference
 import search_judge
 
@@ -22,6 +24,9 @@ CAS = "p1 W x 1; p1 ok; p1 C x 1 2; p2 C x null 3; p1 true; p2 false; p2 R x; p2
 CAS_MISSED = "p1 W x 1; p1 ok; p2 C x 1 2; p3 W x 2; p2 false; p3 ok; p2 C x 3 4; p3 R x; p3 = 4"
 GIVEN_UP = "p1 C x null 1; p2 C x null 2; p3 W x 5; p3 ok; p1 true; p2 true"  # if one configuration is held
 TWO_REGISTERS = INVERSION + "; p1 W y 1; p1 ok; p2 W y 2; p2 ok; p3 R y; p3 = 2; p3 R y; p3 = 1"
+OLD = "p1 W x 1; p1 ok; p1 W x 2; p1 ok; p2 R x; p2 = 1; p3 R x; p3 = null"
+BOTH_HALVES = "p1 W x 1; p2 W x 2; p1 ok; p2 ok; p1 R x; p1 = 2; p3 R x; p3 = 2; p3 R x; p3 = 1"
+EARLY = "p1 R x; p1 = 1; p2 W x 1; p2 ok"
 BLOCK = b"\n" * 3_000_000  # blank lines, more than the program reads at once
 BAD_WORDS = b"""error: invalid value '17' for '--workers <N>': 17 is not in 1..=16
 
@@ -128,14 +133,18 @@ def refused_cases() -> List[Case]:
     return cases
 
 
-def search_case(program: str, name: str, words: Tuple[str, ...], given: bytes) -> Case:
+def judged_case(judge: judging.Complaint, program: str, name: str, words: Tuple[str, ...],
+                given: bytes) -> Case:
     """The answer is the program's own, if nothing is wrong with it: more than one may be right."""
-    ran = subprocess.run([program, *words], input=given, capture_output=True, check=False)
-    ended = search_judge.Ended(ran.returncode, ran.stdout, ran.stderr)
-    why = search_judge.complaint(given, ended, not {"--steps", "--configurations"} & {*words})
+    ended = judging.run([program, *words], given)
+    why = judge(given, ended, words)
     if why:
         raise SystemExit(f"{name}: {why}")
     return Case(name, words, given, ended)
+
+
+search_case = functools.partial(judged_case, search_judge.complaint_about)
+level_case = functools.partial(judged_case, level_judge.complaint)
 
 
 def refused_search_cases(program: str) -> List[Case]:
@@ -156,4 +165,25 @@ def refused_search_cases(program: str) -> List[Case]:
                              sixteen_registers())._replace(threaded=True))
     cases.append(search_case(program, "two registers, one processor", (),
                              history(TWO_REGISTERS))._replace(alone=True))
+    return cases
+
+
+def refused_level_cases(program: str) -> List[Case]:
+    """What reglevel is run on while memory is refused."""
+    named = {"write_and_read": WRITE_AND_READ, "inversion": INVERSION, "two registers": TWO_REGISTERS,
+             "written twice": WRITTEN_TWICE, "both halves": BOTH_HALVES, "early": EARLY,
+             "unwritten": "p1 R x; p1 = 9"}
+    cases = [level_case(program, name, ("--workers", "2"), history(text)) for name, text in named.items()]
+    cases.append(level_case(program, "inversion, one worker", ("--workers", "1"), history(INVERSION)))
+    cases.append(level_case(program, "as it is", (), history(MERGED)))
+    for name, text in {"session": OLD, "both halves": BOTH_HALVES, "sequential": EARLY}.items():
+        words = ("--orders", "--stale", "--require", "session")
+        cases.append(level_case(program, f"{name}, with orders", words, history(text)))
+    cases.append(level_case(program, "by name", (), history(INVERSION))._replace(named=True))
+    cases.append(level_case(program, "in two blocks", ("--workers", "2"), in_two_blocks(history(INVERSION))))
+    cases.append(Case("bad words", ("--workers", "17"), history(INVERSION), (3, b"", BAD_WORDS)))
+    cases.append(level_case(program, "sixteen_registers", ("--workers", "4"),
+                            sixteen_registers())._replace(threaded=True))
+    cases.append(level_case(program, "two registers, one processor", (),
+                            history(TWO_REGISTERS))._replace(alone=True))
     return cases

@@ -4,6 +4,8 @@
     tests/search_judge.py answer HISTORY                 a right report, or the refusal; the exit status
     tests/search_judge.py judge HISTORY STATUS REPORT    whether an answer is right: status 0, or 1
 
+Options of the program, such as `--steps 5`, may follow the history or the report.
+
 Lines are read and refused as in tests/reference.py; nothing else is shared with it. An operation's times are
 the lines of its call and its reply. Only registers of up to 12 operations are searched, and up to 19 pending
 cas beside them: those have to be decided, and a no has to name the first hopeless reply and an order before
@@ -11,12 +13,12 @@ it. If low bounds were given, any hopeless reply will do. Of larger registers on
 shows is looked at. A register without cas whose written values are distinct has to be decided in any case.
 `-` is standard input.
 """
-import argparse
-import json
 import sys
-from typing import Any, Dict, List, NamedTuple, NoReturn, Optional, Sequence, Set, Tuple
+from typing import Any, Dict, List, NamedTuple, Optional, Sequence, Set, Tuple
 
+import judging
 import reference
+from judging import Ended, Row, Wrong, compare, rows_in, wrong
 
 SEARCHED = 12  # the most operations whose orders are all searched,
 PENDING_CAS = 19  # and the most pending cas beside them
@@ -25,17 +27,9 @@ OPTIONS = reference.Options(cas=True)
 STATUSES = {"yes": 0, "no": 1, "unknown": 6}
 MEMBERS = {"yes": {"order", "points"}, "no": {"fault"}, "unknown": {"gave_up"}}
 BOUNDS = ("configurations", "steps")
+BOUNDED = {f"--{bound}" for bound in BOUNDS}
 
 Value = Optional[int]
-Row = Dict[str, Any]
-
-
-class Ended(NamedTuple):
-    """How a program ended."""
-
-    status: int
-    output: bytes
-    error: bytes
 
 
 class Operation(NamedTuple):
@@ -233,43 +227,13 @@ def answer(history: bytes) -> Ended:
     try:
         registers = registers_of(reference.events_of(history, OPTIONS))
     except reference.Refused as refused:
-        return Ended(2, b"", refused.text(OPTIONS).encode() + b"\n")
+        return judging.refused(refused, OPTIONS)
     rows = [row_of(name, operations) for name, operations in registers.items()]
     rows.append(summary_of(rows, registers))
     return Ended(STATUSES[rows[-1]["atomic"]], reference.report_text(rows), b"")
 
 
 # ---- whether an answer is right
-
-
-class Wrong(Exception):
-    """Something in an answer that isn't right."""
-
-
-def wrong(*words: object) -> NoReturn:
-    raise Wrong(" ".join(map(str, words)))
-
-
-def rows_in(output: bytes) -> List[Row]:
-    """The lines of a report, each of which is compact and has its keys in order."""
-    lines = output.split(b"\n")
-    if lines.pop():
-        wrong("the report doesn't end in a line feed")
-    rows = []
-    for line in lines:
-        try:
-            row = json.loads(line)
-        except ValueError:
-            wrong("not JSON:", line)
-        if not isinstance(row, dict) or reference.report_text([row]) != line + b"\n":
-            wrong("not compact, not by key, or no object:", line)
-        rows.append(row)
-    return rows
-
-
-def compare(what: str, have: Any, want: Any) -> None:
-    if not reference.same(have, want):
-        wrong(f"{what} is {have}, and not {want}")
 
 
 def judge_yes(row: Row, operations: Sequence[Operation]) -> None:
@@ -360,7 +324,7 @@ def complaint(history: bytes, ended: Ended, decided: bool = True) -> Optional[st
     try:
         registers = registers_of(reference.events_of(history, OPTIONS))
     except reference.Refused as refused:
-        want = Ended(2, b"", refused.text(OPTIONS).encode() + b"\n")
+        want = judging.refused(refused, OPTIONS)
         return None if ended == want else f"it should end so: {want}"
     try:
         judge_report(ended, registers, decided)
@@ -369,32 +333,10 @@ def complaint(history: bytes, ended: Ended, decided: bool = True) -> Optional[st
     return None
 
 
-# ---- the command line
-
-
-def words() -> argparse.Namespace:
-    top = argparse.ArgumentParser(description=__doc__, formatter_class=argparse.RawDescriptionHelpFormatter)
-    commands = top.add_subparsers(dest="command", required=True)
-    commands.add_parser("answer").add_argument("history")
-    judge = commands.add_parser("judge")
-    judge.add_argument("history")
-    judge.add_argument("status", type=int)
-    judge.add_argument("report")
-    return top.parse_args()
-
-
-def main() -> int:
-    arguments = words()
-    history = reference.read_file(arguments.history)
-    if arguments.command == "answer":
-        status, output, error = answer(history)
-        sys.stdout.buffer.write(output)
-        sys.stderr.buffer.write(error)
-        return status
-    why = complaint(history, Ended(arguments.status, reference.read_file(arguments.report), b""))
-    print(why or "right")
-    return 1 if why else 0
+def complaint_about(history: bytes, ended: Ended, options: Sequence[str]) -> Optional[str]:
+    """The same of a program with these options, whose names stand by themselves."""
+    return complaint(history, ended, not BOUNDED & {*options})
 
 
 if __name__ == "__main__":
-    sys.exit(main())
+    sys.exit(judging.main(__doc__, lambda history, _: answer(history), complaint_about))

@@ -16,7 +16,7 @@ from regkit.checker.library import FILE
 
 ROOT = pathlib.Path(__file__).resolve().parents[2]
 NAME = f"regkit-{__version__}"
-PROGRAMS = ("regcheck", "regsearch")
+PROGRAMS = ("regcheck", "regsearch", "reglevel")
 BILL = "regkit.spdx.json"
 HEADS = {"x86_64": b"\x7fELF" + bytes(14) + b"\x3e\0",  # how programs for each machine begin
          "aarch64": b"\x7fELF" + bytes(14) + b"\xb7\0"}
