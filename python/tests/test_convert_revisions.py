@@ -29,8 +29,8 @@ OPTIONS = ("--revisions", "revision", "--new-revisions", "gave", "--ops",
 
 
 def store(state: State, asked: Asked) -> List[Tuple[State, Any]]:
-    """All that may come of an operation, for each greater revision that a put may give: of those that a history
-    names, or of those between."""
+    """All that may come of an operation, for each greater revision that a put may give: of those that a
+    history names, or of those between."""
     (value, revision, given), (op, (written, asks)) = state, asked
     if op == "get":
         return [(state, (value, revision) if revision else None)]

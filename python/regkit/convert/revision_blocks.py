@@ -57,8 +57,8 @@ class Blocks:
         Refused if it isn't clear in which order two blocks came, and that matters."""
         if any(revision not in self._givers for revision in self._order.revisions):
             return  # a revision that nobody gave: so there is no legal order
-        for one, other in zip(self._order.revisions, self._order.revisions[1:]):
-            self._join(one, other)
+        for revision, following in zip(self._order.revisions, self._order.revisions[1:]):
+            self._join(revision, following)
         blocks = self._made()
         for place, block in enumerate(blocks):
             for other in itertools.takewhile(lambda each: each.begun < block.ended, blocks[place + 1:]):
