@@ -1,9 +1,9 @@
 """Whether it is clear by revisions in which order the values of a key came, though deletes are in between.
 
-A block is a put that asks for no revision, with the puts that follow each other from it by revision. Two blocks
-may have come in either order if all that names the one overlaps all that names the other. If both begin and end
-alike, the two can be exchanged in any legal order, and nobody else sees a difference: so there is a legal order
-in which revisions go up. Else the source is refused.
+A block is a put that asks for no revision, with the puts that follow each other from it by revision. Two
+blocks may have come in either order if all that names the one overlaps all that names the other. If both
+begin and end alike, they can be exchanged in any legal order, and nobody else sees a difference: so there is
+a legal order in which revisions go up. Else the source is refused.
 """
 import bisect
 import itertools
@@ -20,8 +20,8 @@ class _Deletes:
     def __init__(self, operations: Iterable[SourceOperation], spans: dict[SourceOperation, Span]) -> None:
         found = sorted(spans[each] for each in operations
                        if each.kind == DELETE and each.ending != "fail" and each.found is not False)
-        self._calls = [span.call for span in found]
-        self._ends = list(itertools.accumulate((span.end for span in found), max))
+        self._calls: list[float] = [span.call for span in found]
+        self._ends: list[float] = list(itertools.accumulate((span.end for span in found), max))
 
     def are_between(self, one: Span, other: Span) -> bool:
         """Whether one may have taken effect behind one operation and before another."""
@@ -44,7 +44,8 @@ class _Block(NamedTuple):
 class Blocks:
     """The blocks of one key."""
 
-    def __init__(self, operations: list[SourceOperation], order: Order, spans: dict[SourceOperation, Span]) -> None:
+    def __init__(self, operations: list[SourceOperation], order: Order,
+                 spans: dict[SourceOperation, Span]) -> None:
         self._order = order
         self._deletes = _Deletes(operations, spans)
         self._cleared = {each.version for each in operations if each.clears and each.ending != "fail" and
@@ -92,11 +93,11 @@ class Blocks:
         begins, ends = self._order.span(other.first), self._order.span(block.first)
         if block.first.version == 0 and not other.is_cleared and not self._deletes.are_between(begins, ends):
             return  # nothing can have taken the other value away before this one was created
-        raise Refused(f"this put gave the revision {other.revision} of {shown(other.first.key)} while the one of "
-                      f"line {block.first.line} gave {block.revision}, and a delete came between them or behind "
-                      "both: a history can't say which of the two came first, and here it may matter. Leave out "
-                      "such keys with --ops WORD=other --skip-key, or let fewer clients change one key",
-                      other.first.line)
+        raise Refused(f"this put gave the revision {other.revision} of {shown(other.first.key)} while the "
+                      f"one of line {block.first.line} gave {block.revision}, and a delete came between them "
+                      "or behind both: a history can't say which of the two came first, and here it may "
+                      "matter. Leave out such keys with --ops WORD=other --skip-key, or let fewer clients "
+                      "change one key", other.first.line)
 
 
 def _may_miss(operation: SourceOperation) -> bool:

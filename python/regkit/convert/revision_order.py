@@ -47,13 +47,14 @@ class Order:
     def __init__(self, operations: Iterable[SourceOperation], given: dict[SourceOperation, int],
                  spans: dict[SourceOperation, Span]) -> None:
         self.given, self._spans = given, spans
-        self.named = {each: sorted(found) for each in operations if (found := named_by(each, given.get(each)))}
+        self.named = {each: sorted(found) for each in operations
+                      if (found := named_by(each, given.get(each)))}
         self.revisions = sorted({revision for found in self.named.values() for revision in found})
         self._places = {revision: place for place, revision in enumerate(self.revisions)}
         for each in self.named:
             self._refuse_between(each)
         ranked = sorted(self.named, key=self._rank)
-        self.calls = self._bounds(ranked, lambda each: spans[each].call)  # by operation, whose call bounds its
+        self.calls = self._bounds(ranked, lambda each: spans[each].call)  # by operation, whose bounds its own
         self.ends = self._bounds(ranked[::-1], lambda each: -spans[each].end)
         for each in ranked:
             self._refuse_back(self.calls[each], self.ends[each])
@@ -67,8 +68,9 @@ class Order:
         met, gave = self.named[operation][0], self.named[operation][-1]
         between = self.revisions[self._places[met] + 1:self._places[gave]]
         if between:
-            raise Refused(f"this {operation.kind} of {shown(operation.key)} met the revision {met} and gave "
-                          f"{gave}, and the key had the revision {between[0]} too: {_BACK}", operation.line)
+            raise Refused(f"this {operation.kind} of {shown(operation.key)} met the revision {met} and "
+                          f"gave {gave}, and the key had the revision {between[0]} too: {_BACK}",
+                          operation.line)
 
     def _bounds(self, ranked: list[SourceOperation], late: Callable[[SourceOperation], float]) -> Bounds:
         """By operation, itself or the latest of those before it."""
@@ -84,8 +86,8 @@ class Order:
     def _refuse_back(self, late: SourceOperation, early: SourceOperation) -> None:
         if self._spans[early].end < self._spans[late].call:
             raise Refused(f"this {late.kind} of {shown(late.key)} names the revision {self.named[late][0]}, "
-                          f"and what named {self.named[early][-1]}, at line {early.line}, had ended before it "
-                          f"began: {_BACK}", late.line)
+                          f"and what named {self.named[early][-1]}, at line {early.line}, had ended before "
+                          f"it began: {_BACK}", late.line)
 
     def span(self, operation: SourceOperation) -> Span:
         """When an operation that names revisions is open, once it is shorter."""
