@@ -121,11 +121,11 @@ def _refuse_unclear(addition: SourceOperation, zero: Optional[SourceOperation], 
                       "starts with 0, or --initial null if it starts without a value, which counts as 0",
                       addition.end_line)
     if zero is not None:
-        advice = (f"let the run put 0 to {key} in place of each delete, or never 0, or leave out such keys with "
-                  "--ops WORD=other --skip-key" if is_deleted
+        advice = (f"let the run put 0 to {key} in place of each delete, or never 0, or leave out such keys "
+                  "with --ops WORD=other --skip-key" if is_deleted
                   else f"begin the run with a put of 0 to {key}, before any addition")
-        raise Refused(f"an addition met 0, which may have been no value or the 0 of line {zero.line}: {advice}",
-                      addition.end_line)
+        raise Refused("an addition met 0, which may have been no value or the 0 of line "
+                      f"{zero.line}: {advice}", addition.end_line)
 
 
 def _refuse_nothing(operations: Iterable[SourceOperation], choices: Choices) -> None:
