@@ -140,8 +140,10 @@ class Revisions(unittest.TestCase):
                 ("1,3,4,put,k,b,,,,ok\n", "this put doesn't tell the revision that it gave: let each put"),
                 ("1,3,4,put,k,b,,5,,ok\n", "two puts to k gave the revision 5"),
                 ("1,3,4,put,k,b,,4,,ok\n", "names the revision 4, and what named 5, at line 2, had ended"),
-                ("1,3,4,putif,k,b,5,9,,ok\n2,3,5,put,k,c,,7,,ok\n",
+                ("1,3,9,putif,k,b,5,9,,ok\n2,4,8,put,k,c,,7,,ok\n3,5,7,drop,k,1,,,,ok\n",
                  "met the revision 5 and gave 9, and the key had the revision 7 too"),
+                ("1,3,4,delete,k,1,,,,ok\n", "say --ops WORD=count-delete if that is how many values there"),
+                ("1,3,4,delete,k,7,,,,ok\n", "has the value 7: say --ops WORD=delete-if"),
                 ("1,3,4,delete,k,,5,,,ok\n", "a delete has the version 5: say --ops WORD=delete-if"),
                 ("1,3,4,fetch-delete,k,a,,,,ok\n", "this delete of k asks for a value, or is answered one"),
                 ("1,3,,put,k,b,,,,unknown\n2,3,,put,k,b,,,,unknown\n3,4,5,get,k,b,7,,,ok\n",
@@ -164,6 +166,17 @@ class Revisions(unittest.TestCase):
                  "4,10,11,get,k,b,6,,,ok\n", "")]:
             with self.subTest(rows):
                 self.assertIn(words, run(begin + rows, "csv", *OPTIONS).told)
+
+    def test_faults_that_a_history_shows(self) -> None:
+        """Lost updates, and reads of old values: where no delete hides them, nothing is refused."""
+        begin = "process,start,end,op,key,value,revision,gave,ok,outcome\n1,1,2,create,k,a,,5,,ok\n"
+        for rows in ("1,3,9,putif,k,b,5,9,,ok\n2,4,8,putif,k,c,5,7,,ok\n",
+                     "1,3,9,putif,k,b,5,9,,ok\n2,4,8,put,k,c,,7,,ok\n",
+                     "1,3,4,put,k,b,,9,,ok\n2,5,6,get,k,a,5,,,ok\n",
+                     "1,3,8,put,k,b,,7,,ok\n2,4,9,put,k,c,,9,,ok\n3,5,6,get,k,c,9,,,ok\n"
+                     "3,7,10,get,k,b,7,,,ok\n"):
+            with self.subTest(rows):
+                self.assertFalse(acts.is_atomic(history_of(begin + rows, "csv", *OPTIONS)))
 
     def test_what_overlaps_becomes_shorter(self) -> None:
         """The put that gave 6 began first and ended first, and came second."""

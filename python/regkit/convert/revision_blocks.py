@@ -60,7 +60,11 @@ class Blocks:
             return  # a revision that nobody gave: so there is no legal order
         for revision, following in zip(self._order.revisions, self._order.revisions[1:]):
             self._join(revision, following)
-        blocks = self._made()
+        parts = self._parts()
+        if self._order.faults:
+            self._refuse_hidden(parts)
+            return
+        blocks = self._made(parts)
         for place, block in enumerate(blocks):
             for other in itertools.takewhile(lambda each: each.begun < block.ended, blocks[place + 1:]):
                 self._refuse_unclear(block, other)
@@ -72,13 +76,23 @@ class Blocks:
                 self._order.span(before), self._order.span(put)):
             put.version = revision
 
-    def _made(self) -> list[_Block]:
+    def _parts(self) -> list[list[int]]:
+        """The revisions of each block."""
         parts: list[list[int]] = []
         for revision in self._order.revisions:
-            if self._givers[revision].version:
+            if parts and self._givers[revision].version == parts[-1][-1]:
                 parts[-1].append(revision)
             else:
                 parts.append([revision])
+        return parts
+
+    def _refuse_hidden(self, parts: list[list[int]]) -> None:
+        """Raises Refused if no fault is one that the history will show."""
+        of_part = {revision: place for place, part in enumerate(parts) for revision in part}
+        if not any(of_part[each.smaller] == of_part[each.greater] for each in self._order.faults):
+            raise self._order.faults[0].why
+
+    def _made(self, parts: list[list[int]]) -> list[_Block]:
         of_part = {revision: place for place, part in enumerate(parts) for revision in part}
         spans: list[list[Span]] = [[] for _ in parts]
         for each, named in self._order.named.items():

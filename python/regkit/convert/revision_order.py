@@ -4,13 +4,14 @@ Operations that overlap become shorter by it: a call moves behind all calls of w
 before all replies of what came after.
 """
 import itertools
-from typing import Callable, Iterable, NamedTuple, Optional
+from typing import Callable, Iterable, Iterator, NamedTuple, Optional
 
 from regkit.convert.model import Refused, Source, SourceOperation
 from regkit.convert.values import shown
 
 Bounds = dict[SourceOperation, SourceOperation]
-_BACK = "so revisions don't go up. Are they those of one key?"
+_BACK = ("so revisions don't go up. If they are those of this key, the store is at fault, but no history of "
+         "a register says so")
 
 
 class Span(NamedTuple):
@@ -38,8 +39,17 @@ def named_by(operation: SourceOperation, given: Optional[int] = None) -> set[int
     return {each for each in (met, told, given) if each}
 
 
+class Fault(NamedTuple):
+    """Two revisions that came in the wrong order. If puts follow each other from the one to the other by
+    revision, a history shows that."""
+
+    smaller: int
+    greater: int
+    why: Refused
+
+
 class Order:
-    """The operations of one key that name revisions.
+    """The operations of one key that name revisions. If there are faults, nothing becomes shorter.
 
     `given` has the puts that certainly took place, with their revisions. `named` has the revisions that each
     operation met or gave, the smaller one first."""
@@ -51,26 +61,17 @@ class Order:
                       if (found := named_by(each, given.get(each)))}
         self.revisions = sorted({revision for found in self.named.values() for revision in found})
         self._places = {revision: place for place, revision in enumerate(self.revisions)}
-        for each in self.named:
-            self._refuse_between(each)
         ranked = sorted(self.named, key=self._rank)
         self.calls = self._bounds(ranked, lambda each: spans[each].call)  # by operation, whose bounds its own
         self.ends = self._bounds(ranked[::-1], lambda each: -spans[each].end)
-        for each in ranked:
-            self._refuse_back(self.calls[each], self.ends[each])
+        self.faults = [fault for each in ranked for fault in self._faults_of(each)]
+        if self.faults:
+            self.calls, self.ends = {}, {}
 
     def _rank(self, operation: SourceOperation) -> int:
         """The smaller it is, the earlier the operation came. A put by version comes between its revisions."""
         named = self.named[operation]
         return self._places[named[0]] + self._places[named[-1]]
-
-    def _refuse_between(self, operation: SourceOperation) -> None:
-        met, gave = self.named[operation][0], self.named[operation][-1]
-        between = self.revisions[self._places[met] + 1:self._places[gave]]
-        if between:
-            raise Refused(f"this {operation.kind} of {shown(operation.key)} met the revision {met} and "
-                          f"gave {gave}, and the key had the revision {between[0]} too: {_BACK}",
-                          operation.line)
 
     def _bounds(self, ranked: list[SourceOperation], late: Callable[[SourceOperation], float]) -> Bounds:
         """By operation, itself or the latest of those before it."""
@@ -83,15 +84,23 @@ class Order:
             latest = max((bounds[each] for each in equals), key=late)
         return bounds
 
-    def _refuse_back(self, late: SourceOperation, early: SourceOperation) -> None:
+    def _faults_of(self, operation: SourceOperation) -> Iterator[Fault]:
+        met, gave = self.named[operation][0], self.named[operation][-1]
+        for between in self.revisions[self._places[met] + 1:self._places[gave]][:1]:
+            yield Fault(met, between, Refused(
+                f"this {operation.kind} of {shown(operation.key)} met the revision {met} and gave {gave}, "
+                f"and the key had the revision {between} too: {_BACK}", operation.line))
+        late, early = self.calls[operation], self.ends[operation]
         if self._spans[early].end < self._spans[late].call:
-            raise Refused(f"this {late.kind} of {shown(late.key)} names the revision {self.named[late][0]}, "
-                          f"and what named {self.named[early][-1]}, at line {early.line}, had ended before "
-                          f"it began: {_BACK}", late.line)
+            smaller, greater = self.named[late][-1], self.named[early][-1]
+            yield Fault(smaller, greater, Refused(
+                f"this {late.kind} of {shown(late.key)} names the revision {smaller}, and what named "
+                f"{greater}, at line {early.line}, had ended before it began: {_BACK}", late.line))
 
     def span(self, operation: SourceOperation) -> Span:
         """When an operation that names revisions is open, once it is shorter."""
-        return Span(self._spans[self.calls[operation]].call, self._spans[self.ends[operation]].end)
+        call, end = self.calls.get(operation, operation), self.ends.get(operation, operation)
+        return Span(self._spans[call].call, self._spans[end].end)
 
 
 def shorten(source: Source, orders: Iterable[Order], spans: dict[SourceOperation, Span]) -> None:
