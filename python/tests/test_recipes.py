@@ -73,11 +73,13 @@ class Recipes(unittest.TestCase):
     def test_what_stores_do_to_a_key(self) -> None:
         """Each table as it is on the page is right, and with a change it isn't."""
         for name, old, new in [
-                ("redis-log.csv", "v2,(nil)", "v2,OK"), ("redis-log.csv", "getset,job,v3,v1", "getset,job,v3,"),
+                ("redis-log.csv", "v2,(nil)", "v2,OK"),
+                ("redis-log.csv", "getset,job,v3,v1", "getset,job,v3,"),
                 ("redis-log.csv", "del,job,,1", "del,job,,0"), ("redis-log.csv", "runs,,2", "runs,,1"),
                 ("etcd.csv", "b,,,missed", "b,,4,ok"), ("etcd.csv", "e,6,,missed", "e,6,9,ok"),
                 ("etcd.csv", "delete,x,1", "delete,x,0"), ("etcd.csv", "66,get,x,,", "66,get,x,d,8"),
-                ("expiry.csv", "60,,delete-if", "72,,delete-if"), ("calls.jsonl", '"output":0', '"output":1')]:
+                ("expiry.csv", "60,,delete-if", "72,,delete-if"),
+                ("calls.jsonl", '"output":0', '"output":1')]:
             table = block(name)
             words, = [words for words in commands() if name in words]
             words.remove(name)
