@@ -63,8 +63,8 @@ def fold(source: Source, operations: Iterable[SourceOperation], choices: Choices
         if register.start is not None:
             source.starts[key] = register.start
     if shown_by_reads:
-        source.notes.append(f"took {counted(shown_by_reads, 'append')} for cas: reads tell from which value to "
-                            "which")
+        source.notes.append(f"took {counted(shown_by_reads, 'append')} for cas: reads tell from which value "
+                            "to which")
     if unread > len(left_out):
         source.notes.append(f"took {counted(unread - len(left_out), 'append')} that no read shows for writes "
                             f"of a value of their own, which is shown as #{_UNREAD}")
