@@ -152,7 +152,7 @@ class Changes(unittest.TestCase):
         table: List[Tuple[Optional[object], object, str]] = [
             (0, 5, "an addition adds 0"), ("v", 5, "an addition adds v, and a whole number is expected"),
             (1, "v", "an addition was answered v, and"), (1, -2**63, "which doesn't fit into 64 bits"),
-            (1, "", "an addition was answered null, and")]
+            (1, "", "an addition was answered no value, and")]
         for asked, answered, words in table:
             with self.subTest(words):
                 ran = run(csv("incr", [(asked, answered)]), "csv", "--ops", "incr=add")

@@ -89,8 +89,12 @@ def redis(done: List[Done], chance: random.Random) -> str:
             answer = "OK" if answer else chance.choice(["nil", "(nil)"])
         elif type(answer) is bool:
             answer = int(answer)
+        elif answer is None and op in ("get", "getset", "getdel") and each.outcome == "ok":
+            answer = chance.choice([None, "(nil)"])
         elif op == "set":
             answer = "OK"
+        if type(answer) is int and op not in ("get", "getset", "getdel") and chance.random() < 0.3:
+            answer = f"(integer) {answer}"
         answer = answer if each.outcome == "ok" else None
         lines.append(",".join("" if said is None else str(said) for said in (
             each.client, each.start, each.end, word, "k", value, answer, each.outcome)))

@@ -4,7 +4,7 @@ import shlex
 import unittest
 from typing import Dict, List, Optional, Tuple
 
-from tests.convert_sources import is_atomic
+from tests.acts import is_atomic
 from tests.convert_support import run
 
 Words = Tuple[str, ...]
@@ -30,6 +30,8 @@ WAYS_OUT: List[Tuple[str, str, Dict[str, str], Dict[Words, Optional[bool]]]] = [
     ("jepsen", _JEPSEN % ("invoke", "store", "[1 4]") + _JEPSEN % ("ok", "store", "[1 4]")
      + _READ % ("[2 nil]", "[2 nil]"), {},
      {("--ops", "store=write"): True, ("--ops", "store=other", "--skip-key"): True}),
+    ("csv", "process,start,end,register,op,input,output\n1,1,2,x,set nx,v,OK\n2,3,4,y,get,,\n", {},
+     {("--store", "redis"): True, ("--ops", "set nx=other", "--skip-key"): True}),
     ("jepsen", _JEPSEN % ("invoke", "append", "[1 4]")
      + (_JEPSEN % ("invoke", "append", "[1 4]")).replace(":process 0", ":process 5")
      + _READ % ("[2 nil]", "[2 nil]"), {},

@@ -9,6 +9,7 @@ import unittest
 from typing import Any, Dict, List, Tuple
 
 from regkit.convert.model import Refused
+from tests import acts
 from tests.convert_support import history_of
 from tests.search_sources import find_regsearch, verdicts
 from tests.sequential import Asked, Done, State, history_of as random_history
@@ -142,6 +143,38 @@ class Counters(unittest.TestCase):
         if REGSEARCH:
             self.assertEqual(verdicts([history for history, _ in kept], REGSEARCH),
                              [is_right for _, is_right in kept])
+
+
+BEGIN = "client,start,end,op,key,input,output\n"
+# What follows in a table of Redis, and whether a counter may answer so.
+ROWS: List[Tuple[str, bool]] = [
+    ("ann,1,2,set,n,0,OK\nann,3,6,incr,n,,1\nbob,4,5,incr,n,,2\n", True),
+    ("ann,3,6,incr,n,,1\nbob,4,5,incr,n,,1\n", False),  # a lost update
+    ("ann,3,6,incrby,n,2,5\nbob,4,5,incrby,n,3,3\nann,7,8,get,n,,5\n", True),  # 3 first, then 2
+    ("ann,3,6,incrby,n,2,5\nbob,4,5,incrby,n,3,3\ncid,4,6,get,n,,2\n", False),  # 2 isn't there alone
+    ("ann,3,4,incr,n,,1\nbob,5,6,get,n,,1\nbob,7,8,get,n,,0\n", False),  # a counter never falls
+    ("ann,1,2,set,n,0,OK\nann,3,4,incr,n,,1\nbob,5,6,decr,n,,0\nann,7,8,incr,n,,1\n", True),
+    ("ann,3,4,incr,n,,1\nbob,5,6,del,n,,1\nann,7,8,incr,n,,1\n", True),  # none counts as 0
+    ("ann,3,4,incr,n,,1\nbob,5,6,del,n,,1\nann,7,8,incr,n,,2\n", False),
+]
+REFUSED: List[Tuple[str, str]] = [
+    ("ann,3,,incr,n,,\nbob,4,5,get,n,,1\n", "an addition of unknown outcome"),
+    ("ann,3,4,incr,n,1,\nbob,5,6,get,n,,1\n", "answered no value, and whether .* is an NP-complete question"),
+    ("ann,1,2,set,n,0,OK\nann,3,4,incr,n,,1\nbob,5,6,del,n,,1\n", "put 0 to n in place of each delete"),
+    ("ann,3,4,incr,n,,1\nbob,5,6,decr,n,,0\nbob,7,8,incr,n,,1\n", "begin the run with a put of 0 to n"),
+]
+
+
+class Words(unittest.TestCase):
+    def test_rows(self) -> None:
+        for rows, expected in ROWS:
+            history = history_of(BEGIN + rows, "csv", "--store", "redis", "--initial", "null")
+            self.assertEqual(acts.is_atomic(history), expected, (rows, history))
+
+    def test_what_is_refused(self) -> None:
+        for rows, why in REFUSED:
+            with self.subTest(rows), self.assertRaisesRegex(Refused, why):
+                history_of(BEGIN + rows, "csv", "--store", "redis", "--initial", "null")
 
 
 if __name__ == "__main__":

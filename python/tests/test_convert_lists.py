@@ -262,6 +262,7 @@ class Words(unittest.TestCase):
         self.assertEqual(short(ran.history), [
             "0 c k None 1", "0 True", "0 r k", "0 = 1", "0 c k 1 2", "0 True", "0 c k 2 3", "0 True", "0 r k",
             "0 = 3", "0 w k 4", "0 ."])
+        self.assertIn("took 3 appends for cas: reads tell from which value to which", ran.told)
         texts = {number: text for event in ran.events for number, text in event.get("texts", {}).items()}
         self.assertEqual(texts, {"1": '"a"', "2": '"ab"', "3": '"abc"', "4": '#appended "d"'})
 

@@ -252,7 +252,7 @@ class Told(Files):
         for words in (
                 "standard input: not linearizable: 1 of 1 register", 'Register "x" is not linearizable',
                 "The cas from 0 to 2 that took place, by process 2 (lines 4 to 6): the value must have been 0 at",
-                "These 3 of the 3 operations called before line 6 have no order by themselves: the write "
+                "The 3 operations called before line 6 have no order by themselves: the write "
                 "of 0",
                 "That holds even if nothing had answered the write of 0 by process 1 (lines 1 to 2).",
                 "From line 4 to line 6 the value can only be 0, by the write of 0 by process 1 (lines 1 to 2); "
@@ -290,6 +290,19 @@ class Told(Files):
         self.assertIn("the value must have been something else than null at some moment", said)
         self.assertIn("So it could only have found what it asks for.", said)
 
+    def test_a_delete_whose_reply_is_not_needed(self) -> None:
+        """What the delete found is left out, so it may find nothing."""
+        deleted: List[Line] = [{"process": 2, "event": "call", "op": "delete", "register": "x"},
+                               {"process": 2, "event": "reply", "found": True}]
+        cleared: List[Line] = [{**cas(1, 6, 0), "to": None}, took(1, True)]
+        said = self.explained([write(1, 5), reply(1), *deleted, cas(3, None, 6), took(3, True), *cleared,
+                               read(2), gave(2, 6)])
+        for words in ("That holds even if nothing had answered the delete that found a value, by process 2",
+                      "From line 9 to line 10 the value can only be null, by the delete that found a value, by "
+                      "process 2 (lines 3 to 4); or null, by the cas from 6 to null that took place, by process 1 "
+                      "(lines 7 to 8): in each order"):
+            self.assertIn(words, said)
+
     def test_unwritten(self) -> None:
         said = self.explained([cas(1, 7, 5), took(1, True)])
         self.assertIn("found 7, which nobody wrote to this register.", said)
@@ -302,7 +315,7 @@ class Told(Files):
         written, history = self.folder / "r", self.folder / "h"
         history.write_bytes(text(*TWO_WINNERS))
         written.write_bytes(decide(text(*TWO_WINNERS)).report)
-        self.assertIn("These 3 of the 3 operations",
+        self.assertIn("The 3 operations called",
                       " ".join(run("explain", str(history), str(written)).out.split()))
         with mock.patch("regkit.explain.shrinking.find_program", lambda name: None):
             ran = run("explain", str(history), str(written))

@@ -11,6 +11,7 @@ from regkit.checker.programs import SEARCH, find_program, run_checker
 from regkit.commands import convert
 from regkit.convert.words import AUTO, choices_of
 from regkit.record import Recorder
+from tests import acts
 from tests.convert_support import run
 from tests.events import run as command
 
@@ -68,6 +69,25 @@ class Recipes(unittest.TestCase):
             for source, status in [(table, 0), (table[:-2] + "\n", 1)]:
                 with self.subTest(name, source=source):
                     self.assertEqual(command("check", given=source.encode()).status, status)
+
+    def test_what_stores_do_to_a_key(self) -> None:
+        """Each table as it is on the page is right, and with a change it isn't."""
+        for name, old, new in [
+                ("redis-log.csv", "v2,(nil)", "v2,OK"),
+                ("redis-log.csv", "getset,job,v3,v1", "getset,job,v3,"),
+                ("redis-log.csv", "del,job,,1", "del,job,,0"), ("redis-log.csv", "runs,,2", "runs,,1"),
+                ("etcd.csv", "b,,,missed", "b,,4,ok"), ("etcd.csv", "e,6,,missed", "e,6,9,ok"),
+                ("etcd.csv", "delete,x,1", "delete,x,0"), ("etcd.csv", "66,get,x,,", "66,get,x,d,8"),
+                ("expiry.csv", "60,,delete-if", "72,,delete-if"),
+                ("calls.jsonl", '"output":0', '"output":1')]:
+            table = block(name)
+            words, = [words for words in commands() if name in words]
+            words.remove(name)
+            self.assertEqual(table.count(old), 1)
+            for source, is_right in [(table, True), (table.replace(old, new), False)]:
+                with self.subTest(name, old=old, is_right=is_right):
+                    ran = run(source, AUTO, *words)
+                    self.assertEqual((ran.status, acts.is_atomic(ran.history)), (0, is_right), ran.told)
 
     @unittest.skipUnless(find_program(SEARCH), "regsearch isn't built")
     def test_calls(self) -> None:

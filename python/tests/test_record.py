@@ -933,8 +933,11 @@ class Shop:
             self.set(key, value)
         return found
 
-    def delete(self, key: str) -> None:
-        del self.held[key]
+    def delete(self, key: str) -> Any:
+        return self.held.pop(key, None) is not None
+
+    def clear(self) -> None:
+        self.held.clear()
 
     def ping(self) -> str:
         return "pong"
@@ -954,6 +957,9 @@ class AsyncShop(Shop):
         await asyncio.sleep(0.001)
         self.held[key] = str(value).encode()
         return await self.later(None)
+
+    def delete(self, key: str) -> Any:
+        return self.later(self.held.pop(key, None) is not None)
 
 
 class WrappedClients(unittest.TestCase):
@@ -981,7 +987,8 @@ class WrappedClients(unittest.TestCase):
         shop = recorder.wrap(store, self.METHODS)
         shop.set("x", 1)
         table: List[Tuple[Callable[[], Any], str]] = [
-            (lambda: shop.delete("x"), "delete isn't recorded"),
+            (lambda: shop.clear(), r"clear isn't recorded.*delete=\.\."),
+            (lambda: shop.delete("x", "y"), r"delete\('x', 'y'\) isn't understood: it takes the key and"),
             (lambda: shop.set("x", 2, True), r"set\('x', 2, True\) isn't understood"),
             (lambda: shop.set("x", 2, only=True), r"set\('x', 2, only=True\) isn't understood"),
             (lambda: shop.get(key="x"), r"get\(key='x'\) isn't understood"),
@@ -991,7 +998,7 @@ class WrappedClients(unittest.TestCase):
         for call, why in table:
             with self.assertRaisesRegex(RecordingError, why):
                 call()
-        self.assertEqual((len(recorder.mistakes), len(lines(recorder)), store.held), (7, 2, {"x": b"1"}))
+        self.assertEqual((len(recorder.mistakes), len(lines(recorder)), store.held), (8, 2, {"x": b"1"}))
 
     def test_answers_that_are_not_understood_leave_the_call_pending(self) -> None:
         for odd in (False, "OK", 0):
@@ -1010,6 +1017,36 @@ class WrappedClients(unittest.TestCase):
                     recorder.wrap(store, self.METHODS).swap("x", 1, 2)
             self.assertEqual(recorder.counts.unanswered, 1)
 
+    def test_what_a_delete_found(self) -> None:
+        def nothing(answer: Any) -> None:
+            """The answer doesn't tell."""
+
+        table: List[Tuple[Any, Any, str]] = [
+            (None, None, ""), (bool, 1, ',"found":true'), (bool, 0, ',"found":false'), (nothing, True, ""),
+            (nothing, 1, "")]
+        for found_of, answer, told in table:
+            recorder, store = Recorder(), Shop()
+            with mock.patch.object(store, "delete", mock.Mock(return_value=answer)) as delete:
+                shop = recorder.wrap(store, Methods(found_of=found_of))
+                self.assertEqual(shop.delete("x"), answer)
+            delete.assert_called_once_with("x")
+            self.assertEqual(lines(recorder), [
+                '{"process":1,"event":"call","op":"delete","register":"x"}',
+                f'{{"process":1,"event":"reply","register":"x"{told}}}'])
+
+    def test_deletes_whose_answer_is_not_understood_stay_pending(self) -> None:
+        table: List[Tuple[Methods, Any, str]] = [
+            (Methods(), True, r"a delete of 'x' was answered True: say Methods\(found_of=bool\)"),
+            (Methods(), 1, "a delete of 'x' was answered 1: say"),
+            (Methods(found_of=mock.Mock(return_value=1)), 1, "a delete of 'x' was told 1: `delete.found` is")]
+        for methods, answer, why in table:
+            recorder, store = Recorder(), Shop()
+            with mock.patch.object(store, "delete", mock.Mock(return_value=answer)):
+                with self.assertRaisesRegex(RecordingError, why):
+                    recorder.wrap(store, methods).delete("x")
+            self.assertEqual((len(lines(recorder)), recorder.counts.unanswered), (1, 1))
+            self.assertEqual(len(recorder.mistakes), 1)
+
     def test_the_value_in_an_answer(self) -> None:
         recorder, store = Recorder(), Shop()
         with mock.patch.object(store, "get", lambda key: ("7", "version 3")):
@@ -1021,7 +1058,7 @@ class WrappedClients(unittest.TestCase):
         shop = recorder.wrap(Shop(), self.METHODS)
         self.assertEqual((shop.address, shop.ping()), ("10.0.0.1", "pong"))
         self.assertFalse(hasattr(shop, "none") or hasattr(shop, "_private"))
-        self.assertTrue(callable(shop.delete))  # it is there, and only a call of it is a mistake
+        self.assertTrue(callable(shop.clear))  # it is there, and only a call of it is a mistake
         self.assertEqual((recorder.mistakes, lines(recorder)), ([], []))
 
     def test_exceptions_end_calls_as_in_a_block(self) -> None:
@@ -1034,15 +1071,16 @@ class WrappedClients(unittest.TestCase):
     def test_tasks_share_an_async_client(self) -> None:
         async def use() -> Recorder:
             async with Recorder() as recorder:
-                shop = recorder.wrap(AsyncShop(), name="ann")
+                shop = recorder.wrap(AsyncShop(), Methods(found_of=bool), name="ann")
                 await asyncio.gather(*(shop.set(key, value) for value, key in enumerate("xyxyxy", 1)))
                 found = await asyncio.gather(*(shop.get(key) for key in "xyz"))
                 self.assertIn(found[0], [b"1", b"3", b"5"])
                 self.assertIsNone(found[2])
+                self.assertEqual(await asyncio.gather(*(shop.delete(key) for key in "xz")), [True, False])
                 return recorder
 
         recorder = asyncio.run(use())
-        self.assertEqual(told(lines(recorder)), {"call": 9, "reply": 9, "fail": 0, "crash": 0})
+        self.assertEqual(told(lines(recorder)), {"call": 11, "reply": 11, "fail": 0, "crash": 0})
         self.assertEqual({json.loads(line)["process"] for line in lines(recorder)}, set(range(1, 7)))
 
     def test_a_cancelled_task_leaves_its_call_pending(self) -> None:

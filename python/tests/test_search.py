@@ -378,7 +378,7 @@ class Drawings(Files):
         """The few operations that have no order, and what the value can be at each moment."""
         page = self.drawn([*TWO_WINNERS, write(4, 9), crash(4)])
         self.assertIn(">What is enough for it<", page)
-        self.assertIn("These 3 of the 3 operations called before line 6 have no order by themselves", page)
+        self.assertIn("The 3 operations called before line 6 have no order by themselves", page)
         self.assertEqual(self.rows(page), [
             ["1", "Process 1 calls a write of 0", "null or 0"],
             ["2", "Process 1 has its answer: the write of 0 is done", "0"],

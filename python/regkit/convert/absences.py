@@ -33,7 +33,9 @@ def as_act(operation: SourceOperation, read_value: Reader, choices: Choices) -> 
     answer = operation.answer if operation.ending == "reply" else None
     if kind in DELETES or kind == EXISTS:
         if asked is not None and spelled(operation.value).strip():
-            raise Refused(f"the call of this {kind} has the value {shown(asked)[:40]}: say --ops "
+            counts = (f"WORD={COUNT_DELETE} if that is how many values there were, "
+                      if folded(spelled(operation.value)) in _COUNTS else "")
+            raise Refused(f"the call of this {kind} has the value {shown(asked)[:40]}: say --ops {counts}"
                           f"WORD={DELETE_IF} if it deletes this value alone, or --ignore-member for what "
                           "means nothing", operation.line)
         operation.value = None

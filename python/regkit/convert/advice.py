@@ -1,6 +1,7 @@
 """What to do about an operation that is none of a register, as far as the options say."""
 import shlex
 
+from regkit.convert import stores
 from regkit.convert.model import OTHER, READS, READ_AND_WRITE, WRITES, folded
 
 # Words of stores for operations, by what they are.
@@ -38,8 +39,12 @@ def not_taken(kind: str) -> str:
                 "with --skip-key")
     option = f"--ops {shlex.quote(kind + '=')}"
     word, tools = folded(kind), ", or check queues, sets and counters with Knossos or Porcupine"
-    return (f"{kind} {_what(word, option)}leave out the keys that it touches with {option}other "
-            f"--skip-key{'' if _is_known(word) else tools}")
+    known = [store for store, words in stores.OPS.items() if word in words]
+    named = " or ".join(known)
+    what = f"is a word of {named}: say " if known and not _is_known(word) else _what(word, option)
+    store = f"--store {named} in a table of its calls, or " if known else ""
+    return (f"{kind} {what}{store}leave out the keys that it touches with {option}other "
+            f"--skip-key{'' if known or _is_known(word) else tools}")
 
 
 def _is_known(word: str) -> bool:

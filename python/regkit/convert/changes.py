@@ -67,6 +67,8 @@ def as_cas(operation: SourceOperation, read_value: Reader) -> None:
         raise Refused(f"an addition of unknown outcome: nobody saw the value that it wrote, and {_RECORD}",
                       operation.line)
     else:
+        if answer is None:
+            raise Refused(f"an addition was answered no value, and {_RECORD}", operation.end_line)
         by = _SIGNS[kind] * _number(1 if asked is None else asked, "adds", operation.line)
         found = _number(answer, "was answered", operation.end_line)
         if not by:
@@ -88,13 +90,13 @@ def meet_nothing(added: list[SourceOperation], source: Source, choices: Choices)
     if choices.initial is not None and initial_value(choices.initial, choices.form) is not None:
         _refuse_nothing((each for each in source.operations() if each.key in keys), choices)
         return
-    empty = _perhaps_empty(set(added), source) | {
-        each.key for each in source.operations() if each.kind == DELETE or each.clears}
+    deleted = {each.key for each in source.operations() if each.kind == DELETE or each.clears}
+    empty = _perhaps_empty(set(added), source) | deleted
     zeros = {each.key: each for each in source.operations() if each.key in keys and each.kind != "read"
              and each.value == 0 and each.ending != "fail" and not each.missed}
     for each in added:
         if each.kind == CAS and each.expected == 0 and each.key in empty:
-            _refuse_unclear(each, zeros.get(each.key), choices)
+            _refuse_unclear(each, zeros.get(each.key), each.key in deleted, choices)
             each.expected = None
 
 
@@ -110,7 +112,8 @@ def _perhaps_empty(additions: set[SourceOperation], source: Source) -> set[str]:
     return empty
 
 
-def _refuse_unclear(addition: SourceOperation, zero: Optional[SourceOperation], choices: Choices) -> None:
+def _refuse_unclear(addition: SourceOperation, zero: Optional[SourceOperation], is_deleted: bool,
+                    choices: Choices) -> None:
     """Raises Refused for an addition to 0, unless no value is said to count as 0, and nothing made a 0."""
     key = shown(addition.key)
     if choices.initial is None:
@@ -118,9 +121,11 @@ def _refuse_unclear(addition: SourceOperation, zero: Optional[SourceOperation], 
                       "starts with 0, or --initial null if it starts without a value, which counts as 0",
                       addition.end_line)
     if zero is not None:
-        raise Refused(f"an addition met 0, which may have been no value or the 0 of line {zero.line}: "
-                      f"begin the run with a put of 0 to {key}, before any addition",
-                      addition.end_line)
+        advice = (f"let the run put 0 to {key} in place of each delete, or never 0, or leave out such keys "
+                  "with --ops WORD=other --skip-key" if is_deleted
+                  else f"begin the run with a put of 0 to {key}, before any addition")
+        raise Refused("an addition met 0, which may have been no value or the 0 of line "
+                      f"{zero.line}: {advice}", addition.end_line)
 
 
 def _refuse_nothing(operations: Iterable[SourceOperation], choices: Choices) -> None:

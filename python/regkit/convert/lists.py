@@ -18,7 +18,7 @@ from typing import Any, Callable, Iterable, Iterator, Optional
 from regkit.convert import edn
 from regkit.convert.json_values import as_edn
 from regkit.convert.made import Trunk, Trunks, Whole
-from regkit.convert.model import APPEND, WRITES, Choices, Refused, Source, SourceOperation, Value
+from regkit.convert.model import APPEND, CAS, WRITES, Choices, Refused, Source, SourceOperation, Value
 from regkit.convert.spellings import bare, parsed, spelled
 from regkit.convert.suspects import spells_null
 from regkit.convert.values import ALL_TEXTS, initial_value, settled, shown, unsettled
@@ -54,13 +54,17 @@ def fold(source: Source, operations: Iterable[SourceOperation], choices: Choices
         if operation.key in by_key:
             by_key[operation.key].append(operation)
     left_out: set[SourceOperation] = set()
-    unread = 0
+    shown_by_reads = unread = 0
     for key, mine in by_key.items():
         register = _Register(key, mine, choices)
         left_out |= register.fold()
         unread += sum(each.kind == "write" for each in register.appends)
+        shown_by_reads += sum(each.kind == CAS for each in register.appends)
         if register.start is not None:
             source.starts[key] = register.start
+    if shown_by_reads:
+        source.notes.append(f"took {counted(shown_by_reads, 'append')} for cas: reads tell from which value "
+                            "to which")
     if unread > len(left_out):
         source.notes.append(f"took {counted(unread - len(left_out), 'append')} that no read shows for writes "
                             f"of a value of their own, which is shown as #{_UNREAD}")

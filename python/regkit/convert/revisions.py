@@ -9,13 +9,15 @@ Each put that took place tells the revision that it gave, and no two give one. S
 and that the key has this revision is that it has this value. A put of unknown outcome tells none: it gave a
 revision that others name, and that no other put can have given, or one that nobody saw.
 
-That revisions go up is checked where something that names the greater one had ended before something that
-names the smaller one began, and not where they overlap.
+Revisions go up, so they tell the order of what overlaps, too (`revision_order`). Where a delete leaves open
+which of two came first, the source is refused unless that is no matter (`revision_blocks`).
 """
-from typing import Iterable, Iterator, Optional
+from typing import Iterable, Optional
 
 from regkit.convert import edn
 from regkit.convert.model import CAS, DELETE, Choices, Refused, Source, SourceOperation, Value
+from regkit.convert.revision_blocks import Blocks
+from regkit.convert.revision_order import Order, named_by, shorten, spans_of
 from regkit.convert.values import shown, unsettled
 
 _TELL = ("let each put that takes place tell the revision that it gave, in a member that --new-revisions "
@@ -28,35 +30,17 @@ def are_for(operations: Iterable[SourceOperation]) -> bool:
                for each in operations)
 
 
-def refuse_back(source: Source, operations: list[SourceOperation]) -> None:
-    """Raises Refused if what names a revision had ended before something began that names a smaller one."""
-    began: dict[SourceOperation, int] = {}
-    ended: dict[SourceOperation, int] = {}
-    mine = set(operations)
-    for moment, (each, is_call) in enumerate(source.moments()):
-        if each in mine:
-            (began if is_call else ended)[each] = moment
-    last: dict[int, SourceOperation] = {}  # by revision, what began last of what names it
-    first: dict[int, SourceOperation] = {}  # and what ended first
-    for each in operations:
-        for revision in _named(each):
-            last[revision] = max(last.get(revision, each), each, key=began.__getitem__)
-            first[revision] = min(first.get(revision, each), each, key=ended.__getitem__)
-    over: Optional[int] = None  # of those greater, the one whose operation ended first
-    for revision in sorted(last, reverse=True):
-        if over is not None and ended[first[over]] < began[last[revision]]:
-            raise Refused(f"this {last[revision].kind} of {shown(last[revision].key)} names the revision "
-                          f"{revision}, and what named {over}, at line {first[over].line}, had ended before it "
-                          "began: so revisions don't go up. Are they those of one key?", last[revision].line)
-        if over is None or ended[first[revision]] < ended[first[over]]:
-            over = revision
-
-
-def _named(operation: SourceOperation) -> Iterator[int]:
-    """The revisions that a completed operation met or gave."""
-    if operation.ending == "reply":
-        asked = None if operation.missed else operation.version
-        yield from (each for each in (asked, operation.told_version) if each)
+def fold(source: Source, keys: list[list[SourceOperation]], choices: Choices) -> None:
+    """Makes reads, writes, deletes and cas of the operations of keys."""
+    spans = spans_of(source) if keys else {}
+    orders = []
+    for operations in keys:
+        revisions = Revisions(operations, choices)
+        order = Order(operations, revisions.given, spans)
+        Blocks(operations, order, spans).settle()
+        revisions.fold()
+        orders.append(order)
+    shorten(source, orders, spans)
 
 
 class Revisions:
@@ -102,7 +86,7 @@ class Revisions:
         """Gives puts of unknown outcome the revisions that are named and that no other put gave."""
         orphans: dict[int, Optional[SourceOperation]] = {}  # with a get that has its value, if there is one
         for each in self.operations:
-            for revision in _named(each):
+            for revision in named_by(each):
                 if revision not in self.values:
                     orphans[revision] = each if each.kind == "read" else orphans.get(revision)
         for revision, get in orphans.items():

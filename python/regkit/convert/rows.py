@@ -16,6 +16,7 @@ from regkit.convert.values import settled
 
 OUTCOMES = {"ok": "ok", "fail": "fail", "unknown": "unknown", "info": "unknown", "missed": "missed", "": "ok"}
 ABSENT: Any = object()  # a value that isn't there
+_INTEGER = re.compile(r"\(integer\) (-?[0-9]+)")  # as redis-cli shows a number
 _HALF = r"([^\s,\[\]()]+?)"
 _PAIR = re.compile(rf"\s*[\[(]?\s*{_HALF}\s*(?:,|\s|->)\s*{_HALF}\s*[\])]?\s*")  # [1 2] or 1, 2 or 1->2
 
@@ -84,6 +85,8 @@ class Rows:
     def _with_answer(self, row: Row, kind: str) -> Row:
         """The row of a change with what its store answered, by --store, as its output alone. To a write that
         is all, and means nothing more."""
+        number = _INTEGER.fullmatch(row.output) if type(row.output) is str else None
+        row = row if number is None else row._replace(output=number[1])
         word = "" if is_nothing(row.outcome) else folded(spelled(row.outcome))
         if kind not in CONDITIONAL | DELETES | WRITES:
             return row

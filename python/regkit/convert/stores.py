@@ -20,3 +20,5 @@ ANSWERS = {
     "redis": {"ok": True, "1": True, "0": False, "(nil)": False, "nil": False},
     "memcached": {"stored": True, "not_stored": False, "deleted": True, "not_found": False, "exists": False},
 }
+# By store, how it shows that there is no value.
+NULLS = {"redis": "(nil)"}

@@ -95,12 +95,10 @@ def fold(source: Source, operations: Iterable[SourceOperation], choices: Choices
     for operation in operations:
         by_key.setdefault(operation.key, []).append(operation)
     impossible: set[SourceOperation] = set()
-    for mine in by_key.values():
-        if choices.revisions and revisions.are_for(mine):
-            revisions.refuse_back(source, mine)
-            revisions.Revisions(mine, choices).fold()
-        else:
-            impossible |= set(_Key(mine, choices).fold())
+    changed = {key for key, mine in by_key.items() if choices.revisions and revisions.are_for(mine)}
+    revisions.fold(source, [by_key[key] for key in by_key if key in changed], choices)
+    for key in by_key.keys() - changed:
+        impossible |= set(_Key(by_key[key], choices).fold())
     source.notes.append(_ALONE if "value" in choices.ignored else _BOTH)
     if impossible:
         source.leave_out(impossible)

@@ -116,7 +116,7 @@ def choices_of(arguments: argparse.Namespace, form: str) -> Choices:
     if arguments.map and arguments.to != "history":
         raise WrongWords("--map describes a history for regcheck: leave out --to, or --map")
     return Choices(
-        form=form, register=arguments.register, keys=arguments.keys, nulls=_nulls(form, arguments.null),
+        form=form, register=arguments.register, keys=arguments.keys, nulls=_nulls(form, arguments),
         initial=arguments.initial, values=arguments.values, key=arguments.key and folded(arguments.key),
         cas=arguments.cas, skip_key=arguments.skip_key, failed_cas=arguments.failed_cas,
         versions=_version_member(arguments), revisions=arguments.revisions is not None,
@@ -159,11 +159,12 @@ def _columns(arguments: argparse.Namespace) -> dict[str, str]:
     return found
 
 
-def _nulls(form: str, words: Optional[str]) -> frozenset[str]:
+def _nulls(form: str, arguments: argparse.Namespace) -> frozenset[str]:
     """The spellings of null; two double quotes are the empty text too, since a shell may keep them."""
-    if words is None:
-        return frozenset({NULLS[form]} if form in NULLS else ())
-    return frozenset("" if word == '""' else word for word in words.split(","))
+    if arguments.null is None:
+        own = [NULLS.get(form), stores.NULLS.get(arguments.store)]
+        return frozenset(word for word in own if word is not None)
+    return frozenset("" if word == '""' else word for word in arguments.null.split(","))
 
 
 def _delimiter(word: Optional[str]) -> Optional[str]:

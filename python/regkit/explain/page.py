@@ -27,9 +27,9 @@ class Page:
     def heading(self, text: str) -> None:
         self.lines += ["", self.paint("bold", text)]
 
-    def sentence(self, text: str, style: str = "", stop: str = ".") -> None:
+    def sentence(self, text: str, style: str = "") -> None:
         self.lines += [self.paint(style, line) for line in textwrap.wrap(
-            capital(text) + stop, self.width, initial_indent="  ", subsequent_indent="    ",
+            capital(text) + ".", self.width, initial_indent="  ", subsequent_indent="    ",
             break_long_words=False, break_on_hyphens=False)]
 
     def timeline(self, entries: list[Entry], meanings: dict[str, str]) -> None:

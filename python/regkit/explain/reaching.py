@@ -48,6 +48,7 @@ class Orders:
 
     def __init__(self, kept: Sequence[Kept], call: Operation) -> None:
         self.by_line = {each.call.line: each.call for each in kept}
+        self.guards = {each.call.line: each.call.guard if each.replied else each.call.asks for each in kept}
         self.call = call
         self.steps = 0
         self.taken: set[int] = set()  # on whose value the call in question may take effect
@@ -93,7 +94,8 @@ class Orders:
 
     def suits(self, call: Operation, by: int) -> bool:
         """Whether a call may take effect on the value of a write."""
-        return call.suits(self.value(by))
+        guard = self.guards[call.line]
+        return guard is None or guard.allows(self.value(by))
 
     def value(self, line: int) -> Optional[int]:
         return self.by_line[line].value if line else None

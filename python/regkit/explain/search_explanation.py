@@ -51,8 +51,12 @@ def made_small(page: Page, told: Contradicted, calls: list[Operation], shrinking
 def enough(small: Small, told: Contradicted, where: str) -> list[str]:
     """What a no was made to, in sentences. Of many operations they say where these are."""
     rest = "" if small.ended else f"; after {MOST_RUNS} runs of regsearch no more was tried"
-    said = [f"these {len(small.kept):,} of the {small.whole:,} operations called before line {told.line} "
-            f"have no order by themselves: {list_of(small.kept, where)}{rest}"]
+    count, have = len(small.kept), "have" if small.whole > 1 else "has"
+    these = f"these {count:,} of the {small.whole:,} operations" if count < small.whole else (
+        f"the {counted(small.whole, 'operation')}")
+    them = "themselves" if small.whole > 1 else "itself"
+    said = [f"{these} called before line {told.line} {have} no order by {them}: "
+            f"{list_of(small.kept, where)}{rest}"]
     if small.fence is not None:
         said.append(f"what was answered before line {small.fence.line} isn't needed, since "
                     f"{named(small.fence)} hides it")
@@ -64,8 +68,11 @@ def enough(small: Small, told: Contradicted, where: str) -> list[str]:
 
 
 def answered(kept: list[Kept], told: Contradicted) -> list[Kept]:
-    """The same with all their replies, which leave fewer values."""
-    return [Kept(each.call, each.call.completed and (each.call.end_line or 0) <= told.line) for each in kept]
+    """The same with all their replies, which leave fewer values. If what is left doesn't explain those
+    replies, then without them."""
+    whole = [Kept(each.call, each.call.completed and (each.call.end_line or 0) <= told.line) for each in kept]
+    found = reached(whole, told.call, told.line)
+    return kept if found is not None and not found.values else whole
 
 
 def list_of(kept: list[Kept], where: str) -> str:
@@ -139,7 +146,7 @@ def explain_unwritten(page: Page, history: History, row: Row) -> None:
     other = without_effect(history, call)
     if other is None:
         page.heading("Ask first")
-        page.sentence(EMPTY, stop="")
+        page.sentence(EMPTY)
     end = call.end_line or 0
     beside = [each for each in history.registers[row["register"]]
               if is_open(each, end) and (each.end_line or end) >= call.line and each is not call]

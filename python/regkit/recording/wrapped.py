@@ -4,6 +4,7 @@ import inspect
 from typing import Any, Callable, NamedTuple, NoReturn, Optional
 
 from regkit.recording.calls import Call, Cas, Read
+from regkit.recording.changes import Delete
 from regkit.recording.client import Client
 from regkit.recording.journal import RecordingError
 from regkit.recording.values import number_of
@@ -20,6 +21,8 @@ class Methods(NamedTuple):
     value_of: Callable[[Any], object] = lambda found: found  # the value in what a read gives
     is_written: Callable[[Any], bool] = lambda answer: answer is None or answer is True
     others: tuple[str, ...] = ()  # methods that neither read nor change a key that is recorded
+    delete: str = "delete"
+    found_of: Optional[Callable[[Any], Optional[bool]]] = None  # whether a delete's answer tells of a value
 
 
 class Wrapped:
@@ -37,13 +40,14 @@ class Wrapped:
         if name.startswith("_"):
             raise AttributeError(name)
         own, methods = getattr(self._store, name), self._methods
-        called = {methods.read: self._read, methods.write: self._write, methods.cas: self._cas}.get(name)
+        called = {methods.read: self._read, methods.write: self._write, methods.cas: self._cas,
+                  methods.delete: self._delete}.get(name)
         if called is not None:
             return lambda *words, **named: self._record(own, called(name, words, named), words[1:])
         if callable(own) and name not in methods.others:
             return lambda *_, **__: self._refuse(
-                f"{name} isn't recorded, and it may read or change a key: name it in Methods(read=.., write=.., "
-                "cas=..), or in others=(..) if it does neither")
+                f"{name} isn't recorded, and it may read or change a key: name it in Methods(read=.., "
+                "write=.., cas=.., delete=..), or in others=(..) if it does neither")
         return own
 
     def _refuse(self, text: str) -> NoReturn:
@@ -61,6 +65,10 @@ class Wrapped:
         meant = ("the key", "what it asks for", "what it writes")
         key, asked, value = self._known(name, meant, words, named)
         return self._client().cas(key, self._number(name, asked), self._written(name, value))
+
+    def _delete(self, name: str, words: Words, named: dict[str, Any]) -> Call:
+        key, = self._known(name, ("the key",), words, named)
+        return self._client().delete(key)
 
     def _known(self, name: str, meant: tuple[str, ...], words: Words, named: dict[str, Any]) -> Words:
         """The arguments of a call. What isn't known may change what the call does."""
@@ -81,7 +89,8 @@ class Wrapped:
     def _written(self, name: str, value: object) -> int:
         number = self._number(name, value)
         if number is None:
-            self._refuse(f"{name} writes None, and only a register that was never written has no value")
+            self._refuse(f"{name} writes None, which is no value: name the method that deletes a key in "
+                         "Methods(delete=..)")
         return number
 
     def _record(self, own: Callable[..., Any], call: Call, values: Words) -> Any:
@@ -103,7 +112,20 @@ class Wrapped:
             call.value = self._methods.value_of(answer)
         elif isinstance(call, Cas):
             call.ok = answer
+        elif isinstance(call, Delete):
+            self._note_found(call, answer)
         elif not self._methods.is_written(answer):
             raise call.mistake(f"was answered {answer!r}: let Methods(is_written=..) tell by which answers "
                                "it took place")
         return answer
+
+    def _note_found(self, call: Delete, answer: Any) -> None:
+        """Notes what the answer to a delete tells. True may say that there was a value, or that there is none
+        any more."""
+        found_of = self._methods.found_of
+        if found_of is None and answer is not None:
+            raise call.mistake(f"was answered {answer!r}: say Methods(found_of=bool) if that tells whether "
+                               "there was a value, or Methods(found_of=lambda answer: None) if it doesn't")
+        found = None if found_of is None else found_of(answer)
+        if found is not None:
+            call.found = found
