@@ -7,7 +7,7 @@ use Rattle.std.proofs.lemmas.Slice.Eq.{bytes_eq-Decides}
 use Rattle.clap.specs.Words.{Text}
 use Rattle.level_text.specs.Words.{word_of}
 use Rattle.level_text.specs.declared.report.LevelName.{LevelName}
-use Rattle.reglevel.specs.Words.{all_levels, AreLevels, Borrowed}
+use Rattle.reglevel.specs.Words.{all_levels, AreLevelWords, Borrowed}
 
 abbrev is_word : Text → Text → Bool
 is_word text word = bytes_eq word text
@@ -29,7 +29,7 @@ found_among (level ∷ levels) text any = go (bytes_eq (word_of level) text) ref
     go true is rest = (level, sym ((bytes_eq-Decides _ _).0 is))
     go false is rest = rest (rw is at any)
 
-pub level_named : (words : Borrowed) (text : Text) → AreLevels words
+pub level_named : (words : Borrowed) (text : Text) → AreLevelWords words
     → list_any (λ (word : Bor Text). bytes_eq word.now text) words.now ≡ true
     → (level : LevelName) × (text ≡ word_of level)
 level_named words text are any =

@@ -20,10 +20,8 @@ module _ (levels : Borrowed) where
     pub require_found : HasNumber (found_of m) (codes "require") (Names levels)
         (number_named (command_line levels) (codes "require") words)
     require_found =
-        number_found old m (command_line levels) p ours ready 1 (codes "require") _ (codes "atomic") (λ d. refl) (
-          refl,
-          (refl, (refl, (refl, tt))),
-        )
+        number_found old m (command_line levels) p ours ready 1 (codes "require") _ (codes "atomic")
+        (λ d. refl) (refl, (refl, (refl, (refl, tt))))
         (record { some = refl; no_help = refl; no_version = refl }) words rows
 
     pub workers_found : HasNumber (found_of m) (codes "workers") (up_to MAX_WORKERS)

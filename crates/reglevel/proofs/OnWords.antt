@@ -6,7 +6,7 @@ use Rattle.clap.proofs.OnLiterals.{clap_on_literals}
 use Rattle.command_words.specs.Words.{IsTaken, file_named, number_named, text_given}
 use Rattle.level_text.specs.Words.{word_of}
 use Rattle.level_text.specs.declared.report.LevelName.TheVariants.{Atomic, OwnWrites}
-use Rattle.reglevel.specs.Words.{all_levels, command_line, AreLevels, Borrowed}
+use Rattle.reglevel.specs.Words.{all_levels, command_line, AreLevelWords, Borrowed}
 
 -- the words of the levels, wherever they stand
 levels : Borrowed
@@ -15,11 +15,12 @@ levels = record {
   now = map (λ level. record { ref_ptr = (0, 0); now = word_of level }) all_levels;
 }
 
-are_levels : AreLevels levels
+are_levels : AreLevelWords levels
 unfolding levels
 are_levels = refl
 
--- where no word says otherwise, the history comes from standard input, atomic is required, and there are 4 workers
+-- where no word says otherwise, the history comes from standard input, atomic is required, and there are 4
+-- workers
 defaults : IsTaken (command_line levels) [] × (file_named (command_line levels) [] ≡ None)
     × (text_given (command_line levels) (codes "require") [] ≡ Some (word_of Atomic))
     × (number_named (command_line levels) (codes "workers") [] ≡ Some 4)
@@ -68,7 +69,8 @@ unfolding clap_on_literals levels IsTaken text_given
 flags = (refl, refl, refl)
 
 -- the least and the most workers, and too many
-few_workers : number_named (command_line levels) (codes "workers") (codes "--workers" ∷ codes "1" ∷ []) ≡ Some 1
+few_workers : number_named (command_line levels) (codes "workers") (codes "--workers" ∷ codes "1" ∷ [])
+    ≡ Some 1
 unfolding clap_on_literals levels number_named
 few_workers = refl
 

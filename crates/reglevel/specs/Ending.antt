@@ -4,6 +4,6 @@ use Rattle.level_report.specs.declared.outcome.Outcome.{Outcome}
 use Rattle.level_report.specs.declared.outcome.Outcome.TheVariants.{Kept, Broken}
 
 -- 0 if each register kept the level that was asked for, and else 1
-abbrev pub status_for : Outcome → ℕ
-status_for Kept = 0
-status_for Broken = 1
+abbrev pub status_by_level : Outcome → ℕ
+status_by_level Kept = 0
+status_by_level Broken = 1

@@ -18,8 +18,8 @@ abbrev pub all_levels : List LevelName
 all_levels = Atomic ∷ Regular ∷ Session ∷ OwnWrites ∷ Monotonic ∷ Sequential ∷ []
 
 -- the words of all levels
-abbrev pub AreLevels : Borrowed → Type 0
-AreLevels words = map (λ (word : Bor Text). word.now) words.now ≡ map word_of all_levels
+abbrev pub AreLevelWords : Borrowed → Type 0
+AreLevelWords words = map (λ (word : Bor Text). word.now) words.now ≡ map word_of all_levels
 
 -- the level that each register has to keep, atomic by default
 abbrev pub require_rule : Borrowed → Rule

@@ -5,7 +5,7 @@ ghost use Rattle.command_words.specs.Words.{file_named, number_named, program, t
 ghost use Rattle.command_words.specs.Words.{IsFaultless, IsFlag, IsTaken};
 ghost use Rattle.level_report.specs.declared.settings.TheConstants.{MAX_WORKERS};
 ghost use Rattle.level_text.specs.Words.{word_of};
-ghost use Rattle.reglevel.specs.Words.{command_line, AreLevels};
+ghost use Rattle.reglevel.specs.Words.{command_line, AreLevelWords};
 
 use clap::Command;
 use clap::builder::ValueParser;
@@ -84,7 +84,7 @@ fn command<'a>(alloc: Global, levels: &'a [&'a str]) -> Result<Command<'a>, Allo
 /// # Errors
 /// `Bad` if the words are others, or ask for help or the version; `Memory` if memory ran out.
 pub fn read_words(alloc: Global, levels: &[&str], words: &[String]) -> Result<Words, WordsFault>
-    requires { AreLevels levels }
+    requires { AreLevelWords levels }
     ensures file { IfOk result (λ read. option_map string_bytes read.file
         ≡ file_named (command_line levels.entry) (map string_bytes words.now)) }
     ensures required { IfOk result (λ read. Some (word_of read.settings.required)
@@ -97,7 +97,8 @@ pub fn read_words(alloc: Global, levels: &[&str], words: &[String]) -> Result<Wo
         (map string_bytes words.now)) read.settings.asked.orders) }
     ensures limits { IfOk result (λ read. (1 ≤ read.settings.workers)
         × (read.settings.workers ≤ MAX_WORKERS)) }
-    ensures faultless { IfOk result (λ _. IsFaultless (command_line levels.entry) (map string_bytes words.now)) }
+    ensures faultless { IfOk result (λ _.
+        IsFaultless (command_line levels.entry) (map string_bytes words.now)) }
     ensures taken { IfErr result (λ fault. IsTaken (command_line levels.entry) (map string_bytes words.now)
         → fault ≡ WordsFault.Memory) }
 {

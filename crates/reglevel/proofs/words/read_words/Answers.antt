@@ -1,5 +1,5 @@
--- The level, the number and the flags that the getters read are those that the parser promises, and the settings
--- have them.
+-- The level, the number and the flags that the getters read are those that the parser promises, and the
+-- settings have them.
 use Rattle.std.proofs.Common.{◌≡◌, ◌∙◌, ap, arith, codes, is_some, map, refl, string_bytes, subst, sym}
 use Rattle.std.proofs.Common.{IsSome, None, Option, Some}
 use Rattle.std.proofs.lemmas.Option.{same_Some}
